@@ -1,0 +1,39 @@
+-- A table of samples or values, as contracts see planes: by rows, from the top.
+use Rattle.std.specs.Prelude.{ℕ, ℤ, ◌+◌, ◌*◌, pos, List, length, ◌++◌, take, drop, slice_index_or, slice_range, slice_set, unsigned_abs, int_lt, ◌-◌, if◌then◌else◌}
+
+pub record Table : Type 0 where
+  pub width : ℕ
+  pub height : ℕ
+  pub values : List ℤ
+
+-- the value in column x of row y
+abbrev pub table_at : Table → ℕ → ℕ → ℤ
+table_at t x y = slice_index_or t.values (y * t.width + x) (pos 0)
+
+-- row y as a list
+abbrev pub row_of : Table → ℕ → List ℤ
+row_of t y = slice_range t.values (y * t.width) (y * t.width + t.width)
+
+-- the table with one value changed
+abbrev pub with_value : Table → ℕ → ℕ → ℤ → Table
+with_value t x y v = record t { values = slice_set t.values (y * t.width + x) v }
+
+-- a list with a part of it written over from place i on; it keeps its length whatever is written
+abbrev pub overwritten : List ℤ → ℕ → List ℤ → List ℤ
+overwritten xs i ws = let ys = take i xs ++ (ws ++ drop (length ws) (drop i xs)) in take (length xs) (ys ++ drop (length ys) xs)
+
+-- the table with row y written over
+abbrev pub with_row : Table → ℕ → List ℤ → Table
+with_row t y ws = record t { values = overwritten t.values (y * t.width) ws }
+
+-- the table with all its values written over
+abbrev pub with_values : Table → List ℤ → Table
+with_values t ws = record t { values = take (length t.values) (ws ++ drop (length ws) t.values) }
+
+-- the place from 0 to size - 1 that is nearest
+abbrev pub clamped_to : ℤ → ℕ → ℕ
+clamped_to x size = if int_lt x (pos (size - 1)) then (if int_lt x (pos 0) then 0 else unsigned_abs x) else size - 1
+
+-- the value at a position clamped to the table
+abbrev pub clamped_at : Table → ℤ → ℤ → ℤ
+clamped_at t x y = table_at t (clamped_to x t.width) (clamped_to y t.height)

@@ -1,0 +1,39 @@
+/// How chroma is sampled: ratios across and down are 1 1, 2 1 and 2 2.
+#[derive(Clone, Copy, Debug, PartialEq, Eq)]
+pub enum Chroma {
+    C444,
+    C422,
+    C420,
+}
+
+/// The orientation of a subband: low or high frequencies across, then down.
+#[derive(Clone, Copy, Debug, PartialEq, Eq)]
+pub enum Band {
+    LL,
+    HL,
+    LH,
+    HH,
+}
+
+/// Whether a picture is predicted from others.
+#[derive(Clone, Copy, Debug, PartialEq, Eq)]
+pub enum Kind {
+    Intra,
+    Inter,
+}
+
+/// A motion vector, counted in parts of a luma sample by the picture's vector precision; `x` goes right, `y` down.
+#[derive(Clone, Copy, Debug, PartialEq, Eq)]
+pub struct Vector {
+    pub x: i32,
+    pub y: i32,
+}
+
+/// The prediction units of a picture in luma samples: block lengths and block separations, across and down.
+#[derive(Clone, Copy, Debug, PartialEq, Eq)]
+pub struct BlockGrid {
+    pub xblen: u32,
+    pub yblen: u32,
+    pub xbsep: u32,
+    pub ybsep: u32,
+}

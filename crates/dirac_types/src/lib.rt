@@ -1,0 +1,22 @@
+//! What all crates of the codec share: sample tables and pictures, the causes of faults, and the
+//! definitions of the standard's numbers (in `specs/`).
+#![tactic(auto)]
+
+mod band_table;
+mod faults;
+mod formats;
+mod memory;
+mod picture;
+mod plane;
+mod settings;
+mod shared;
+mod wide;
+
+pub use band_table::BandTable;
+pub use faults::{Cause, Fault, Refusal, Stop};
+pub use formats::{Band, BlockGrid, Chroma, Kind, Vector};
+pub use memory::NoMemory;
+pub use picture::Picture;
+pub use plane::Plane;
+pub use settings::{BadSetting, Name};
+pub use wide::Wide;
