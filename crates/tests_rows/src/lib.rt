@@ -1,0 +1,5 @@
+//! Worked values over the libraries: each comes from the standard's formulas by hand or from another program.
+#![tactic(auto)]
+
+#[cfg(test)]
+mod quantiser;
