@@ -2,4 +2,6 @@
 #![tactic(auto)]
 
 #[cfg(test)]
+mod predictions;
+#[cfg(test)]
 mod quantiser;
