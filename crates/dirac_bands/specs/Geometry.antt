@@ -1,0 +1,15 @@
+-- The sizes of padded planes, of their subbands, and of codeblocks.
+use Rattle.std.specs.Prelude.{ℕ, ◌+◌, ◌-◌, ◌*◌, ◌/◌, ◌^◌, ◌==◌, if◌then◌else◌}
+
+-- a size padded up to the next multiple of 2 ^ depth
+abbrev pub padded_size : ℕ → ℕ → ℕ
+padded_size size depth = (size + 2 ^ depth - 1) / 2 ^ depth * 2 ^ depth
+
+-- the size of a subband: level 0 is the LL band, levels 1 to depth hold HL, LH and HH
+abbrev pub size_of_band : ℕ → ℕ → ℕ → ℕ
+size_of_band padded depth level =
+    if level == 0 then padded / 2 ^ depth else padded / 2 ^ (depth - level + 1)
+
+-- where codeblock c of a band's `count` codeblocks begins, and codeblock c - 1 ends
+abbrev pub edge_of : ℕ → ℕ → ℕ → ℕ
+edge_of size count c = size * c / count

@@ -1,0 +1,3 @@
+pub mod DcSum
+pub mod Geometry
+pub mod Interleaving

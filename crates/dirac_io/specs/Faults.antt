@@ -1,0 +1,18 @@
+-- Counts of faults.
+use Rattle.std.specs.Prelude.{ℕ, ◌+◌, ◌-◌, ◌^◌, ◌≤◌, ◌<◌, min}
+use Rattle.std.proofs.Common.{arith}
+
+-- a count rose; one that stands at its last value counts as risen
+abbrev pub Rose : ℕ → ℕ → Type 0
+Rose before now = min (before + 1) (2 ^ 64 - 1) ≤ now
+
+-- a count after one more fault
+abbrev pub one_more : ℕ → ℕ
+one_more count = min (count + 1) (2 ^ 64 - 1)
+
+-- a count as its type holds it
+abbrev pub clipped : ℕ → ℕ
+clipped count = min count (2 ^ 64 - 1)
+
+pub clipped_fits : (count : ℕ) → clipped count < 2 ^ 64
+clipped_fits count = omega arith

@@ -1,0 +1,6 @@
+pub mod Faults
+pub mod Reading
+pub mod Writing
+pub mod Calls
+pub mod Memory
+pub mod Adapters

@@ -1,0 +1,18 @@
+//! The outside of the codec: where bytes come from, where they go, and what may hold a worker at a row.
+//! Nothing above this crate knows files, pipes or terminals.
+#![tactic(auto)]
+
+mod adapters;
+mod failing;
+mod memory;
+mod null;
+mod row_gate;
+mod sink;
+mod source;
+
+pub use adapters::{ReaderSource, WriterSink};
+pub use memory::{MemSink, MemSource};
+pub use null::NullSink;
+pub use row_gate::{OpenGate, RowGate};
+pub use sink::{Put, Sink, Took, put_all};
+pub use source::{Got, Source};

@@ -1,0 +1,17 @@
+use std::marker::Sync;
+
+/// What a worker passes before it searches a row. It answers nothing and changes no result: a test
+/// may hold a worker there until another one comes.
+pub trait RowGate: Sync {
+    /// Called once for each row of each search stage, before that row is searched. Rows are rows of
+    /// superblocks, from 0 at the top.
+    fn enter(&self, row: u32);
+}
+
+/// A gate that holds nobody.
+#[derive(Clone, Copy, Debug, Drop)]
+pub struct OpenGate;
+
+impl RowGate for OpenGate {
+    fn enter(&self, _row: u32) {}
+}

@@ -1,0 +1,5 @@
+pub mod Info
+pub mod Cut
+pub mod Filling
+pub mod Progress
+pub mod Found

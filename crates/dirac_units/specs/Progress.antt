@@ -1,0 +1,73 @@
+-- How far the cutting of a source came, and what its next step gives.
+use Rattle.std.specs.Prelude.{◌≡◌, ℕ, ◌+◌, ◌≤◌, length, Bool, ◌&&◌, if◌then◌else◌, List, [], drop, slice_range, Option, Some, IfSome, Ok, Err, ⊤}
+use Rattle.std.specs.Io.KnownBytes.{prepend_known, IsAtEnd}
+use Rattle.dirac_types.specs.declared.faults.Fault.{Fault}
+use Rattle.dirac_units.specs.declared.info.ParseInfo.{ParseInfo}
+use Rattle.dirac_units.specs.declared.spot.Spot.{Spot}
+use Rattle.dirac_units.specs.declared.unit.Met.{Met}
+use Rattle.dirac_units.specs.declared.unit.Met.TheVariants as met
+use Rattle.dirac_units.specs.declared.unit.Unit.{Unit}
+use Rattle.dirac_units.specs.declared.unit.UnitStep.{UnitStep}
+use Rattle.dirac_units.specs.declared.unit.UnitStep.TheVariants as step
+use Rattle.dirac_units.specs.Info.{IsLawful, fields_are_read, span_of}
+use Rattle.dirac_units.specs.Cut.{start, after, front_of}
+
+-- the bytes taken beyond the units given, where the next unit begins, and what later calls answer
+pub record Progress : Type 0 where
+  pub ahead : List ℕ
+  pub spot : Spot
+  pub met : Met
+
+-- before the first unit
+abbrev pub begun : Progress
+begun = record { ahead = []; spot = start; met = met.Going }
+
+-- the payload of the unit at the front, where it is kept
+abbrev pub kept_payload : Bool → ParseInfo → List ℕ → List ℕ
+kept_payload keep info bytes = if keep && fields_are_read info.code then slice_range bytes 13 (span_of info) else []
+
+-- this unit stands at the front of the bytes, and these are left behind it
+abbrev pub IsFirstUnit : Bool → Unit → Spot → List ℕ → Option (List ℕ) → Type 0
+IsFirstUnit keep unit spot bytes rest =
+    (front_of spot bytes ≡ Ok unit.info) × (unit.payload ≡ kept_payload keep unit.info bytes)
+    × (rest ≡ Some (drop (span_of unit.info) bytes))
+
+-- the next unit was given: the bytes ahead, then those held, begin with it
+pub record GivesUnit (keep : Bool) (unit : Unit) (old new : Progress) (held held' : Option (List ℕ)) : Type 0 where
+  pub going : old.met ≡ met.Going
+  pub index : unit.index ≡ old.spot.index
+  pub at : unit.at ≡ old.spot.at
+  pub lawful : IsLawful unit.info
+  pub short : length unit.payload + 13 ≤ span_of unit.info
+  pub next : new.spot ≡ after old.spot unit.info
+  pub told : IfSome (prepend_known old.ahead held) (λ bytes. IsFirstUnit keep unit old.spot bytes (prepend_known new.ahead held'))
+
+-- no unit is left, but this end or fault; the source was read to its end
+pub record Ends (old : Progress) (held held' : Option (List ℕ)) (end : Option Fault) : Type 0 where
+  pub told : IfSome (prepend_known old.ahead held) (λ bytes. front_of old.spot bytes ≡ Err end)
+  pub whole : IsAtEnd held'
+
+-- a fact on the unit, where one was given
+abbrev pub IfUnit : UnitStep → (Unit → Type 0) → Type 0
+IfUnit (step.Unit unit) P = P unit
+IfUnit step.End P = ⊤
+IfUnit (step.Fault fault) P = ⊤
+IfUnit step.ReadFault P = ⊤
+IfUnit step.NoMemory P = ⊤
+IfUnit step.Stopped P = ⊤
+
+-- what later calls answer after this one
+abbrev pub met_after : UnitStep → Met
+met_after (step.Unit unit) = met.Going
+met_after step.End = met.Ended
+met_after (step.Fault fault) = met.Faulted fault
+met_after step.ReadFault = met.Stopped
+met_after step.NoMemory = met.Stopped
+met_after step.Stopped = met.Stopped
+
+-- what was met is answered again, and nothing is read
+abbrev pub Repeats : Met → UnitStep → Type 0 → Type 0
+Repeats met.Going answer Same = ⊤
+Repeats met.Ended answer Same = (answer ≡ step.End) × Same
+Repeats (met.Faulted fault) answer Same = (answer ≡ step.Fault fault) × Same
+Repeats met.Stopped answer Same = (answer ≡ step.Stopped) × Same

@@ -1,0 +1,16 @@
+//! Data units: how the bytes of a stream are cut into units, and the first fault of the cutting.
+#![tactic(auto)]
+
+mod fill;
+mod front;
+mod info;
+mod law;
+mod spot;
+mod unit;
+mod units;
+
+pub use info::{ParseInfo, UnitKind, fields_are_read, kind_of, read_info};
+pub use law::bytes_have_one_cut;
+pub use spot::Spot;
+pub use unit::{Met, Payload, Unit, UnitStep};
+pub use units::Units;

@@ -1,0 +1,54 @@
+ghost use Rattle.std.specs.Prelude.{◌≡◌, ℕ, ◌+◌, ◌<◌, ◌^◌};
+ghost use Rattle.dirac_units.specs.Info.{span_of};
+
+use crate::info::ParseInfo;
+use dirac_types::{Cause, Fault};
+
+/// Where a unit begins: its number, from 0, its first byte's number, and whether the unit before is
+/// an end unit.
+#[derive(Clone, Copy, Debug, PartialEq, Eq)]
+pub struct Spot {
+    pub index: u64,
+    pub at: u64,
+    pub closed: bool,
+}
+
+impl Spot {
+    ghost use Rattle.dirac_units.specs.Cut.{start, after, fault_at};
+
+    /// Where the first unit of an input begins.
+    pub fn first() -> Spot
+        ensures { result ≡ start }
+    {
+        Spot {
+            index: 0,
+            at: 0,
+            closed: false,
+        }
+    }
+
+    /// Where the unit behind this one begins.
+    pub fn after(self, info: &ParseInfo) -> Spot
+        requires index { self.index + 1 < 2 ^ 64 }
+        requires at { self.at + span_of info.now < 2 ^ 64 }
+        ensures { result ≡ after self info.now }
+    {
+        Spot {
+            index: self.index + 1,
+            at: self.at + info.span(),
+            closed: info.code == 0x10,
+        }
+    }
+
+    /// A fault of the unit that begins here, so many bytes behind its first.
+    pub fn fault(self, at: u64, cause: Cause) -> Fault
+        requires { self.at + at < 2 ^ 64 }
+        ensures { result ≡ fault_at self at cause }
+    {
+        Fault {
+            unit: self.index,
+            at: self.at + at,
+            cause,
+        }
+    }
+}
