@@ -2,6 +2,10 @@
 #![tactic(auto)]
 
 #[cfg(test)]
+mod bits;
+#[cfg(test)]
+mod geometry;
+#[cfg(test)]
 mod predictions;
 #[cfg(test)]
 mod quantiser;

@@ -1,0 +1,51 @@
+-- The definitions, computed on small cases.
+use Rattle.std.proofs.Common.{◌≡◌, true, false, [], ◌∷◌, pos, replicate, refl}
+use Rattle.dirac_types.specs.Numbers.{digits_of, digits_within}
+use Rattle.dirac_arith.specs.StepTable.{step_table, step_of}
+use Rattle.dirac_arith.specs.Front.{first_bits, front}
+use Rattle.dirac_arith.specs.Interval.{Decision, doublings_for, interval_of}
+use Rattle.dirac_arith.specs.Spelling.{spelling, signed_spelling}
+use Rattle.dirac_arith.specs.Written.{bytes_of, flushed, flush}
+
+-- bits past the end of a block are ones
+front_of_a_byte : front (0x2E ∷ []) 16 ≡ 0x2EFF
+unfolding front first_bits
+front_of_a_byte = refl
+
+front_of_nothing : front [] 16 ≡ 0xFFFF
+unfolding front first_bits
+front_of_nothing = refl
+
+-- one true decision keeps the upper half, and needs no doubling
+interval_of_true : (let d : Decision = (0, true) in interval_of (d ∷ [])) ≡ record { low = 32767; range = 32768; doublings = 0; contexts = 30833 ∷ replicate 37 0x8000 }
+unfolding doublings_for step_of step_table
+interval_of_true = refl
+
+-- a false one after it in the same context
+interval_of_true_false : (let t : Decision = (0, true) in let f : Decision = (0, false) in interval_of (t ∷ f ∷ []))
+    ≡ record { low = 65534; range = 30832; doublings = 1; contexts = 32813 ∷ replicate 37 0x8000 }
+unfolding doublings_for step_of step_table
+interval_of_true_false = refl
+
+-- five is a one and a zero behind the leading one of six
+spelling_of_five : spelling (0 ∷ 4 ∷ []) 14 5 ≡ (0, false) ∷ (14, true) ∷ (4, false) ∷ (14, false) ∷ (4, true) ∷ []
+unfolding spelling digits_of digits_within
+spelling_of_five = refl
+
+-- the blocks of few decisions
+block_of_true : (let d : Decision = (0, true) in flush (d ∷ [])) ≡ 0xFE ∷ []
+unfolding flushed bytes_of doublings_for step_of step_table
+block_of_true = refl
+
+block_of_false : (let d : Decision = (0, false) in flush (d ∷ [])) ≡ 0x7E ∷ []
+unfolding flushed bytes_of doublings_for step_of step_table
+block_of_false = refl
+
+block_of_true_false : (let t : Decision = (0, true) in let f : Decision = (0, false) in flush (t ∷ f ∷ [])) ≡ 0xBB ∷ []
+unfolding flushed bytes_of doublings_for step_of step_table
+block_of_true_false = refl
+
+-- a coefficient of 1
+block_of_one : flush (signed_spelling (0 ∷ 4 ∷ 5 ∷ 6 ∷ 7 ∷ 8 ∷ []) 14 15 (pos 1)) ≡ 0x2E ∷ []
+unfolding signed_spelling spelling digits_of digits_within flushed bytes_of doublings_for step_of step_table
+block_of_one = refl

@@ -1,0 +1,10 @@
+pub mod Decided
+pub mod Decisions
+pub mod Doublings
+pub mod Examples
+pub mod Fronts
+pub mod Intervals
+pub mod Numbers
+pub mod Spellings
+pub mod Steps
+pub mod Windows

@@ -1,0 +1,66 @@
+-- The table keeps every chance within its bounds.
+use Rattle.std.proofs.Common.{◌≡◌, ℕ, ◌+◌, ◌-◌, ◌*◌, ◌/◌, ◌≤◌, Bool, true, false, nat_le, arith, refl, ap, ◌∙◌, inl, inr}
+use Rattle.std.proofs.lemmas.Bool.{leb-true, cases_lt}
+use Rattle.dirac_arith.specs.StepTable.{step_table, step_of}
+use Rattle.dirac_arith.specs.Interval.{adapted}
+use Rattle.dirac_arith.proofs.Fronts.{all_below, passes_below}
+
+abbrev falls_within : ℕ → Bool
+falls_within upper = nat_le (step_of (upper + 1) + 254) (256 * (upper + 1))
+
+-- from an upper byte of 1 on a step leaves 254 at least
+steps_fit : all_below falls_within 255 ≡ true
+unfolding step_of step_table all_below
+steps_fit = refl
+
+step_within : (upper : ℕ) → 1 ≤ upper → upper ≤ 255 → step_of upper + 254 ≤ 256 * upper
+step_within upper some most =
+    let e : upper - 1 + 1 ≡ upper = omega arith in
+    let fits = leb-true (step_of (upper - 1 + 1) + 254) (256 * (upper - 1 + 1)) (passes_below falls_within 255 (upper - 1) steps_fit (omega arith)) in
+    rw e at fits
+
+-- the first step of the table is 0
+step_none : step_of 0 ≡ 0
+unfolding step_of step_table
+step_none = refl
+
+-- a chance within its bounds stays there
+pub record Adapts (chance : ℕ) (truth : Bool) : Type 0 where
+  pub some : 254 ≤ adapted chance truth
+  pub most : adapted chance truth ≤ 65281
+
+pub adapts : (chance : ℕ) (truth : Bool) → 254 ≤ chance → chance ≤ 65281 → Adapts chance truth
+adapts chance true some most =
+    elim (cases_lt (chance / 256) 1) [
+      | inl low ↦
+          let first : chance / 256 ≡ 0 = omega arith in
+          let none = ap step_of first ∙ step_none in
+          record { some = omega arith; most = omega arith }
+      | inr high ↦
+          let fits = step_within (chance / 256) high (omega arith) in
+          record { some = omega arith; most = omega arith }
+    ]
+adapts chance false some most =
+    elim (cases_lt (255 - chance / 256) 1) [
+      | inl low ↦
+          let first : 255 - chance / 256 ≡ 0 = omega arith in
+          let none = ap step_of first ∙ step_none in
+          record { some = omega arith; most = omega arith }
+      | inr high ↦
+          let fits = step_within (255 - chance / 256) high (omega arith) in
+          record { some = omega arith; most = omega arith }
+    ]
+
+-- no chance grows past its bound
+pub adapted_most : (chance : ℕ) (truth : Bool) → chance ≤ 65281 → adapted chance truth ≤ 65281
+adapted_most chance true most = omega arith
+adapted_most chance false most =
+    elim (cases_lt (255 - chance / 256) 1) [
+      | inl low ↦
+          let first : 255 - chance / 256 ≡ 0 = omega arith in
+          let none = ap step_of first ∙ step_none in
+          omega arith
+      | inr high ↦
+          let fits = step_within (255 - chance / 256) high (omega arith) in
+          omega arith
+    ]

@@ -1,0 +1,88 @@
+use Rattle.std.proofs.Common.{◌≡◌, ◌+◌, ◌*◌, ◌^◌, ◌<◌, ◌≤◌, Ok, slice_set, ap, sym, subst, arith, ◌∙◌}
+use Rattle.std.proofs.lemmas.Bool.{both_ways}
+use Rattle.dirac_arith.specs.Carried.{Lies}
+use Rattle.dirac_arith.specs.Interval.{narrowed, contexts_after}
+use Rattle.dirac_arith.specs.Reading.{Reading}
+use Rattle.dirac_arith.specs.Registers.{doublings_of}
+use Rattle.dirac_arith.specs.Decoding.{reading}
+use Rattle.dirac_arith.proofs.Intervals.{doublings_is, stands_self, one_truth, lies_kept}
+use Rattle.dirac_arith.proofs.Windows.{window_from_lies}
+use Rattle.dirac_arith.proofs.Decisions.{chances_set, moves, lies_moved}
+use Rattle.dirac_arith.proofs.decoder.Decoder.decision.Goals as goal
+
+pub returns-then-self-clause-one : goal.returns-then-self-clause-one
+returns-then-self-clause-one c =
+    λ truth h.
+    let a = c.self.inside in
+    let sound = c.self.invariant in
+    let P : Reading → Type 0 = λ x. Lies x.block (narrowed x.at (c.args.ctx, truth)) in
+    let here = subst P (sym c.self.view_is) h in
+    let s = (reading a).at in
+    let fits = sound.chances c.args.ctx c.requires.context in
+    let inside = window_from_lies a.block.now a.registers s sound.stands (lies_kept a.block.now s c.args.ctx truth (omega arith) here) in
+    let past = sound.refused c.if-self.true in
+    absurd (omega arith)
+
+pub invariant_of-self : goal.invariant_of-self
+invariant_of-self c =
+    let a = c.self.inside in
+    let sound = c.self.invariant in
+    let decided = c.decide-decided.ensures in
+    let filled = c.fill-self-inside.ensures in
+    let stands = filled.stands _ _ (decided.stands a.block.now _ _ sound.stands) in
+    record {
+      stands = stands_self a.block.now c.fill-self-inside.result _ _ stands;
+      wide = omega arith;
+      narrow = omega arith;
+      some_ahead = filled.some_ahead;
+      most_ahead = filled.most_ahead;
+      refused = λ e. absurd (both_ways a.refused c.if-self.false e);
+      inside = λ e. ((sound.inside e).0, rw filled.range (filled.inside _ decided.inside));
+      chances = chances_set a.contexts c.args.ctx c.adapt.result c.adapt.ensures.some c.adapt.ensures.most sound.chances;
+    }
+
+pub returns-clause-moves : goal.returns-clause-moves
+returns-clause-moves c =
+    let a = c.self.inside in
+    let decided = c.decide-decided.ensures in
+    let filled = c.fill-self-inside.ensures in
+    let truth = c.decide-decided.result.truth in
+    let r = c.fill-self-inside.result in
+    let contexts = slice_set a.contexts c.args.ctx c.adapt.result in
+    let stands = filled.stands _ _ (decided.stands a.block.now _ _ c.self.invariant.stands) in
+    let after : contexts ≡ contexts_after (reading a).at c.args.ctx truth = ap (λ p. slice_set a.contexts c.args.ctx p) c.adapt.ensures.exact in
+    let new : Reading = reading (record { block = a.block; registers = r; contexts = contexts; refused = a.refused }) in
+    let P : Reading → Type 0 = λ x. new ≡ record { block = x.block; at = narrowed x.at (c.args.ctx, truth) } in
+    subst P c.self.view_is (moves a c.args.ctx truth r contexts stands (filled.range ∙ decided.range) after)
+
+pub returns-clause-lies : goal.returns-clause-lies
+returns-clause-lies c =
+    let a = c.self.inside in
+    let decided = c.decide-decided.ensures in
+    let filled = c.fill-self-inside.ensures in
+    let truth = c.decide-decided.result.truth in
+    let r = c.fill-self-inside.result in
+    let contexts = slice_set a.contexts c.args.ctx c.adapt.result in
+    let stands = filled.stands _ _ (decided.stands a.block.now _ _ c.self.invariant.stands) in
+    let after : contexts ≡ contexts_after (reading a).at c.args.ctx truth = ap (λ p. slice_set a.contexts c.args.ctx p) c.adapt.ensures.exact in
+    let inside : r.window < r.range * 2 ^ r.ahead = rw filled.range (filled.inside _ decided.inside) in
+    let P : Reading → Type 0 = λ x. Lies x.block (narrowed x.at (c.args.ctx, truth)) in
+    subst P c.self.view_is (lies_moved a c.args.ctx truth r contexts stands (filled.range ∙ decided.range) after inside)
+
+pub returns-clause-one : goal.returns-clause-one
+returns-clause-one c =
+    λ truth h.
+    let lies = returns-clause-lies c in
+    ap Ok (one_truth c.args.self.now.block c.args.self.now.at c.args.ctx c.decide-decided.result.truth truth lies h)
+
+pub returns-clause-few : goal.returns-clause-few
+returns-clause-few c =
+    let a = c.self.inside in
+    let decided = c.decide-decided.ensures in
+    let filled = c.fill-self-inside.ensures in
+    let stands = decided.stands a.block.now _ _ c.self.invariant.stands in
+    let before = c.self.invariant.stands.bits in
+    let after = stands.bits in
+    let is = doublings_is a.block.now c.fill-self-inside.result _ _ (filled.stands _ _ stands) in
+    let P : Reading → Type 0 = λ x. doublings_of c.fill-self-inside.result ≤ x.at.doublings + 9 in
+    subst P c.self.view_is (omega (arith, is, decided.few, decided.next))

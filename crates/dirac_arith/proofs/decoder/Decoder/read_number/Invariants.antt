@@ -1,0 +1,17 @@
+use Rattle.std.proofs.Common.{◌≡◌, ◌≢◌, ◌+◌, ◌-◌, ◌*◌, ◌^◌, ◌<◌, ◌≤◌, length}
+use Rattle.dirac_types.specs.Numbers.{digits_of}
+use Rattle.dirac_arith.specs.Front.{front}
+use Rattle.dirac_arith.specs.Reading.{Reads}
+use Rattle.dirac_arith.specs.Spelling.{opening}
+use Rattle.dirac_arith.proofs.decoder.Decoder.read_number.Given as goal
+
+abbrev pub invariant-digits : goal.invariant-digits
+invariant-digits l =
+    record {
+      reads : Reads l.fn.self (opening l.follow l.bits 0 (digits_of (l.value - 1))) l.self;
+      some : 1 ≤ l.value;
+      below : l.value < 2 ^ (l.i + 1);
+      digits : length (digits_of (l.value - 1)) ≡ l.i;
+      room : l.self.at.doublings ≤ l.fn.self.at.doublings + 18 * l.i;
+      alive : 0 < l.i → front l.fn.self.block 16 ≢ 0xFFFF;
+    }

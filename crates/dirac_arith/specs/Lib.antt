@@ -1,0 +1,10 @@
+pub mod Carried
+pub mod Decoding
+pub mod Front
+pub mod Interval
+pub mod Laws
+pub mod Reading
+pub mod Registers
+pub mod Spelling
+pub mod StepTable
+pub mod Written

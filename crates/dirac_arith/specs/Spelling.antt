@@ -1,0 +1,38 @@
+-- How decisions spell a number: its digits each behind a false follow decision, then a true one.
+use Rattle.std.specs.Prelude.{ℕ, zero, suc, ℤ, pos, negsuc, ◌+◌, ◌-◌, min, Bool, true, false, List, [], ◌∷◌, ◌++◌, length, slice_index, nat_lt, IsTrue}
+use Rattle.std.specs.List.{list_all}
+use Rattle.dirac_types.specs.Numbers.{digits_of}
+use Rattle.dirac_arith.specs.Interval.{Decision}
+
+-- a list of numbers of contexts
+abbrev pub AreContexts : List ℕ → Type 0
+AreContexts contexts = IsTrue (list_all (λ c. nat_lt c 38) contexts)
+
+-- the context of a follow decision: the last one of the list repeats
+abbrev pub follow_at : List ℕ → ℕ → ℕ
+follow_at follow i = slice_index follow (min i (length follow - 1))
+
+-- digits from number i on, each behind a false follow decision
+abbrev pub opening : List ℕ → ℕ → ℕ → List Bool → List Decision
+opening follow bits i [] = []
+opening follow bits i (b ∷ bs) = (follow_at follow i, false) ∷ (bits, b) ∷ opening follow bits (i + 1) bs
+
+-- digits and one more follow decision
+abbrev pub spelt : List ℕ → ℕ → List Bool → Bool → List Decision
+spelt follow bits digits last = opening follow bits 0 digits ++ (follow_at follow (length digits), last) ∷ []
+
+-- the decisions that spell an unsigned number
+unfoldable pub spelling : List ℕ → ℕ → ℕ → List Decision
+spelling follow bits v = spelt follow bits (digits_of v) true
+
+-- the decisions that spell a signed number: its magnitude, then where it isn't 0 its sign, true for negative
+unfoldable pub signed_spelling : List ℕ → ℕ → ℕ → ℤ → List Decision
+signed_spelling follow bits sign (pos zero) = spelling follow bits 0
+signed_spelling follow bits sign (pos (suc n)) = spelling follow bits (suc n) ++ (sign, false) ∷ []
+signed_spelling follow bits sign (negsuc n) = spelling follow bits (suc n) ++ (sign, true) ∷ []
+
+-- a magnitude with a sign, true for negative
+abbrev pub signed_value : ℕ → Bool → ℤ
+signed_value n false = pos n
+signed_value zero true = pos zero
+signed_value (suc n) true = negsuc n

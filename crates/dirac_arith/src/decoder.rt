@@ -1,0 +1,188 @@
+//! Arithmetic decoding of one block.
+ghost use Rattle.std.specs.Prelude.{◌≡◌, ◌≢◌, ◌↔◌, ◌+◌, ◌-◌, ◌*◌, ◌/◌, ◌^◌, ◌<◌, ◌≤◌, ◌⊎◌, ℕ, ℤ, nat_abs, Bool, false, List, length, slice_index, IfOk, IfErr, OnErr, Ok, Err};
+ghost use Rattle.dirac_arith.specs.Carried.{Lies};
+ghost use Rattle.dirac_arith.specs.Front.{front};
+ghost use Rattle.dirac_arith.specs.Interval.{narrowed, narrowed_by, whole};
+ghost use Rattle.dirac_arith.specs.Reading.{Reads};
+ghost use Rattle.dirac_arith.specs.Spelling.{AreContexts, signed_spelling, spelling, spelt};
+
+use crate::chances::adapt;
+use crate::follow::follow_context;
+use crate::magnitude::with_sign;
+use crate::registers::{Registers, begin, decide, fill, is_past};
+use dirac_types::Cause;
+use std::marker::Model;
+
+/// Reads the decisions of a block, each under the number of its context (arithmetic decoding, Dirac specification).
+/// Bits past the end of the block are ones.
+#[derive(Drop)]
+pub struct Decoder<'a> {
+    block: &'a [u8],
+    registers: Registers,
+    contexts: [u16; 38],
+    refused: bool,
+}
+
+impl<'a> Model for Decoder<'a> {
+    ghost use Rattle.dirac_arith.specs.Reading.{Reading};
+
+    ghost Value = { Reading };
+
+    ghost use Rattle.dirac_arith.specs.Decoding.{reading, IsSound};
+
+    ghost view = { reading };
+
+    ghost invariant = { IsSound };
+}
+
+impl<'a> Decoder<'a> {
+    /// Stands at the begin of a block, with every context at one half.
+    pub fn new(block: &'a [u8]) -> Decoder<'a>
+        ensures { result ≡ record { block = block.entry.now; at = whole } }
+    {
+        let registers = begin(block);
+        let refused = is_past(registers);
+        Decoder {
+            block,
+            registers,
+            contexts: [0x8000; 38],
+            refused,
+        }
+    }
+
+    /// The chance of a context, as a part of 0x10000, that its next decision is false.
+    pub fn context(&self, ctx: u8) -> u16
+        requires { ctx < 38 }
+        ensures { result ≡ slice_index self.now.at.contexts ctx }
+    {
+        self.contexts[ctx as usize]
+    }
+
+    /// One decision in a context. A block that begins with sixteen ones, as an empty one does, has none: `CodeWord`.
+    pub fn decision(&mut self, ctx: u8) -> Result<bool, Cause>
+        requires context { ctx < 38 }
+        requires room { self.old.at.doublings < 2 ^ 62 }
+        ensures moves { IfOk result (λ truth. self.new ≡ record { block = self.old.block; at = narrowed self.old.at (ctx, truth) }) }
+        ensures lies { IfOk result (λ truth. Lies self.old.block (narrowed self.old.at (ctx, truth))) }
+        ensures one { (truth : Bool) → Lies self.old.block (narrowed self.old.at (ctx, truth)) → result ≡ Ok truth }
+        ensures few { self.new.at.doublings ≤ self.old.at.doublings + 9 }
+        ensures refused { (result ≡ Err Cause.CodeWord) ↔ (front self.old.block 16 ≡ 0xFFFF) }
+        ensures only { OnErr result (result ≡ Err Cause.CodeWord) }
+        ensures unchanged { OnErr result (self.new ≡ self.old) }
+    {
+        if self.refused {
+            return Err(Cause::CodeWord);
+        }
+        let at = ctx as usize;
+        let chance = self.contexts[at];
+        let decided = decide(self.registers, chance);
+        self.contexts[at] = adapt(chance, decided.truth);
+        self.registers = fill(self.block, decided.registers);
+        Ok(decided.truth)
+    }
+
+    /// A number, whose follow decisions stand in these contexts, the last one repeated, and its digits in the context `bits`.
+    /// One of more than 38 digits behind its leading one is refused `NumberTooLong`; the decisions up to there were taken.
+    pub fn number(&mut self, follow: &[u8], bits: u8) -> Result<u64, Cause>
+        requires some { 0 < length follow.now }
+        requires follow { AreContexts follow.now }
+        requires bits { bits < 38 }
+        requires room { self.old.at.doublings < 2 ^ 61 }
+        ensures found { IfOk result (λ v. Reads self.old (spelling follow.now bits v) self.new) }
+        ensures most { IfOk result (λ v. v < 2 ^ 39 - 1) }
+        ensures long { result ≡ Err Cause.NumberTooLong →
+            (digits : List Bool) × (length digits ≡ 38) × Reads self.old (spelt follow.now bits digits false) self.new }
+        ensures number { (v : ℕ) → v < 2 ^ 39 - 1 → Lies self.old.block (narrowed_by self.old.at (spelling follow.now bits v)) →
+            result ≡ Ok v }
+        ensures no_number { (digits : List Bool) → length digits ≡ 38 →
+            Lies self.old.block (narrowed_by self.old.at (spelt follow.now bits digits false)) →
+            result ≡ Err Cause.NumberTooLong }
+        ensures refused { (result ≡ Err Cause.CodeWord) ↔ (front self.old.block 16 ≡ 0xFFFF) }
+        ensures only { IfErr result (λ e. (e ≡ Cause.CodeWord) ⊎ (e ≡ Cause.NumberTooLong)) }
+        ensures unchanged { result ≡ Err Cause.CodeWord → self.new ≡ self.old }
+        ensures few { self.new.at.doublings ≤ self.old.at.doublings + 693 }
+    {
+        let _ = &self.contexts;
+        self.read_number(follow, bits)
+    }
+
+    // Reads digits until a true follow decision.
+    fn read_number(&mut self, follow: &[u8], bits: u8) -> Result<u64, Cause>
+        requires some { 0 < length follow.now }
+        requires follow { AreContexts follow.now }
+        requires bits { bits < 38 }
+        requires room { self.old.at.doublings < 2 ^ 61 }
+        ensures found { IfOk result (λ v. Reads self.old (spelling follow.now bits v) self.new) }
+        ensures most { IfOk result (λ v. v < 2 ^ 39 - 1) }
+        ensures long { result ≡ Err Cause.NumberTooLong →
+            (digits : List Bool) × (length digits ≡ 38) × Reads self.old (spelt follow.now bits digits false) self.new }
+        ensures refused { (result ≡ Err Cause.CodeWord) ↔ (front self.old.block 16 ≡ 0xFFFF) }
+        ensures only { IfErr result (λ e. (e ≡ Cause.CodeWord) ⊎ (e ≡ Cause.NumberTooLong)) }
+        ensures unchanged { result ≡ Err Cause.CodeWord → self.new ≡ self.old }
+        ensures few { self.new.at.doublings ≤ self.old.at.doublings + 693 }
+    {
+        let mut value: u64 = 1;
+        'digits: for i in 0..38usize {
+            let last = self.decision(follow_context(follow, i))?;
+            if last {
+                return Ok(value - 1);
+            }
+            let digit = self.decision(bits)?;
+            value = value * 2 + u64::from(digit);
+        }
+        let end = self.decision(follow_context(follow, 38))?;
+        if end {
+            return Ok(value - 1);
+        }
+        Err(Cause::NumberTooLong)
+    }
+
+    /// A signed number: its magnitude as `number` reads it, and where it isn't 0 its sign in a context of its own.
+    pub fn signed(&mut self, follow: &[u8], bits: u8, sign: u8) -> Result<i64, Cause>
+        requires some { 0 < length follow.now }
+        requires follow { AreContexts follow.now }
+        requires bits { bits < 38 }
+        requires sign { sign < 38 }
+        requires room { self.old.at.doublings < 2 ^ 61 }
+        ensures found { IfOk result (λ v. Reads self.old (signed_spelling follow.now bits sign v) self.new) }
+        ensures most { IfOk result (λ v. nat_abs v < 2 ^ 39 - 1) }
+        ensures long { result ≡ Err Cause.NumberTooLong →
+            (digits : List Bool) × (length digits ≡ 38) × Reads self.old (spelt follow.now bits digits false) self.new }
+        ensures number { (v : ℤ) → nat_abs v < 2 ^ 39 - 1 → Lies self.old.block (narrowed_by self.old.at (signed_spelling follow.now bits sign v)) →
+            result ≡ Ok v }
+        ensures no_number { (digits : List Bool) → length digits ≡ 38 →
+            Lies self.old.block (narrowed_by self.old.at (spelt follow.now bits digits false)) →
+            result ≡ Err Cause.NumberTooLong }
+        ensures refused { (result ≡ Err Cause.CodeWord) ↔ (front self.old.block 16 ≡ 0xFFFF) }
+        ensures only { IfErr result (λ e. (e ≡ Cause.CodeWord) ⊎ (e ≡ Cause.NumberTooLong)) }
+        ensures unchanged { result ≡ Err Cause.CodeWord → self.new ≡ self.old }
+        ensures few { self.new.at.doublings ≤ self.old.at.doublings + 702 }
+    {
+        let _ = &self.contexts;
+        self.read_signed(follow, bits, sign)
+    }
+
+    // Reads a magnitude and its sign.
+    fn read_signed(&mut self, follow: &[u8], bits: u8, sign: u8) -> Result<i64, Cause>
+        requires some { 0 < length follow.now }
+        requires follow { AreContexts follow.now }
+        requires bits { bits < 38 }
+        requires sign { sign < 38 }
+        requires room { self.old.at.doublings < 2 ^ 61 }
+        ensures found { IfOk result (λ v. Reads self.old (signed_spelling follow.now bits sign v) self.new) }
+        ensures most { IfOk result (λ v. nat_abs v < 2 ^ 39 - 1) }
+        ensures long { result ≡ Err Cause.NumberTooLong →
+            (digits : List Bool) × (length digits ≡ 38) × Reads self.old (spelt follow.now bits digits false) self.new }
+        ensures refused { (result ≡ Err Cause.CodeWord) ↔ (front self.old.block 16 ≡ 0xFFFF) }
+        ensures only { IfErr result (λ e. (e ≡ Cause.CodeWord) ⊎ (e ≡ Cause.NumberTooLong)) }
+        ensures unchanged { result ≡ Err Cause.CodeWord → self.new ≡ self.old }
+        ensures few { self.new.at.doublings ≤ self.old.at.doublings + 702 }
+    {
+        let magnitude = self.read_number(follow, bits)?;
+        if magnitude == 0 {
+            return Ok(0);
+        }
+        let negative = self.decision(sign)?;
+        Ok(with_sign(magnitude, negative))
+    }
+}

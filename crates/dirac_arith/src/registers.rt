@@ -1,0 +1,150 @@
+//! The registers of arithmetic decoding: the code less low, with some bits read ahead.
+ghost use Rattle.std.specs.Prelude.{◌≡◌, ◌+◌, ◌-◌, ◌*◌, ◌/◌, ◌^◌, ◌<◌, ◌≤◌, ℕ, List, slice_index_or, true, false};
+ghost use Rattle.dirac_arith.specs.Interval.{doublings_for};
+ghost use Rattle.dirac_arith.specs.Registers.{Stands, part_of, lift_of};
+
+/// What a decoder keeps of its place in a block.
+#[derive(Clone, Copy)]
+pub struct Registers {
+    /// The code less low, and behind it the bits read ahead.
+    pub window: u64,
+    /// How wide the interval is.
+    pub range: u32,
+    /// The number of bits read ahead.
+    pub ahead: u32,
+    /// The number of the next byte, which may lie past the end.
+    pub next: usize,
+}
+
+/// A decision, and the registers after it.
+#[derive(Clone, Copy)]
+pub struct Decided {
+    pub truth: bool,
+    pub registers: Registers,
+}
+
+/// The byte of a block, ones past its end.
+fn byte_at(block: &[u8], place: usize) -> u8
+    ensures { result ≡ slice_index_or block.now place 255 }
+{
+    block.get(place).copied().unwrap_or(0xFF)
+}
+
+/// Reads bytes until no more fit behind the window.
+pub fn refill(block: &[u8], mut registers: Registers) -> Registers
+    requires narrow { registers.window < 65536 * 2 ^ registers.ahead }
+    requires room { registers.next < 2 ^ 60 }
+    requires ahead { registers.ahead ≤ 48 }
+    ensures stands { (low doublings : ℕ) → Stands block.now registers low doublings → Stands block.now result low doublings }
+    ensures range { result.range ≡ registers.range }
+    ensures some_ahead { 9 ≤ result.ahead }
+    ensures most_ahead { result.ahead ≤ 48 }
+    ensures inside { (range : ℕ) → registers.window < range * 2 ^ registers.ahead → result.window < range * 2 ^ result.ahead }
+    ensures outside { (range : ℕ) → range * 2 ^ registers.ahead ≤ registers.window → range * 2 ^ result.ahead ≤ result.window }
+{
+    'reading: while registers.ahead <= 40 {
+        registers.window = registers.window * 256 + u64::from(byte_at(block, registers.next));
+        registers.ahead += 8;
+        registers.next += 1;
+    }
+    registers
+}
+
+/// Reads bytes where fewer bits are ahead than a decision may take.
+pub fn fill(block: &[u8], registers: Registers) -> Registers
+    requires narrow { registers.window < 65536 * 2 ^ registers.ahead }
+    requires room { registers.next < 2 ^ 60 }
+    requires ahead { registers.ahead ≤ 48 }
+    ensures stands { (low doublings : ℕ) → Stands block.now registers low doublings → Stands block.now result low doublings }
+    ensures range { result.range ≡ registers.range }
+    ensures some_ahead { 9 ≤ result.ahead }
+    ensures most_ahead { result.ahead ≤ 48 }
+    ensures inside { (range : ℕ) → registers.window < range * 2 ^ registers.ahead → result.window < range * 2 ^ result.ahead }
+{
+    if registers.ahead >= 9 {
+        return registers;
+    }
+    refill(block, registers)
+}
+
+/// The registers at the begin of a block: 16 bits of code, and bits ahead.
+pub fn begin(block: &[u8]) -> Registers
+    ensures stands { Stands block.now result 0 0 }
+    ensures range { result.range ≡ 0xFFFF }
+    ensures some_ahead { 9 ≤ result.ahead }
+    ensures most_ahead { result.ahead ≤ 48 }
+    ensures inside { result.window < 65536 * 2 ^ result.ahead }
+{
+    let code = u64::from(byte_at(block, 0)) * 256 + u64::from(byte_at(block, 1));
+    refill(
+        block,
+        Registers {
+            window: code,
+            range: 0xFFFF,
+            ahead: 0,
+            next: 2,
+        },
+    )
+}
+
+/// Whether the code lies past the range.
+pub fn is_past(registers: Registers) -> bool
+    requires narrow { registers.range ≤ 0xFFFF }
+    requires ahead { registers.ahead ≤ 48 }
+    ensures past { result ≡ true → registers.range * 2 ^ registers.ahead ≤ registers.window }
+    ensures inside { result ≡ false → registers.window < registers.range * 2 ^ registers.ahead }
+{
+    registers.window >= u64::from(registers.range) << registers.ahead
+}
+
+/// The number of doublings that take a range above 0x4000: the count of leading zeros of a 15-bit number.
+fn doublings(range: u32) -> u32
+    requires some { 32 < range }
+    requires narrow { range ≤ 0xFFFF }
+    ensures least { result ≡ doublings_for range }
+    ensures few { result ≤ 9 }
+{
+    (range - 1).leading_zeros().saturating_sub(17)
+}
+
+/// Takes one decision at a context of this chance.
+pub fn decide(registers: Registers, chance: u16) -> Decided
+    requires wide { 0x4000 < registers.range }
+    requires narrow { registers.range ≤ 0xFFFF }
+    requires some_chance { 254 ≤ chance }
+    requires most_chance { chance ≤ 65281 }
+    requires some_ahead { 9 ≤ registers.ahead }
+    requires most_ahead { registers.ahead ≤ 48 }
+    requires inside { registers.window < registers.range * 2 ^ registers.ahead }
+    ensures stands { (block : List ℕ) (low k : ℕ) → Stands block registers low k →
+        let split = registers.range * chance / 2 ^ 16 in
+        let part = part_of registers.range split result.truth in
+        Stands block result.registers ((low + lift_of split result.truth) * 2 ^ doublings_for part) (k + doublings_for part) }
+    ensures range { let part = part_of registers.range (registers.range * chance / 2 ^ 16) result.truth in
+        result.registers.range ≡ part * 2 ^ doublings_for part }
+    ensures wide { 0x4000 < result.registers.range }
+    ensures narrow { result.registers.range ≤ 0xFFFF }
+    ensures next { result.registers.next ≡ registers.next }
+    ensures few { registers.ahead ≤ result.registers.ahead + 9 }
+    ensures most { result.registers.ahead ≤ registers.ahead }
+    ensures inside { result.registers.window < result.registers.range * 2 ^ result.registers.ahead }
+{
+    let split = registers.range * u32::from(chance) / 65536;
+    let bound = u64::from(split) << registers.ahead;
+    let truth = registers.window >= bound;
+    let (window, range) = if truth {
+        (registers.window - bound, registers.range - split)
+    } else {
+        (registers.window, split)
+    };
+    let count = doublings(range);
+    Decided {
+        truth,
+        registers: Registers {
+            window,
+            range: range << count,
+            ahead: registers.ahead - count,
+            next: registers.next,
+        },
+    }
+}

@@ -1,0 +1,10 @@
+pub mod Bits
+pub mod Doublings
+pub mod Passing
+pub mod Spelled
+pub mod Literals
+pub mod Blocks
+pub mod Read
+pub mod Ends
+pub mod Whole
+pub mod Given

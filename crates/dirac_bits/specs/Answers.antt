@@ -1,0 +1,24 @@
+-- What the answer of a reader says of what is read.
+use Rattle.std.specs.Prelude.{◌≡◌, Result, Ok, Err}
+use Rattle.dirac_types.specs.declared.faults.Refusal.{Refusal}
+use Rattle.dirac_bits.specs.Cursor.{Cursor}
+
+-- the reader answers what is read, seen by `view`, and stands behind it; after a refusal it stands where it stood
+abbrev pub Takes : {X Y : Type 0} → (X → Y) → Result X Refusal → Cursor → Cursor → Result (Y × Cursor) Refusal → Type 0
+Takes view (Ok x) old new read = read ≡ Ok (view x, new)
+Takes view (Err e) old new read = (read ≡ Err e) × (new ≡ old)
+
+-- the same, where nothing is said of the reader after a refusal
+abbrev pub Reads : {X Y : Type 0} → (X → Y) → Result X Refusal → Cursor → Result (Y × Cursor) Refusal → Type 0
+Reads view (Ok x) new read = read ≡ Ok (view x, new)
+Reads view (Err e) new read = read ≡ Err e
+
+-- the answer is this one, seen by `view`
+abbrev pub Gives : {X Y E : Type 0} → (X → Y) → Result X E → Result Y E → Type 0
+Gives view (Ok x) read = read ≡ Ok (view x)
+Gives view (Err e) read = read ≡ Err e
+
+-- what is read, without the place behind it
+abbrev pub value_of : {A E : Type 0} → Result (A × Cursor) E → Result A E
+value_of (Ok x) = Ok x.0
+value_of (Err e) = Err e

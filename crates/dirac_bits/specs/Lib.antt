@@ -1,0 +1,9 @@
+pub mod Chain
+pub mod Cursor
+pub mod Fields
+pub mod Syntax
+pub mod Then
+pub mod Spelling
+pub mod Answers
+pub mod Laws
+pub mod Spots

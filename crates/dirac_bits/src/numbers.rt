@@ -1,0 +1,112 @@
+ghost use Rattle.std.specs.Prelude.{◌≡◌, ◌+◌, ◌*◌, ◌<◌, ◌≤◌, ◌^◌, length, IfOk, IsOk, ◌↔◌, slice_range, unsigned_abs};
+ghost use Rattle.dirac_bits.specs.Cursor.{bit_next};
+ghost use Rattle.dirac_bits.specs.Fields.{number_on, signed_on, signed, literal_on, bytes_on};
+ghost use Rattle.dirac_bits.specs.Spots.{cursor_at, bit_number, Steps, StepsBy};
+
+use crate::spot::Spot;
+use dirac_types::Cause;
+
+/// The bit at `spot`, and the spot behind it.
+pub fn next_bit(bytes: &[u8], spot: Spot) -> Result<(bool, Spot), Cause>
+    ensures value { Steps bytes.now result (bit_next (cursor_at bytes.now spot)) }
+    ensures inside { IfOk result (λ x. bit_number x.1 ≤ 8 * length bytes.now) }
+{
+    if spot.byte < bytes.len() {
+        let bit = (bytes[spot.byte] >> (7 - spot.bit)) & 1 == 1;
+        Ok((bit, spot.after()))
+    } else {
+        Err(Cause::UnitShort)
+    }
+}
+
+/// The unsigned number at `first`, and the spot behind it.
+pub fn next_number(bytes: &[u8], first: Spot) -> Result<(u64, Spot), Cause>
+    ensures value { Steps bytes.now result (number_on 38 1 (cursor_at bytes.now first)) }
+    ensures inside { IfOk result (λ x. bit_number x.1 ≤ 8 * length bytes.now) }
+    ensures small { IfOk result (λ x. x.0 + 1 < 2 ^ 39) }
+{
+    let mut spot = first;
+    let mut value = 1;
+    'digits: for doublings in 0..38u8 {
+        let (ends, behind) = next_bit(bytes, spot)?;
+        if ends {
+            return Ok((value - 1, behind));
+        }
+        let (digit, next) = next_bit(bytes, behind)?;
+        value = 2 * value + u64::from(digit);
+        spot = next;
+    }
+    let (ends, behind) = next_bit(bytes, spot)?;
+    if ends {
+        Ok((value - 1, behind))
+    } else {
+        Err(Cause::NumberTooLong)
+    }
+}
+
+/// The signed number at `first`, and the spot behind it.
+#[tactic(auto, unfolding(crate::specs::Fields::sign_on))]
+pub fn next_signed(bytes: &[u8], first: Spot) -> Result<(i64, Spot), Cause>
+    ensures value { Steps bytes.now result (signed_on (cursor_at bytes.now first)) }
+    ensures inside { IfOk result (λ x. bit_number x.1 ≤ 8 * length bytes.now) }
+    ensures small { IfOk result (λ x. unsigned_abs x.0 + 1 < 2 ^ 39) }
+{
+    let (magnitude, behind) = next_number(bytes, first)?;
+    if magnitude == 0 {
+        return Ok((0, behind));
+    }
+    let (negative, next) = next_bit(bytes, behind)?;
+    Ok((with_sign(negative, magnitude), next))
+}
+
+fn with_sign(negative: bool, magnitude: u64) -> i64
+    requires { magnitude < 2 ^ 39 }
+    ensures value { result ≡ signed negative magnitude }
+    ensures size { unsigned_abs result ≡ magnitude }
+{
+    let number = magnitude as i64;
+    if negative { -number } else { number }
+}
+
+/// The four bytes at `first` as a number, and the spot behind them.
+pub fn next_literal(bytes: &[u8], first: Spot) -> Result<(u32, Spot), Cause>
+    requires aligned { first.bit ≡ 0 }
+    requires inside { bit_number first ≤ 8 * length bytes.now }
+    ensures value { Steps bytes.now result (literal_on (cursor_at bytes.now first)) }
+    ensures inside { IfOk result (λ x. bit_number x.1 ≤ 8 * length bytes.now) }
+    ensures aligned { IfOk result (λ x. x.1.bit ≡ 0) }
+{
+    let start = first.byte;
+    if bytes.len() - start < 4 {
+        return Err(Cause::UnitShort);
+    }
+    let four = [
+        bytes[start],
+        bytes[start + 1],
+        bytes[start + 2],
+        bytes[start + 3],
+    ];
+    let behind = Spot {
+        byte: start + 4,
+        bit: 0,
+    };
+    Ok((u32::from_be_bytes(four), behind))
+}
+
+/// The `len` bytes at `first`, which aren't copied, and the spot behind them.
+pub fn next_block(bytes: &[u8], first: Spot, len: u64) -> Result<(&[u8], Spot), Cause>
+    requires aligned { first.bit ≡ 0 }
+    requires inside { bit_number first ≤ 8 * length bytes.now }
+    ensures value { StepsBy (λ part. part.now) bytes.now result (bytes_on len (cursor_at bytes.now first)) }
+    ensures lent { IfOk result (λ x. x.0.now ≡ slice_range bytes.now first.byte (first.byte + len)) }
+    ensures whole { IsOk result ↔ (first.byte + len ≤ length bytes.now) }
+    ensures inside { IfOk result (λ x. bit_number x.1 ≤ 8 * length bytes.now) }
+    ensures aligned { IfOk result (λ x. x.1.bit ≡ 0) }
+{
+    let start = first.byte;
+    if ((bytes.len() - start) as u64) < len {
+        return Err(Cause::UnitShort);
+    }
+    let end = start + len as usize;
+    Ok((&bytes[start..end], Spot { byte: end, bit: 0 }))
+}

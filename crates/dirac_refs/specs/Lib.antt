@@ -1,0 +1,3 @@
+pub mod Bounded
+pub mod Delivery
+pub mod References

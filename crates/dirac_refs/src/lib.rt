@@ -1,0 +1,14 @@
+//! The pictures that a sequence keeps: those that others may refer to, and those that wait for delivery.
+#![tactic(auto)]
+
+mod bounded;
+mod delivery;
+mod laws;
+mod ref_buffer;
+mod shared;
+mod waiting;
+
+pub use delivery::{Delivery, key};
+pub use laws::{least_leaves_first, refs_are_few};
+pub use ref_buffer::RefBuffer;
+pub use waiting::Waiting;

@@ -1,0 +1,99 @@
+ghost use Rattle.std.specs.Prelude.{◌≡◌, ◌≤◌, [], length};
+ghost use Rattle.std.specs.Option.{option_copied};
+ghost use Rattle.dirac_refs.specs.References.{append, committed, listed, without};
+
+use crate::bounded::Bounded;
+use dirac_types::Picture;
+use std::marker::Model;
+
+/// The reference pictures of a sequence, oldest first: at most eight (reference buffer, Dirac specification).
+#[derive(Drop)]
+pub struct RefBuffer {
+    list: Bounded<Picture, 8>,
+}
+
+impl Model for RefBuffer {
+    ghost use Rattle.std.specs.Prelude.{List, length, ◌≤◌};
+    ghost use Rattle.dirac_types.specs.declared.picture.Picture.{Picture};
+
+    ghost Value = { List Picture };
+
+    ghost view = { λ b. b.list };
+
+    ghost invariant = { λ b. length b.list ≤ 8 };
+}
+
+impl RefBuffer {
+    /// The list at the start of a sequence.
+    pub fn new() -> RefBuffer
+        ensures { result ≡ [] }
+    {
+        RefBuffer {
+            list: Bounded::new(),
+        }
+    }
+
+    /// The listed picture of this number; `None` exactly where there is none.
+    pub fn find(&self, number: u32) -> Option<&Picture>
+        ensures { option_copied result ≡ listed self.now number }
+    {
+        for place in 0..self.list.len() {
+            let picture = self.list.at(place);
+            if picture.number == number {
+                return Some(picture);
+            }
+        }
+        None
+    }
+
+    /// What a coded picture does to the list once it is made: the picture `retire` leaves, then
+    /// `picture` is appended, in place of one of its own number, and of the oldest where eight are listed.
+    #[tactic(auto, using(crate::proofs::Listed::few_without))]
+    pub fn commit(&mut self, retire: Option<u32>, picture: Option<Picture>)
+        ensures list { self.new ≡ committed self.old retire picture }
+        ensures few { length self.new ≤ 8 }
+    {
+        if let Some(number) = retire {
+            leave(&mut self.list, number);
+        }
+        if let Some(picture) = picture {
+            leave(&mut self.list, picture.number);
+            append_last(&mut self.list, picture);
+        }
+    }
+
+    /// How many pictures are listed.
+    pub fn count(&self) -> u8
+        ensures value { result ≡ length self.now }
+        ensures few { result ≤ 8 }
+    {
+        self.list.len() as u8
+    }
+}
+
+/// Takes the pictures of this number out of the list.
+fn leave(list: &mut Bounded<Picture, 8>, number: u32)
+    ensures { list.new ≡ without number list.old }
+{
+    let mut place = 0;
+    while place < list.len() {
+        if list.at(place).number == number {
+            list.remove(place);
+        } else {
+            place += 1;
+        }
+    }
+}
+
+/// Appends a picture, in place of the oldest where eight are listed.
+#[tactic(auto, using(crate::proofs::Listed::few_append))]
+fn append_last(list: &mut Bounded<Picture, 8>, picture: Picture)
+    requires { length list.old ≤ 8 }
+    ensures few { length list.new ≤ 8 }
+    ensures longer { list.new ≡ append list.old picture }
+{
+    if list.len() == 8 {
+        list.remove(0);
+    }
+    list.push(picture);
+}

@@ -1,0 +1,13 @@
+use Rattle.dirac_bits.proofs.Given.{reads_given, given_spelled, spelled_given}
+use Rattle.dirac_sequence.specs.Grammar.{sequence}
+use Rattle.dirac_sequence.proofs.read.read_sequence.Goals as goal
+
+pub returns-clause-spelled : goal.returns-clause-spelled
+returns-clause-spelled c =
+    given_spelled sequence c.args.payload.now c.read_fields.result
+    (reads_given c.read_fields.result c.read_fields.new.r _ (rw c.new-r.ensures at c.read_fields.ensures.value))
+
+pub returns-clause-only : goal.returns-clause-only
+returns-clause-only c =
+    spelled_given sequence c.args.payload.now c.read_fields.result
+    (reads_given c.read_fields.result c.read_fields.new.r _ (rw c.new-r.ensures at c.read_fields.ensures.value))

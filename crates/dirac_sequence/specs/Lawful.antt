@@ -1,0 +1,14 @@
+-- What every sequence that can be read has.
+use Rattle.std.specs.Prelude.{◌≡◌, ℕ, ◌%◌, ◌≤◌}
+use Rattle.dirac_sequence.specs.declared.sequence.Sequence.{Sequence}
+use Rattle.dirac_sequence.specs.Ratios.{ratio_across, ratio_down}
+
+-- a size within the limits
+abbrev pub IsSize : ℕ → ℕ → Type 0
+IsSize width height = (1 ≤ width) × (width ≤ 4096) × (1 ≤ height) × (height ≤ 2304)
+
+-- a sequence that a header can have: a size within the limits, and whole chroma samples
+pub record IsSequence (s : Sequence) : Type 0 where
+  pub size : IsSize s.width s.height
+  pub whole_across : s.width % ratio_across s.chroma ≡ 0
+  pub whole_down : s.height % ratio_down s.chroma ≡ 0

@@ -1,0 +1,4 @@
+pub mod Ratios
+pub mod Tables
+pub mod Grammar
+pub mod Lawful

@@ -1,0 +1,162 @@
+//! Size, chroma format, source sampling and frame rate.
+
+ghost use Rattle.std.specs.Prelude.{◌≡◌, ◌≤◌, ◌%◌, ◌==◌, IfOk, IfErr, length};
+ghost use Rattle.dirac_bits.specs.Syntax.{read};
+ghost use Rattle.dirac_bits.specs.Answers.{Reads};
+ghost use Rattle.dirac_sequence.specs.Grammar as grammar;
+ghost use Rattle.dirac_sequence.specs.Ratios as ratios;
+ghost use Rattle.dirac_sequence.specs.Lawful.{IsSize, IsSequence};
+
+use crate::sequence::{Sequence, ratio_across, ratio_down};
+use crate::tables;
+use dirac_bits::BitReader;
+use dirac_types::{Cause, Chroma, Refusal};
+
+#[tactic(auto, unfolding(crate::specs::Grammar::frames), using(dirac_bits::specs::Then::read_then))]
+pub fn read_frames(r: &mut BitReader<'_>, s: Sequence) -> Result<Sequence, Refusal>
+    requires { IsSize s.width s.height }
+    ensures value { Reads (λ s. s) result r.new (read (grammar.frames s) r.old) }
+    ensures early { IfErr result (λ e. e.at ≤ length r.old.bytes) }
+    ensures kept { r.new.bytes ≡ r.old.bytes }
+    ensures lawful { IfOk result (λ s. IsSequence s) }
+{
+    let (width, height) = read_size(r, (s.width, s.height))?;
+    let chroma = read_chroma(r, (width, height), s.chroma)?;
+    let interlaced = read_sampling(r, s.interlaced)?;
+    let rate = read_rate(r, s.rate)?;
+    Ok(Sequence {
+        width,
+        height,
+        chroma,
+        interlaced,
+        rate,
+        ..s
+    })
+}
+
+#[tactic(auto, unfolding(crate::specs::Grammar::size))]
+fn read_size(r: &mut BitReader<'_>, default: (u32, u32)) -> Result<(u32, u32), Refusal>
+    requires { IsSize default.0 default.1 }
+    ensures value { Reads (λ x. x) result r.new (read (grammar.size default) r.old) }
+    ensures early { IfErr result (λ e. e.at ≤ length r.old.bytes) }
+    ensures kept { r.new.bytes ≡ r.old.bytes }
+    ensures size { IfOk result (λ x. IsSize x.0 x.1) }
+{
+    if !r.bit()? {
+        return Ok(default);
+    }
+    let at = r.place();
+    let width = r.uint()?;
+    if width < 1 || width > 4096 {
+        return Err(Refusal {
+            at,
+            cause: Cause::Size,
+        });
+    }
+    let at = r.place();
+    let height = r.uint()?;
+    if height < 1 || height > 2304 {
+        return Err(Refusal {
+            at,
+            cause: Cause::Size,
+        });
+    }
+    Ok((width as u32, height as u32))
+}
+
+#[tactic(auto, unfolding(crate::specs::Grammar::chroma), using(dirac_bits::specs::Then::read_then))]
+fn read_chroma(r: &mut BitReader<'_>, size: (u32, u32), default: Chroma) -> Result<Chroma, Refusal>
+    ensures value { Reads (λ c. c) result r.new (read (grammar.chroma size default) r.old) }
+    ensures early { IfErr result (λ e. e.at ≤ length r.old.bytes) }
+    ensures kept { r.new.bytes ≡ r.old.bytes }
+    ensures whole_across { IfOk result (λ c. size.0 % ratios.ratio_across c ≡ 0) }
+    ensures whole_down { IfOk result (λ c. size.1 % ratios.ratio_down c ≡ 0) }
+{
+    let at = r.place();
+    let chroma = read_own_chroma(r, default)?;
+    if size.0 % ratio_across(chroma) == 0 && size.1 % ratio_down(chroma) == 0 {
+        Ok(chroma)
+    } else {
+        Err(Refusal {
+            at,
+            cause: Cause::Size,
+        })
+    }
+}
+
+#[tactic(auto, unfolding(crate::specs::Grammar::own_chroma))]
+fn read_own_chroma(r: &mut BitReader<'_>, default: Chroma) -> Result<Chroma, Refusal>
+    ensures value { Reads (λ c. c) result r.new (read (grammar.own_chroma default) r.old) }
+    ensures early { IfErr result (λ e. e.at ≤ length r.old.bytes) }
+    ensures kept { r.new.bytes ≡ r.old.bytes }
+{
+    if !r.bit()? {
+        return Ok(default);
+    }
+    let at = r.place();
+    match r.uint()? {
+        0 => Ok(Chroma::C444),
+        1 => Ok(Chroma::C422),
+        2 => Ok(Chroma::C420),
+        _ => Err(Refusal {
+            at,
+            cause: Cause::ChromaFormat,
+        }),
+    }
+}
+
+#[tactic(auto, unfolding(crate::specs::Grammar::sampling))]
+fn read_sampling(r: &mut BitReader<'_>, default: bool) -> Result<bool, Refusal>
+    ensures value { Reads (λ b. b) result r.new (read (grammar.sampling default) r.old) }
+    ensures early { IfErr result (λ e. e.at ≤ length r.old.bytes) }
+    ensures kept { r.new.bytes ≡ r.old.bytes }
+{
+    if !r.bit()? {
+        return Ok(default);
+    }
+    let at = r.place();
+    let index = r.uint()?;
+    if index > 1 {
+        return Err(Refusal {
+            at,
+            cause: Cause::Sampling,
+        });
+    }
+    Ok(index == 1)
+}
+
+#[tactic(auto, unfolding(crate::specs::Grammar::rate), using(dirac_bits::specs::Then::read_then))]
+fn read_rate(r: &mut BitReader<'_>, default: (u64, u64)) -> Result<(u64, u64), Refusal>
+    ensures value { Reads (λ x. x) result r.new (read (grammar.rate default) r.old) }
+    ensures early { IfErr result (λ e. e.at ≤ length r.old.bytes) }
+    ensures kept { r.new.bytes ≡ r.old.bytes }
+{
+    if !r.bit()? {
+        return Ok(default);
+    }
+    let at = r.place();
+    let index = r.uint()?;
+    if index > 10 {
+        return Err(Refusal {
+            at,
+            cause: Cause::RateIndex,
+        });
+    }
+    if index == 0 {
+        read_fraction(r)
+    } else {
+        Ok(tables::rate(index))
+    }
+}
+
+/// Two numbers, one after the other.
+#[tactic(auto, unfolding(crate::specs::Grammar::fraction))]
+pub fn read_fraction(r: &mut BitReader<'_>) -> Result<(u64, u64), Refusal>
+    ensures value { Reads (λ x. x) result r.new (read grammar.fraction r.old) }
+    ensures early { IfErr result (λ e. e.at ≤ length r.old.bytes) }
+    ensures kept { r.new.bytes ≡ r.old.bytes }
+{
+    let first = r.uint()?;
+    let second = r.uint()?;
+    Ok((first, second))
+}

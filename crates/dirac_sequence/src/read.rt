@@ -1,0 +1,98 @@
+//! The whole sequence header.
+
+ghost use Rattle.std.specs.Prelude.{◌≡◌, ◌≤◌, IfOk, IfErr, Ok, length};
+ghost use Rattle.dirac_bits.specs.Syntax.{read};
+ghost use Rattle.dirac_bits.specs.Answers.{Gives, Reads};
+ghost use Rattle.dirac_bits.specs.Laws.{StartsWith};
+ghost use Rattle.dirac_sequence.specs.declared.sequence.Sequence.{Sequence as TheSequence};
+ghost use Rattle.dirac_sequence.specs.Grammar as grammar;
+ghost use Rattle.dirac_sequence.specs.Lawful.{IsSize, IsSequence};
+
+use crate::details::{read_colours, read_samples};
+use crate::frames::read_frames;
+use crate::sequence::Sequence;
+use crate::tables::preset;
+use dirac_bits::BitReader;
+use dirac_types::{Cause, Refusal};
+
+/// The sequence that a payload begins with: sequence header, Dirac specification. What follows its last field is free.
+///
+/// A refusal names the first field that breaks a rule, by the byte of its first bit. A size that isn't a multiple of
+/// the chroma ratios is refused at the flag of the chroma format, a depth other than 8 at the flag of the signal range.
+pub fn read_sequence(payload: &[u8]) -> Result<Sequence, Refusal>
+    ensures value { Gives (λ s. s) result (grammar.sequence_read payload.now) }
+    // What is answered is spelled by the payload's first bits.
+    ensures spelled { IfOk result (λ s. StartsWith grammar.sequence s payload.now) }
+    // What its first bits spell is answered.
+    ensures only { (s : TheSequence) → StartsWith grammar.sequence s payload.now → result ≡ Ok s }
+    ensures lawful { IfOk result (λ s. IsSequence s) }
+    ensures early { IfErr result (λ e. e.at ≤ length payload.now) }
+{
+    let mut r = BitReader::new(payload);
+    read_fields(&mut r)
+}
+
+#[tactic(auto, unfolding(crate::specs::Grammar::sequence), using(dirac_bits::specs::Then::read_then))]
+fn read_fields(r: &mut BitReader<'_>) -> Result<Sequence, Refusal>
+    ensures value { Reads (λ s. s) result r.new (read grammar.sequence r.old) }
+    ensures early { IfErr result (λ e. e.at ≤ length r.old.bytes) }
+    ensures lawful { IfOk result (λ s. IsSequence s) }
+{
+    let s = read_values(r)?;
+    read_colours(r)?;
+    let at = r.place();
+    if r.uint()? != 0 {
+        return Err(Refusal {
+            at,
+            cause: Cause::Fields,
+        });
+    }
+    Ok(s)
+}
+
+#[tactic(auto, unfolding(crate::specs::Grammar::values), using(dirac_bits::specs::Then::read_then))]
+fn read_values(r: &mut BitReader<'_>) -> Result<Sequence, Refusal>
+    ensures value { Reads (λ s. s) result r.new (read grammar.values r.old) }
+    ensures early { IfErr result (λ e. e.at ≤ length r.old.bytes) }
+    ensures kept { r.new.bytes ≡ r.old.bytes }
+    ensures lawful { IfOk result (λ s. IsSequence s) }
+{
+    let s = read_base_format(r)?;
+    let s = read_frames(r, s)?;
+    read_samples(r, s)
+}
+
+#[tactic(auto, unfolding(crate::specs::Grammar::base_format))]
+fn read_base_format(r: &mut BitReader<'_>) -> Result<Sequence, Refusal>
+    ensures value { Reads (λ s. s) result r.new (read grammar.base_format r.old) }
+    ensures early { IfErr result (λ e. e.at ≤ length r.old.bytes) }
+    ensures kept { r.new.bytes ≡ r.old.bytes }
+    ensures size { IfOk result (λ s. IsSize s.width s.height) }
+{
+    let at = r.place();
+    let major = r.uint()?;
+    if major > 2 {
+        return Err(Refusal {
+            at,
+            cause: Cause::Version,
+        });
+    }
+    let minor = r.uint()?;
+    let profile = r.uint()?;
+    let level = r.uint()?;
+    let at = r.place();
+    let base = r.uint()?;
+    if base > 16 {
+        return Err(Refusal {
+            at,
+            cause: Cause::Preset,
+        });
+    }
+    Ok(Sequence {
+        major,
+        minor,
+        profile,
+        level,
+        ..preset(base as u8)
+    })
+}

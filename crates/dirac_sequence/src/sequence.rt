@@ -1,0 +1,60 @@
+ghost use Rattle.std.specs.Prelude.{◌≡◌};
+ghost use Rattle.dirac_sequence.specs.Ratios as ratios;
+
+use dirac_types::Chroma;
+
+/// What a sequence header says of the pictures that follow it.
+#[derive(Clone, Copy, Debug, PartialEq, Eq)]
+pub struct Sequence {
+    /// The version of the format, at most 2.
+    pub major: u64,
+    pub minor: u64,
+    pub profile: u64,
+    pub level: u64,
+    /// The number of the base video format, from 0 to 16.
+    pub base: u8,
+    /// Luma samples across.
+    pub width: u32,
+    /// Luma samples down.
+    pub height: u32,
+    pub chroma: Chroma,
+    /// Whether the source was interlaced. The pictures are whole frames all the same.
+    pub interlaced: bool,
+    /// Frames a second, as numerator and denominator.
+    pub rate: (u64, u64),
+    /// A pixel's width by its height, as numerator and denominator.
+    pub aspect: (u64, u64),
+    /// The part to be shown: width, height, left, top.
+    pub clean: (u64, u64, u64, u64),
+    /// Luma's offset and excursion.
+    pub luma: (u64, u64),
+    /// Chroma's offset and excursion.
+    pub colour: (u64, u64),
+}
+
+/// Offset and excursion of luma and of chroma.
+#[derive(Clone, Copy)]
+pub struct SignalRange {
+    pub luma: (u64, u64),
+    pub colour: (u64, u64),
+}
+
+/// How many luma samples stand side by side for one chroma sample.
+pub fn ratio_across(chroma: Chroma) -> u32
+    ensures { result ≡ ratios.ratio_across chroma }
+{
+    match chroma {
+        Chroma::C444 => 1,
+        Chroma::C422 | Chroma::C420 => 2,
+    }
+}
+
+/// How many luma samples stand one below the other for one chroma sample.
+pub fn ratio_down(chroma: Chroma) -> u32
+    ensures { result ≡ ratios.ratio_down chroma }
+{
+    match chroma {
+        Chroma::C444 | Chroma::C422 => 1,
+        Chroma::C420 => 2,
+    }
+}
