@@ -2,6 +2,8 @@
 #![tactic(auto)]
 
 #[cfg(test)]
+mod arithmetic;
+#[cfg(test)]
 mod bits;
 #[cfg(test)]
 mod geometry;
@@ -9,3 +11,5 @@ mod geometry;
 mod predictions;
 #[cfg(test)]
 mod quantiser;
+#[cfg(test)]
+mod sequences;

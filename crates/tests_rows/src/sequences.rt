@@ -1,0 +1,82 @@
+use dirac_sequence::{Sequence, preset, read_sequence};
+use dirac_types::{Cause, Chroma, Refusal};
+
+#[test]
+fn refused_headers(rt: HostRuntime) {
+    let rows = [
+        ([0x6Fu8, 0x04, 0x80, 0x00, 0x00], 1u64, Cause::Preset),
+        ([0x6F, 0xE0, 0x00, 0x00, 0x00], 1, Cause::Size),
+        ([0x6F, 0xA1, 0x00, 0x00, 0x00], 1, Cause::ChromaFormat),
+        ([0x6F, 0x96, 0x00, 0x00, 0x00], 1, Cause::Sampling),
+        ([0x6F, 0x8A, 0x10, 0x00, 0x00], 1, Cause::RateIndex),
+        ([0x6F, 0x84, 0x08, 0x00, 0x00], 1, Cause::AspectIndex),
+        ([0x6F, 0x81, 0x48, 0x00, 0x00], 2, Cause::SignalRange),
+        ([0x6F, 0xC1, 0x83, 0x00, 0x40], 3, Cause::Fields),
+        ([0x0F, 0x00, 0x00, 0x00, 0x00], 0, Cause::Version),
+        ([0x6F, 0x06, 0x01, 0x00, 0x00], 2, Cause::Depth8),
+    ];
+    for (payload, at, cause) in rows {
+        assert_eq!(rt;
+            read_sequence(payload.as_slice()),
+            Err(Refusal { at, cause })
+        );
+    }
+    let noughts = [0u8; 10];
+    let at: u64 = 0;
+    assert_eq!(rt;
+        read_sequence(noughts.as_slice()),
+        Err(Refusal {
+            at,
+            cause: Cause::NumberTooLong
+        })
+    );
+    assert_eq!(rt;
+        read_sequence(&noughts[..9]),
+        Err(Refusal {
+            at,
+            cause: Cause::UnitShort
+        })
+    );
+    // base 8 with signal range 3 is of depth 10; the payload ends within the flags
+    let short = [0x6Fu8, 0x60];
+    assert_eq!(rt;
+        read_sequence(short.as_slice()),
+        Err(Refusal {
+            at: 2,
+            cause: Cause::UnitShort
+        })
+    );
+}
+
+#[test]
+fn read_headers(rt: HostRuntime) {
+    let wanted = Sequence {
+        major: 2,
+        minor: 2,
+        profile: 0,
+        level: 0,
+        base: 2,
+        width: 176,
+        height: 144,
+        chroma: Chroma::C420,
+        interlaced: false,
+        rate: (25, 2),
+        aspect: (12, 11),
+        clean: (176, 144, 0, 0),
+        luma: (0, 255),
+        colour: (128, 255),
+    };
+    let plain = [0x6Fu8, 0x60, 0x10];
+    assert_eq!(rt; read_sequence(plain.as_slice()), Ok(wanted));
+    // 8 by 8 samples of base 0, with its clean area
+    let small = [0x6Fu8, 0xC1, 0x83, 0x08, 0x30, 0x79];
+    let wanted = Sequence {
+        major: 2,
+        minor: 2,
+        width: 8,
+        height: 8,
+        clean: (8, 8, 0, 0),
+        ..preset(0)
+    };
+    assert_eq!(rt; read_sequence(small.as_slice()), Ok(wanted));
+}
