@@ -1,0 +1,4 @@
+pub mod Codes
+pub mod Header
+pub mod Prediction
+pub mod Transform

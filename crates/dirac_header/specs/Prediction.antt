@@ -1,0 +1,97 @@
+-- The prediction parameters of an inter picture, field after field: picture prediction parameters, Dirac specification.
+use Rattle.std.specs.Prelude.{ℕ, ℤ, pos, ◌-◌, ◌*◌, ◌%◌, ◌==◌, nat_le, ◌&&◌, if◌then◌else◌, Bool, unsigned_abs}
+use Rattle.dirac_types.specs.declared.faults.Cause.TheVariants.{BlockPreset, BlockSize, Precision, GlobalMotion, PredictionMode, Weights as WeightRange}
+use Rattle.dirac_types.specs.declared.formats.BlockGrid.{BlockGrid}
+use Rattle.dirac_types.specs.declared.formats.Chroma.{Chroma}
+use Rattle.dirac_bits.specs.Syntax.{Syntax, done, refuse, ◌>>=◌, flag, uint, sint, align, here, field, between, custom}
+use Rattle.dirac_sequence.specs.Ratios.{ratio_across, ratio_down}
+use Rattle.dirac_header.specs.declared.prediction.Prediction.{Prediction}
+use Rattle.dirac_header.specs.declared.prediction.Weights.{Weights}
+use Rattle.dirac_header.specs.Codes.{references_of}
+
+-- blocks of these lengths and separations
+abbrev pub grid : ℕ → ℕ → ℕ → ℕ → BlockGrid
+grid xblen yblen xbsep ybsep = record { xblen = xblen; yblen = yblen; xbsep = xbsep; ybsep = ybsep }
+
+-- block parameters 2, 3 and 4
+abbrev pub grid_of : ℕ → BlockGrid
+grid_of index = if index == 2 then grid 12 12 8 8 else if index == 3 then grid 16 16 12 12 else grid 24 24 16 16
+
+-- blocks overlap their neighbours alone, and aren't longer than 64
+abbrev pub is_overlap : ℕ → ℕ → Bool
+is_overlap length separation =
+    nat_le 1 separation && nat_le separation length && nat_le length 64 && nat_le length (2 * separation)
+
+-- blocks and their overlap have whole chroma samples, the overlap as many on both sides
+abbrev pub is_divisible : ℕ → ℕ → ℕ → Bool
+is_divisible ratio length separation =
+    length % ratio == 0 && separation % ratio == 0 && (length - separation) % (2 * ratio) == 0
+
+-- lengths and separations that a picture of this chroma format may have
+abbrev pub is_grid : Chroma → BlockGrid → Bool
+is_grid chroma g =
+    is_overlap g.xblen g.xbsep && is_divisible (ratio_across chroma) g.xblen g.xbsep && is_overlap g.yblen g.ybsep && is_divisible (ratio_down chroma) g.yblen g.ybsep
+
+-- block parameters that stand in the picture, refused at the first of them
+unfoldable pub own_grid : Chroma → Syntax BlockGrid
+own_grid chroma = do
+  at ← here
+  xblen ← uint
+  yblen ← uint
+  xbsep ← uint
+  ybsep ← uint
+  if is_grid chroma (grid xblen yblen xbsep ybsep) then done (grid xblen yblen xbsep ybsep) else refuse at BlockSize
+
+unfoldable pub block_grid : Chroma → Syntax BlockGrid
+block_grid chroma = do
+  at ← here
+  index ← uint
+  if index == 0 then own_grid chroma else if between 2 4 index then done (grid_of index) else refuse at BlockPreset
+
+-- the precision of motion vectors
+unfoldable pub vector_precision : Syntax ℕ
+vector_precision = field Precision (between 0 3)
+
+-- a weight of a reference
+unfoldable pub weight : Syntax ℤ
+weight = do
+  at ← here
+  w ← sint
+  if nat_le (unsigned_abs w) 255 then done w else refuse at WeightRange
+
+-- the second weight, where there are two references
+unfoldable pub second_weight : Bool → Syntax ℤ
+second_weight two = if two then weight else done (pos 1)
+
+-- weights that stand in the picture, with their precision
+unfoldable pub own_weights : Bool → Syntax Weights
+own_weights two = do
+  bits ← field WeightRange (between 1 8)
+  first ← weight
+  second ← second_weight two
+  done (record { bits = bits; first = first; second = second })
+
+unfoldable pub weights : Bool → Syntax Weights
+weights two = custom (record { bits = 1; first = pos 1; second = pos 1 }) (own_weights two)
+
+-- no global motion, and picture prediction mode 0
+unfoldable pub modes : Syntax (Unit {0})
+modes = do
+  at ← here
+  global ← flag
+  if global then refuse at GlobalMotion else (field PredictionMode (between 0 0) >>= λ mode. done tt)
+
+-- the parameters with these weights
+abbrev pub weighted : BlockGrid → ℕ → Weights → Prediction
+weighted grid precision weights =
+    record { grid = grid; precision = precision; weight_bits = weights.bits; weight1 = weights.first; weight2 = weights.second }
+
+-- the prediction parameters of a picture with this parse code in this chroma format
+unfoldable pub prediction : ℕ → Chroma → Syntax Prediction
+prediction code chroma = do
+  aligned ← align
+  grid ← block_grid chroma
+  precision ← vector_precision
+  none ← modes
+  weights ← weights (references_of code == 2)
+  done (weighted grid precision weights)

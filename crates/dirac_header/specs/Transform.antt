@@ -1,0 +1,45 @@
+-- The transform parameters, field after field: transform parameters, Dirac specification.
+use Rattle.std.specs.Prelude.{ℕ, zero, suc, ◌+◌, if◌then◌else◌, List, [], ◌∷◌, ◌++◌, length, replicate}
+use Rattle.dirac_types.specs.declared.faults.Cause.TheVariants.{Wavelet, Depth, Codeblocks, CodeblockMode}
+use Rattle.dirac_bits.specs.Syntax.{Syntax, done, ◌>>=◌, flag, field, between}
+use Rattle.dirac_header.specs.declared.transform.Transform.{Transform}
+use Rattle.dirac_bands.specs.Geometry.{padded_size, size_of_band}
+
+-- the columns or rows of a luma band of this level
+abbrev pub band_length : ℕ → ℕ → ℕ → ℕ
+band_length size depth level = size_of_band (padded_size size depth) depth level
+
+-- the counts of codeblocks of one level, across and down, at most as many as its luma bands have columns and rows
+unfoldable pub level_counts : ℕ → ℕ → ℕ → ℕ → Syntax (ℕ × ℕ)
+level_counts width height depth level = do
+  across ← field Codeblocks (between 1 (band_length width depth level))
+  down ← field Codeblocks (between 1 (band_length height depth level))
+  done (across, down)
+
+-- the counts of the levels from 0 on: those of the levels before, and so many more
+unfoldable pub counts_behind : ℕ → ℕ → ℕ → List (ℕ × ℕ) → ℕ → Syntax (List (ℕ × ℕ))
+counts_behind width height depth before zero = done before
+counts_behind width height depth before (suc more) = do
+  counts ← level_counts width height depth (length before)
+  counts_behind width height depth (before ++ counts ∷ []) more
+
+-- the counts that stand behind a partition flag, and the codeblock mode, which is 0
+unfoldable pub partition : ℕ → ℕ → ℕ → Syntax (List (ℕ × ℕ))
+partition width height depth = do
+  counts ← counts_behind width height depth [] (depth + 1)
+  mode ← field CodeblockMode (between 0 0)
+  done counts
+
+-- the counts of codeblocks of levels 0 to depth; without a partition flag all are 1
+unfoldable pub codeblocks : ℕ → ℕ → ℕ → Syntax (List (ℕ × ℕ))
+codeblocks width height depth = do
+  parted ← flag
+  if parted then partition width height depth else done (replicate (depth + 1) (1, 1))
+
+-- the transform parameters of a picture of this size in luma samples
+unfoldable pub transform : ℕ → ℕ → Syntax Transform
+transform width height = do
+  wavelet ← field Wavelet (between 0 6)
+  depth ← field Depth (between 1 5)
+  counts ← codeblocks width height depth
+  done (record { wavelet = wavelet; depth = depth; counts = counts })

@@ -1,0 +1,13 @@
+//! Picture headers and transform parameters, and how their bits spell them.
+#![tactic(auto)]
+
+mod counts;
+mod header;
+mod prediction;
+mod shared;
+mod transform;
+
+pub use counts::Counts;
+pub use header::{PictureHeader, is_reference, read_header, references};
+pub use prediction::{Prediction, read_prediction};
+pub use transform::{Transform, read_transform};

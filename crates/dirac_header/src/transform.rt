@@ -1,0 +1,192 @@
+ghost use Rattle.std.specs.Prelude.{◌≡◌, ℕ, ◌+◌, ◌≤◌, ◌<◌, ◌^◌, ◌-◌, IfOk, IfErr, Ok, [], ◌∷◌, length, replicate};
+ghost use Rattle.dirac_bits.specs.Cursor.{Cursor};
+ghost use Rattle.dirac_bits.specs.Syntax.{read};
+ghost use Rattle.dirac_bits.specs.Answers.{Reads};
+ghost use Rattle.dirac_bits.specs.Laws.{BeginsWith};
+ghost use Rattle.dirac_header.specs.declared.transform.Transform.{Transform as TheTransform};
+ghost use Rattle.dirac_header.specs.Transform as grammar;
+
+use crate::counts::Counts;
+use dirac_bits::BitReader;
+use dirac_types::{Cause, Refusal};
+
+/// How a picture's coefficients are laid out.
+#[derive(Drop)]
+pub struct Transform {
+    /// The number of the wavelet, from 0 to 6.
+    pub wavelet: u8,
+    /// How many levels the wavelet was applied to, from 1 to 5.
+    pub depth: u8,
+    /// The counts of codeblocks of levels 0 to `depth`.
+    pub counts: Counts,
+}
+
+/// The transform parameters of a picture of `width` by `height` luma samples: transform parameters, Dirac specification.
+pub fn read_transform(r: &mut BitReader<'_>, width: u32, height: u32) -> Result<Transform, Refusal>
+    ensures value { Reads (λ t. t) result r.new (read (grammar.transform width height) r.old) }
+    // What is answered is spelled by the bits left.
+    ensures spelled { IfOk result (λ t. BeginsWith (grammar.transform width height) t r.old r.new) }
+    // What they spell is answered.
+    ensures only { (t : TheTransform) (d : Cursor) → BeginsWith (grammar.transform width height) t r.old d → (result ≡ Ok t) × (r.new ≡ d) }
+    ensures early { IfErr result (λ e. e.at ≤ length r.old.bytes) }
+    ensures kept { r.new.bytes ≡ r.old.bytes }
+    ensures wavelet { IfOk result (λ t. t.wavelet ≤ 6) }
+    ensures depth { IfOk result (λ t. (1 ≤ t.depth) × (t.depth ≤ 5)) }
+    ensures levels { IfOk result (λ t. length t.counts ≡ t.depth + 1) }
+{
+    let _at = r.place();
+    read_fields(r, width, height)
+}
+
+#[tactic(auto, unfolding(crate::specs::Transform::transform), using(dirac_bits::specs::Then::read_then))]
+fn read_fields(r: &mut BitReader<'_>, width: u32, height: u32) -> Result<Transform, Refusal>
+    ensures value { Reads (λ t. t) result r.new (read (grammar.transform width height) r.old) }
+    ensures early { IfErr result (λ e. e.at ≤ length r.old.bytes) }
+    ensures kept { r.new.bytes ≡ r.old.bytes }
+    ensures wavelet { IfOk result (λ t. t.wavelet ≤ 6) }
+    ensures depth { IfOk result (λ t. (1 ≤ t.depth) × (t.depth ≤ 5)) }
+    ensures levels { IfOk result (λ t. length t.counts ≡ t.depth + 1) }
+{
+    let at = r.place();
+    let wavelet = r.uint()?;
+    if wavelet > 6 {
+        return Err(Refusal {
+            at,
+            cause: Cause::Wavelet,
+        });
+    }
+    let at = r.place();
+    let depth = r.uint()?;
+    if depth < 1 || depth > 5 {
+        return Err(Refusal {
+            at,
+            cause: Cause::Depth,
+        });
+    }
+    let counts = read_codeblocks(r, width, height, depth as u8)?;
+    Ok(Transform {
+        wavelet: wavelet as u8,
+        depth: depth as u8,
+        counts,
+    })
+}
+
+#[tactic(auto, unfolding(crate::specs::Transform::codeblocks), using(dirac_bits::specs::Then::read_then))]
+fn read_codeblocks(
+    r: &mut BitReader<'_>,
+    width: u32,
+    height: u32,
+    depth: u8,
+) -> Result<Counts, Refusal>
+    requires { (1 ≤ depth) × (depth ≤ 5) }
+    ensures value { Reads (λ c. c) result r.new (read (grammar.codeblocks width height depth) r.old) }
+    ensures early { IfErr result (λ e. e.at ≤ length r.old.bytes) }
+    ensures kept { r.new.bytes ≡ r.old.bytes }
+    ensures levels { IfOk result (λ c. length c ≡ depth + 1) }
+{
+    if r.bit()? {
+        read_partition(r, width, height, depth)
+    } else {
+        Ok(all_ones(depth))
+    }
+}
+
+/// One codeblock a band.
+fn all_ones(depth: u8) -> Counts
+    requires { depth ≤ 5 }
+    ensures { result ≡ replicate (depth + 1) (1, 1) }
+{
+    let mut counts = Counts::new();
+    'levels: for _level in 0..=depth {
+        counts.push(1, 1);
+    }
+    counts
+}
+
+#[tactic(auto, unfolding(crate::specs::Transform::partition), using(dirac_bits::specs::Then::read_then))]
+fn read_partition(
+    r: &mut BitReader<'_>,
+    width: u32,
+    height: u32,
+    depth: u8,
+) -> Result<Counts, Refusal>
+    requires { (1 ≤ depth) × (depth ≤ 5) }
+    ensures value { Reads (λ c. c) result r.new (read (grammar.partition width height depth) r.old) }
+    ensures early { IfErr result (λ e. e.at ≤ length r.old.bytes) }
+    ensures kept { r.new.bytes ≡ r.old.bytes }
+    ensures levels { IfOk result (λ c. length c ≡ depth + 1) }
+{
+    let counts = read_counts(r, width, height, depth)?;
+    let at = r.place();
+    if r.uint()? != 0 {
+        return Err(Refusal {
+            at,
+            cause: Cause::CodeblockMode,
+        });
+    }
+    Ok(counts)
+}
+
+fn read_counts(r: &mut BitReader<'_>, width: u32, height: u32, depth: u8) -> Result<Counts, Refusal>
+    requires { (1 ≤ depth) × (depth ≤ 5) }
+    ensures value { Reads (λ c. c) result r.new (read (grammar.counts_behind width height depth [] (depth + 1)) r.old) }
+    ensures early { IfErr result (λ e. e.at ≤ length r.old.bytes) }
+    ensures kept { r.new.bytes ≡ r.old.bytes }
+    ensures levels { IfOk result (λ c. length c ≡ depth + 1) }
+{
+    let mut counts = Counts::new();
+    'levels: for level in 0..depth + 1 {
+        let (across, down) = read_level_counts(r, width, height, depth, level)?;
+        counts.push(across, down);
+    }
+    Ok(counts)
+}
+
+#[tactic(auto, unfolding(crate::specs::Transform::level_counts))]
+fn read_level_counts(
+    r: &mut BitReader<'_>,
+    width: u32,
+    height: u32,
+    depth: u8,
+    level: u8,
+) -> Result<(u32, u32), Refusal>
+    requires depth { (1 ≤ depth) × (depth ≤ 5) }
+    requires level { level ≤ depth }
+    ensures value { Reads (λ x. x) result r.new (read (grammar.level_counts width height depth level) r.old) }
+    ensures early { IfErr result (λ e. e.at ≤ length r.old.bytes) }
+    ensures kept { r.new.bytes ≡ r.old.bytes }
+{
+    let at = r.place();
+    let across = r.uint()?;
+    if across < 1 || across > band_length(width, depth, level) {
+        return Err(Refusal {
+            at,
+            cause: Cause::Codeblocks,
+        });
+    }
+    let at = r.place();
+    let down = r.uint()?;
+    if down < 1 || down > band_length(height, depth, level) {
+        return Err(Refusal {
+            at,
+            cause: Cause::Codeblocks,
+        });
+    }
+    Ok((across as u32, down as u32))
+}
+
+/// The columns or rows of a band of this level in a plane of `size` columns or rows.
+fn band_length(size: u32, depth: u8, level: u8) -> u64
+    requires depth { (1 ≤ depth) × (depth ≤ 5) }
+    requires level { level ≤ depth }
+    ensures value { result ≡ grammar.band_length size depth level }
+    ensures small { result < 2 ^ 32 }
+{
+    let unit = 1u64 << depth;
+    let padded = (u64::from(size) + unit - 1) / unit * unit;
+    if level == 0 {
+        padded >> depth
+    } else {
+        padded >> (depth - level + 1)
+    }
+}

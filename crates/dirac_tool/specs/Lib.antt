@@ -1,0 +1,5 @@
+pub mod Words
+pub mod Ended
+pub mod Line
+pub mod Listing
+pub mod Running

@@ -1,0 +1,48 @@
+ghost use Rattle.std.specs.Prelude.{◌≡◌, ℕ, ◌≤◌, ◌↔◌, Ok, Err};
+ghost use Rattle.std.specs.Io.KnownBytes.{IsAtEnd};
+ghost use Rattle.dirac_io.specs.Faults.{Rose};
+ghost use Rattle.dirac_tool.specs.Words.{command_read};
+ghost use Rattle.dirac_tool.specs.Running.{RunsTo};
+
+use crate::ended::Ended;
+use crate::list::list;
+use crate::words::{Command, Words, WordsStop, read_words};
+use dirac_io::{RowGate, Sink, Source};
+use std::alloc::Global;
+use std::thread::Threads;
+
+/// Runs the command that the words say, from a source to two sinks: what comes out, and what is said
+/// beside it. The gate changes no answer and no byte.
+pub fn run<R: Threads + Sync, S: Source, K: Sink, N: Sink, G: RowGate>(
+    _rt: &R,
+    alloc: Global,
+    words: &Words,
+    source: &mut S,
+    out: &mut K,
+    side: &mut N,
+    _gate: &G,
+) -> Ended
+    // What comes out and which answer comes, command by command.
+    ensures runs { RunsTo (command_read words.now)
+        (record { held = S.held source.old; out = K.taken out.old; side = N.taken side.old })
+        (record { held = S.held source.new; out = K.taken out.new; side = N.taken side.new }) result }
+
+    // Words that don't fit are refused before anything is read or written.
+    ensures usage { (n : ℕ) → (result ≡ Ended.Usage n) ↔ (command_read words.now ≡ Err (WordsStop.Usage n)) }
+    ensures untouched { (n : ℕ) → result ≡ Ended.Usage n
+        → (source.new ≡ source.old) × (out.new ≡ out.old) × (side.new ≡ side.old) }
+    ensures list_side { command_read words.now ≡ Ok Command.List → side.new ≡ side.old }
+
+    // A fault of the outside comes only where its count rose in this call.
+    ensures read { result ≡ Ended.ReadFault → Rose (S.faults source.old) (S.faults source.new) }
+    ensures write { result ≡ Ended.WriteFault → Rose (K.faults out.old) (K.faults out.new) }
+    ensures side { result ≡ Ended.SideFault → Rose (N.faults side.old) (N.faults side.new) }
+    ensures reads { S.faults source.old ≤ S.faults source.new }
+    ensures writes { K.faults out.old ≤ K.faults out.new }
+    ensures sides { N.faults side.old ≤ N.faults side.new }
+{
+    match read_words(words) {
+        Err(WordsStop::Usage(n)) => Ended::Usage(n),
+        Ok(Command::List) => list(alloc, source, out),
+    }
+}

@@ -1,0 +1,251 @@
+use crate::ended::{Ended, ended_text, status};
+use crate::run::run;
+use crate::words::Words;
+use dirac_io::{MemSink, MemSource, NullSink, OpenGate};
+use dirac_types::{BadSetting, Cause, Fault, Name};
+use std::alloc::Global;
+use std::process::Abort;
+use std::test::Fail;
+use std::thread::Threads;
+
+// A sequence header, an intra picture, an inter picture and an end unit.
+const STREAM: [u8; 95] = [
+    0x42, 0x42, 0x43, 0x44, 0x00, 0x00, 0x00, 0x00, 0x13, 0x00, 0x00, 0x00, 0x00, 0x6F, 0xC1, 0x83,
+    0x08, 0x30, 0x79, 0x42, 0x42, 0x43, 0x44, 0x0C, 0x00, 0x00, 0x00, 0x1F, 0x00, 0x00, 0x00, 0x13,
+    0x00, 0x00, 0x00, 0x00, 0x80, 0x90, 0x80, 0x80, 0x80, 0x80, 0x80, 0x80, 0x80, 0x80, 0x80, 0x80,
+    0x80, 0x80, 0x42, 0x42, 0x43, 0x44, 0x0D, 0x00, 0x00, 0x00, 0x20, 0x00, 0x00, 0x00, 0x1F, 0x00,
+    0x00, 0x00, 0x01, 0x38, 0x6D, 0x00, 0x20, 0xFE, 0x20, 0xFE, 0x20, 0xFE, 0x20, 0xFE, 0x80, 0x80,
+    0x80, 0x80, 0x42, 0x42, 0x43, 0x44, 0x10, 0x00, 0x00, 0x00, 0x00, 0x00, 0x00, 0x00, 0x20,
+];
+
+const LINES: &str =
+    "0 0 00 sequence 19 0\n1 19 0C picture 31 19\n2 50 0D picture 32 31\n3 82 10 end 0 32\n";
+
+// Runs words over bytes in pieces, and compares the answer and what came out.
+fn runs<R: Abort + Threads + Sync>(
+    rt: &R,
+    alloc: Global,
+    words: &[&str],
+    bytes: &[u8],
+    answer: Ended,
+    text: &str,
+) -> Result<(), Fail> {
+    for most in [1, 7, 4096] {
+        let mut list = Words::new(alloc);
+        for word in words {
+            list.push(word)?;
+        }
+        let mut source = MemSource::new(Vec::from_slice(alloc, bytes)?, most, Vec::new(alloc));
+        let mut out = MemSink::new(alloc, most, Vec::new(alloc));
+        let ended = run(
+            rt,
+            alloc,
+            &list,
+            &mut source,
+            &mut out,
+            &mut NullSink,
+            &OpenGate,
+        );
+        assert_eq!(rt; ended, answer, "pieces of {most}");
+        assert_eq!(rt; out.taken(), text.as_bytes(), "pieces of {most}");
+    }
+    Ok(())
+}
+
+fn faulty(unit: u64, at: u64, cause: Cause) -> Ended {
+    Ended::Fault(Fault { unit, at, cause })
+}
+
+// The parse info of a unit with this code and these offsets.
+fn header(code: u8, next: u32, previous: u32) -> [u8; 13] {
+    let [a, b, c, d] = next.to_be_bytes();
+    let [e, f, g, h] = previous.to_be_bytes();
+    [0x42, 0x42, 0x43, 0x44, code, a, b, c, d, e, f, g, h]
+}
+
+fn joined(alloc: Global, pieces: &[&[u8]]) -> Result<Vec<u8>, Fail> {
+    let mut bytes = Vec::new(alloc);
+    for piece in pieces {
+        bytes.extend_from_slice(piece)?;
+    }
+    Ok(bytes)
+}
+
+#[test]
+fn lists_units(rt: HostRuntime) -> Result<(), Fail> {
+    let alloc = rt.alloc();
+    let end = header(0x10, 0, 0);
+    runs(&rt, alloc, &["list"], &end, Ended::Done, "0 0 10 end 0 0\n")?;
+    runs(&rt, alloc, &["list"], &STREAM, Ended::Done, LINES)?;
+    let first = "0 0 00 sequence 19 0\n";
+    let cut = faulty(1, 31, Cause::Truncated);
+    runs(&rt, alloc, &["list"], &STREAM[..31], cut, first)?;
+    let open = faulty(2, 50, Cause::MissingEnd);
+    let two = "0 0 00 sequence 19 0\n1 19 0C picture 31 19\n";
+    runs(&rt, alloc, &["list"], &STREAM[..50], open, two)?;
+    let short = faulty(1, 49, Cause::Truncated);
+    runs(&rt, alloc, &["list"], &STREAM[..49], short, first)?;
+
+    // behind an end unit another sequence may follow, and the stream may end
+    let twice = joined(alloc, &[&end, &header(0x10, 13, 13)])?;
+    let lines = "0 0 10 end 0 0\n1 13 10 end 13 13\n";
+    runs(&rt, alloc, &["list"], &twice, Ended::Done, lines)?;
+    let more = joined(alloc, &[&end, &[0x42, 0x42]])?;
+    let behind = faulty(1, 15, Cause::Truncated);
+    runs(&rt, alloc, &["list"], &more, behind, "0 0 10 end 0 0\n")
+}
+
+#[test]
+fn names_each_fault_at_its_place(rt: HostRuntime) -> Result<(), Fail> {
+    let alloc = rt.alloc();
+    runs(
+        &rt,
+        alloc,
+        &["list"],
+        &[],
+        faulty(0, 0, Cause::MissingEnd),
+        "",
+    )?;
+    let no_prefix = joined(alloc, &[&[0x42, 0x42, 0x43, 0x45], &[0; 9]])?;
+    runs(
+        &rt,
+        alloc,
+        &["list"],
+        &no_prefix,
+        faulty(0, 0, Cause::BadPrefix),
+        "",
+    )?;
+    for (code, cause) in [
+        (0x48, Cause::Vlc),
+        (0x4C, Cause::Vlc),
+        (0xC8, Cause::LowDelay),
+        (0xCC, Cause::LowDelay),
+        (0x0B, Cause::UnknownCode),
+        (0x1F, Cause::UnknownCode),
+        (0x28, Cause::UnknownCode),
+        (0xFF, Cause::UnknownCode),
+    ] {
+        // the code is looked at before the offset
+        runs(
+            &rt,
+            alloc,
+            &["list"],
+            &header(code, 0, 0),
+            faulty(0, 4, cause),
+            "",
+        )?;
+    }
+    for next in 0..13 {
+        let missing = faulty(0, 5, Cause::OffsetMissing);
+        runs(&rt, alloc, &["list"], &header(0x30, next, 0), missing, "")?;
+    }
+    for next in [1, 12, 14, u32::MAX] {
+        let missing = faulty(0, 5, Cause::OffsetMissing);
+        runs(&rt, alloc, &["list"], &header(0x10, next, 0), missing, "")?;
+    }
+    for next in [14, 0x8000_0000, u32::MAX] {
+        let truncated = faulty(0, 13, Cause::Truncated);
+        runs(&rt, alloc, &["list"], &header(0x30, next, 0), truncated, "")?;
+    }
+    for code in 0x20..0x28 {
+        let bytes = joined(alloc, &[&header(code, 14, 7), &[9], &header(0x10, 0, 14)])?;
+        let lines = format!(in alloc; "0 0 {code:02X} auxiliary 14 7\n1 14 10 end 0 14\n")?;
+        runs(&rt, alloc, &["list"], &bytes, Ended::Done, lines.as_str())?;
+    }
+    Ok(())
+}
+
+#[test]
+fn refuses_words(rt: HostRuntime) -> Result<(), Fail> {
+    let alloc = rt.alloc();
+    let end = header(0x10, 0, 0);
+    runs(&rt, alloc, &[], &end, Ended::Usage(0), "")?;
+    for word in ["", "lists", "List", "--list", "help"] {
+        runs(&rt, alloc, &[word], &end, Ended::Usage(0), "")?;
+        runs(&rt, alloc, &[word, "list"], &end, Ended::Usage(0), "")?;
+    }
+    for word in ["", "list", "--", "--x=1"] {
+        runs(&rt, alloc, &["list", word], &end, Ended::Usage(1), "")?;
+        runs(&rt, alloc, &["list", word, "y"], &end, Ended::Usage(1), "")?;
+    }
+    Ok(())
+}
+
+// Lists the stream by reads of 10 bytes and writes of 7, of which one fails.
+fn fails<R: Abort + Threads + Sync>(
+    rt: &R,
+    alloc: Global,
+    reads: &[u64],
+    writes: &[u64],
+) -> Result<Ended, Fail> {
+    let mut words = Words::new(alloc);
+    words.push("list")?;
+    let mut source = MemSource::new(
+        Vec::from_slice(alloc, &STREAM)?,
+        10,
+        Vec::from_slice(alloc, reads)?,
+    );
+    let mut out = MemSink::new(alloc, 7, Vec::from_slice(alloc, writes)?);
+    let ended = run(
+        rt,
+        alloc,
+        &words,
+        &mut source,
+        &mut out,
+        &mut NullSink,
+        &OpenGate,
+    );
+    assert!(rt; LINES.as_bytes().starts_with(out.taken()));
+    assert_eq!(rt; source.count(), u64::from(ended == Ended::ReadFault));
+    assert_eq!(rt; out.count(), u64::from(ended == Ended::WriteFault));
+    if ended == Ended::Done {
+        assert_eq!(rt; out.taken(), LINES.as_bytes());
+    }
+    Ok(ended)
+}
+
+#[test]
+fn stops_at_the_call_that_fails(rt: HostRuntime) -> Result<(), Fail> {
+    let alloc = rt.alloc();
+    for call in 0..11 {
+        assert_eq!(rt; fails(&rt, alloc, &[call], &[])?, Ended::ReadFault);
+    }
+    assert_eq!(rt; fails(&rt, alloc, &[99], &[99])?, Ended::Done);
+    // four lines of 21, 22, 22 and 17 bytes
+    for call in 0..14 {
+        assert_eq!(rt; fails(&rt, alloc, &[], &[call])?, Ended::WriteFault);
+    }
+    assert_eq!(rt; fails(&rt, alloc, &[], &[14])?, Ended::Done);
+    Ok(())
+}
+
+#[test]
+fn says_how_it_ended(rt: HostRuntime) -> Result<(), Fail> {
+    let alloc = rt.alloc();
+    let bad = BadSetting {
+        name: Name::Width,
+        value: 7,
+    };
+    for (ended, number, text) in [
+        (Ended::Done, 0, ""),
+        (Ended::Usage(2), 2, "usage: word 2"),
+        (Ended::BadSettings(bad), 3, "bad setting width=7"),
+        (
+            faulty(1, 39, Cause::CodeWord),
+            4,
+            "fault unit=1 at=39 cause=CodeWord",
+        ),
+        (Ended::PartialPicture(4), 5, "partial picture: 4 bytes"),
+        (Ended::UnitTooLong(0), 6, "unit too long: picture 0"),
+        (Ended::TooManyPictures, 7, "too many pictures"),
+        (Ended::ReadFault, 8, "read fault"),
+        (Ended::WriteFault, 9, "write fault"),
+        (Ended::SideFault, 10, "side fault"),
+        (Ended::NoMemory, 11, "no memory"),
+    ] {
+        assert_eq!(rt; status(&ended), number);
+        let said = ended_text(alloc, &ended)?;
+        assert_eq!(rt; said.as_str(), text);
+    }
+    Ok(())
+}
