@@ -1,10 +1,13 @@
+pub mod Bytes
 pub mod Decided
 pub mod Decisions
 pub mod Doublings
+pub mod Encodings
 pub mod Examples
 pub mod Fronts
 pub mod Intervals
 pub mod Numbers
 pub mod Spellings
 pub mod Steps
+pub mod Tails
 pub mod Windows

@@ -46,7 +46,7 @@ reads_spelling a b c follow bits context i v t before count is ends moves lies =
     subst P ends (reads_spelt a b c follow bits context i (digits_of v) t before count is moves lies)
 
 -- one digit more of an opening
-opening_push : (follow : List ℕ) (bits i : ℕ) (digits : List Bool) (b : Bool)
+pub opening_push : (follow : List ℕ) (bits i : ℕ) (digits : List Bool) (b : Bool)
     → opening follow bits i (digits ++ b ∷ [])
     ≡ (let f : Decision = (follow_at follow (i + length digits), false) in let d : Decision = (bits, b) in (opening follow bits i digits ++ f ∷ []) ++ d ∷ [])
 opening_push follow bits i [] b =

@@ -1,5 +1,6 @@
 -- The exact interval of a list of decisions. Its low end is never masked.
-use Rattle.std.specs.Prelude.{ℕ, zero, suc, ◌+◌, ◌-◌, ◌*◌, ◌/◌, ◌^◌, Bool, true, false, nat_lt, if◌then◌else◌, List, [], ◌∷◌, slice_index, slice_set, replicate}
+use Rattle.std.specs.Prelude.{ℕ, zero, suc, ◌+◌, ◌-◌, ◌*◌, ◌/◌, ◌^◌, ◌<◌, Bool, true, false, nat_lt, if◌then◌else◌, List, [], ◌∷◌, slice_index, slice_set, replicate}
+use Rattle.std.specs.List.{AllByRecursion}
 use Rattle.dirac_arith.specs.StepTable.{step_of}
 
 -- a decision: the number of its context, and its truth
@@ -74,3 +75,7 @@ whole = record { low = 0; range = 0xFFFF; doublings = 0; contexts = replicate 38
 -- the interval of a list of decisions
 abbrev pub interval_of : List Decision → Interval
 interval_of ds = narrowed_by whole ds
+
+-- decisions of the 38 contexts
+abbrev pub InContexts : List Decision → Type 0
+InContexts ds = AllByRecursion (λ (d : Decision). d.0 < 38) ds

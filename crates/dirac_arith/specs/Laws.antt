@@ -1,9 +1,10 @@
 -- What holds of all blocks and decisions.
 use Rattle.std.specs.Prelude.{◌≡◌, ◌-◌, ◌^◌, ◌<◌, ℕ, ℤ, true, false, List, ◌∷◌, ◌++◌, length, map, nat_abs}
 use Rattle.dirac_types.specs.Numbers.{uint, sint}
-use Rattle.dirac_arith.specs.Interval.{Decision}
+use Rattle.dirac_arith.specs.Interval.{Decision, InContexts}
 use Rattle.dirac_arith.specs.Carried.{Carries}
 use Rattle.dirac_arith.specs.Spelling.{spelling, signed_spelling}
+use Rattle.dirac_arith.specs.Written.{flush}
 use Rattle.dirac_arith.specs.Reading.{Reading, Reads}
 
 -- of two lists that first differ in one truth at the same context, a block carries at most one
@@ -40,3 +41,7 @@ SignedTruthsAreBits = (follow : List ℕ) (bits sign : ℕ) (v : ℤ) → map (�
 -- reading some decisions and then more is reading both
 abbrev pub ReadingComposes : Type 0
 ReadingComposes = (a b c : Reading) (ds es : List Decision) → Reads a ds b → Reads b es c → Reads a (ds ++ es) c
+
+-- the block that is written for decisions carries them
+abbrev pub FlushedIsCarried : Type 0
+FlushedIsCarried = (ds : List Decision) → InContexts ds → Carries (flush ds) ds

@@ -1,5 +1,6 @@
 pub mod Carried
 pub mod Decoding
+pub mod Encoding
 pub mod Front
 pub mod Interval
 pub mod Laws
@@ -7,4 +8,5 @@ pub mod Reading
 pub mod Registers
 pub mod Spelling
 pub mod StepTable
+pub mod Tail
 pub mod Written

@@ -3,13 +3,17 @@
 
 mod chances;
 mod decoder;
+mod encoder;
 mod follow;
 mod laws;
 mod magnitude;
 mod registers;
 mod tables;
+mod tail;
 
 pub use decoder::Decoder;
+pub use encoder::Encoder;
 pub use laws::{
     block_carries_one_number, block_carries_one_truth, reading_composes, truths_are_bits,
+    written_block_carries,
 };

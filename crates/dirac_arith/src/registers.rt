@@ -98,7 +98,7 @@ pub fn is_past(registers: Registers) -> bool
 }
 
 /// The number of doublings that take a range above 0x4000: the count of leading zeros of a 15-bit number.
-fn doublings(range: u32) -> u32
+pub fn doublings(range: u32) -> u32
     requires some { 32 < range }
     requires narrow { range ≤ 0xFFFF }
     ensures least { result ≡ doublings_for range }

@@ -3,3 +3,4 @@ pub mod Cut
 pub mod Filling
 pub mod Progress
 pub mod Found
+pub mod Writing

@@ -8,9 +8,11 @@ mod law;
 mod spot;
 mod unit;
 mod units;
+mod write;
 
 pub use info::{ParseInfo, UnitKind, fields_are_read, kind_of, read_info};
 pub use law::bytes_have_one_cut;
 pub use spot::Spot;
 pub use unit::{Met, Payload, Unit, UnitStep};
 pub use units::Units;
+pub use write::{infos_are_read_as_written, write_info};

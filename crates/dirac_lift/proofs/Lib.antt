@@ -1,0 +1,11 @@
+pub mod ColumnLemmas
+pub mod ColumnRuns
+pub mod Growth
+pub mod LevelLemmas
+pub mod Lifted
+pub mod MapLemmas
+pub mod RowLemmas
+pub mod Runs
+pub mod Signed
+pub mod Undone
+pub mod Weighted

@@ -1,0 +1,6 @@
+use Rattle.dirac_lift.specs.Wavelets.{analyse}
+use Rattle.dirac_lift.proofs.RowLemmas.{RowsBelow}
+use Rattle.dirac_lift.proofs.levels.analyse_rows.Given as goal
+
+abbrev pub invariant-loop-y : goal.invariant-loop-y
+invariant-loop-y l = RowsBelow (analyse l.wavelet) l.width l.fn.values l.values l.y

@@ -1,0 +1,5 @@
+pub mod Level
+pub mod Lifting
+pub mod Places
+pub mod Safety
+pub mod Wavelets

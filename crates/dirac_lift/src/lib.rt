@@ -1,0 +1,11 @@
+#![tactic(auto)]
+
+//! The wavelet transforms as lifting steps in place.
+
+mod columns;
+mod levels;
+mod lines;
+mod step;
+
+pub use levels::{analyse_level, synth_level};
+pub use lines::{analyse_line, synth_line};
