@@ -1,0 +1,78 @@
+-- What a block carries behind decisions that are common: one value at most, and no value beside a number that is too long.
+use Rattle.std.proofs.Common.{◌≡◌, ℕ, ℤ, ◌-◌, ◌^◌, ◌<◌, Bool, true, false, List, [], ◌∷◌, ◌++◌, length, unsigned_abs, sym, ap, ◌∙◌, subst, arith, append_assoc, append-nil, length-append, true≢false}
+use Rattle.dirac_types.specs.Numbers.{digits_of}
+use Rattle.dirac_types.proofs.Digits.{digits_few}
+use Rattle.dirac_arith.specs.Carried.{Lies, Carries}
+use Rattle.dirac_arith.specs.Front.{front}
+use Rattle.dirac_arith.specs.Interval.{Decision, Interval, narrowed_by, whole}
+use Rattle.dirac_arith.specs.Reading.{Reading, Reads}
+use Rattle.dirac_arith.specs.Spelling.{spelling, spelt, signed_spelling, opening, follow_at}
+use Rattle.dirac_arith.proofs.Spellings.{carried_lies, lies_carried, lies_first, tame_by, whole_tame, narrowed_by-append, carries_one_signed, carries_one_truth, one_spelt_from, spelt_is, signed_is, signed_some, sign_before}
+
+-- decisions that a block carries, it carries up to any of them
+pub front_carried : (block : List ℕ) (ds es : List Decision) → Carries block (ds ++ es) → Carries block ds
+front_carried block ds es p =
+    lies_carried block ds (λ some.
+    let longer : 0 < length (ds ++ es) = omega (arith, length-append {A = Decision} ds es) in
+    let lies : Lies block (narrowed_by whole (ds ++ es)) = carried_lies block (ds ++ es) longer p in
+    lies_first block (narrowed_by whole ds) es (tame_by whole ds whole_tame) (subst (λ (s : Interval). Lies block s) (narrowed_by-append whole ds es) lies))
+
+-- the same behind common decisions
+pub front_of : (block : List ℕ) (common ds es : List Decision) → Carries block (common ++ (ds ++ es)) → Carries block (common ++ ds)
+front_of block common ds es p =
+    front_carried block (common ++ ds) es (subst (λ (l : List Decision). Carries block l) (sym (append_assoc common ds es)) p)
+
+-- and what follows, behind more common decisions
+pub rest_of : (block : List ℕ) (common ds es : List Decision) → Carries block (common ++ (ds ++ es)) → Carries block ((common ++ ds) ++ es)
+rest_of block common ds es p = subst (λ (l : List Decision). Carries block l) (sym (append_assoc common ds es)) p
+
+-- two truths at one place exclude each other
+pub truths_apart : (block : List ℕ) (common ds es : List Decision) (context : ℕ)
+    → (let t : Decision = (context, true) in Carries block (common ++ t ∷ ds)) → (let t : Decision = (context, false) in Carries block (common ++ t ∷ es)) → ⊥
+truths_apart block common ds es context p q = carries_one_truth block common ds es context p q
+
+-- one value at a place
+pub one_value : (block : List ℕ) (common : List Decision) (follow : List ℕ) (bits sign : ℕ) (v w : ℤ) → unsigned_abs v < 2 ^ 39 - 1 → unsigned_abs w < 2 ^ 39 - 1
+    → Carries block (common ++ signed_spelling follow bits sign v) → Carries block (common ++ signed_spelling follow bits sign w) → v ≡ w
+one_value block common follow bits sign v w small small' p q =
+    let ended : (x : ℤ) → common ++ signed_spelling follow bits sign x ≡ common ++ (signed_spelling follow bits sign x ++ []) = λ x. ap (λ (l : List Decision). common ++ l) (sym (append-nil (signed_spelling follow bits sign x))) in
+    carries_one_signed block common [] [] follow bits sign v w small small'
+    (subst (λ (l : List Decision). Carries block l) (ended v) p)
+    (subst (λ (l : List Decision). Carries block l) (ended w) q)
+
+-- decisions behind common ones lie in the interval of both
+behind : (block : List ℕ) (common ds : List Decision) → 0 < length ds → Carries block (common ++ ds) → Lies block (narrowed_by (narrowed_by whole common) ds)
+behind block common ds some p =
+    let longer : 0 < length (common ++ ds) = omega (arith, length-append {A = Decision} common ds) in
+    subst (λ (s : Interval). Lies block s) (narrowed_by-append whole common ds) (carried_lies block (common ++ ds) longer p)
+
+-- no value beside a number that is too long
+pub value_apart : (block : List ℕ) (common : List Decision) (follow : List ℕ) (bits sign : ℕ) (v : ℤ) (digits : List Bool) → length digits ≡ 38
+    → Carries block (common ++ signed_spelling follow bits sign v) → Carries block (common ++ spelt follow bits digits false) → ⊥
+unfolding spelling
+value_apart block common follow bits sign v digits long p q =
+    let s = narrowed_by whole common in
+    let P : List Decision → Type 0 = λ ds. Lies block (narrowed_by s ds) in
+    let n = unsigned_abs v in
+    let ended : signed_spelling follow bits sign v ≡ signed_spelling follow bits sign v ++ [] = sym (append-nil (signed_spelling follow bits sign v)) in
+    let some : 0 < length (signed_spelling follow bits sign v) = subst (λ (l : List Decision). 0 < length l) (sym ended) (signed_some follow bits sign v []) in
+    let last : Decision = (follow_at follow (length digits), false) in
+    let some' : 0 < length (spelt follow bits digits false) = omega (arith, length-append {A = Decision} (opening follow bits 0 digits) (last ∷ [])) in
+    let value : Lies block (narrowed_by s (spelt follow bits (digits_of n) true ++ sign_before sign v [])) =
+    subst P (ended ∙ signed_is follow bits sign v []) (behind block common (signed_spelling follow bits sign v) some p) in
+    let left = subst P (spelt_is follow bits (digits_of n) true (sign_before sign v [])) value in
+    let right = subst P (sym (append-nil (spelt follow bits digits false)) ∙ spelt_is follow bits digits false []) (behind block common (spelt follow bits digits false) some' q) in
+    let same =
+    one_spelt_from block s follow bits 0 38 (digits_of n) digits true false (sign_before sign v []) [] (tame_by whole common whole_tame)
+    (digits_few n) (omega arith) (λ e. absurd (true≢false e)) (λ e. long) left right in
+    true≢false same.1
+
+-- a block of ones carries no decision
+pub ones_apart : (block : List ℕ) (ds : List Decision) → front block 16 ≡ 65535 → 0 < length ds → Carries block ds → ⊥
+ones_apart block ds ones some p =
+    let lies : Lies block whole = lies_first block whole ds whole_tame (carried_lies block ds some p) in
+    omega (arith, lies.below, ones)
+
+-- what is read from the begin of a block, it carries
+pub reads_carry : (block : List ℕ) (ds : List Decision) (new : Reading) → Reads (record { block = block; at = whole }) ds new → Carries block ds
+reads_carry block ds new r = lies_carried block ds r.lies

@@ -1,0 +1,28 @@
+-- The edges of codeblocks rise from 0 to the band's size.
+use Rattle.std.proofs.Common.{◌≡◌, ℕ, ◌+◌, ◌*◌, ◌/◌, ◌<◌, ◌≤◌, arith}
+use Rattle.std.proofs.Math.Nat.{mul-div_cancel, div-mul-le_self, zero-div, mul-zero, le-div_iff_mul-le}
+use Rattle.std.proofs.lemmas.Nat.{mul-le}
+use Rattle.dirac_bands.specs.Geometry.{edge_of}
+use Rattle.dirac_coeffs.specs.Spots.{span_of}
+
+-- a quotient rises with its dividend
+div_mono : (m n k : ℕ) → 0 < k → m ≤ n → m / k ≤ n / k
+div_mono m n k h l =
+    let whole : m / k * k ≤ n = omega (arith, div-mul-le_self m k) in
+    (le-div_iff_mul-le {k = k} {x = m / k} {y = n} h).1 whole
+
+pub edge_rises : (size count c d : ℕ) → 0 < count → c ≤ d → edge_of size count c ≤ edge_of size count d
+edge_rises size count c d h l = div_mono (size * c) (size * d) count h (mul-le size c size d (omega arith) l)
+
+pub edge_first : (size count : ℕ) → edge_of size count 0 ≡ 0
+edge_first size count = rw mul-zero (zero-div count)
+
+pub edge_last : (size count : ℕ) → 0 < count → edge_of size count count ≡ size
+edge_last size count h = mul-div_cancel size h
+
+pub edge_most : (size count c : ℕ) → 0 < count → c ≤ count → edge_of size count c ≤ size
+edge_most size count c h l = omega (arith, edge_rises size count c count h l, edge_last size count h)
+
+-- a codeblock ends where the next one begins
+pub span_end : (size count c : ℕ) → 0 < count → edge_of size count c + span_of size count c ≡ edge_of size count (c + 1)
+span_end size count c h = omega (arith, edge_rises size count c (c + 1) h (omega arith))

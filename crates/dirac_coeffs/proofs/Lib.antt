@@ -1,0 +1,12 @@
+pub mod Within
+pub mod Agreement
+pub mod Edges
+pub mod Readings
+pub mod AgreementOfBlocks
+pub mod Filling
+pub mod FillingOfBlocks
+pub mod Coding
+pub mod OneBand
+pub mod Apart
+pub mod Found
+pub mod Read

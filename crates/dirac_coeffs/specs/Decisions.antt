@@ -1,0 +1,81 @@
+-- The decisions that a subband is coded by, told from the finished band: contexts are read off the values
+-- of the whole, and nothing is said of the order in which a reader fills them in.
+use Rattle.std.specs.Prelude.{ℕ, zero, suc, ℤ, ◌+◌, Bool, true, false, List, [], ◌∷◌, ◌++◌}
+use Rattle.dirac_types.specs.declared.formats.Band.{Band}
+use Rattle.dirac_arith.specs.Interval.{Decision}
+use Rattle.dirac_bands.specs.Geometry.{edge_of}
+use Rattle.dirac_coeffs.specs.declared.spot.BandSpot.{BandSpot}
+use Rattle.dirac_coeffs.specs.Contexts.{value_at, left_of, above_of, corner_of, parent_of, value_spelling}
+use Rattle.dirac_coeffs.specs.Spots.{span_of, is_flagged}
+
+-- what the contexts of a band's values depend on besides the values
+pub record Frame : Type 0 where
+  pub band : Band
+  pub width : ℕ
+  pub parent : List ℤ
+
+-- what a codeblock carries besides its values
+pub record Mark : Type 0 where
+  pub skipped : Bool
+
+-- a mark for each codeblock, by its row and its place in that
+abbrev pub Marks : Type 0
+Marks = ℕ → ℕ → Mark
+
+abbrev pub frame_of : BandSpot → List ℤ → Frame
+frame_of spot parent = record { band = spot.band; width = spot.width; parent = parent }
+
+-- the value in column x of row y
+abbrev pub value_part : Frame → List ℤ → ℕ → ℕ → List Decision
+value_part f xs x y =
+    value_spelling
+    f.band
+    (left_of f.width xs x y)
+    (above_of f.width xs x y)
+    (corner_of f.width xs x y)
+    (parent_of f.width f.parent x y)
+    (value_at f.width xs x y)
+
+-- n values of row y, from column x on
+unfoldable pub row_part : Frame → List ℤ → ℕ → ℕ → ℕ → List Decision
+row_part f xs y x zero = []
+row_part f xs y x (suc n) = row_part f xs y x n ++ value_part f xs (x + n) y
+
+-- n rows of `count` values each, from column x of row y on
+unfoldable pub rows_part : Frame → List ℤ → ℕ → ℕ → ℕ → ℕ → List Decision
+rows_part f xs x count y zero = []
+rows_part f xs x count y (suc n) = rows_part f xs x count y n ++ row_part f xs (y + n) x count
+
+-- a codeblock's decisions behind its zero flag, where it has one; true skips them
+abbrev pub flagged_part : Bool → Bool → List Decision → List Decision
+flagged_part false skipped ds = ds
+flagged_part true true ds = (18, true) ∷ []
+flagged_part true false ds = (18, false) ∷ ds
+
+-- codeblock cx of row cy of codeblocks
+abbrev pub block_part : BandSpot → List ℤ → List ℤ → ℕ → ℕ → Mark → List Decision
+block_part spot parent xs cy cx mark =
+    flagged_part
+    (is_flagged spot)
+    mark.skipped
+    (rows_part
+    (frame_of spot parent)
+    xs
+    (edge_of spot.width spot.across cx)
+    (span_of spot.width spot.across cx)
+    (edge_of spot.height spot.down cy)
+    (span_of spot.height spot.down cy))
+
+-- the first n codeblocks of row cy of codeblocks
+unfoldable pub blocks_part : BandSpot → List ℤ → List ℤ → (ℕ → Mark) → ℕ → ℕ → List Decision
+blocks_part spot parent xs marks cy zero = []
+blocks_part spot parent xs marks cy (suc n) = blocks_part spot parent xs marks cy n ++ block_part spot parent xs cy n (marks n)
+
+-- the first n rows of codeblocks
+unfoldable pub bands_part : BandSpot → List ℤ → List ℤ → Marks → ℕ → List Decision
+bands_part spot parent xs marks zero = []
+bands_part spot parent xs marks (suc n) = bands_part spot parent xs marks n ++ blocks_part spot parent xs (marks n) n spot.across
+
+-- the whole band
+abbrev pub band_decisions : BandSpot → List ℤ → List ℤ → Marks → List Decision
+band_decisions spot parent xs marks = bands_part spot parent xs marks spot.down

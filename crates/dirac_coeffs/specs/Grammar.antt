@@ -1,0 +1,56 @@
+-- A subband in a payload: the length of its block, and where that isn't 0 its quantiser index and the block.
+use Rattle.std.specs.Prelude.{◌≡◌, ℕ, ℤ, pos, ◌*◌, ◌≤◌, ◌==◌, if◌then◌else◌, List, [], length, replicate, Option, Some, None, Result, Ok, Err}
+use Rattle.std.specs.Borrow.{Bor}
+use Rattle.dirac_types.specs.declared.faults.Cause.{Cause}
+use Rattle.dirac_types.specs.declared.faults.Cause.TheVariants.{QuantIndex}
+use Rattle.dirac_types.specs.Table.{Table}
+use Rattle.dirac_bits.specs.Syntax.{Syntax, done, refuse, block_then, uint, align, here, field, between, ◌>>=◌}
+use Rattle.dirac_coeffs.specs.declared.spot.BandSpot.{BandSpot}
+use Rattle.dirac_coeffs.specs.declared.spot.CodedBand.{CodedBand}
+use Rattle.dirac_coeffs.specs.BandRead.{band_read}
+use Rattle.dirac_coeffs.specs.Carried.{AreSmall}
+
+-- the band's table with these values
+abbrev pub band_table : BandSpot → List ℤ → Table
+band_table spot xs = record { width = spot.width; height = spot.height; values = xs }
+
+-- the band of which nothing is coded
+abbrev pub zero_band : BandSpot → CodedBand
+zero_band spot = record { index = 0; table = band_table spot (replicate (spot.width * spot.height) (pos 0)) }
+
+-- the band that a block reads to, or the refusal of its block
+abbrev pub band_from : BandSpot → ℕ → ℕ → Result (List ℤ) Cause → Syntax CodedBand
+band_from spot index at (Ok xs) = done (record { index = index; table = band_table spot xs })
+band_from spot index at (Err cause) = refuse at cause
+
+-- a band with a block of this length
+unfoldable pub coded_band : BandSpot → List ℤ → ℕ → Syntax CodedBand
+coded_band spot parent len = do
+  index ← field QuantIndex (between 0 99)
+  gap ← align
+  at ← here
+  block_then len (λ block. band_from spot index at (band_read spot parent block))
+
+-- a band
+unfoldable pub band : BandSpot → List ℤ → Syntax CodedBand
+band spot parent = do
+  gap ← align
+  len ← uint
+  if len == 0 then done (zero_band spot) else coded_band spot parent len
+
+-- the values of the parent, none where there is no parent
+abbrev pub values_of_parent : Option (Bor Table) → List ℤ
+values_of_parent None = []
+values_of_parent (Some t) = t.now.values
+
+-- the parent has half the band's sizes
+abbrev pub IsParentOf : BandSpot → Bor Table → Type 0
+IsParentOf spot t = (spot.width ≡ 2 * t.now.width) × (spot.height ≡ 2 * t.now.height)
+
+-- what a coded band is: an index of a quantiser, and a table of the spot's sizes whose values can be spelt
+pub record IsCodedBand (spot : BandSpot) (b : CodedBand) : Type 0 where
+  pub index : b.index ≤ 99
+  pub width : b.table.width ≡ spot.width
+  pub height : b.table.height ≡ spot.height
+  pub len : length b.table.values ≡ spot.width * spot.height
+  pub small : AreSmall b.table.values

@@ -1,0 +1,80 @@
+ghost use Rattle.std.specs.Prelude.{◌≡◌, ◌≤◌, ◌<◌, length, IfOk, IfErr};
+ghost use Rattle.std.specs.Option.{ForSome};
+ghost use Rattle.dirac_bits.specs.Syntax.{read};
+ghost use Rattle.dirac_coeffs.specs.Answers.{ReadsOrStops, IsEarly};
+ghost use Rattle.dirac_coeffs.specs.Grammar.{band, coded_band, values_of_parent, IsParentOf, IsCodedBand};
+ghost use Rattle.dirac_coeffs.specs.Spots.{IsSpot};
+
+use crate::block::read_block;
+use crate::spot::{BandSpot, CodedBand};
+use dirac_bits::BitReader;
+use dirac_types::{BandTable, Cause, Refusal, Stop};
+use std::alloc::Global;
+
+/// The values of the parent.
+fn parent_values<'a>(parent: Option<&'a BandTable>) -> &'a [i64]
+    ensures { result.now ≡ values_of_parent parent.entry }
+{
+    match parent {
+        Some(table) => table.values(),
+        None => &[],
+    }
+}
+
+/// Reads the quantiser index and the block of a subband.
+#[tactic(auto, unfolding(crate::specs::Grammar::coded_band))]
+fn read_coded(
+    alloc: Global,
+    r: &mut BitReader<'_>,
+    len: u64,
+    spot: BandSpot,
+    parent: &[i64],
+) -> Result<CodedBand, Stop>
+    requires { IsSpot spot }
+    ensures value { ReadsOrStops result r.new (read (coded_band spot parent.now len) r.old) }
+    ensures early { IfErr result (IsEarly (length r.old.bytes)) }
+    ensures kept { r.new.bytes ≡ r.old.bytes }
+    ensures lawful { IfOk result (IsCodedBand spot) }
+{
+    let place = r.place();
+    let index = r.uint()?;
+    if index > 99 {
+        return Err(Stop::Refused(Refusal {
+            at: place,
+            cause: Cause::QuantIndex,
+        }));
+    }
+    r.align();
+    let at = r.place();
+    let block = r.block(len)?;
+    let table = read_block(alloc, block, at, spot, parent)?;
+    Ok(CodedBand {
+        index: index as u8,
+        table,
+    })
+}
+
+/// Reads a subband (subband header and data, Dirac specification): passes to the next byte, and takes the length
+/// of its block, the quantiser index and the block. What an arithmetic block doesn't hold is refused at its first byte.
+#[tactic(auto, unfolding(crate::specs::Grammar::band))]
+pub fn read_band(
+    alloc: Global,
+    r: &mut BitReader<'_>,
+    spot: BandSpot,
+    parent: Option<&BandTable>,
+) -> Result<CodedBand, Stop>
+    requires spot { IsSpot spot }
+    requires parent { ForSome parent (IsParentOf spot) }
+    ensures value { ReadsOrStops result r.new (read (band spot (values_of_parent parent.entry)) r.old) }
+    ensures early { IfErr result (IsEarly (length r.old.bytes)) }
+    ensures kept { r.new.bytes ≡ r.old.bytes }
+    ensures lawful { IfOk result (IsCodedBand spot) }
+{
+    r.align();
+    let len = r.uint()?;
+    if len == 0 {
+        let table = BandTable::try_new(alloc, spot.width, spot.height, 0)?;
+        return Ok(CodedBand { index: 0, table });
+    }
+    read_coded(alloc, r, len, spot, parent_values(parent))
+}

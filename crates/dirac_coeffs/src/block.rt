@@ -1,0 +1,34 @@
+ghost use Rattle.std.specs.Prelude.{◌≡◌, ℤ, ◌*◌, length, IfOk, List};
+ghost use Rattle.dirac_coeffs.specs.Answers.{GivesBlock};
+ghost use Rattle.dirac_coeffs.specs.BandRead.{band_read};
+ghost use Rattle.dirac_coeffs.specs.Carried.{AreSmall, CarriesLong};
+ghost use Rattle.dirac_coeffs.specs.Spots.{IsSpot};
+
+use crate::codeblocks::read_all;
+use crate::spot::BandSpot;
+use dirac_arith::Decoder;
+use dirac_types::{BandTable, Cause, NoMemory, Refusal, Stop};
+use std::alloc::Global;
+
+/// The coefficients of a subband from its arithmetic block (subband data, Dirac specification). `parent` holds
+/// the values of the parent band by rows, and is empty where there is none; a refusal is given the place `at`.
+pub fn read_block(
+    alloc: Global,
+    block: &[u8],
+    at: u64,
+    spot: BandSpot,
+    parent: &[i64],
+) -> Result<BandTable, Stop>
+    requires { IsSpot spot }
+    ensures value { GivesBlock spot at result (band_read spot parent.now block.now) }
+    ensures len { IfOk result (λ t. length t.values ≡ spot.width * spot.height) }
+    ensures small { IfOk result (λ t. AreSmall t.values) }
+    ensures long { result ≡ Err (Stop.Refused (record { at = at; cause = Cause.NumberTooLong })) → CarriesLong spot parent.now block.now }
+{
+    let mut table = BandTable::try_new(alloc, spot.width, spot.height, 0)?;
+    let mut decoder = Decoder::new(block);
+    match read_all(&mut decoder, table.values_mut(), spot, parent) {
+        Ok(()) => Ok(table),
+        Err(cause) => Err(Stop::Refused(Refusal { at, cause })),
+    }
+}

@@ -1,0 +1,142 @@
+ghost use Rattle.std.specs.Prelude.{◌≡◌, ◌+◌, ◌*◌, ◌<◌, ◌≤◌, ◌&&◌, length};
+ghost use Rattle.dirac_arith.specs.Spelling.{AreContexts};
+ghost use Rattle.dirac_coeffs.specs.Contexts.{left_of, above_of, corner_of, parent_of, is_zero, follow_of, sign_of, sign_neighbour};
+
+use dirac_types::Band;
+
+/// The value to the left, 0 in the first column.
+#[inline(always)]
+pub fn left_value(values: &[i64], width: usize, x: usize, y: usize) -> i64
+    requires column { x < width }
+    requires width { width ≤ 8192 }
+    requires row { y < 8192 }
+    requires inside { (y + 1) * width ≤ length values.now }
+    ensures { result ≡ left_of width values.now x y }
+{
+    if x == 0 {
+        0
+    } else {
+        values[y * width + (x - 1)]
+    }
+}
+
+/// The value above, 0 in the first row.
+#[inline(always)]
+pub fn above_value(values: &[i64], width: usize, x: usize, y: usize) -> i64
+    requires column { x < width }
+    requires width { width ≤ 8192 }
+    requires row { y < 8192 }
+    requires inside { (y + 1) * width ≤ length values.now }
+    ensures { result ≡ above_of width values.now x y }
+{
+    if y == 0 {
+        0
+    } else {
+        values[(y - 1) * width + x]
+    }
+}
+
+/// The value above and to the left, 0 in the first column and in the first row.
+#[inline(always)]
+pub fn corner_value(values: &[i64], width: usize, x: usize, y: usize) -> i64
+    requires column { x < width }
+    requires width { width ≤ 8192 }
+    requires row { y < 8192 }
+    requires inside { (y + 1) * width ≤ length values.now }
+    ensures { result ≡ corner_of width values.now x y }
+{
+    if x == 0 {
+        0
+    } else if y == 0 {
+        0
+    } else {
+        values[(y - 1) * width + (x - 1)]
+    }
+}
+
+/// The value of the parent band, 0 where there is none.
+#[inline(always)]
+pub fn parent_value(parent: &[i64], width: usize, x: usize, y: usize) -> i64
+    requires column { x < width }
+    requires width { width ≤ 8192 }
+    requires row { y < 8192 }
+    ensures { result ≡ parent_of width parent.now x y }
+{
+    let at = y / 2 * (width / 2) + x / 2;
+    if at < parent.len() { parent[at] } else { 0 }
+}
+
+/// Whether a value is 0.
+#[inline(always)]
+fn is_nought(value: i64) -> bool
+    ensures { result ≡ is_zero value }
+{
+    value == 0
+}
+
+/// Whether all neighbours are 0.
+#[inline(always)]
+pub fn are_noughts(left: i64, above: i64, corner: i64) -> bool
+    ensures { result ≡ (is_zero left && (is_zero above && is_zero corner)) }
+{
+    is_nought(left) && (is_nought(above) && is_nought(corner))
+}
+
+/// The follow contexts of a coefficient's magnitude, the last of them repeated.
+#[inline(always)]
+pub fn follow_contexts(parent_is_zero: bool, neighbours_are_zero: bool) -> &'static [u8; 6]
+    ensures value { result.now ≡ follow_of parent_is_zero neighbours_are_zero }
+    ensures contexts { AreContexts result.now }
+{
+    match (parent_is_zero, neighbours_are_zero) {
+        (true, true) => &[0, 4, 5, 6, 7, 8],
+        (true, false) => &[1, 4, 5, 6, 7, 8],
+        (false, true) => &[2, 9, 10, 11, 12, 13],
+        (false, false) => &[3, 9, 10, 11, 12, 13],
+    }
+}
+
+/// The follow contexts among these neighbours.
+#[inline(always)]
+pub fn follow_among(left: i64, above: i64, corner: i64, parent: i64) -> &'static [u8; 6]
+    ensures value { result.now ≡ follow_of (is_zero parent) (is_zero left && (is_zero above && is_zero corner)) }
+    ensures contexts { AreContexts result.now }
+{
+    follow_contexts(is_nought(parent), are_noughts(left, above, corner))
+}
+
+/// The value whose sign the sign's context goes by.
+#[inline(always)]
+fn neighbour(band: Band, left: i64, above: i64) -> i64
+    ensures { result ≡ sign_neighbour band left above }
+{
+    match band {
+        Band::HL => above,
+        Band::LH => left,
+        Band::LL | Band::HH => 0,
+    }
+}
+
+/// The context of a sign among these neighbours.
+#[inline(always)]
+pub fn sign_context(band: Band, left: i64, above: i64) -> u8
+    ensures exact { result ≡ sign_of (sign_neighbour band left above) }
+    ensures context { result < 38 }
+{
+    context_of_sign(neighbour(band, left, above))
+}
+
+/// The context of a sign beside this value.
+#[inline(always)]
+fn context_of_sign(neighbour: i64) -> u8
+    ensures exact { result ≡ sign_of neighbour }
+    ensures context { result < 38 }
+{
+    if neighbour == 0 {
+        15
+    } else if neighbour < 0 {
+        16
+    } else {
+        17
+    }
+}

@@ -1,0 +1,17 @@
+//! What holds of all subbands and blocks, each as the contract of a function that does nothing.
+ghost use Rattle.dirac_coeffs.specs.Laws.{OneBandIsCarried, NoBandBesideLong, OnesCarryNothing, BandIsRead, LongIsRefused, OnesAreRefused};
+
+/// A block carries the decisions of one band at most, and none beside those of a number that is too long;
+/// one that begins with sixteen ones carries neither.
+pub fn one_band_is_carried()
+    ensures one { OneBandIsCarried }
+    ensures or_long { NoBandBesideLong }
+    ensures or_ones { OnesCarryNothing }
+{}
+
+/// What a block reads to is the band whose decisions it carries.
+pub fn a_block_reads_to_its_band()
+    ensures carried { BandIsRead }
+    ensures long { LongIsRefused }
+    ensures ones { OnesAreRefused }
+{}

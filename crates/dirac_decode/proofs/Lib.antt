@@ -1,0 +1,5 @@
+pub mod Passing
+pub mod Leading
+pub mod Bands
+pub mod Streaming
+pub mod Rows

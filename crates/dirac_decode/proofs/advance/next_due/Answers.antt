@@ -1,0 +1,10 @@
+use Rattle.dirac_decode.proofs.Leading.{due_pop, settles_pop}
+use Rattle.dirac_decode.proofs.advance.next_due.Goals as goal
+
+pub returns-then-draining-clause-settles : goal.returns-then-draining-clause-settles
+returns-then-draining-clause-settles c =
+    settles_pop c.pop.result c.args.state.now c.pop.new.self c.args.draining c.if-draining.true c.pop.ensures
+
+pub returns-then-draining-clause-due : goal.returns-then-draining-clause-due
+returns-then-draining-clause-due c =
+    due_pop c.pop.result c.args.state.now c.pop.new.self c.args.draining c.if-draining.true c.pop.ensures

@@ -1,0 +1,128 @@
+use Rattle.std.proofs.Common.{◌≡◌, ◌+◌, ◌∙◌, ap, arith, false, sym, true, [], ◌∷◌}
+use Rattle.dirac_units.specs.declared.unit.Met.TheVariants as met
+use Rattle.dirac_refs.specs.Delivery.{flushed}
+use Rattle.dirac_decode.specs.Decoding.{decoding}
+use Rattle.dirac_decode.proofs.Leading.{answers_any, answers_shown, going_before, leads_going, leads_on, leads_unit}
+use Rattle.dirac_decode.proofs.decoder.Decoder.next_picture.Goals as goal
+
+pub overflow_add-self : goal.overflow_add-self
+overflow_add-self g c = omega (arith, c.units.invariant.few, c.units.invariant.fits, c.in-Some.ensures.fewer)
+
+pub returns-in-Some : goal.returns-in-Some
+returns-in-Some g c = record {
+  gives = (
+    leads_on c.args.self.now
+        (decoding c.units.self-inside.units c.units.self-inside.state c.units.self-inside.draining c.units.self-inside.given c.units.self-inside.met)
+        (decoding c.units.self-inside.units c.next_due.new.state c.units.self-inside.draining (c.units.self-inside.given + 1) c.units.self-inside.met)
+        (g.S.Source.held c.args.source.now) (g.S.Source.held c.units.source) (g.S.Source.held c.units.source) (c.in-Some.picture ∷ [])
+        c.units.invariant.leads
+        (c.in-Some.ensures.settles c.units.self-inside.units c.units.self-inside.given (c.units.self-inside.given + 1) c.units.self-inside.met (g.S.Source.held c.units.source)),
+    ap (λ n. n + 1) c.units.invariant.given,
+    λ e. absurd (c.units.invariant.moving e),
+  );
+  repeated = answers_shown c.args.self.now.met c.args.self.now.due c.in-Some.picture (flushed c.next_due.new.state.waiting) (λ e. c.in_default.not-Stopped (ap (λ d. d.met) c.self.view_is ∙ e))
+      (λ ne. sym (ap (λ d. d.due) (c.units.invariant.still ne).1) ∙ c.in-Some.ensures.due);
+  still = λ ne. (c.units.invariant.still ne).0;
+  whole = c.units.invariant.whole;
+  read = λ e. cc;
+  count = c.units.invariant.count;
+  fits = omega (arith, c.units.invariant.few, c.units.invariant.fits, c.in-Some.ensures.fewer);
+  room = c.units.invariant.room;
+}
+
+pub units-preserved-in-On : goal.units-preserved-in-On
+units-preserved-in-On g c =
+    let before : c.args.self.now.met ≡ met.Going = going_before c.args.self.now.met c.units.self-inside.met (λ ne. ap (λ d. d.met) (c.units.invariant.still ne).1) c.in-Going.is in
+    record {
+      leads = leads_going c.args.self.now c.units.self-inside.units c.advance_by_unit.new.units c.units.self-inside.state c.next_due.new.state c.advance_by_unit.new.state
+          c.units.self-inside.draining false c.units.self-inside.given c.units.self-inside.given c.units.self-inside.met
+          (g.S.Source.held c.args.source.now) (g.S.Source.held c.units.source) (g.S.Source.held c.advance_by_unit.new.source) []
+          c.units.invariant.leads c.in-None.ensures.settles c.in-Going.is c.in-On.ensures.advances;
+      given = c.units.invariant.given;
+      few = omega (arith, c.units.invariant.few, c.in-None.ensures.fewer, c.in-On.ensures.few);
+      fits = c.in-On.ensures.fits;
+      going = λ e. c.in-On.ensures.goes_on.0;
+      moving = c.units.invariant.moving;
+      still = λ ne. absurd (ne before);
+      whole = λ a e. cc;
+      room = omega (arith, c.units.invariant.room, c.in-On.ensures.room);
+      count = omega (arith, c.units.invariant.count, c.in-On.ensures.count);
+    }
+
+pub units-preserved-in-Drains : goal.units-preserved-in-Drains
+units-preserved-in-Drains g c =
+    let before : c.args.self.now.met ≡ met.Going = going_before c.args.self.now.met c.units.self-inside.met (λ ne. ap (λ d. d.met) (c.units.invariant.still ne).1) c.in-Going.is in
+    record {
+      leads = leads_going c.args.self.now c.units.self-inside.units c.advance_by_unit.new.units c.units.self-inside.state c.next_due.new.state c.advance_by_unit.new.state
+          c.units.self-inside.draining true c.units.self-inside.given c.units.self-inside.given c.units.self-inside.met
+          (g.S.Source.held c.args.source.now) (g.S.Source.held c.units.source) (g.S.Source.held c.advance_by_unit.new.source) []
+          c.units.invariant.leads c.in-None.ensures.settles c.in-Going.is c.in-Drains.ensures.advances;
+      given = c.units.invariant.given;
+      few = omega (arith, c.units.invariant.few, c.in-None.ensures.fewer, c.in-Drains.ensures.few);
+      fits = c.in-Drains.ensures.fits;
+      going = λ e. c.in-Drains.ensures.goes_on.0;
+      moving = c.units.invariant.moving;
+      still = λ ne. absurd (ne before);
+      whole = λ a e. cc;
+      room = omega (arith, c.units.invariant.room, c.in-Drains.ensures.room);
+      count = omega (arith, c.units.invariant.count, c.in-Drains.ensures.count);
+    }
+
+pub units-preserved-in-End : goal.units-preserved-in-End
+units-preserved-in-End g c =
+    let before : c.args.self.now.met ≡ met.Going = going_before c.args.self.now.met c.units.self-inside.met (λ ne. ap (λ d. d.met) (c.units.invariant.still ne).1) c.in-Going.is in
+    record {
+      leads = leads_unit c.args.self.now c.units.self-inside.units c.advance_by_unit.new.units c.units.self-inside.state c.next_due.new.state c.advance_by_unit.new.state
+          c.units.self-inside.draining true c.units.self-inside.given c.units.self-inside.given c.units.self-inside.met met.Ended
+          (g.S.Source.held c.args.source.now) (g.S.Source.held c.units.source) (g.S.Source.held c.advance_by_unit.new.source) []
+          c.units.invariant.leads c.in-None.ensures.settles c.in-Going.is c.in-End.ensures.advances;
+      given = c.units.invariant.given;
+      few = omega (arith, c.units.invariant.few, c.in-None.ensures.fewer, c.in-End.ensures.few);
+      fits = c.in-End.ensures.fits;
+      going = λ e. cc;
+      moving = λ e. cc;
+      still = λ ne. absurd (ne before);
+      whole = λ a e. c.advance_by_unit.ensures.whole c.in-End.is;
+      room = omega (arith, c.units.invariant.room, c.in-End.ensures.room);
+      count = omega (arith, c.units.invariant.count, c.in-End.ensures.count);
+    }
+
+pub units-preserved : goal.units-preserved
+units-preserved g c =
+    let before : c.args.self.now.met ≡ met.Going = going_before c.args.self.now.met c.units.self-inside.met (λ ne. ap (λ d. d.met) (c.units.invariant.still ne).1) c.in-Going.is in
+    record {
+      leads = leads_unit c.args.self.now c.units.self-inside.units c.advance_by_unit.new.units c.units.self-inside.state c.next_due.new.state c.advance_by_unit.new.state
+          c.units.self-inside.draining true c.units.self-inside.given c.units.self-inside.given c.units.self-inside.met (met.Faulted c.in-Fault.fault)
+          (g.S.Source.held c.args.source.now) (g.S.Source.held c.units.source) (g.S.Source.held c.advance_by_unit.new.source) []
+          c.units.invariant.leads c.in-None.ensures.settles c.in-Going.is c.in-Fault.ensures.advances;
+      given = c.units.invariant.given;
+      few = omega (arith, c.units.invariant.few, c.in-None.ensures.fewer, c.in-Fault.ensures.few);
+      fits = c.in-Fault.ensures.fits;
+      going = λ e. cc;
+      moving = λ e. cc;
+      still = λ ne. absurd (ne before);
+      whole = λ a e. cc;
+      room = omega (arith, c.units.invariant.room, c.in-Fault.ensures.room);
+      count = omega (arith, c.units.invariant.count, c.in-Fault.ensures.count);
+    }
+
+pub returns-in-Shown : goal.returns-in-Shown
+returns-in-Shown g c =
+    let before : c.args.self.now.met ≡ met.Going = going_before c.args.self.now.met c.units.self-inside.met (λ ne. ap (λ d. d.met) (c.units.invariant.still ne).1) c.in-Going.is in
+    record {
+      gives = (
+        leads_going c.args.self.now c.units.self-inside.units c.advance_by_unit.new.units c.units.self-inside.state c.next_due.new.state c.advance_by_unit.new.state
+            c.units.self-inside.draining false c.units.self-inside.given (c.units.self-inside.given + 1) c.units.self-inside.met
+            (g.S.Source.held c.args.source.now) (g.S.Source.held c.units.source) (g.S.Source.held c.advance_by_unit.new.source) (c.in-Shown.picture ∷ [])
+            c.units.invariant.leads c.in-None.ensures.settles c.in-Going.is c.in-Shown.ensures.advances,
+        ap (λ n. n + 1) c.units.invariant.given,
+        λ e. absurd (c.units.invariant.moving e),
+      );
+      repeated = answers_any c.args.self.now.met c.args.self.now.due _ before;
+      still = λ ne. absurd (ne before);
+      whole = λ a e. cc;
+      read = λ e. cc;
+      count = omega (arith, c.units.invariant.count, c.in-Shown.ensures.count);
+      fits = omega (arith, c.units.invariant.few, c.in-None.ensures.fewer, c.in-Shown.ensures.few, c.in-Shown.ensures.fits);
+      room = omega (arith, c.units.invariant.room, c.in-Shown.ensures.room);
+    }

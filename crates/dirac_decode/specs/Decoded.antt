@@ -1,0 +1,37 @@
+-- What the decoding of a whole stream answers.
+use Rattle.std.specs.Prelude.{◌≡◌, ℕ, List, Option, None, Some, ⊤}
+use Rattle.std.specs.Io.KnownBytes.{Appends}
+use Rattle.dirac_io.specs.Writing.{AppendsFront}
+use Rattle.dirac_decode.specs.declared.answers.Decoded.{Decoded}
+use Rattle.dirac_decode.specs.declared.answers.Decoded.TheVariants as decoded
+use Rattle.dirac_decode.specs.declared.answers.Tally.{Tally}
+use Rattle.dirac_decode.specs.Raw.{raws}
+use Rattle.dirac_decode.specs.Shown.{Outcome, IsShown, tally_of}
+
+-- what the answer says of what the stream shows and of what was written
+abbrev pub AnswersDecode : Decoded → Outcome → Option (List ℕ) → Option (List ℕ) → Type 0
+AnswersDecode (decoded.Done tally) o taken taken' = (o.end ≡ None) × (tally ≡ tally_of o) × Appends taken taken' (raws o.shown)
+AnswersDecode (decoded.Fault fault tally) o taken taken' = (o.end ≡ Some fault) × (tally ≡ tally_of o) × Appends taken taken' (raws o.shown)
+AnswersDecode decoded.ReadFault o taken taken' = AppendsFront taken taken' (raws o.shown)
+AnswersDecode decoded.WriteFault o taken taken' = AppendsFront taken taken' (raws o.shown)
+AnswersDecode decoded.NoMemory o taken taken' = AppendsFront taken taken' (raws o.shown)
+
+-- the answer and what was written are those of what these bytes show
+abbrev pub IsDecoded : List ℕ → Decoded → Option (List ℕ) → Option (List ℕ) → Type 0
+IsDecoded bytes answer taken taken' = (o : Outcome) × IsShown bytes o × AnswersDecode answer o taken taken'
+
+-- a fact, where the stream was decoded to its lawful end
+abbrev pub IfDone : Decoded → Type 0 → Type 0
+IfDone (decoded.Done tally) P = P
+IfDone (decoded.Fault fault tally) P = ⊤
+IfDone decoded.ReadFault P = ⊤
+IfDone decoded.WriteFault P = ⊤
+IfDone decoded.NoMemory P = ⊤
+
+-- a fact on the tally, where there is one
+abbrev pub IfTally : Decoded → (Tally → Type 0) → Type 0
+IfTally (decoded.Done tally) P = P tally
+IfTally (decoded.Fault fault tally) P = P tally
+IfTally decoded.ReadFault P = ⊤
+IfTally decoded.WriteFault P = ⊤
+IfTally decoded.NoMemory P = ⊤

@@ -1,0 +1,35 @@
+use dirac_types::{Fault, Picture};
+
+/// How many pictures were delivered, and the greatest length that a list of references had.
+#[derive(Clone, Copy, Debug, PartialEq, Eq)]
+pub struct Tally {
+    pub pictures: u64,
+    pub references: u8,
+}
+
+/// What the next picture of a stream is.
+#[derive(Debug, Drop)]
+pub enum Next {
+    Shown(Picture),
+    /// All pictures were given, and the stream ends lawfully.
+    End,
+    /// All pictures before the stream's first fault were given.
+    Fault(Fault),
+    /// A read of the source failed.
+    ReadFault,
+    NoMemory,
+    /// An earlier call answered `ReadFault` or `NoMemory`.
+    Stopped,
+}
+
+/// How the decoding of a whole stream ended.
+#[derive(Clone, Copy, Debug, PartialEq, Eq, Drop)]
+pub enum Decoded {
+    Done(Tally),
+    Fault(Fault, Tally),
+    /// A read of the source failed.
+    ReadFault,
+    /// A write to the sink failed.
+    WriteFault,
+    NoMemory,
+}

@@ -1,0 +1,21 @@
+//! The decoder: from the bytes of a stream to its pictures, in order of delivery, up to the first fault.
+//!
+//! `specs/Course` says what the content of each unit does, `specs/Shown` what a stream shows.
+#![tactic(auto)]
+
+mod advance;
+mod answers;
+mod coded;
+mod decoder;
+mod opened;
+mod picture;
+mod shared;
+mod state;
+mod stream;
+mod written;
+
+pub use answers::{Decoded, Next, Tally};
+pub use coded::CodedPicture;
+pub use decoder::Decoder;
+pub use opened::Opened;
+pub use stream::decode_stream;

@@ -1,0 +1,210 @@
+ghost use Rattle.std.specs.Prelude.{◌≡◌, ℕ, ◌+◌, ◌<◌, ◌≤◌, ◌^◌, length, Ok, Option};
+ghost use Rattle.dirac_decode.specs.Course.{begun, header_moves, in_unit, is_same as same_header, first_or as first_of, moved, passed, picture_moves, shows};
+ghost use Rattle.dirac_decode.specs.Taking.{Fewer, IfRefused, IsPopped, IsTook};
+
+use crate::coded::CodedPicture;
+use crate::opened::Opened;
+use crate::picture::{Rebuilt, make_picture};
+use dirac_refs::{Delivery, RefBuffer, key};
+use dirac_sequence::read_sequence;
+use dirac_types::{Cause, Picture, Refusal, Stop};
+use dirac_units::{Payload, fields_are_read};
+use std::alloc::Global;
+use std::marker::Model;
+
+/// The content of the units so far: the open sequence, its references, the pictures that wait.
+#[derive(Drop)]
+pub(crate) struct State {
+    opened: Option<Opened>,
+    first: Option<u32>,
+    refs: RefBuffer,
+    waits: Delivery,
+    most: u8,
+}
+
+impl Model for State {
+    ghost use Rattle.std.specs.Prelude.{◌≤◌, IfSome, length};
+    ghost use Rattle.dirac_sequence.specs.Lawful.{IsSequence};
+    ghost use Rattle.dirac_decode.specs.Course.{Course};
+
+    ghost Value = { Course };
+
+    ghost view = { λ s. record { opened = s.opened; first = s.first; list = s.refs; waiting = s.waits; most = s.most } };
+
+    ghost invariant = { λ s. IfSome s.opened (λ o. IsSequence o.sequence) × (s.most ≤ 8) };
+}
+
+/// What a unit's content brought.
+#[derive(Drop)]
+pub(crate) enum Took {
+    Nothing,
+    /// This picture leaves.
+    Shown(Picture),
+    /// The sequence ended, and all that wait leave.
+    Ends,
+    Refused(Refusal),
+    NoMemory,
+}
+
+impl State {
+    /// Before the first unit.
+    pub(crate) fn new() -> State
+        ensures { result ≡ begun }
+    {
+        State {
+            opened: None,
+            first: None,
+            refs: RefBuffer::new(),
+            waits: Delivery::new(),
+            most: 0,
+        }
+    }
+
+    /// The greatest length that a list of references had.
+    pub(crate) fn most(&self) -> u8
+        ensures value { result ≡ self.now.most }
+        ensures few { result ≤ 8 }
+    {
+        self.most
+    }
+
+    /// Takes the picture that leaves first, where one waits.
+    pub(crate) fn pop(&mut self) -> Option<Picture>
+        ensures { IsPopped result self.old self.new }
+    {
+        self.waits.pop()
+    }
+
+    /// Takes the content of a unit with this parse code.
+    #[tactic(auto, unfolding(crate::specs::Course::moved))]
+    pub(crate) fn take(&mut self, alloc: Global, code: u8, payload: Payload) -> Took
+        requires { length payload < 2 ^ 63 }
+        ensures took { IsTook result (moved self.old code payload) self.old self.new }
+        ensures early { IfRefused result (λ e. e.at ≤ 13 + length payload) }
+        ensures few { Fewer result (length self.old.waiting) (length self.new.waiting) }
+    {
+        if !fields_are_read(code) {
+            return self.pass(code);
+        }
+        if code == 0x00 {
+            self.take_header(payload)
+        } else {
+            self.take_picture(alloc, code, payload.bytes())
+        }
+    }
+
+    /// Passes over a unit without content, or closes the sequence.
+    fn pass(&mut self, code: u8) -> Took
+        ensures took { IsTook result (Ok (passed self.old code)) self.old self.new }
+        ensures few { Fewer result (length self.old.waiting) (length self.new.waiting) }
+    {
+        if code == 0x10 {
+            self.opened = None;
+            self.first = None;
+            self.refs = RefBuffer::new();
+            return Took::Ends;
+        }
+        Took::Nothing
+    }
+
+    /// Opens a sequence, or compares a repeated header with the open one's.
+    fn take_header(&mut self, payload: Payload) -> Took
+        requires { length payload < 2 ^ 63 }
+        ensures took { IsTook result (header_moves self.old self.old.opened payload) self.old self.new }
+        ensures early { IfRefused result (λ e. e.at ≤ 13 + length payload) }
+        ensures few { Fewer result (length self.old.waiting) (length self.new.waiting) }
+    {
+        if let Some(opened) = &self.opened {
+            if is_same(payload.bytes(), opened.header.bytes()) {
+                return Took::Nothing;
+            }
+            return Took::Refused(Refusal {
+                at: 0,
+                cause: Cause::SequenceChanged,
+            });
+        }
+        match read_sequence(payload.bytes()) {
+            Err(refusal) => Took::Refused(behind_parse_info(refusal)),
+            Ok(sequence) => {
+                self.opened = Some(Opened {
+                    header: payload,
+                    sequence,
+                });
+                self.first = None;
+                Took::Nothing
+            }
+        }
+    }
+
+    /// Reads and rebuilds a picture of the open sequence.
+    fn take_picture(&mut self, alloc: Global, code: u8, payload: &[u8]) -> Took
+        requires { length payload.now < 2 ^ 63 }
+        ensures took { IsTook result (picture_moves self.old self.old.opened code payload.now) self.old self.new }
+        ensures early { IfRefused result (λ e. e.at ≤ 13 + length payload.now) }
+        ensures few { Fewer result (length self.old.waiting) (length self.new.waiting) }
+    {
+        let Some(opened) = &self.opened else {
+            return Took::Refused(Refusal {
+                at: 0,
+                cause: Cause::NoSequence,
+            });
+        };
+        if code != 0x08 {
+            return Took::Refused(Refusal {
+                at: 4,
+                cause: Cause::Unbuilt,
+            });
+        }
+        match make_picture(alloc, payload, code, &opened.sequence, &self.refs) {
+            Err(Stop::Refused(refusal)) => Took::Refused(behind_parse_info(refusal)),
+            Err(Stop::NoMemory) => Took::NoMemory,
+            Ok(made) => self.show(made),
+        }
+    }
+
+    /// A rebuilt picture, which none refers to, changes the list and joins those that wait.
+    fn show(&mut self, made: Rebuilt) -> Took
+        requires { made.coded.code ≡ 8 }
+        ensures took { IsTook result (Ok (shows self.old made.coded made.picture)) self.old self.new }
+        ensures few { Fewer result (length self.old.waiting) (length self.new.waiting) }
+        ensures accepted { IfRefused result (λ e. ⊥) }
+    {
+        let Rebuilt { coded, picture } = made;
+        let first = first_or(self.first, picture.number);
+        self.first = Some(first);
+        self.refs.commit(coded.header.retire, None);
+        self.most = self.most.max(self.refs.count());
+        match self.waits.push(key(first, picture.number), picture) {
+            None => Took::Nothing,
+            Some(gone) => Took::Shown(gone),
+        }
+    }
+}
+
+/// The number of a sequence's first picture, which is this one where there was none.
+fn first_or(first: Option<u32>, number: u32) -> u32
+    ensures { result ≡ first_of first number }
+{
+    match first {
+        None => number,
+        Some(first) => first,
+    }
+}
+
+/// Whether a repeated sequence header has the first one's payload.
+fn is_same(payload: &[u8], header: &[u8]) -> bool
+    ensures { result ≡ same_header payload.now header.now }
+{
+    payload.len() == header.len() && payload.starts_with(header)
+}
+
+/// A refusal in a payload, its place counted from the unit's first byte.
+fn behind_parse_info(refusal: Refusal) -> Refusal
+    requires { refusal.at < 2 ^ 63 }
+    ensures { result ≡ in_unit refusal }
+{
+    Refusal {
+        at: 13 + refusal.at,
+        cause: refusal.cause,
+    }
+}

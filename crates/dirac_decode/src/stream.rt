@@ -1,0 +1,58 @@
+ghost use Rattle.std.specs.Prelude.{◌≡◌, ◌≤◌, IfSome};
+ghost use Rattle.std.specs.Io.KnownBytes.{IsAtEnd};
+ghost use Rattle.dirac_io.specs.Faults.{Rose};
+ghost use Rattle.dirac_decode.specs.Decoding.{begun};
+ghost use Rattle.dirac_decode.specs.Decoded.{IfDone, IfTally, IsDecoded};
+
+use crate::answers::{Decoded, Next};
+use crate::decoder::Decoder;
+use crate::written::put_picture;
+use dirac_io::{Put, Sink, Source};
+use std::alloc::Global;
+
+/// Decodes a whole stream, and writes its pictures as raw pictures in order of delivery, up to the first fault.
+pub fn decode_stream<S: Source, K: Sink>(alloc: Global, source: &mut S, out: &mut K) -> Decoded
+    ensures decoded { IfSome (S.held source.old) (λ bytes. IsDecoded bytes result (K.taken out.old) (K.taken out.new)) }
+    ensures whole { IfDone result (IsAtEnd (S.held source.new)) }
+    ensures few { IfTally result (λ tally. tally.references ≤ 8) }
+    ensures read { result ≡ Decoded.ReadFault → Rose (S.faults source.old) (S.faults source.new) }
+    ensures write { result ≡ Decoded.WriteFault → Rose (K.faults out.old) (K.faults out.new) }
+    ensures reads { S.faults source.old ≤ S.faults source.new }
+    ensures writes { K.faults out.old ≤ K.faults out.new }
+{
+    let mut decoder = Decoder::new(alloc);
+    let mut row = Vec::new(alloc);
+    write_pictures(&mut decoder, &mut row, source, out)
+}
+
+/// Writes the pictures of a stream that a new decoder gives; `row` is a buffer for one row.
+fn write_pictures<S: Source, K: Sink>(
+    decoder: &mut Decoder,
+    row: &mut Vec<u8>,
+    source: &mut S,
+    out: &mut K,
+) -> Decoded
+    requires { decoder.old ≡ begun }
+    ensures decoded { IfSome (S.held source.old) (λ bytes. IsDecoded bytes result (K.taken out.old) (K.taken out.new)) }
+    ensures whole { IfDone result (IsAtEnd (S.held source.new)) }
+    ensures few { IfTally result (λ tally. tally.references ≤ 8) }
+    ensures read { result ≡ Decoded.ReadFault → Rose (S.faults source.old) (S.faults source.new) }
+    ensures write { result ≡ Decoded.WriteFault → Rose (K.faults out.old) (K.faults out.new) }
+    ensures reads { S.faults source.old ≤ S.faults source.new }
+    ensures writes { K.faults out.old ≤ K.faults out.new }
+{
+    'pictures: loop {
+        match decoder.next_picture(source) {
+            Next::Shown(picture) => match put_picture(out, &picture, row) {
+                Put::All => {}
+                Put::Failed => return Decoded::WriteFault,
+                Put::NoMemory => return Decoded::NoMemory,
+            },
+            Next::End => return Decoded::Done(decoder.tally()),
+            Next::Fault(fault) => return Decoded::Fault(fault, decoder.tally()),
+            Next::ReadFault => return Decoded::ReadFault,
+            Next::NoMemory => return Decoded::NoMemory,
+            Next::Stopped => unreachable!(),
+        }
+    }
+}

@@ -1,0 +1,69 @@
+ghost use Rattle.std.specs.Prelude.{◌≡◌, ◌≤◌, IsOk, IfOk, map};
+ghost use Rattle.std.specs.Io.KnownBytes.{Appends};
+ghost use Rattle.dirac_io.specs.Faults.{Rose};
+ghost use Rattle.dirac_io.specs.Writing.{AppendsFront};
+ghost use Rattle.dirac_decode.specs.Raw.{byte_of, plane_bytes, raw};
+
+use dirac_io::{Put, Sink, put_all};
+use dirac_types::{NoMemory, Picture, Plane};
+
+/// Writes a raw picture: the rows of Y from top to bottom, then U, then V, a byte a sample. `row` is a
+/// buffer for one row, whatever it holds.
+pub(crate) fn put_picture<K: Sink>(out: &mut K, picture: &Picture, row: &mut Vec<u8>) -> Put
+    ensures all { result ≡ Put.All → Appends (K.taken out.old) (K.taken out.new) (raw picture.now) }
+    ensures front { AppendsFront (K.taken out.old) (K.taken out.new) (raw picture.now) }
+    ensures failed { result ≡ Put.Failed → Rose (K.faults out.old) (K.faults out.new) }
+    ensures count { K.faults out.old ≤ K.faults out.new }
+{
+    match put_plane(out, &picture.y, row) {
+        Put::All => {}
+        Put::Failed => return Put::Failed,
+        Put::NoMemory => return Put::NoMemory,
+    }
+    match put_plane(out, &picture.u, row) {
+        Put::All => {}
+        Put::Failed => return Put::Failed,
+        Put::NoMemory => return Put::NoMemory,
+    }
+    put_plane(out, &picture.v, row)
+}
+
+/// Writes the rows of a plane.
+fn put_plane<K: Sink>(out: &mut K, plane: &Plane, row: &mut Vec<u8>) -> Put
+    ensures all { result ≡ Put.All → Appends (K.taken out.old) (K.taken out.new) (plane_bytes plane.now) }
+    ensures front { AppendsFront (K.taken out.old) (K.taken out.new) (plane_bytes plane.now) }
+    ensures failed { result ≡ Put.Failed → Rose (K.faults out.old) (K.faults out.new) }
+    ensures count { K.faults out.old ≤ K.faults out.new }
+{
+    let height = plane.height();
+    'rows: for y in 0..height {
+        match fill_row(row, plane.row(y)) {
+            Ok(()) => {}
+            Err(NoMemory) => return Put::NoMemory,
+        }
+        match put_all(out, row.as_slice()) {
+            Put::All => {}
+            Put::Failed => return Put::Failed,
+            Put::NoMemory => return Put::NoMemory,
+        }
+    }
+    Put::All
+}
+
+/// Fills the buffer with the bytes of a row of samples.
+fn fill_row(row: &mut Vec<u8>, samples: &[i16]) -> Result<(), NoMemory>
+    ensures { IfOk result (λ _. row.new.items ≡ map byte_of samples.now) }
+{
+    row.clear();
+    for sample in samples {
+        row.push(byte(*sample))?;
+    }
+    Ok(())
+}
+
+/// The byte of a sample.
+fn byte(sample: i16) -> u8
+    ensures { result ≡ byte_of sample }
+{
+    (i32::from(sample) + 128).rem_euclid(256) as u8
+}
