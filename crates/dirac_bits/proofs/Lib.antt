@@ -8,3 +8,5 @@ pub mod Read
 pub mod Ends
 pub mod Whole
 pub mod Given
+pub mod Runs
+pub mod Writes

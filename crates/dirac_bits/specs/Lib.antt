@@ -7,3 +7,4 @@ pub mod Spelling
 pub mod Answers
 pub mod Laws
 pub mod Spots
+pub mod Writing
