@@ -1,3 +1,4 @@
+pub mod Changes
 pub mod Level
 pub mod Lifting
 pub mod Places

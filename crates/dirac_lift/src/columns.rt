@@ -1,11 +1,14 @@
 ghost use Rattle.std.specs.Prelude.{◌≡◌, ℕ, pos, ◌+◌, ◌-◌, ◌*◌, ◌/◌, ◌%◌, ◌^◌, ◌<◌, ◌≤◌, unsigned_abs, length, slice_index_or, slice_set};
 ghost use Rattle.std.specs.List.{sum_by};
+ghost use Rattle.dirac_lift.specs.Changes.{is_minus, parity_of};
 ghost use Rattle.dirac_lift.specs.Level.{column};
 ghost use Rattle.dirac_lift.specs.Lifting.{PlacesWithin, lift, new_at, own, value_read, weighted};
 ghost use Rattle.dirac_lift.specs.Places.{ColumnsBecome, ColumnsSafe, ColumnsSmall};
 ghost use Rattle.dirac_lift.specs.Wavelets.{daubechies_9_7, deslauriers_dubuc_13_7, deslauriers_dubuc_9_7, fidelity, haar, legall_5_3, run, steps_of, taken_back};
 
-use crate::step::{moved_value, multiply_add, rounded_sum};
+use crate::step::Change::{EvenMinus, EvenPlus, OddMinus, OddPlus};
+use crate::step::{Change, Step, moved_value, multiply_add, rounded_sum};
+use crate::tables::{DESLAURIERS_DUBUC, FIDELITY_EVEN, FIDELITY_ODD};
 
 #[inline(always)]
 fn value_in_column(values: &[i128], width: usize, height: usize, x: usize, y: usize) -> i128
@@ -23,29 +26,28 @@ fn weighted_in_column(
     values: &[i128],
     width: usize,
     height: usize,
+    step: Step,
     taps: &[i64],
-    parity: usize,
-    lead: usize,
     n: usize,
     x: usize,
 ) -> i128
     requires len { length values.now ≡ width * height }
     requires across { x < width }
-    requires parity { parity ≤ 1 }
+    requires parity { step.parity ≤ 1 }
     requires pair { n < height / 2 }
-    requires values { PlacesWithin (2 ^ 112) (1 - parity) (column values.now width height x) }
+    requires values { PlacesWithin (2 ^ 112) (1 - step.parity) (column values.now width height x) }
     requires taps { sum_by unsigned_abs taps.now ≤ 2 ^ 14 }
-    ensures value { result ≡ weighted taps.now (value_read parity lead (column values.now width height x) n) (length taps.now) }
+    ensures value { result ≡ weighted taps.now (value_read step.parity step.lead (column values.now width height x) n) (length taps.now) }
     ensures bound { unsigned_abs result ≤ 2 ^ 126 }
 {
     let last = height / 2 - 1;
     let mut sum = 0i128;
     for k in 0..taps.len() {
-        let pair = (n + k).saturating_sub(lead).min(last);
+        let pair = (n + k).saturating_sub(step.lead).min(last);
         sum = multiply_add(
             sum,
             taps[k],
-            value_in_column(values, width, height, x, 2 * pair + (1 - parity)),
+            value_in_column(values, width, height, x, 2 * pair + (1 - step.parity)),
         );
     }
     sum
@@ -57,30 +59,27 @@ fn lift_column_place(
     values: &mut [i128],
     width: usize,
     height: usize,
+    step: Step,
     taps: &[i64],
-    parity: usize,
-    lead: usize,
-    shift: u32,
-    minus: bool,
     n: usize,
     x: usize,
 )
     requires len { length values.old ≡ width * height }
     requires across { x < width }
-    requires parity { parity ≤ 1 }
+    requires parity { step.parity ≤ 1 }
     requires pair { n < height / 2 }
-    requires shift { shift ≤ 32 }
-    requires read { PlacesWithin (2 ^ 112) (1 - parity) (column values.old width height x) }
-    requires changed { unsigned_abs (slice_index_or (column values.old width height x) (own parity n) (pos 0)) ≤ 2 ^ 112 }
+    requires shift { step.shift ≤ 32 }
+    requires read { PlacesWithin (2 ^ 112) (1 - step.parity) (column values.old width height x) }
+    requires changed { unsigned_abs (slice_index_or (column values.old width height x) (own step.parity n) (pos 0)) ≤ 2 ^ 112 }
     requires taps { sum_by unsigned_abs taps.now ≤ 2 ^ 14 }
-    ensures { values.new ≡ slice_set values.old (own parity n * width + x) (new_at (record { parity = parity; minus = minus; shift = shift; lead = lead; taps = taps.now }) (column values.old width height x) n) }
+    ensures { values.new ≡ slice_set values.old (own step.parity n * width + x) (new_at (record { parity = step.parity; minus = step.minus; shift = step.shift; lead = step.lead; taps = taps.now }) (column values.old width height x) n) }
 {
-    let sum = weighted_in_column(values, width, height, taps, parity, lead, n, x);
-    let y = 2 * n + parity;
+    let sum = weighted_in_column(values, width, height, step, taps, n, x);
+    let y = 2 * n + step.parity;
     let moved = moved_value(
         value_in_column(values, width, height, x, y),
-        rounded_sum(sum, shift),
-        minus,
+        rounded_sum(sum, step.shift),
+        step.minus,
     );
     values[y * width + x] = moved;
 }
@@ -88,31 +87,49 @@ fn lift_column_place(
 /// One lifting step over all columns of a plane, in place, row by row: a changed row is itself and a weighted
 /// sum of whole rows.
 #[inline(always)]
+fn lift_columns_by(values: &mut [i128], width: usize, height: usize, step: Step, taps: &[i64])
+    requires len { length values.old ≡ width * height }
+    requires even { height % 2 ≡ 0 }
+    requires parity { step.parity ≤ 1 }
+    requires shift { step.shift ≤ 32 }
+    requires taps { sum_by unsigned_abs taps.now ≤ 2 ^ 14 }
+    requires small { ColumnsSmall width height values.old }
+    ensures { ColumnsBecome (lift (record { parity = step.parity; minus = step.minus; shift = step.shift; lead = step.lead; taps = taps.now })) width height values.old values.new }
+{
+    for n in 0..height / 2 {
+        for x in 0..width {
+            lift_column_place(values, width, height, step, taps, n, x);
+        }
+    }
+}
+
+/// One lifting step over all columns of a plane, with the meaning of `lift_in_place`.
+#[inline(always)]
 fn lift_columns(
     values: &mut [i128],
     width: usize,
     height: usize,
-    taps: &[i64],
-    parity: usize,
-    lead: usize,
+    change: Change,
     shift: u32,
-    minus: bool,
+    lead: usize,
+    taps: &[i64],
 )
     requires len { length values.old ≡ width * height }
     requires even { height % 2 ≡ 0 }
-    requires parity { parity ≤ 1 }
     requires shift { shift ≤ 32 }
     requires taps { sum_by unsigned_abs taps.now ≤ 2 ^ 14 }
     requires small { ColumnsSmall width height values.old }
-    ensures { ColumnsBecome (lift (record { parity = parity; minus = minus; shift = shift; lead = lead; taps = taps.now })) width height values.old values.new }
+    ensures { ColumnsBecome (lift (record { parity = parity_of change; minus = is_minus change; shift = shift; lead = lead; taps = taps.now })) width height values.old values.new }
 {
-    for n in 0..height / 2 {
-        for x in 0..width {
-            lift_column_place(
-                values, width, height, taps, parity, lead, shift, minus, n, x,
-            );
-        }
-    }
+    let parity = change.parity();
+    let minus = change.takes();
+    let step = Step {
+        parity,
+        minus,
+        shift,
+        lead,
+    };
+    lift_columns_by(values, width, height, step, taps);
 }
 
 /// Synthesis of all columns: Deslauriers-Dubuc (9,7).
@@ -124,8 +141,8 @@ fn synth_deslauriers_dubuc_9_7(values: &mut [i128], width: usize, height: usize)
     requires safe { ColumnsSafe deslauriers_dubuc_9_7 width height values.old }
     ensures { ColumnsBecome (run deslauriers_dubuc_9_7) width height values.old values.new }
 {
-    lift_columns(values, width, height, &[1, 1], 0, 1, 2, true);
-    lift_columns(values, width, height, &[-1, 9, 9, -1], 1, 1, 4, false);
+    lift_columns(values, width, height, EvenMinus, 2, 1, &[1, 1]);
+    lift_columns(values, width, height, OddPlus, 4, 1, &DESLAURIERS_DUBUC);
 }
 
 /// Analysis of all columns: Deslauriers-Dubuc (9,7).
@@ -137,8 +154,8 @@ fn analyse_deslauriers_dubuc_9_7(values: &mut [i128], width: usize, height: usiz
     requires safe { ColumnsSafe (taken_back deslauriers_dubuc_9_7) width height values.old }
     ensures { ColumnsBecome (run (taken_back deslauriers_dubuc_9_7)) width height values.old values.new }
 {
-    lift_columns(values, width, height, &[-1, 9, 9, -1], 1, 1, 4, true);
-    lift_columns(values, width, height, &[1, 1], 0, 1, 2, false);
+    lift_columns(values, width, height, OddMinus, 4, 1, &DESLAURIERS_DUBUC);
+    lift_columns(values, width, height, EvenPlus, 2, 1, &[1, 1]);
 }
 
 /// Synthesis of all columns: LeGall (5,3).
@@ -150,8 +167,8 @@ fn synth_legall_5_3(values: &mut [i128], width: usize, height: usize)
     requires safe { ColumnsSafe legall_5_3 width height values.old }
     ensures { ColumnsBecome (run legall_5_3) width height values.old values.new }
 {
-    lift_columns(values, width, height, &[1, 1], 0, 1, 2, true);
-    lift_columns(values, width, height, &[1, 1], 1, 0, 1, false);
+    lift_columns(values, width, height, EvenMinus, 2, 1, &[1, 1]);
+    lift_columns(values, width, height, OddPlus, 1, 0, &[1, 1]);
 }
 
 /// Analysis of all columns: LeGall (5,3).
@@ -163,8 +180,8 @@ fn analyse_legall_5_3(values: &mut [i128], width: usize, height: usize)
     requires safe { ColumnsSafe (taken_back legall_5_3) width height values.old }
     ensures { ColumnsBecome (run (taken_back legall_5_3)) width height values.old values.new }
 {
-    lift_columns(values, width, height, &[1, 1], 1, 0, 1, true);
-    lift_columns(values, width, height, &[1, 1], 0, 1, 2, false);
+    lift_columns(values, width, height, OddMinus, 1, 0, &[1, 1]);
+    lift_columns(values, width, height, EvenPlus, 2, 1, &[1, 1]);
 }
 
 /// Synthesis of all columns: Deslauriers-Dubuc (13,7).
@@ -176,8 +193,8 @@ fn synth_deslauriers_dubuc_13_7(values: &mut [i128], width: usize, height: usize
     requires safe { ColumnsSafe deslauriers_dubuc_13_7 width height values.old }
     ensures { ColumnsBecome (run deslauriers_dubuc_13_7) width height values.old values.new }
 {
-    lift_columns(values, width, height, &[-1, 9, 9, -1], 0, 2, 5, true);
-    lift_columns(values, width, height, &[-1, 9, 9, -1], 1, 1, 4, false);
+    lift_columns(values, width, height, EvenMinus, 5, 2, &DESLAURIERS_DUBUC);
+    lift_columns(values, width, height, OddPlus, 4, 1, &DESLAURIERS_DUBUC);
 }
 
 /// Analysis of all columns: Deslauriers-Dubuc (13,7).
@@ -189,8 +206,8 @@ fn analyse_deslauriers_dubuc_13_7(values: &mut [i128], width: usize, height: usi
     requires safe { ColumnsSafe (taken_back deslauriers_dubuc_13_7) width height values.old }
     ensures { ColumnsBecome (run (taken_back deslauriers_dubuc_13_7)) width height values.old values.new }
 {
-    lift_columns(values, width, height, &[-1, 9, 9, -1], 1, 1, 4, true);
-    lift_columns(values, width, height, &[-1, 9, 9, -1], 0, 2, 5, false);
+    lift_columns(values, width, height, OddMinus, 4, 1, &DESLAURIERS_DUBUC);
+    lift_columns(values, width, height, EvenPlus, 5, 2, &DESLAURIERS_DUBUC);
 }
 
 /// Synthesis of all columns: Haar.
@@ -202,8 +219,8 @@ fn synth_haar(values: &mut [i128], width: usize, height: usize)
     requires safe { ColumnsSafe haar width height values.old }
     ensures { ColumnsBecome (run haar) width height values.old values.new }
 {
-    lift_columns(values, width, height, &[1], 0, 0, 1, true);
-    lift_columns(values, width, height, &[1], 1, 0, 0, false);
+    lift_columns(values, width, height, EvenMinus, 1, 0, &[1]);
+    lift_columns(values, width, height, OddPlus, 0, 0, &[1]);
 }
 
 /// Analysis of all columns: Haar.
@@ -215,8 +232,8 @@ fn analyse_haar(values: &mut [i128], width: usize, height: usize)
     requires safe { ColumnsSafe (taken_back haar) width height values.old }
     ensures { ColumnsBecome (run (taken_back haar)) width height values.old values.new }
 {
-    lift_columns(values, width, height, &[1], 1, 0, 0, true);
-    lift_columns(values, width, height, &[1], 0, 0, 1, false);
+    lift_columns(values, width, height, OddMinus, 0, 0, &[1]);
+    lift_columns(values, width, height, EvenPlus, 1, 0, &[1]);
 }
 
 /// Synthesis of all columns: Fidelity.
@@ -228,26 +245,8 @@ fn synth_fidelity(values: &mut [i128], width: usize, height: usize)
     requires safe { ColumnsSafe fidelity width height values.old }
     ensures { ColumnsBecome (run fidelity) width height values.old values.new }
 {
-    lift_columns(
-        values,
-        width,
-        height,
-        &[-2, 10, -25, 81, 81, -25, 10, -2],
-        1,
-        3,
-        8,
-        false,
-    );
-    lift_columns(
-        values,
-        width,
-        height,
-        &[-8, 21, -46, 161, 161, -46, 21, -8],
-        0,
-        4,
-        8,
-        true,
-    );
+    lift_columns(values, width, height, OddPlus, 8, 3, &FIDELITY_ODD);
+    lift_columns(values, width, height, EvenMinus, 8, 4, &FIDELITY_EVEN);
 }
 
 /// Analysis of all columns: Fidelity.
@@ -259,26 +258,8 @@ fn analyse_fidelity(values: &mut [i128], width: usize, height: usize)
     requires safe { ColumnsSafe (taken_back fidelity) width height values.old }
     ensures { ColumnsBecome (run (taken_back fidelity)) width height values.old values.new }
 {
-    lift_columns(
-        values,
-        width,
-        height,
-        &[-8, 21, -46, 161, 161, -46, 21, -8],
-        0,
-        4,
-        8,
-        false,
-    );
-    lift_columns(
-        values,
-        width,
-        height,
-        &[-2, 10, -25, 81, 81, -25, 10, -2],
-        1,
-        3,
-        8,
-        true,
-    );
+    lift_columns(values, width, height, EvenPlus, 8, 4, &FIDELITY_EVEN);
+    lift_columns(values, width, height, OddMinus, 8, 3, &FIDELITY_ODD);
 }
 
 /// Synthesis of all columns: Daubechies (9,7).
@@ -290,10 +271,10 @@ fn synth_daubechies_9_7(values: &mut [i128], width: usize, height: usize)
     requires safe { ColumnsSafe daubechies_9_7 width height values.old }
     ensures { ColumnsBecome (run daubechies_9_7) width height values.old values.new }
 {
-    lift_columns(values, width, height, &[1817, 1817], 0, 1, 12, true);
-    lift_columns(values, width, height, &[3616, 3616], 1, 0, 12, true);
-    lift_columns(values, width, height, &[217, 217], 0, 1, 12, false);
-    lift_columns(values, width, height, &[6497, 6497], 1, 0, 12, false);
+    lift_columns(values, width, height, EvenMinus, 12, 1, &[1817, 1817]);
+    lift_columns(values, width, height, OddMinus, 12, 0, &[3616, 3616]);
+    lift_columns(values, width, height, EvenPlus, 12, 1, &[217, 217]);
+    lift_columns(values, width, height, OddPlus, 12, 0, &[6497, 6497]);
 }
 
 /// Analysis of all columns: Daubechies (9,7).
@@ -305,10 +286,10 @@ fn analyse_daubechies_9_7(values: &mut [i128], width: usize, height: usize)
     requires safe { ColumnsSafe (taken_back daubechies_9_7) width height values.old }
     ensures { ColumnsBecome (run (taken_back daubechies_9_7)) width height values.old values.new }
 {
-    lift_columns(values, width, height, &[6497, 6497], 1, 0, 12, true);
-    lift_columns(values, width, height, &[217, 217], 0, 1, 12, true);
-    lift_columns(values, width, height, &[3616, 3616], 1, 0, 12, false);
-    lift_columns(values, width, height, &[1817, 1817], 0, 1, 12, false);
+    lift_columns(values, width, height, OddMinus, 12, 0, &[6497, 6497]);
+    lift_columns(values, width, height, EvenMinus, 12, 1, &[217, 217]);
+    lift_columns(values, width, height, OddPlus, 12, 0, &[3616, 3616]);
+    lift_columns(values, width, height, EvenPlus, 12, 1, &[1817, 1817]);
 }
 
 /// Synthesis of all columns of a plane.

@@ -6,6 +6,7 @@ mod columns;
 mod levels;
 mod lines;
 mod step;
+mod tables;
 
 pub use levels::{analyse_level, synth_level};
 pub use lines::{analyse_line, synth_line};

@@ -3,7 +3,9 @@ ghost use Rattle.std.specs.List.{All};
 ghost use Rattle.dirac_lift.specs.Safety.{Safe};
 ghost use Rattle.dirac_lift.specs.Wavelets.{analyse, analyse_bound, daubechies_9_7, deslauriers_dubuc_13_7, deslauriers_dubuc_9_7, fidelity, haar, legall_5_3, run, steps_of, synth, synth_bound, taken_back};
 
+use crate::step::Change::{EvenMinus, EvenPlus, OddMinus, OddPlus};
 use crate::step::lift_in_place;
+use crate::tables::{DESLAURIERS_DUBUC, FIDELITY_EVEN, FIDELITY_ODD};
 
 /// Synthesis of a line: Deslauriers-Dubuc (9,7).
 #[inline(never)]
@@ -12,8 +14,8 @@ fn synth_deslauriers_dubuc_9_7(line: &mut [i128])
     requires safe { Safe deslauriers_dubuc_9_7 line.old }
     ensures { line.new ≡ run deslauriers_dubuc_9_7 line.old }
 {
-    lift_in_place(line, &[1, 1], 0, 1, 2, true);
-    lift_in_place(line, &[-1, 9, 9, -1], 1, 1, 4, false);
+    lift_in_place(line, EvenMinus, 2, 1, &[1, 1]);
+    lift_in_place(line, OddPlus, 4, 1, &DESLAURIERS_DUBUC);
 }
 
 /// Analysis of a line: Deslauriers-Dubuc (9,7).
@@ -23,8 +25,8 @@ fn analyse_deslauriers_dubuc_9_7(line: &mut [i128])
     requires safe { Safe (taken_back deslauriers_dubuc_9_7) line.old }
     ensures { line.new ≡ run (taken_back deslauriers_dubuc_9_7) line.old }
 {
-    lift_in_place(line, &[-1, 9, 9, -1], 1, 1, 4, true);
-    lift_in_place(line, &[1, 1], 0, 1, 2, false);
+    lift_in_place(line, OddMinus, 4, 1, &DESLAURIERS_DUBUC);
+    lift_in_place(line, EvenPlus, 2, 1, &[1, 1]);
 }
 
 /// Synthesis of a line: LeGall (5,3).
@@ -34,8 +36,8 @@ fn synth_legall_5_3(line: &mut [i128])
     requires safe { Safe legall_5_3 line.old }
     ensures { line.new ≡ run legall_5_3 line.old }
 {
-    lift_in_place(line, &[1, 1], 0, 1, 2, true);
-    lift_in_place(line, &[1, 1], 1, 0, 1, false);
+    lift_in_place(line, EvenMinus, 2, 1, &[1, 1]);
+    lift_in_place(line, OddPlus, 1, 0, &[1, 1]);
 }
 
 /// Analysis of a line: LeGall (5,3).
@@ -45,8 +47,8 @@ fn analyse_legall_5_3(line: &mut [i128])
     requires safe { Safe (taken_back legall_5_3) line.old }
     ensures { line.new ≡ run (taken_back legall_5_3) line.old }
 {
-    lift_in_place(line, &[1, 1], 1, 0, 1, true);
-    lift_in_place(line, &[1, 1], 0, 1, 2, false);
+    lift_in_place(line, OddMinus, 1, 0, &[1, 1]);
+    lift_in_place(line, EvenPlus, 2, 1, &[1, 1]);
 }
 
 /// Synthesis of a line: Deslauriers-Dubuc (13,7).
@@ -56,8 +58,8 @@ fn synth_deslauriers_dubuc_13_7(line: &mut [i128])
     requires safe { Safe deslauriers_dubuc_13_7 line.old }
     ensures { line.new ≡ run deslauriers_dubuc_13_7 line.old }
 {
-    lift_in_place(line, &[-1, 9, 9, -1], 0, 2, 5, true);
-    lift_in_place(line, &[-1, 9, 9, -1], 1, 1, 4, false);
+    lift_in_place(line, EvenMinus, 5, 2, &DESLAURIERS_DUBUC);
+    lift_in_place(line, OddPlus, 4, 1, &DESLAURIERS_DUBUC);
 }
 
 /// Analysis of a line: Deslauriers-Dubuc (13,7).
@@ -67,8 +69,8 @@ fn analyse_deslauriers_dubuc_13_7(line: &mut [i128])
     requires safe { Safe (taken_back deslauriers_dubuc_13_7) line.old }
     ensures { line.new ≡ run (taken_back deslauriers_dubuc_13_7) line.old }
 {
-    lift_in_place(line, &[-1, 9, 9, -1], 1, 1, 4, true);
-    lift_in_place(line, &[-1, 9, 9, -1], 0, 2, 5, false);
+    lift_in_place(line, OddMinus, 4, 1, &DESLAURIERS_DUBUC);
+    lift_in_place(line, EvenPlus, 5, 2, &DESLAURIERS_DUBUC);
 }
 
 /// Synthesis of a line: Haar.
@@ -78,8 +80,8 @@ fn synth_haar(line: &mut [i128])
     requires safe { Safe haar line.old }
     ensures { line.new ≡ run haar line.old }
 {
-    lift_in_place(line, &[1], 0, 0, 1, true);
-    lift_in_place(line, &[1], 1, 0, 0, false);
+    lift_in_place(line, EvenMinus, 1, 0, &[1]);
+    lift_in_place(line, OddPlus, 0, 0, &[1]);
 }
 
 /// Analysis of a line: Haar.
@@ -89,8 +91,8 @@ fn analyse_haar(line: &mut [i128])
     requires safe { Safe (taken_back haar) line.old }
     ensures { line.new ≡ run (taken_back haar) line.old }
 {
-    lift_in_place(line, &[1], 1, 0, 0, true);
-    lift_in_place(line, &[1], 0, 0, 1, false);
+    lift_in_place(line, OddMinus, 0, 0, &[1]);
+    lift_in_place(line, EvenPlus, 1, 0, &[1]);
 }
 
 /// Synthesis of a line: Fidelity.
@@ -100,8 +102,8 @@ fn synth_fidelity(line: &mut [i128])
     requires safe { Safe fidelity line.old }
     ensures { line.new ≡ run fidelity line.old }
 {
-    lift_in_place(line, &[-2, 10, -25, 81, 81, -25, 10, -2], 1, 3, 8, false);
-    lift_in_place(line, &[-8, 21, -46, 161, 161, -46, 21, -8], 0, 4, 8, true);
+    lift_in_place(line, OddPlus, 8, 3, &FIDELITY_ODD);
+    lift_in_place(line, EvenMinus, 8, 4, &FIDELITY_EVEN);
 }
 
 /// Analysis of a line: Fidelity.
@@ -111,8 +113,8 @@ fn analyse_fidelity(line: &mut [i128])
     requires safe { Safe (taken_back fidelity) line.old }
     ensures { line.new ≡ run (taken_back fidelity) line.old }
 {
-    lift_in_place(line, &[-8, 21, -46, 161, 161, -46, 21, -8], 0, 4, 8, false);
-    lift_in_place(line, &[-2, 10, -25, 81, 81, -25, 10, -2], 1, 3, 8, true);
+    lift_in_place(line, EvenPlus, 8, 4, &FIDELITY_EVEN);
+    lift_in_place(line, OddMinus, 8, 3, &FIDELITY_ODD);
 }
 
 /// Synthesis of a line: Daubechies (9,7).
@@ -122,10 +124,10 @@ fn synth_daubechies_9_7(line: &mut [i128])
     requires safe { Safe daubechies_9_7 line.old }
     ensures { line.new ≡ run daubechies_9_7 line.old }
 {
-    lift_in_place(line, &[1817, 1817], 0, 1, 12, true);
-    lift_in_place(line, &[3616, 3616], 1, 0, 12, true);
-    lift_in_place(line, &[217, 217], 0, 1, 12, false);
-    lift_in_place(line, &[6497, 6497], 1, 0, 12, false);
+    lift_in_place(line, EvenMinus, 12, 1, &[1817, 1817]);
+    lift_in_place(line, OddMinus, 12, 0, &[3616, 3616]);
+    lift_in_place(line, EvenPlus, 12, 1, &[217, 217]);
+    lift_in_place(line, OddPlus, 12, 0, &[6497, 6497]);
 }
 
 /// Analysis of a line: Daubechies (9,7).
@@ -135,10 +137,10 @@ fn analyse_daubechies_9_7(line: &mut [i128])
     requires safe { Safe (taken_back daubechies_9_7) line.old }
     ensures { line.new ≡ run (taken_back daubechies_9_7) line.old }
 {
-    lift_in_place(line, &[6497, 6497], 1, 0, 12, true);
-    lift_in_place(line, &[217, 217], 0, 1, 12, true);
-    lift_in_place(line, &[3616, 3616], 1, 0, 12, false);
-    lift_in_place(line, &[1817, 1817], 0, 1, 12, false);
+    lift_in_place(line, OddMinus, 12, 0, &[6497, 6497]);
+    lift_in_place(line, EvenMinus, 12, 1, &[217, 217]);
+    lift_in_place(line, OddPlus, 12, 0, &[3616, 3616]);
+    lift_in_place(line, EvenPlus, 12, 1, &[1817, 1817]);
 }
 
 #[inline(always)]

@@ -1,6 +1,53 @@
 ghost use Rattle.std.specs.Prelude.{◌≡◌, ℕ, pos, ◌+◌, ◌-◌, ◌*◌, ◌/◌, ◌%◌, ◌^◌, ◌<◌, ◌≤◌, ◌+ℤ◌, ◌*ℤ◌, unsigned_abs, length, slice_index_or, slice_set};
 ghost use Rattle.std.specs.List.{sum_by};
+ghost use Rattle.dirac_lift.specs.Changes.{is_minus, parity_of};
 ghost use Rattle.dirac_lift.specs.Lifting.{PlacesWithin, lift, moved, new_at, other, own, pair_read, rounded, value_read, weighted};
+
+/// What a lifting step does: it changes the even or the odd places of a line, by taking or adding a rounded
+/// weighted sum of the others.
+#[derive(Clone, Copy)]
+pub enum Change {
+    EvenMinus,
+    EvenPlus,
+    OddMinus,
+    OddPlus,
+}
+
+impl Change {
+    #[inline(always)]
+    pub fn parity(self) -> usize
+        ensures value { result ≡ parity_of self }
+        ensures bound { result ≤ 1 }
+    {
+        match self {
+            Change::EvenMinus | Change::EvenPlus => 0,
+            Change::OddMinus | Change::OddPlus => 1,
+        }
+    }
+
+    #[inline(always)]
+    pub fn takes(self) -> bool
+        ensures { result ≡ is_minus self }
+    {
+        match self {
+            Change::EvenMinus | Change::OddMinus => true,
+            Change::EvenPlus | Change::OddPlus => false,
+        }
+    }
+}
+
+/// A lifting step but for its taps. Places stand in pairs, an even one before an odd one.
+#[derive(Clone, Copy)]
+pub struct Step {
+    /// 0: the even places change and the odd ones are read; 1: the other way round.
+    pub parity: usize,
+    /// Whether the rounded sum is taken away, and not added.
+    pub minus: bool,
+    /// The sum is divided by 2 to this power.
+    pub shift: u32,
+    /// How many pairs before the changed one the first tap reads; each further tap reads one pair later.
+    pub lead: usize,
+}
 
 /// One more tap of a weighted sum.
 #[inline(always)]
@@ -38,35 +85,35 @@ pub fn moved_value(value: i128, change: i128, minus: bool) -> i128
 
 /// The weighted sum for pair `n` where a tap may read beyond an end of the line.
 #[inline(always)]
-fn weighted_clamped(line: &[i128], taps: &[i64], parity: usize, lead: usize, n: usize) -> i128
-    requires parity { parity ≤ 1 }
+fn weighted_clamped(line: &[i128], step: Step, taps: &[i64], n: usize) -> i128
+    requires parity { step.parity ≤ 1 }
     requires pair { n < length line.now / 2 }
-    requires values { PlacesWithin (2 ^ 112) (1 - parity) line.now }
+    requires values { PlacesWithin (2 ^ 112) (1 - step.parity) line.now }
     requires taps { sum_by unsigned_abs taps.now ≤ 2 ^ 14 }
-    ensures value { result ≡ weighted taps.now (value_read parity lead line.now n) (length taps.now) }
+    ensures value { result ≡ weighted taps.now (value_read step.parity step.lead line.now n) (length taps.now) }
     ensures bound { unsigned_abs result ≤ 2 ^ 126 }
 {
     let last = line.len() / 2 - 1;
     let mut sum = 0i128;
     for k in 0..taps.len() {
-        let pair = (n + k).saturating_sub(lead).min(last);
-        sum = multiply_add(sum, taps[k], line[2 * pair + (1 - parity)]);
+        let pair = (n + k).saturating_sub(step.lead).min(last);
+        sum = multiply_add(sum, taps[k], line[2 * pair + (1 - step.parity)]);
     }
     sum
 }
 
 /// The weighted sum for pair `n` where all taps read inside the line.
 #[inline(always)]
-fn weighted_inside(line: &[i128], taps: &[i64], parity: usize, lead: usize, n: usize) -> i128
-    requires parity { parity ≤ 1 }
-    requires first { lead ≤ n }
-    requires last { n + length taps.now ≤ length line.now / 2 + lead }
-    requires values { PlacesWithin (2 ^ 112) (1 - parity) line.now }
+fn weighted_inside(line: &[i128], step: Step, taps: &[i64], n: usize) -> i128
+    requires parity { step.parity ≤ 1 }
+    requires first { step.lead ≤ n }
+    requires last { n + length taps.now ≤ length line.now / 2 + step.lead }
+    requires values { PlacesWithin (2 ^ 112) (1 - step.parity) line.now }
     requires taps { sum_by unsigned_abs taps.now ≤ 2 ^ 14 }
-    ensures value { result ≡ weighted taps.now (value_read parity lead line.now n) (length taps.now) }
+    ensures value { result ≡ weighted taps.now (value_read step.parity step.lead line.now n) (length taps.now) }
     ensures bound { unsigned_abs result ≤ 2 ^ 126 }
 {
-    let first = 2 * (n - lead) + (1 - parity);
+    let first = 2 * (n - step.lead) + (1 - step.parity);
     let mut sum = 0i128;
     for k in 0..taps.len() {
         sum = multiply_add(sum, taps[k], line[first + 2 * k]);
@@ -76,84 +123,84 @@ fn weighted_inside(line: &[i128], taps: &[i64], parity: usize, lead: usize, n: u
 
 /// Changes pair `n`, of which a tap may read beyond an end of the line.
 #[inline(always)]
-fn lift_pair_clamped(
-    line: &mut [i128],
-    taps: &[i64],
-    parity: usize,
-    lead: usize,
-    shift: u32,
-    minus: bool,
-    n: usize,
-)
-    requires parity { parity ≤ 1 }
+fn lift_pair_clamped(line: &mut [i128], step: Step, taps: &[i64], n: usize)
+    requires parity { step.parity ≤ 1 }
     requires pair { n < length line.old / 2 }
-    requires shift { shift ≤ 32 }
-    requires read { PlacesWithin (2 ^ 112) (1 - parity) line.old }
-    requires changed { unsigned_abs (slice_index_or line.old (own parity n) (pos 0)) ≤ 2 ^ 112 }
+    requires shift { step.shift ≤ 32 }
+    requires read { PlacesWithin (2 ^ 112) (1 - step.parity) line.old }
+    requires changed { unsigned_abs (slice_index_or line.old (own step.parity n) (pos 0)) ≤ 2 ^ 112 }
     requires taps { sum_by unsigned_abs taps.now ≤ 2 ^ 14 }
-    ensures { line.new ≡ slice_set line.old (own parity n) (new_at (record { parity = parity; minus = minus; shift = shift; lead = lead; taps = taps.now }) line.old n) }
+    ensures { line.new ≡ slice_set line.old (own step.parity n) (new_at (record { parity = step.parity; minus = step.minus; shift = step.shift; lead = step.lead; taps = taps.now }) line.old n) }
 {
-    let sum = weighted_clamped(line, taps, parity, lead, n);
-    let at = 2 * n + parity;
-    line[at] = moved_value(line[at], rounded_sum(sum, shift), minus);
+    let sum = weighted_clamped(line, step, taps, n);
+    let at = 2 * n + step.parity;
+    line[at] = moved_value(line[at], rounded_sum(sum, step.shift), step.minus);
 }
 
 /// Changes pair `n`, of which all taps read inside the line.
 #[inline(always)]
-fn lift_pair_inside(
-    line: &mut [i128],
-    taps: &[i64],
-    parity: usize,
-    lead: usize,
-    shift: u32,
-    minus: bool,
-    n: usize,
-)
-    requires parity { parity ≤ 1 }
+fn lift_pair_inside(line: &mut [i128], step: Step, taps: &[i64], n: usize)
+    requires parity { step.parity ≤ 1 }
     requires pair { n < length line.old / 2 }
-    requires first { lead ≤ n }
-    requires last { n + length taps.now ≤ length line.old / 2 + lead }
-    requires shift { shift ≤ 32 }
-    requires read { PlacesWithin (2 ^ 112) (1 - parity) line.old }
-    requires changed { unsigned_abs (slice_index_or line.old (own parity n) (pos 0)) ≤ 2 ^ 112 }
+    requires first { step.lead ≤ n }
+    requires last { n + length taps.now ≤ length line.old / 2 + step.lead }
+    requires shift { step.shift ≤ 32 }
+    requires read { PlacesWithin (2 ^ 112) (1 - step.parity) line.old }
+    requires changed { unsigned_abs (slice_index_or line.old (own step.parity n) (pos 0)) ≤ 2 ^ 112 }
     requires taps { sum_by unsigned_abs taps.now ≤ 2 ^ 14 }
-    ensures { line.new ≡ slice_set line.old (own parity n) (new_at (record { parity = parity; minus = minus; shift = shift; lead = lead; taps = taps.now }) line.old n) }
+    ensures { line.new ≡ slice_set line.old (own step.parity n) (new_at (record { parity = step.parity; minus = step.minus; shift = step.shift; lead = step.lead; taps = taps.now }) line.old n) }
 {
-    let sum = weighted_inside(line, taps, parity, lead, n);
-    let at = 2 * n + parity;
-    line[at] = moved_value(line[at], rounded_sum(sum, shift), minus);
+    let sum = weighted_inside(line, step, taps, n);
+    let at = 2 * n + step.parity;
+    line[at] = moved_value(line[at], rounded_sum(sum, step.shift), step.minus);
 }
 
 /// One lifting step over a line, in place: it reads only places that it doesn't write. The pairs near the
 /// ends, whose taps are clamped, stand apart from the inside of the line.
 #[inline(always)]
-pub fn lift_in_place(
-    line: &mut [i128],
-    taps: &[i64],
-    parity: usize,
-    lead: usize,
-    shift: u32,
-    minus: bool,
-)
-    requires parity { parity ≤ 1 }
+fn lift_by(line: &mut [i128], step: Step, taps: &[i64])
+    requires parity { step.parity ≤ 1 }
+    requires shift { step.shift ≤ 32 }
+    requires taps { sum_by unsigned_abs taps.now ≤ 2 ^ 14 }
+    requires even { length line.old % 2 ≡ 0 }
+    requires evens { PlacesWithin (2 ^ 112) 0 line.old }
+    requires odds { PlacesWithin (2 ^ 112) 1 line.old }
+    ensures { line.new ≡ lift (record { parity = step.parity; minus = step.minus; shift = step.shift; lead = step.lead; taps = taps.now }) line.old }
+{
+    let half = line.len() / 2;
+    let low = step.lead.min(half);
+    let reach = taps.len().saturating_sub(step.lead);
+    let high = half.saturating_sub(reach).max(low);
+    'left: for n in 0..low {
+        lift_pair_clamped(line, step, taps, n);
+    }
+    'inside: for n in low..high {
+        lift_pair_inside(line, step, taps, n);
+    }
+    'right: for n in high..half {
+        lift_pair_clamped(line, step, taps, n);
+    }
+}
+
+/// One lifting step over a line, in place. Its first tap reads `lead` pairs before the pair that it changes, each
+/// further tap one pair later: where the standard's taps begin at index D, `lead` is 1 - D for the even places and
+/// -D for the odd ones.
+#[inline(always)]
+pub fn lift_in_place(line: &mut [i128], change: Change, shift: u32, lead: usize, taps: &[i64])
     requires shift { shift ≤ 32 }
     requires taps { sum_by unsigned_abs taps.now ≤ 2 ^ 14 }
     requires even { length line.old % 2 ≡ 0 }
     requires evens { PlacesWithin (2 ^ 112) 0 line.old }
     requires odds { PlacesWithin (2 ^ 112) 1 line.old }
-    ensures { line.new ≡ lift (record { parity = parity; minus = minus; shift = shift; lead = lead; taps = taps.now }) line.old }
+    ensures { line.new ≡ lift (record { parity = parity_of change; minus = is_minus change; shift = shift; lead = lead; taps = taps.now }) line.old }
 {
-    let half = line.len() / 2;
-    let low = lead.min(half);
-    let reach = taps.len().saturating_sub(lead);
-    let high = half.saturating_sub(reach).max(low);
-    'left: for n in 0..low {
-        lift_pair_clamped(line, taps, parity, lead, shift, minus, n);
-    }
-    'inside: for n in low..high {
-        lift_pair_inside(line, taps, parity, lead, shift, minus, n);
-    }
-    'right: for n in high..half {
-        lift_pair_clamped(line, taps, parity, lead, shift, minus, n);
-    }
+    let parity = change.parity();
+    let minus = change.takes();
+    let step = Step {
+        parity,
+        minus,
+        shift,
+        lead,
+    };
+    lift_by(line, step, taps);
 }

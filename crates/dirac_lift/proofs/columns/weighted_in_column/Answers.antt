@@ -11,26 +11,26 @@ use Rattle.dirac_lift.proofs.columns.weighted_in_column.Goals as goal
 pub multiply_add-sum-requires : goal.multiply_add-sum-requires
 multiply_add-sum-requires c =
     let tap : SFits w64 (slice_index_or c.args.taps.now c.loop-k.k (pos 0)) = search rules in
-    tap_fits c.args.taps.now (value_read c.args.parity c.args.lead (column c.args.values.now c.args.width c.args.height c.args.x) c.args.n) c.loop-k.k _ _
+    tap_fits c.args.taps.now (value_read c.args.step.parity c.args.step.lead (column c.args.values.now c.args.width c.args.height c.args.x) c.args.n) c.loop-k.k _ _
     (to_z w128 (of_z w128 c.value_in_column.result))
     c.loop-k.invariant (to_z-of_z w64 _ tap)
-    (place_within _ _ (column c.args.values.now c.args.width c.args.height c.args.x) (2 * c.min-pair.result + (1 - c.args.parity)) c.min-pair.result _ c.requires.values refl
+    (place_within _ _ (column c.args.values.now c.args.width c.args.height c.args.x) (2 * c.min-pair.result + (1 - c.args.step.parity)) c.min-pair.result _ c.requires.values refl
     (to_z-of_z w128 _ (record { sfits = c.value_in_column.type_inv }) ∙ c.value_in_column.ensures))
     (λ k. c.requires.values _) c.loop-k-test.true c.requires.taps
 
 pub loop-k-preserved : goal.loop-k-preserved
 loop-k-preserved c =
     let tap : SFits w64 (slice_index_or c.args.taps.now c.loop-k.k (pos 0)) = search rules in
-    let pair : c.min-pair.result ≡ pair_read c.args.lead (length (column c.args.values.now c.args.width c.args.height c.args.x) / 2) c.args.n c.loop-k.k =
+    let pair : c.min-pair.result ≡ pair_read c.args.step.lead (length (column c.args.values.now c.args.width c.args.height c.args.x) / 2) c.args.n c.loop-k.k =
     omega (arith, length-column c.args.values.now c.args.width c.args.height c.args.x) in
-    weighted_more c.args.taps.now (value_read c.args.parity c.args.lead (column c.args.values.now c.args.width c.args.height c.args.x) c.args.n) c.loop-k.k
+    weighted_more c.args.taps.now (value_read c.args.step.parity c.args.step.lead (column c.args.values.now c.args.width c.args.height c.args.x) c.args.n) c.loop-k.k
     _ _ (to_z w128 (of_z w128 c.value_in_column.result)) _
     c.loop-k.invariant (to_z-of_z w64 _ tap)
     (to_z-of_z w128 _ (record { sfits = c.value_in_column.type_inv }) ∙ c.value_in_column.ensures
-    ∙ ap (λ p. slice_index_or (column c.args.values.now c.args.width c.args.height c.args.x) (other c.args.parity p) (pos 0)) pair)
+    ∙ ap (λ p. slice_index_or (column c.args.values.now c.args.width c.args.height c.args.x) (other c.args.step.parity p) (pos 0)) pair)
     (to_z-of_z w128 _ (record { sfits = c.multiply_add-sum.type_inv }) ∙ c.multiply_add-sum.ensures)
 
 pub returns-clause-bound : goal.returns-clause-bound
 returns-clause-bound c =
-    sum_fits c.args.taps.now (value_read c.args.parity c.args.lead (column c.args.values.now c.args.width c.args.height c.args.x) c.args.n) c.loop-k.k _
+    sum_fits c.args.taps.now (value_read c.args.step.parity c.args.step.lead (column c.args.values.now c.args.width c.args.height c.args.x) c.args.n) c.loop-k.k _
     c.loop-k.invariant (omega arith) (λ k. c.requires.values _) c.requires.taps

@@ -9,12 +9,12 @@ use Rattle.dirac_lift.proofs.step.weighted_inside.Goals as goal
 pub multiply_add-sum-requires : goal.multiply_add-sum-requires
 multiply_add-sum-requires c =
     let tap : SFits w64 (slice_index_or c.args.taps.now c.loop-k.k (pos 0)) = search rules in
-    let value : SFits w128 (slice_index_or c.args.line.now (2 * (c.args.n - c.args.lead) + (1 - c.args.parity) + 2 * c.loop-k.k) (pos 0)) = search rules in
-    tap_fits c.args.taps.now (value_read c.args.parity c.args.lead c.args.line.now c.args.n) c.loop-k.k _ _ (to_z w128 (of_z w128 (slice_index_or c.args.line.now (2 * (c.args.n - c.args.lead) + (1 - c.args.parity) + 2 * c.loop-k.k) (pos 0))))
+    let value : SFits w128 (slice_index_or c.args.line.now (2 * (c.args.n - c.args.step.lead) + (1 - c.args.step.parity) + 2 * c.loop-k.k) (pos 0)) = search rules in
+    tap_fits c.args.taps.now (value_read c.args.step.parity c.args.step.lead c.args.line.now c.args.n) c.loop-k.k _ _ (to_z w128 (of_z w128 (slice_index_or c.args.line.now (2 * (c.args.n - c.args.step.lead) + (1 - c.args.step.parity) + 2 * c.loop-k.k) (pos 0))))
     c.loop-k.invariant (to_z-of_z w64 _ tap)
-    (place_within _ _ c.args.line.now (2 * (c.args.n - c.args.lead) + (1 - c.args.parity) + 2 * c.loop-k.k) (c.args.n - c.args.lead + c.loop-k.k) _ c.requires.values (omega arith) (to_z-of_z w128 _ value))
+    (place_within _ _ c.args.line.now (2 * (c.args.n - c.args.step.lead) + (1 - c.args.step.parity) + 2 * c.loop-k.k) (c.args.n - c.args.step.lead + c.loop-k.k) _ c.requires.values (omega arith) (to_z-of_z w128 _ value))
     (λ k. c.requires.values _) c.loop-k-test.true c.requires.taps
 
 pub returns-clause-bound : goal.returns-clause-bound
 returns-clause-bound c =
-    sum_fits c.args.taps.now (value_read c.args.parity c.args.lead c.args.line.now c.args.n) c.loop-k.k _ c.loop-k.invariant (omega arith) (λ k. c.requires.values _) c.requires.taps
+    sum_fits c.args.taps.now (value_read c.args.step.parity c.args.step.lead c.args.line.now c.args.n) c.loop-k.k _ c.loop-k.invariant (omega arith) (λ k. c.requires.values _) c.requires.taps

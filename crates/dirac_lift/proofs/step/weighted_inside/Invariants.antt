@@ -3,4 +3,4 @@ use Rattle.dirac_lift.specs.Lifting.{value_read, weighted}
 use Rattle.dirac_lift.proofs.step.weighted_inside.Given as goal
 
 abbrev pub invariant-loop-k : goal.invariant-loop-k
-invariant-loop-k l = l.sum ≡ weighted l.taps (value_read l.parity l.lead l.line l.n) l.k
+invariant-loop-k l = l.sum ≡ weighted l.taps (value_read l.fn.step.parity l.fn.step.lead l.line l.n) l.k
