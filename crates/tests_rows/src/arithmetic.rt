@@ -1,5 +1,7 @@
-use dirac_arith::Decoder;
-use dirac_types::Cause;
+use dirac_arith::{Decoder, Encoder};
+use dirac_types::{Cause, NoMemory};
+use std::alloc::Global;
+use std::process::Abort;
 
 #[test]
 fn decisions(rt: HostRuntime) {
@@ -41,4 +43,36 @@ fn numbers(rt: HostRuntime) {
         Decoder::new(noughts.as_slice()).number(follow.as_slice(), 14),
         Err(Cause::NumberTooLong)
     );
+}
+
+/// The block of these decisions, each in its context.
+fn written<R: Abort>(rt: &R, alloc: Global, decisions: &[(u8, bool)]) -> Result<Vec<u8>, NoMemory> {
+    let mut encoder = Encoder::new(alloc);
+    for (ctx, truth) in decisions {
+        assert!(rt; *ctx < 38);
+        encoder.decision(*ctx, *truth)?;
+    }
+    encoder.finish()
+}
+
+#[test]
+fn written_decisions(rt: HostRuntime) -> Result<(), NoMemory> {
+    let alloc = rt.alloc();
+    let none: [(u8, bool); 0] = [];
+    assert!(rt; written(&rt, alloc, none.as_slice())?.is_empty());
+    let one = [(0u8, true)];
+    assert!(rt; written(&rt, alloc, one.as_slice())?.as_slice() == [0xFEu8].as_slice());
+    let one = [(0u8, false)];
+    assert!(rt; written(&rt, alloc, one.as_slice())?.as_slice() == [0x7Eu8].as_slice());
+    let two = [(0u8, true), (0, false)];
+    assert!(rt; written(&rt, alloc, two.as_slice())?.as_slice() == [0xBBu8].as_slice());
+    let five = [
+        (19u8, true),
+        (0, false),
+        (14, false),
+        (4, true),
+        (15, false),
+    ];
+    assert!(rt; written(&rt, alloc, five.as_slice())?.as_slice() == [0x96u8].as_slice());
+    Ok(())
 }

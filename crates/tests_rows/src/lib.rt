@@ -6,10 +6,20 @@ mod arithmetic;
 #[cfg(test)]
 mod bits;
 #[cfg(test)]
+mod encoding;
+#[cfg(test)]
 mod geometry;
+#[cfg(test)]
+mod headers;
+#[cfg(test)]
+mod lifting;
+#[cfg(test)]
+mod lists;
 #[cfg(test)]
 mod predictions;
 #[cfg(test)]
 mod quantiser;
 #[cfg(test)]
 mod sequences;
+#[cfg(test)]
+mod units;

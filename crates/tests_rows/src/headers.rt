@@ -1,0 +1,141 @@
+use dirac_bits::{BitReader, BitWriter};
+use dirac_coeffs::{BandSpot, read_band};
+use dirac_header::{read_header, read_prediction, read_transform};
+use dirac_types::{Band, BlockGrid, Cause, Chroma, NoMemory, Refusal, Stop};
+use std::alloc::Global;
+
+#[test]
+fn written_bits(rt: HostRuntime) -> Result<(), NoMemory> {
+    let mut writer = BitWriter::new(rt.alloc());
+    writer.uint(549_755_813_886)?;
+    writer.align()?;
+    assert!(rt;
+        writer.finish()?.as_slice()
+            == [0x55u8, 0x55, 0x55, 0x55, 0x55, 0x55, 0x55, 0x55, 0x55, 0x58].as_slice()
+    );
+    // versions 2 and 2, profile 0, level 0, base 2, no custom flag, frames
+    let mut writer = BitWriter::new(rt.alloc());
+    for number in [2u64, 2, 0, 0, 2] {
+        assert!(rt; number <= 2);
+        writer.uint(number)?;
+    }
+    for _ in 0..8u8 {
+        writer.bit(false)?;
+    }
+    writer.sint(0)?;
+    writer.align()?;
+    assert!(rt; writer.finish()?.as_slice() == [0x6Fu8, 0x60, 0x10].as_slice());
+    let mut writer = BitWriter::new(rt.alloc());
+    writer.sint(-1)?;
+    writer.align()?;
+    writer.literal(0x4242_4344)?;
+    writer.block([0xFEu8].as_slice())?;
+    assert!(rt; writer.finish()?.as_slice() == [0x30u8, 0x42, 0x42, 0x43, 0x44, 0xFE].as_slice());
+    Ok(())
+}
+
+#[test]
+fn picture_headers(rt: HostRuntime) {
+    let bytes = [0u8, 0, 0, 0, 0x80];
+    let mut reader = BitReader::new(bytes.as_slice());
+    let Ok(header) = read_header(&mut reader, 0x0C) else {
+        panic!(rt; "an intra reference header");
+    };
+    assert_eq!(rt; header.number, 0);
+    assert_eq!(rt; header.retire, None);
+    // one reference: number 1, the picture before it, none retired; then block sizes 2, precision 2, default weights
+    let bytes = [0u8, 0, 0, 1, 0x38, 0x6D, 0x00];
+    let mut reader = BitReader::new(bytes.as_slice());
+    let Ok(header) = read_header(&mut reader, 0x0D) else {
+        panic!(rt; "an inter reference header");
+    };
+    assert_eq!(rt; header.number, 1);
+    assert_eq!(rt; header.ref1, Some(0));
+    assert_eq!(rt; header.ref2, None);
+    assert_eq!(rt; header.retire, None);
+    let Ok(prediction) = read_prediction(&mut reader, 0x0D, Chroma::C420) else {
+        panic!(rt; "prediction parameters");
+    };
+    let grid = BlockGrid {
+        xblen: 12,
+        yblen: 12,
+        xbsep: 8,
+        ybsep: 8,
+    };
+    assert_eq!(rt; prediction.grid, grid);
+    assert_eq!(rt; prediction.precision, 2);
+    assert_eq!(rt; prediction.weight_bits, 1);
+    assert_eq!(rt; prediction.weight1, 1);
+    assert_eq!(rt; prediction.weight2, 1);
+}
+
+#[test]
+fn refused_block_sizes(rt: HostRuntime) {
+    // own sizes 4, 4, 1, 4
+    let bytes = [0x8Cu8, 0x64, 0x60];
+    let refused = read_prediction(&mut BitReader::new(bytes.as_slice()), 0x0D, Chroma::C444);
+    let wanted = Refusal {
+        at: 0,
+        cause: Cause::BlockSize,
+    };
+    assert!(rt; matches!(refused, Err(refusal) if refusal == wanted));
+}
+
+#[test]
+fn transform_parameters(rt: HostRuntime) {
+    let bytes = [0x90u8];
+    let Ok(transform) = read_transform(&mut BitReader::new(bytes.as_slice()), 176, 144) else {
+        panic!(rt; "transform parameters");
+    };
+    assert_eq!(rt; transform.wavelet, 0);
+    assert_eq!(rt; transform.depth, 1);
+    assert_eq!(rt; transform.counts.len(), 2);
+    assert_eq!(rt; transform.counts.at(1), (1, 1));
+}
+
+/// The answer of a band of one value, as its index and value, or its refusal.
+fn single(alloc: Global, bytes: &[u8]) -> Result<(u8, i64), Stop> {
+    let spot = BandSpot {
+        band: Band::LL,
+        width: 1,
+        height: 1,
+        across: 1,
+        down: 1,
+    };
+    let coded = read_band(alloc, &mut BitReader::new(bytes), spot, None)?;
+    if coded.table.width() == 1 && coded.table.height() == 1 {
+        return Ok((coded.index, coded.table.at(0, 0)));
+    }
+    Err(Stop::NoMemory)
+}
+
+#[test]
+fn bands_of_one_value(rt: HostRuntime) {
+    let alloc = rt.alloc();
+    assert_eq!(rt; single(alloc, [0x30u8, 0x2E].as_slice()), Ok((0, 1)));
+    assert_eq!(rt; single(alloc, [0x80u8].as_slice()), Ok((0, 0)));
+    let code_word = Refusal {
+        at: 1,
+        cause: Cause::CodeWord,
+    };
+    assert_eq!(rt;
+        single(alloc, [0x70u8, 0xFF, 0xFF].as_slice()),
+        Err(Stop::Refused(code_word))
+    );
+    let index = Refusal {
+        at: 0,
+        cause: Cause::QuantIndex,
+    };
+    assert_eq!(rt;
+        single(alloc, [0x28u8, 0x23, 0x00].as_slice()),
+        Err(Stop::Refused(index))
+    );
+    let short = Refusal {
+        at: 1,
+        cause: Cause::UnitShort,
+    };
+    assert_eq!(rt;
+        single(alloc, [0x70u8, 0xFF].as_slice()),
+        Err(Stop::Refused(short))
+    );
+}
