@@ -54,7 +54,7 @@ pub fn restore(value: i64, index: u8, kind: Kind) -> i128
     if value < 0 { -restored } else { restored }
 }
 
-/// The number that codes a coefficient, rounded towards zero, so that it restores inside the coefficient's step.
+/// The number that codes a coefficient: its magnitude in steps, rounded towards zero, with its sign.
 pub fn reduce(value: i64, index: u8) -> i64
     requires value { unsigned_abs value ≤ 2 ^ 39 - 2 }
     requires index { index ≤ 99 }

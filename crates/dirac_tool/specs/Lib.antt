@@ -2,4 +2,5 @@ pub mod Words
 pub mod Ended
 pub mod Line
 pub mod Listing
+pub mod Decoding
 pub mod Running

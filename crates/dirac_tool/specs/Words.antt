@@ -15,4 +15,5 @@ abbrev pub command_read : List (List ℕ) → Result Command WordsStop
 command_read [] = Err (Usage 0)
 command_read (word ∷ words) =
     if bytes_eq word (codes "list") then alone command.List words
+    else if bytes_eq word (codes "decode") then alone command.Decode words
     else Err (Usage 0)

@@ -2,6 +2,7 @@
 //! with a status. All that it promises stands on `run`.
 #![tactic(auto)]
 
+mod decode;
 mod ended;
 mod line;
 mod list;

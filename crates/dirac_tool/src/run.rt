@@ -4,6 +4,7 @@ ghost use Rattle.dirac_io.specs.Faults.{Rose};
 ghost use Rattle.dirac_tool.specs.Words.{command_read};
 ghost use Rattle.dirac_tool.specs.Running.{RunsTo};
 
+use crate::decode::decode;
 use crate::ended::Ended;
 use crate::list::list;
 use crate::words::{Command, Words, WordsStop, read_words};
@@ -44,5 +45,6 @@ pub fn run<R: Threads + Sync, S: Source, K: Sink, N: Sink, G: RowGate>(
     match read_words(words) {
         Err(WordsStop::Usage(n)) => Ended::Usage(n),
         Ok(Command::List) => list(alloc, source, out),
+        Ok(Command::Decode) => decode(alloc, source, out, side),
     }
 }

@@ -165,8 +165,10 @@ fn refuses_words(rt: HostRuntime) -> Result<(), Fail> {
         runs(&rt, alloc, &[word, "list"], &end, Ended::Usage(0), "")?;
     }
     for word in ["", "list", "--", "--x=1"] {
-        runs(&rt, alloc, &["list", word], &end, Ended::Usage(1), "")?;
-        runs(&rt, alloc, &["list", word, "y"], &end, Ended::Usage(1), "")?;
+        for command in ["list", "decode"] {
+            runs(&rt, alloc, &[command, word], &end, Ended::Usage(1), "")?;
+            runs(&rt, alloc, &[command, word, "y"], &end, Ended::Usage(1), "")?;
+        }
     }
     Ok(())
 }
@@ -216,6 +218,209 @@ fn stops_at_the_call_that_fails(rt: HostRuntime) -> Result<(), Fail> {
         assert_eq!(rt; fails(&rt, alloc, &[], &[call])?, Ended::WriteFault);
     }
     assert_eq!(rt; fails(&rt, alloc, &[], &[14])?, Ended::Done);
+    Ok(())
+}
+
+// A header of pictures of 176 by 144, and a picture all of whose bands are empty.
+const SEQUENCE: [u8; 3] = [0x6F, 0x60, 0x10];
+
+const GREY: [u8; 17] = [
+    0x00, 0x00, 0x00, 0x00, 0x90, 0x80, 0x80, 0x80, 0x80, 0x80, 0x80, 0x80, 0x80, 0x80, 0x80, 0x80,
+    0x80,
+];
+
+const SAMPLES: usize = 38_016;
+
+// The sequence header, pictures with these payloads, and an end unit.
+fn stream(alloc: Global, pictures: &[&[u8]]) -> Result<Vec<u8>, Fail> {
+    let mut bytes = joined(alloc, &[&header(0x00, 16, 0), &SEQUENCE])?;
+    for picture in pictures {
+        let length = picture.len().min(1000) as u32;
+        bytes.extend_from_slice(&header(0x08, length + 13, 0))?;
+        bytes.extend_from_slice(picture)?;
+    }
+    bytes.extend_from_slice(&header(0x10, 0, 0))?;
+    Ok(bytes)
+}
+
+// A payload with one byte changed.
+fn changed(alloc: Global, place: usize, byte: u8) -> Result<Vec<u8>, Fail> {
+    let mut bytes = Vec::from_slice(alloc, &GREY)?;
+    if let Some(at) = bytes.get_mut(place) {
+        *at = byte;
+    }
+    Ok(bytes)
+}
+
+// Decodes bytes in pieces, and compares the answer, the samples that came out, all grey, and what was
+// said beside them.
+fn decodes<R: Abort + Threads + Sync>(
+    rt: &R,
+    alloc: Global,
+    bytes: &[u8],
+    answer: Ended,
+    samples: usize,
+    line: &str,
+) -> Result<(), Fail> {
+    for most in [1, 7, 4096] {
+        let mut words = Words::new(alloc);
+        words.push("decode")?;
+        let mut source = MemSource::new(Vec::from_slice(alloc, bytes)?, most, Vec::new(alloc));
+        let mut out = MemSink::new(alloc, most, Vec::new(alloc));
+        let mut side = MemSink::new(alloc, most, Vec::new(alloc));
+        let ended = run(
+            rt,
+            alloc,
+            &words,
+            &mut source,
+            &mut out,
+            &mut side,
+            &OpenGate,
+        );
+        assert_eq!(rt; ended, answer, "pieces of {most}");
+        assert_eq!(rt; out.taken().len(), samples, "pieces of {most}");
+        assert!(rt; out.taken().iter().all(|byte| *byte == 0x80));
+        assert_eq!(rt; side.taken(), line.as_bytes(), "pieces of {most}");
+    }
+    Ok(())
+}
+
+#[test]
+fn decodes_grey_pictures(rt: HostRuntime) -> Result<(), Fail> {
+    let alloc = rt.alloc();
+    let none = "pictures=0 references=0\n";
+    let one = "pictures=1 references=0\n";
+    let nothing = faulty(0, 0, Cause::MissingEnd);
+    decodes(&rt, alloc, &[], nothing, 0, none)?;
+    let end = header(0x10, 0, 0);
+    decodes(&rt, alloc, &end, Ended::Done, 0, none)?;
+    let grey = stream(alloc, &[&GREY])?;
+    decodes(&rt, alloc, &grey, Ended::Done, SAMPLES, one)?;
+
+    // bytes behind the last field are free, and so is the number of a picture
+    let mut long = changed(alloc, 3, 9)?;
+    long.extend_from_slice(&[0xFF, 0x00])?;
+    let behind = stream(alloc, &[&long])?;
+    decodes(&rt, alloc, &behind, Ended::Done, SAMPLES, one)?;
+
+    // six pictures, so that one leaves before the others; then another sequence
+    let six = stream(alloc, &[&GREY, &long, &GREY, &GREY, &GREY, &GREY])?;
+    let line = "pictures=6 references=0\n";
+    decodes(&rt, alloc, &six, Ended::Done, 6 * SAMPLES, line)?;
+    let twice = joined(alloc, &[&six, &grey])?;
+    let line = "pictures=7 references=0\n";
+    decodes(&rt, alloc, &twice, Ended::Done, 7 * SAMPLES, line)?;
+
+    // the open sequence's header again
+    let opening = joined(alloc, &[&header(0x00, 16, 0), &SEQUENCE])?;
+    let again = joined(alloc, &[&opening, &grey])?;
+    decodes(&rt, alloc, &again, Ended::Done, SAMPLES, one)
+}
+
+#[test]
+fn decodes_up_to_the_first_fault(rt: HostRuntime) -> Result<(), Fail> {
+    let alloc = rt.alloc();
+    let none = "pictures=0 references=0\n";
+    let one = "pictures=1 references=0\n";
+    let opening = joined(alloc, &[&header(0x00, 16, 0), &SEQUENCE])?;
+    let picture = joined(alloc, &[&header(0x08, 30, 16), &GREY])?;
+
+    // what waits comes before a fault
+    let unended = joined(alloc, &[&opening, &picture])?;
+    let open = faulty(2, 46, Cause::MissingEnd);
+    decodes(&rt, alloc, &unended, open, SAMPLES, one)?;
+    let broken = joined(alloc, &[&unended, &[0x42, 0x42, 0x43, 0x44]])?;
+    let cut = faulty(2, 50, Cause::Truncated);
+    decodes(&rt, alloc, &broken, cut, SAMPLES, one)?;
+
+    let headless = faulty(0, 0, Cause::NoSequence);
+    decodes(&rt, alloc, &picture, headless, 0, none)?;
+    let other = joined(
+        alloc,
+        &[&opening, &header(0x00, 16, 0), &[0x6F, 0x60, 0x11]],
+    )?;
+    let replaced = faulty(1, 16, Cause::SequenceChanged);
+    decodes(&rt, alloc, &other, replaced, 0, none)?;
+    let base = joined(alloc, &[&header(0x00, 16, 0), &[0x6F, 0x04, 0x80]])?;
+    decodes(&rt, alloc, &base, faulty(0, 14, Cause::Preset), 0, none)?;
+    let aspect = joined(alloc, &[&header(0x00, 16, 0), &[0x6F, 0x02, 0x10]])?;
+    let short = faulty(0, 15, Cause::UnitShort);
+    decodes(&rt, alloc, &aspect, short, 0, none)?;
+
+    for (place, byte, at, cause) in [
+        (4, 0x02, 33, Cause::Wavelet),
+        (4, 0xC0, 33, Cause::Depth),
+        (5, 0x20, 34, Cause::Unbuilt),
+        (16, 0x00, 45, Cause::UnitShort),
+    ] {
+        let picture = changed(alloc, place, byte)?;
+        let bytes = stream(alloc, &[&picture])?;
+        decodes(&rt, alloc, &bytes, faulty(1, at, cause), 0, none)?;
+    }
+    let shorter = stream(alloc, &[&GREY[..16]])?;
+    let missing = faulty(1, 45, Cause::UnitShort);
+    decodes(&rt, alloc, &shorter, missing, 0, none)?;
+    let two = stream(alloc, &[&GREY, &GREY[..16]])?;
+    let second = faulty(2, 75, Cause::UnitShort);
+    decodes(&rt, alloc, &two, second, SAMPLES, one)?;
+
+    // pictures of other kinds aren't decoded yet
+    let reference = faulty(1, 23, Cause::Unbuilt);
+    decodes(&rt, alloc, &STREAM, reference, 0, none)
+}
+
+// Decodes a grey picture by reads of 10 bytes and writes of 4096, of which one fails.
+fn fails_to_decode<R: Abort + Threads + Sync>(
+    rt: &R,
+    alloc: Global,
+    reads: &[u64],
+    writes: &[u64],
+    sides: &[u64],
+) -> Result<Ended, Fail> {
+    let mut words = Words::new(alloc);
+    words.push("decode")?;
+    let mut source = MemSource::new(stream(alloc, &[&GREY])?, 10, Vec::from_slice(alloc, reads)?);
+    let mut out = MemSink::new(alloc, 4096, Vec::from_slice(alloc, writes)?);
+    let mut side = MemSink::new(alloc, 9, Vec::from_slice(alloc, sides)?);
+    let ended = run(
+        rt,
+        alloc,
+        &words,
+        &mut source,
+        &mut out,
+        &mut side,
+        &OpenGate,
+    );
+    assert!(rt; out.taken().len() <= SAMPLES);
+    assert!(rt; out.taken().iter().all(|byte| *byte == 0x80));
+    assert!(rt; b"pictures=1 references=0\n".starts_with(side.taken()));
+    assert_eq!(rt; source.count(), u64::from(ended == Ended::ReadFault));
+    assert_eq!(rt; out.count(), u64::from(ended == Ended::WriteFault));
+    assert_eq!(rt; side.count(), u64::from(ended == Ended::SideFault));
+    if ended == Ended::SideFault {
+        assert_eq!(rt; out.taken().len(), SAMPLES);
+    }
+    Ok(ended)
+}
+
+#[test]
+fn decodes_until_a_call_fails(rt: HostRuntime) -> Result<(), Fail> {
+    let alloc = rt.alloc();
+    for call in 0..8 {
+        let ended = fails_to_decode(&rt, alloc, &[call], &[], &[])?;
+        assert_eq!(rt; ended, Ended::ReadFault);
+    }
+    // a write for each row: 144 of Y, 72 of U and of V
+    for call in [0, 1, 143, 144, 215, 216, 287] {
+        let ended = fails_to_decode(&rt, alloc, &[], &[call], &[])?;
+        assert_eq!(rt; ended, Ended::WriteFault);
+    }
+    for call in 0..3 {
+        let ended = fails_to_decode(&rt, alloc, &[], &[], &[call])?;
+        assert_eq!(rt; ended, Ended::SideFault);
+    }
+    let ended = fails_to_decode(&rt, alloc, &[8], &[288], &[3])?;
+    assert_eq!(rt; ended, Ended::Done);
     Ok(())
 }
 

@@ -46,6 +46,8 @@ impl Words {
 pub enum Command {
     /// Lists the units of a stream.
     List,
+    /// Decodes a stream to raw pictures.
+    Decode,
 }
 
 /// Why words aren't run.
@@ -55,19 +57,23 @@ pub enum WordsStop {
     Usage(u32),
 }
 
-/// Reads the words: the first is the command. A command that isn't built doesn't fit, and `list`
-/// takes no further word.
+/// Reads the words: the first is the command. A command that isn't built doesn't fit, and `list` and `decode`
+/// take no further word.
 pub fn read_words(words: &Words) -> Result<Command, WordsStop>
     ensures { result ≡ command_read words.now }
 {
     let Some(first) = words.list.first() else {
         return Err(WordsStop::Usage(0));
     };
-    if first.as_str() != "list" {
+    let command = if first.as_str() == "list" {
+        Command::List
+    } else if first.as_str() == "decode" {
+        Command::Decode
+    } else {
         return Err(WordsStop::Usage(0));
-    }
+    };
     if words.list.len() > 1 {
         return Err(WordsStop::Usage(1));
     }
-    Ok(Command::List)
+    Ok(command)
 }
