@@ -23,11 +23,11 @@ use Rattle.dirac_coeffs.proofs.OneBand.{one_band}
 use Rattle.dirac_coeffs.proofs.Within.{same_refl}
 
 -- two tests
-and_both : (a b : Bool) → (a && b) ≡ true → (a ≡ true) × (b ≡ true)
+pub and_both : (a b : Bool) → (a && b) ≡ true → (a ≡ true) × (b ≡ true)
 and_both true b e = (refl, e)
 and_both false b e = absurd (false≢true e)
 
-both_and : (a b : Bool) → a ≡ true → b ≡ true → (a && b) ≡ true
+pub both_and : (a b : Bool) → a ≡ true → b ≡ true → (a && b) ≡ true
 both_and a b p q = rw (p, q) refl
 
 -- some member is so
@@ -135,12 +135,12 @@ all_decides : (p : ℕ → Bool) (P : ℕ → Type 0) → ((k : ℕ) → Decides
 unfolding all_below
 all_decides p P each n = Decides-below_and p P (all_below p) each refl (λ m. refl) n
 
-zero_decides : (v : ℤ) → Decides (is_zero v) (v ≡ pos 0)
+pub zero_decides : (v : ℤ) → Decides (is_zero v) (v ≡ pos 0)
 zero_decides (pos zero) = (λ e. refl, λ e. refl)
 zero_decides (pos (suc n)) = (λ e. absurd (false≢true e), λ e. let none : suc n ≡ zero = cc in absurd (omega arith))
 zero_decides (negsuc n) = (λ e. absurd (false≢true e), λ e. absurd (cc))
 
-zero_block_decides : (spot : BandSpot) (xs : List ℤ) (cy cx : ℕ) → Decides (is_zero_block spot xs cy cx) (IsZeroBlock spot xs cy cx)
+pub zero_block_decides : (spot : BandSpot) (xs : List ℤ) (cy cx : ℕ) → Decides (is_zero_block spot xs cy cx) (IsZeroBlock spot xs cy cx)
 zero_block_decides spot xs cy cx =
     let left = edge_of spot.width spot.across cx in
     let top = edge_of spot.height spot.down cy in

@@ -10,3 +10,7 @@ pub mod OneBand
 pub mod Apart
 pub mod Found
 pub mod Read
+pub mod Writing
+pub mod ZeroTests
+pub mod SpelledBand
+pub mod Examples

@@ -12,7 +12,7 @@ use dirac_types::{BandTable, Cause, Refusal, Stop};
 use std::alloc::Global;
 
 /// The values of the parent.
-fn parent_values<'a>(parent: Option<&'a BandTable>) -> &'a [i64]
+pub fn parent_values<'a>(parent: Option<&'a BandTable>) -> &'a [i64]
     ensures { result.now ≡ values_of_parent parent.entry }
 {
     match parent {

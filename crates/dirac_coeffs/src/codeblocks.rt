@@ -8,42 +8,11 @@ ghost use Rattle.dirac_coeffs.specs.Places.{KeptOutside, ZeroFrom};
 ghost use Rattle.dirac_coeffs.specs.Reached.{RowsBroken, BlockBroken, BlocksBroken, BandBroken, BlocksRead, BandRead};
 ghost use Rattle.dirac_coeffs.specs.Spots.{IsSpot, span_of, is_flagged};
 
+use crate::parts::{has_flags, part_of};
 use crate::spot::BandSpot;
 use crate::values::read_rows;
 use dirac_arith::Decoder;
-use dirac_bands::edge;
 use dirac_types::Cause;
-
-/// Where a codeblock begins, across or down, and how long it is there.
-#[derive(Clone, Copy)]
-struct Part {
-    start: usize,
-    length: usize,
-}
-
-/// The columns or rows of codeblock `c`.
-fn part_of(size: u32, count: u32, c: u32) -> Part
-    requires size { size ≤ 8192 }
-    requires c { c < count }
-    ensures start { result.start ≡ edge_of size count c }
-    ensures length { result.length ≡ span_of size count c }
-    ensures end { result.start + result.length ≡ edge_of size count (c + 1) }
-    ensures inside { result.start + result.length ≤ size }
-{
-    let start = edge(size, count, c);
-    let end = edge(size, count, c + 1);
-    Part {
-        start: start as usize,
-        length: (end - start) as usize,
-    }
-}
-
-/// Whether each codeblock begins with a zero flag.
-fn has_flags(spot: BandSpot) -> bool
-    ensures { result ≡ is_flagged spot }
-{
-    !(spot.across == 1 && spot.down == 1)
-}
 
 /// Reads the values of codeblock `cx` of row `cy`.
 fn read_block_values(

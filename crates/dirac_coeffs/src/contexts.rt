@@ -68,7 +68,7 @@ pub fn parent_value(parent: &[i64], width: usize, x: usize, y: usize) -> i64
 
 /// Whether a value is 0.
 #[inline(always)]
-fn is_nought(value: i64) -> bool
+pub fn is_nought(value: i64) -> bool
     ensures { result ≡ is_zero value }
 {
     value == 0

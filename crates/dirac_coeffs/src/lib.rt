@@ -1,17 +1,25 @@
 #![tactic(auto)]
 
-//! The coefficients of subbands, read from their arithmetic blocks.
+//! The coefficients of subbands, read from their arithmetic blocks and written to them.
 
 mod band;
+mod band_writer;
 mod block;
+mod block_writer;
+mod codeblock_writer;
 mod codeblocks;
 mod contexts;
 mod laws;
+mod parts;
 mod shared;
 mod spot;
+mod value_writer;
 mod values;
+mod zeros;
 
 pub use band::read_band;
+pub use band_writer::write_band;
 pub use block::read_block;
+pub use block_writer::write_block;
 pub use laws::{a_block_reads_to_its_band, one_band_is_carried};
 pub use spot::{BandSpot, CodedBand};

@@ -1,0 +1,157 @@
+-- The bits of a band that is written spell it, so they are read as the same band.
+use Rattle.std.proofs.Common.{◌≡◌, ◌≢◌, ℕ, zero, suc, ℤ, pos, ◌+◌, ◌-◌, ◌*◌, ◌/◌, ◌%◌, ◌^◌, ◌<◌, ◌==◌, if◌then◌else◌, nat_le, Bool, true, false, List, [], ◌∷◌, ◌++◌, length, replicate, Result, Ok, Err, OnOk, refl, sym, ap, ap₂, ◌∙◌, subst, arith, inl, inr, lit<, append_assoc, append-nil, length-append, ne_eqb, le-leb, mod-lt}
+use Rattle.std.specs.List.{AllByRecursion}
+use Rattle.std.proofs.lemmas.Bool.{cases_Bool}
+use Rattle.std.proofs.lemmas.List.{length-replicate}
+use Rattle.dirac_types.specs.declared.faults.Cause.TheVariants.{QuantIndex, CodeWord}
+use Rattle.dirac_types.specs.Bits.{bits_of}
+use Rattle.dirac_types.specs.Numbers.{uint}
+use Rattle.dirac_arith.specs.Front.{front, first_bits}
+use Rattle.dirac_arith.specs.Interval.{Decision, interval_of}
+use Rattle.dirac_arith.specs.Written.{bytes_of, block_length, flushed, flush}
+use Rattle.dirac_bits.specs.Spelling.{Spells}
+use Rattle.dirac_bits.specs.Syntax.{Syntax, done, refuse, block_then, align, here, between, ◌>>=◌}
+use Rattle.dirac_bits.specs.Writing.{gap, IsWhole}
+use Rattle.dirac_coeffs.specs.declared.spot.BandSpot.{BandSpot}
+use Rattle.dirac_coeffs.specs.declared.spot.CodedBand.{CodedBand}
+use Rattle.dirac_coeffs.specs.BandRead.{band_read}
+use Rattle.dirac_coeffs.specs.Decisions.{band_decisions}
+use Rattle.dirac_coeffs.specs.Grammar.{band, coded_band, band_from, band_table, zero_band, IsCodedBand}
+use Rattle.dirac_coeffs.specs.Spots.{IsSpot}
+use Rattle.dirac_coeffs.specs.Written.{marks_of, block_of, is_zero_band, up_to_byte, with_block, with_band, SpelledBehind}
+use Rattle.dirac_coeffs.proofs.Found.{ones_read, both_and}
+use Rattle.dirac_coeffs.proofs.Writing.{written_read}
+use Rattle.dirac_coeffs.proofs.ZeroTests.{all_zeros}
+
+-- a gap ends where a byte does
+pub gap_length : (bits : List Bool) (k : ℕ) → length bits ≡ k → k + length (gap bits) ≡ 8 * ((k + 7) / 8)
+gap_length bits k e = omega (arith, length-replicate {A = Bool} ((8 - length bits % 8) % 8) false)
+
+pub gap_whole : (bits : List Bool) → IsWhole (bits ++ gap bits)
+gap_whole bits = omega (arith, length-append {A = Bool} bits (gap bits), length-replicate {A = Bool} ((8 - length bits % 8) % 8) false)
+
+six_parts : (a b c d e f : List Bool) → ((((a ++ b) ++ c) ++ d) ++ e) ++ f ≡ a ++ (b ++ (c ++ (d ++ (e ++ f))))
+six_parts a b c d e f = simp append_assoc
+
+-- a block's bytes are below 256
+in_bytes : (m n : ℕ) → AllByRecursion (λ b. b < 2 ^ 8) (bytes_of m n)
+unfolding bytes_of
+in_bytes zero n = tt
+in_bytes (suc m) n = (mod-lt (n / 2 ^ (8 * m)) {m = 256} (lit< tt), in_bytes m n)
+
+flush_bytes : (ds : List Decision) → AllByRecursion (λ b. b < 2 ^ 8) (flush ds)
+unfolding flushed
+flush_bytes [] = tt
+flush_bytes (d ∷ ds) =
+    let s = interval_of (d ∷ ds) in
+    let m = block_length s.doublings in
+    in_bytes m ((s.low + s.range) / 2 ^ (16 + s.doublings - 8 * m) - 1)
+
+-- an empty block reads as ones
+empty_ones : (block : List ℕ) → length block ≡ 0 → front block 16 ≡ 65535
+unfolding front first_bits
+empty_ones [] e = refl
+empty_ones (b ∷ bs) e = absurd (omega arith)
+
+block_some : (spot : BandSpot) (parent xs : List ℤ) (block : List ℕ) → band_read spot parent block ≡ Ok xs → length block ≢ 0
+block_some spot parent xs block read e =
+    let refused : band_read spot parent block ≡ Err CodeWord = ones_read spot parent block (empty_ones block e) in
+    let bad : Err CodeWord ≡ Ok xs = sym refused ∙ read in
+    cc
+
+-- a coded band is its index and its values
+coded_is : (spot : BandSpot) (b : CodedBand) → IsCodedBand spot b → (let same : CodedBand = record { index = b.index; table = band_table spot b.table.values } in b ≡ same)
+coded_is spot b is =
+    ap₂ (λ (w h : ℕ). let r : CodedBand = record { index = b.index; table = record { width = w; height = h; values = b.table.values } } in r) is.width is.height
+
+zero_is : (spot : BandSpot) (b : CodedBand) → IsCodedBand spot b → b.index ≡ 0 → is_zero_band b.table.values ≡ true → b ≡ zero_band spot
+zero_is spot b is index zeros =
+    let values : b.table.values ≡ replicate (spot.width * spot.height) (pos 0) = all_zeros b.table.values zeros ∙ ap (λ n. replicate n (pos 0)) is.len in
+    coded_is spot b is
+    ∙ ap (λ i. let r : CodedBand = record { index = i; table = band_table spot b.table.values } in r) index
+    ∙ ap (λ (xs : List ℤ). let r : CodedBand = record { index = 0; table = band_table spot xs } in r) values
+
+-- the index and the block
+coded_spelled : (spot : BandSpot) (parent : List ℤ) (b : CodedBand) (block : List ℕ) (k : ℕ) (before : List Bool) → IsCodedBand spot b
+    → length before ≡ k + length (uint b.index) → AllByRecursion (λ c. c < 2 ^ 8) block → band_read spot parent block ≡ Ok b.table.values
+    → Spells (coded_band spot parent (length block)) b k (uint b.index ++ (gap before ++ bits_of block))
+unfolding coded_band
+coded_spelled spot parent b block k before is len bytes read =
+    let at = k / 8 in
+    let k1 = k + length (uint b.index) in
+    let k2 = k1 + length (gap before) in
+    let k3 = k2 + length (bits_of block) in
+    let rest : ℕ → Syntax CodedBand = λ index. align >>= λ g. (here >>= λ place. block_then (length block) (λ bytes. band_from spot index place (band_read spot parent bytes))) in
+    let allowed : between 0 99 b.index ≡ true = both_and (nat_le 0 b.index) (nat_le b.index 99) (le-leb 0 b.index (omega arith)) (le-leb b.index 99 is.index) in
+    let last : Spells (band_from spot b.index (k2 / 8) (band_read spot parent block)) b k3 [] =
+    subst (λ r. Spells (band_from spot b.index (k2 / 8) r) b k3 []) (sym read) (sym (coded_is spot b is), refl) in
+    let tail : Spells (rest b.index) b k1 (gap before ++ bits_of block) =
+    (gap before, bits_of block, gap_length before k1 len, refl, (block, [], (refl, bytes), sym (append-nil (bits_of block)), last)) in
+    let small : b.index + 1 < 2 ^ 39 = omega (arith, is.index) in (
+      b.index,
+      gap before ++ bits_of block,
+      small,
+      refl,
+      subst (λ t. Spells ((if t then done b.index else refuse at QuantIndex) >>= rest) b k1 (gap before ++ bits_of block)) (sym allowed) tail,
+    )
+
+-- the two forms of a band
+zeros_written : (spot : BandSpot) (parent : List ℤ) (b : CodedBand) (bits : List Bool) → is_zero_band b.table.values ≡ true → with_band spot parent b bits ≡ up_to_byte bits ++ uint 0
+zeros_written spot parent b bits e =
+    ap (λ (t : Bool). if t then up_to_byte bits ++ uint 0 else with_block b.index (block_of spot parent b.table.values) (up_to_byte bits)) e
+
+block_written : (spot : BandSpot) (parent : List ℤ) (b : CodedBand) (bits : List Bool) → is_zero_band b.table.values ≡ false
+    → with_band spot parent b bits ≡ with_block b.index (block_of spot parent b.table.values) (up_to_byte bits)
+block_written spot parent b bits e =
+    ap (λ (t : Bool). if t then up_to_byte bits ++ uint 0 else with_block b.index (block_of spot parent b.table.values) (up_to_byte bits)) e
+
+zeros_spelled : (spot : BandSpot) (parent : List ℤ) (b : CodedBand) (bits : List Bool) → b ≡ zero_band spot → SpelledBehind (band spot parent) b bits (up_to_byte bits ++ uint 0)
+unfolding band
+zeros_spelled spot parent b bits e =
+    record {
+      bits = gap bits ++ uint 0;
+      is = append_assoc bits (gap bits) (uint 0);
+      spells = (gap bits, uint 0, gap_length bits (length bits) refl, refl, (0, [], lit< tt, sym (append-nil (uint 0)), (sym e, refl)));
+    }
+
+block_spelled : (spot : BandSpot) (parent : List ℤ) (b : CodedBand) (bits : List Bool) → IsSpot spot → IsCodedBand spot b → length (block_of spot parent b.table.values) + 1 < 2 ^ 39
+    → SpelledBehind (band spot parent) b bits (with_block b.index (block_of spot parent b.table.values) (up_to_byte bits))
+unfolding band
+block_spelled spot parent b bits spot_is is short =
+    let xs = b.table.values in
+    let block = block_of spot parent xs in
+    let len = length block in
+    let read : band_read spot parent block ≡ Ok xs = written_read spot parent xs spot_is is.len is.small in
+    let before = (up_to_byte bits ++ uint len) ++ uint b.index in
+    let k = length bits in
+    let k1 = k + length (gap bits) in
+    let k2 = k1 + length (uint len) in
+    let behind : length before ≡ k2 + length (uint b.index) =
+    omega (arith, length-append {A = Bool} (up_to_byte bits ++ uint len) (uint b.index), length-append {A = Bool} (up_to_byte bits) (uint len), length-append {A = Bool} bits (gap bits)) in
+    let rest = uint b.index ++ (gap before ++ bits_of block) in
+    let coded = coded_spelled spot parent b block k2 before is behind (flush_bytes (band_decisions spot parent xs (marks_of spot xs))) read in
+    let some : (len == 0) ≡ false = ne_eqb len 0 (block_some spot parent xs block read) in
+    let chosen : Spells (if len == 0 then done (zero_band spot) else coded_band spot parent len) b k2 rest =
+    subst (λ t. Spells (if t then done (zero_band spot) else coded_band spot parent len) b k2 rest) (sym some) coded in
+    record {
+      bits = gap bits ++ (uint len ++ rest);
+      is = six_parts bits (gap bits) (uint len) (uint b.index) (gap before) (bits_of block);
+      spells = (gap bits, uint len ++ rest, gap_length bits k refl, refl, (len, rest, short, refl, chosen));
+    }
+
+-- a band that is written is spelled
+pub band_spelled : (spot : BandSpot) (parent : List ℤ) (b : CodedBand) (bits : List Bool) → IsSpot spot → IsCodedBand spot b
+    → (is_zero_band b.table.values ≡ true → b.index ≡ 0) → (is_zero_band b.table.values ≡ false → length (block_of spot parent b.table.values) + 1 < 2 ^ 39)
+    → SpelledBehind (band spot parent) b bits (with_band spot parent b bits)
+band_spelled spot parent b bits spot_is is index short =
+    elim (cases_Bool (is_zero_band b.table.values)) [
+      | inl zeros ↦
+          subst (λ (l : List Bool). SpelledBehind (band spot parent) b bits l) (sym (zeros_written spot parent b bits zeros)) (zeros_spelled spot parent b bits (zero_is spot b is (index zeros) zeros))
+      | inr others ↦
+          subst (λ (l : List Bool). SpelledBehind (band spot parent) b bits l) (sym (block_written spot parent b bits others)) (block_spelled spot parent b bits spot_is is (short others))
+    ]
+
+-- what follows from two facts of an answer
+pub ok_both : {T E : Type 0} (P Q R : Type 0) → (P → Q → R) → (r : Result T E) → OnOk r P → OnOk r Q → OnOk r R
+ok_both P Q R both (Ok x) p q = both p q
+ok_both P Q R both (Err e) p q = p

@@ -1,0 +1,125 @@
+-- What an encoder has written, and that it is read back.
+use Rattle.std.proofs.Common.{◌≡◌, ℕ, zero, suc, ℤ, pos, negsuc, ◌+◌, ◌*◌, ◌<◌, min, Bool, true, false, List, [], ◌∷◌, ◌++◌, ◌&&◌, length, slice_index, Result, Ok, Err, IfOk, sym, ap, ◌∙◌, subst, arith, lit<}
+use Rattle.dirac_types.specs.Numbers.{digits_of}
+use Rattle.dirac_arith.specs.Interval.{Decision, Interval, InContexts, narrowed_by}
+use Rattle.dirac_arith.specs.Spelling.{follow_at, opening, spelling, signed_spelling}
+use Rattle.dirac_arith.proofs.Encodings.{flushed_is_carried}
+use Rattle.dirac_bands.specs.Geometry.{edge_of}
+use Rattle.dirac_coeffs.specs.declared.spot.BandSpot.{BandSpot}
+use Rattle.dirac_coeffs.specs.BandRead.{band_read}
+use Rattle.dirac_coeffs.specs.Carried.{AreSmall, CarriesBand}
+use Rattle.dirac_coeffs.specs.Contexts.{value_at, left_of, above_of, corner_of, parent_of, is_zero, follow_of, follow_among, sign_of, sign_neighbour, bits_context}
+use Rattle.dirac_coeffs.specs.Decisions.{Frame, Mark, Marks, frame_of, value_part, row_part, rows_part, flagged_part, block_part, blocks_part, bands_part, band_decisions}
+use Rattle.dirac_coeffs.specs.Spots.{IsSpot, span_of, is_flagged}
+use Rattle.dirac_coeffs.specs.Written.{marks_of, block_of}
+use Rattle.dirac_coeffs.proofs.Found.{band_found, zero_block_decides}
+use Rattle.dirac_coeffs.proofs.Readings.{narrowed_append}
+
+-- decisions and then others
+pub narrowed_more : (old mid new : Interval) (ds es all : List Decision) → mid ≡ narrowed_by old ds → new ≡ narrowed_by mid es → all ≡ ds ++ es → new ≡ narrowed_by old all
+narrowed_more old mid new ds es all p q e =
+    q ∙ ap (λ (s : Interval). narrowed_by s es) p ∙ sym (narrowed_append old ds es) ∙ ap (λ (l : List Decision). narrowed_by old l) (sym e)
+
+-- all decisions of a value are in contexts that there are
+in_append : (ds es : List Decision) → InContexts ds → InContexts es → InContexts (ds ++ es)
+in_append [] es p q = q
+in_append (d ∷ ds) es p q = (p.0, in_append ds es p.1 q)
+
+-- the follow contexts of a coefficient
+record IsFollow (follow : List ℕ) : Type 0 where
+  each : (i : ℕ) → follow_at follow i < 38
+
+in_opening : (follow : List ℕ) (bits i : ℕ) (digits : List Bool) → IsFollow follow → bits < 38 → InContexts (opening follow bits i digits)
+in_opening follow bits i [] f h = tt
+in_opening follow bits i (b ∷ bs) f h = (f.each i, (h, in_opening follow bits (i + 1) bs f h))
+
+in_spelling : (follow : List ℕ) (bits n : ℕ) → IsFollow follow → bits < 38 → InContexts (spelling follow bits n)
+unfolding spelling
+in_spelling follow bits n f h =
+    let last : Decision = (follow_at follow (length (digits_of n)), true) in
+    in_append (opening follow bits 0 (digits_of n)) (last ∷ []) (in_opening follow bits 0 (digits_of n) f h) (f.each (length (digits_of n)), tt)
+
+in_signed : (follow : List ℕ) (bits sign : ℕ) (v : ℤ) → IsFollow follow → bits < 38 → sign < 38 → InContexts (signed_spelling follow bits sign v)
+unfolding signed_spelling
+in_signed follow bits sign (pos zero) f h s = in_spelling follow bits 0 f h
+in_signed follow bits sign (pos (suc n)) f h s = let d : Decision = (sign, false) in in_append (spelling follow bits (suc n)) (d ∷ []) (in_spelling follow bits (suc n) f h) (s, tt)
+in_signed follow bits sign (negsuc n) f h s = let d : Decision = (sign, true) in in_append (spelling follow bits (suc n)) (d ∷ []) (in_spelling follow bits (suc n) f h) (s, tt)
+
+-- a list of six contexts
+six_below : (a b c d e f i : ℕ) → (a < 38) × (b < 38) × (c < 38) × (d < 38) × (e < 38) × (f < 38) → follow_at (a ∷ b ∷ c ∷ d ∷ e ∷ f ∷ []) i < 38
+six_below a b c d e f zero h = h.0
+six_below a b c d e f (suc zero) h = h.1
+six_below a b c d e f (suc (suc zero)) h = h.2
+six_below a b c d e f (suc (suc (suc zero))) h = h.3
+six_below a b c d e f (suc (suc (suc (suc zero)))) h = h.4
+six_below a b c d e f (suc (suc (suc (suc (suc i))))) h =
+    let last : min (suc (suc (suc (suc (suc i))))) 5 ≡ 5 = omega arith in
+    subst (λ k. slice_index (a ∷ b ∷ c ∷ d ∷ e ∷ f ∷ []) k < 38) (sym last) h.5
+
+follow_below : (p n : Bool) → IsFollow (follow_of p n)
+follow_below true true = record { each = λ i. six_below 0 4 5 6 7 8 i (lit< tt, lit< tt, lit< tt, lit< tt, lit< tt, lit< tt) }
+follow_below true false = record { each = λ i. six_below 1 4 5 6 7 8 i (lit< tt, lit< tt, lit< tt, lit< tt, lit< tt, lit< tt) }
+follow_below false true = record { each = λ i. six_below 2 9 10 11 12 13 i (lit< tt, lit< tt, lit< tt, lit< tt, lit< tt, lit< tt) }
+follow_below false false = record { each = λ i. six_below 3 9 10 11 12 13 i (lit< tt, lit< tt, lit< tt, lit< tt, lit< tt, lit< tt) }
+
+sign_below : (v : ℤ) → sign_of v < 38
+sign_below (pos zero) = lit< tt
+sign_below (pos (suc n)) = lit< tt
+sign_below (negsuc n) = lit< tt
+
+in_value : (f : Frame) (xs : List ℤ) (x y : ℕ) → InContexts (value_part f xs x y)
+in_value f xs x y =
+    let left = left_of f.width xs x y in
+    let above = above_of f.width xs x y in
+    in_signed (follow_among left above (corner_of f.width xs x y) (parent_of f.width f.parent x y)) bits_context (sign_of (sign_neighbour f.band left above)) (value_at f.width xs x y)
+    (follow_below (is_zero (parent_of f.width f.parent x y)) (is_zero left && (is_zero above && is_zero (corner_of f.width xs x y))))
+    (lit< tt) (sign_below (sign_neighbour f.band left above))
+
+in_row : (f : Frame) (xs : List ℤ) (y x n : ℕ) → InContexts (row_part f xs y x n)
+unfolding row_part
+in_row f xs y x zero = tt
+in_row f xs y x (suc n) = in_append (row_part f xs y x n) (value_part f xs (x + n) y) (in_row f xs y x n) (in_value f xs (x + n) y)
+
+in_rows : (f : Frame) (xs : List ℤ) (x count y n : ℕ) → InContexts (rows_part f xs x count y n)
+unfolding rows_part
+in_rows f xs x count y zero = tt
+in_rows f xs x count y (suc n) = in_append (rows_part f xs x count y n) (row_part f xs (y + n) x count) (in_rows f xs x count y n) (in_row f xs (y + n) x count)
+
+in_flagged : (flagged skipped : Bool) (ds : List Decision) → InContexts ds → InContexts (flagged_part flagged skipped ds)
+in_flagged false skipped ds h = h
+in_flagged true true ds h = (lit< tt, tt)
+in_flagged true false ds h = (lit< tt, h)
+
+in_blocks : (spot : BandSpot) (parent xs : List ℤ) (marks : ℕ → Mark) (cy n : ℕ) → InContexts (blocks_part spot parent xs marks cy n)
+unfolding blocks_part
+in_blocks spot parent xs marks cy zero = tt
+in_blocks spot parent xs marks cy (suc n) =
+    in_append (blocks_part spot parent xs marks cy n) (block_part spot parent xs cy n (marks n)) (in_blocks spot parent xs marks cy n)
+    (in_flagged (is_flagged spot) (marks n).skipped
+    (rows_part (frame_of spot parent) xs (edge_of spot.width spot.across n) (span_of spot.width spot.across n) (edge_of spot.height spot.down cy) (span_of spot.height spot.down cy))
+    (in_rows (frame_of spot parent) xs (edge_of spot.width spot.across n) (span_of spot.width spot.across n) (edge_of spot.height spot.down cy) (span_of spot.height spot.down cy)))
+
+pub in_bands : (spot : BandSpot) (parent xs : List ℤ) (marks : Marks) (n : ℕ) → InContexts (bands_part spot parent xs marks n)
+unfolding bands_part
+in_bands spot parent xs marks zero = tt
+in_bands spot parent xs marks (suc n) =
+    in_append (bands_part spot parent xs marks n) (blocks_part spot parent xs (marks n) n spot.across) (in_bands spot parent xs marks n) (in_blocks spot parent xs (marks n) n spot.across)
+
+-- the block that is written carries the band
+pub written_carried : (spot : BandSpot) (parent xs : List ℤ) → length xs ≡ spot.width * spot.height → AreSmall xs → CarriesBand spot parent (block_of spot parent xs) xs (marks_of spot xs)
+written_carried spot parent xs len small =
+    record {
+      len = len;
+      small = small;
+      zeros = λ cy cx l k flagged skipped. (zero_block_decides spot xs cy cx).0 skipped;
+      carried = flushed_is_carried (band_decisions spot parent xs (marks_of spot xs)) (in_bands spot parent xs (marks_of spot xs) spot.down);
+    }
+
+-- so it reads to the band
+pub written_read : (spot : BandSpot) (parent xs : List ℤ) → IsSpot spot → length xs ≡ spot.width * spot.height → AreSmall xs → band_read spot parent (block_of spot parent xs) ≡ Ok xs
+written_read spot parent xs is len small = band_found spot parent (block_of spot parent xs) xs (marks_of spot xs) is (written_carried spot parent xs len small)
+
+-- what follows from what holds of an answer
+pub ok_more : {T E : Type 0} (P Q : T → Type 0) → ((x : T) → P x → Q x) → (r : Result T E) → IfOk r P → IfOk r Q
+ok_more P Q each (Ok x) h = each x h
+ok_more P Q each (Err e) h = h

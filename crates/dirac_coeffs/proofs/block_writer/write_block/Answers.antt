@@ -1,0 +1,25 @@
+use Rattle.std.proofs.Common.{◌≡◌, ℕ, List, Ok, ap, ◌∙◌}
+use Rattle.dirac_arith.specs.Interval.{Interval, whole, narrowed_by}
+use Rattle.dirac_coeffs.specs.BandRead.{band_read}
+use Rattle.dirac_coeffs.specs.Decisions.{band_decisions}
+use Rattle.dirac_coeffs.specs.Written.{marks_of, block_of}
+use Rattle.dirac_coeffs.proofs.Writing.{in_bands, written_read, ok_more}
+use Rattle.dirac_coeffs.proofs.block_writer.write_block.Goals as goal
+
+pub returns-clause-exact : goal.returns-clause-exact
+returns-clause-exact c =
+    let spot = c.args.spot in
+    let parent = c.args.parent.now in
+    let xs = c.args.values.now in
+    let ds = band_decisions spot parent xs (marks_of spot xs) in
+    let written : c.write_all.new.encoder ≡ narrowed_by whole ds = c.in_ok-write_all.ensures ∙ ap (λ (s : Interval). narrowed_by s ds) c.new-encoder.ensures in
+    c.finish.ensures ds (in_bands spot parent xs (marks_of spot xs) spot.down) written
+
+pub returns-clause-read_back : goal.returns-clause-read_back
+returns-clause-read_back c =
+    let spot = c.args.spot in
+    let parent = c.args.parent.now in
+    let xs = c.args.values.now in
+    ok_more (λ block. block.items ≡ block_of spot parent xs) (λ block. band_read spot parent block.items ≡ Ok xs)
+    (λ block e. ap (λ (l : List ℕ). band_read spot parent l) e ∙ written_read spot parent xs c.requires.spot c.requires.len c.requires.small)
+    c.finish.result (returns-clause-exact c)

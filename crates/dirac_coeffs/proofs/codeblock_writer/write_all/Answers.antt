@@ -1,0 +1,19 @@
+use Rattle.std.proofs.Common.{◌+◌, refl}
+use Rattle.dirac_coeffs.specs.Decisions.{blocks_part, bands_part}
+use Rattle.dirac_coeffs.specs.Written.{marks_of}
+use Rattle.dirac_coeffs.proofs.AgreementOfBlocks.{bands_next}
+use Rattle.dirac_coeffs.proofs.Writing.{narrowed_more}
+use Rattle.dirac_coeffs.proofs.codeblock_writer.write_all.Goals as goal
+
+pub down-init : goal.down-init
+unfolding bands_part
+down-init c = refl
+
+pub down-preserved : goal.down-preserved
+down-preserved c =
+    let spot = c.args.spot in
+    let parent = c.args.parent.now in
+    let xs = c.args.values.now in
+    let n = c.down.cy in
+    narrowed_more c.args.encoder.now c.down.encoder c.write_codeblocks.new.encoder (bands_part spot parent xs (marks_of spot xs) n) (blocks_part spot parent xs (marks_of spot xs n) n spot.across) (bands_part spot parent xs (marks_of spot xs) (n + 1))
+    c.down.invariant c.in-Ok.ensures (bands_next spot parent xs (marks_of spot xs) n)

@@ -1,0 +1,20 @@
+use Rattle.std.proofs.Common.{◌+◌, refl}
+use Rattle.dirac_coeffs.specs.Decisions.{block_part, blocks_part}
+use Rattle.dirac_coeffs.specs.Written.{marks_of}
+use Rattle.dirac_coeffs.proofs.AgreementOfBlocks.{blocks_next}
+use Rattle.dirac_coeffs.proofs.Writing.{narrowed_more}
+use Rattle.dirac_coeffs.proofs.codeblock_writer.write_codeblocks.Goals as goal
+
+pub across-init : goal.across-init
+unfolding blocks_part
+across-init c = refl
+
+pub across-preserved : goal.across-preserved
+across-preserved c =
+    let spot = c.args.spot in
+    let parent = c.args.parent.now in
+    let xs = c.args.values.now in
+    let cy = c.args.cy in
+    let n = c.across.cx in
+    narrowed_more c.args.encoder.now c.across.encoder c.write_codeblock.new.encoder (blocks_part spot parent xs (marks_of spot xs cy) cy n) (block_part spot parent xs cy n (marks_of spot xs cy n)) (blocks_part spot parent xs (marks_of spot xs cy) cy (n + 1))
+    c.across.invariant c.in-Ok.ensures (blocks_next spot parent xs (marks_of spot xs cy) cy n)

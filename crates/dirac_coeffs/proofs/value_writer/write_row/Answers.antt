@@ -1,0 +1,19 @@
+use Rattle.std.proofs.Common.{◌+◌, refl}
+use Rattle.dirac_coeffs.specs.Decisions.{frame_of, value_part, row_part}
+use Rattle.dirac_coeffs.proofs.Agreement.{row_next}
+use Rattle.dirac_coeffs.proofs.Writing.{narrowed_more}
+use Rattle.dirac_coeffs.proofs.value_writer.write_row.Goals as goal
+
+pub values-init : goal.values-init
+unfolding row_part
+values-init c = refl
+
+pub values-preserved : goal.values-preserved
+values-preserved c =
+    let f = frame_of c.args.spot c.args.parent.now in
+    let xs = c.args.values.now in
+    let y = c.args.y in
+    let from = c.args.from in
+    let i = c.values.i in
+    narrowed_more c.args.encoder.now c.values.encoder c.write_at.new.encoder (row_part f xs y from i) (value_part f xs (from + i) y) (row_part f xs y from (i + 1))
+    c.values.invariant c.in-Ok.ensures (row_next f xs y from i)

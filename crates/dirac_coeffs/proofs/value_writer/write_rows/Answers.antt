@@ -1,0 +1,20 @@
+use Rattle.std.proofs.Common.{◌+◌, refl}
+use Rattle.dirac_coeffs.specs.Decisions.{frame_of, row_part, rows_part}
+use Rattle.dirac_coeffs.proofs.Agreement.{rows_next}
+use Rattle.dirac_coeffs.proofs.Writing.{narrowed_more}
+use Rattle.dirac_coeffs.proofs.value_writer.write_rows.Goals as goal
+
+pub rows-init : goal.rows-init
+unfolding rows_part
+rows-init c = refl
+
+pub rows-preserved : goal.rows-preserved
+rows-preserved c =
+    let f = frame_of c.args.spot c.args.parent.now in
+    let xs = c.args.values.now in
+    let top = c.args.top in
+    let from = c.args.from in
+    let count = c.args.count in
+    let j = c.rows.j in
+    narrowed_more c.args.encoder.now c.rows.encoder c.write_row.new.encoder (rows_part f xs from count top j) (row_part f xs (top + j) from count) (rows_part f xs from count top (j + 1))
+    c.rows.invariant c.in-Ok.ensures (rows_next f xs from count top j)

@@ -1,0 +1,6 @@
+use Rattle.std.proofs.Common.{◌≡◌, ℕ, ◌+◌, ◌<◌, pos}
+use Rattle.dirac_coeffs.specs.Contexts.{value_at}
+use Rattle.dirac_coeffs.proofs.zeros.are_zero_rows.Given as goal
+
+abbrev pub invariant-rows : goal.invariant-rows
+invariant-rows l = (k : ℕ) → k < l.j → (i : ℕ) → i < l.count → value_at l.width l.values (l.from + i) (l.top + k) ≡ pos 0

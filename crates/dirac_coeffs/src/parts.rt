@@ -1,0 +1,37 @@
+ghost use Rattle.std.specs.Prelude.{◌≡◌, ◌+◌, ◌≤◌, ◌<◌};
+ghost use Rattle.dirac_bands.specs.Geometry.{edge_of};
+ghost use Rattle.dirac_coeffs.specs.Spots.{span_of, is_flagged};
+
+use crate::spot::BandSpot;
+use dirac_bands::edge;
+
+/// Where a codeblock begins, across or down, and how long it is there.
+#[derive(Clone, Copy)]
+pub struct Part {
+    pub start: usize,
+    pub length: usize,
+}
+
+/// The columns or rows of codeblock `c`.
+pub fn part_of(size: u32, count: u32, c: u32) -> Part
+    requires size { size ≤ 8192 }
+    requires c { c < count }
+    ensures start { result.start ≡ edge_of size count c }
+    ensures length { result.length ≡ span_of size count c }
+    ensures end { result.start + result.length ≡ edge_of size count (c + 1) }
+    ensures inside { result.start + result.length ≤ size }
+{
+    let start = edge(size, count, c);
+    let end = edge(size, count, c + 1);
+    Part {
+        start: start as usize,
+        length: (end - start) as usize,
+    }
+}
+
+/// Whether each codeblock begins with a zero flag.
+pub fn has_flags(spot: BandSpot) -> bool
+    ensures { result ≡ is_flagged spot }
+{
+    !(spot.across == 1 && spot.down == 1)
+}

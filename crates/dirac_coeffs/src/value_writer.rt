@@ -1,0 +1,115 @@
+ghost use Rattle.std.specs.Prelude.{◌≡◌, ◌+◌, ◌*◌, ◌<◌, ◌≤◌, ◌^◌, ◌-◌, length, OnOk, unsigned_abs};
+ghost use Rattle.dirac_arith.specs.Interval.{narrowed_by};
+ghost use Rattle.dirac_coeffs.specs.Carried.{AreSmall};
+ghost use Rattle.dirac_coeffs.specs.Contexts.{value_spelling};
+ghost use Rattle.dirac_coeffs.specs.Decisions.{frame_of, value_part, row_part, rows_part};
+
+use crate::contexts;
+use crate::spot::BandSpot;
+use dirac_arith::Encoder;
+use dirac_types::{Band, NoMemory};
+
+/// Writes a value among these neighbours.
+#[inline(always)]
+fn write_value(
+    encoder: &mut Encoder,
+    band: Band,
+    left: i64,
+    above: i64,
+    corner: i64,
+    parent: i64,
+    value: i64,
+) -> Result<(), NoMemory>
+    requires { unsigned_abs value < 2 ^ 39 - 1 }
+    ensures { OnOk result (encoder.new ≡ narrowed_by encoder.old (value_spelling band left above corner parent value)) }
+{
+    let follow = contexts::follow_among(left, above, corner, parent);
+    let sign = contexts::sign_context(band, left, above);
+    encoder.signed(follow, 14, sign, value)
+}
+
+/// Writes the value in column `x` of row `y`.
+#[inline(always)]
+fn write_at(
+    encoder: &mut Encoder,
+    values: &[i64],
+    spot: BandSpot,
+    parent: &[i64],
+    x: usize,
+    y: usize,
+) -> Result<(), NoMemory>
+    requires column { x < spot.width }
+    requires width { spot.width ≤ 8192 }
+    requires row { y < 8192 }
+    requires inside { (y + 1) * spot.width ≤ length values.now }
+    requires small { AreSmall values.now }
+    ensures { OnOk result (encoder.new ≡ narrowed_by encoder.old (value_part (frame_of spot parent.now) values.now x y)) }
+{
+    let width = spot.width as usize;
+    let left = contexts::left_value(values, width, x, y);
+    let above = contexts::above_value(values, width, x, y);
+    let corner = contexts::corner_value(values, width, x, y);
+    let parent = contexts::parent_value(parent, width, x, y);
+    write_value(
+        encoder,
+        spot.band,
+        left,
+        above,
+        corner,
+        parent,
+        values[y * width + x],
+    )
+}
+
+/// Writes `count` values of row `y`, from column `from` on.
+fn write_row(
+    encoder: &mut Encoder,
+    values: &[i64],
+    spot: BandSpot,
+    parent: &[i64],
+    y: usize,
+    from: usize,
+    count: usize,
+) -> Result<(), NoMemory>
+    requires columns { from + count ≤ spot.width }
+    requires width { spot.width ≤ 8192 }
+    requires row { y < 8192 }
+    requires inside { (y + 1) * spot.width ≤ length values.now }
+    requires small { AreSmall values.now }
+    ensures { OnOk result (encoder.new ≡ narrowed_by encoder.old (row_part (frame_of spot parent.now) values.now y from count)) }
+{
+    'values: for i in 0..count {
+        match write_at(encoder, values, spot, parent, from + i, y) {
+            Ok(()) => {}
+            Err(e) => return Err(e),
+        }
+    }
+    Ok(())
+}
+
+/// Writes `count` values of each of `rows` rows, from column `from` of row `top` on.
+pub fn write_rows(
+    encoder: &mut Encoder,
+    values: &[i64],
+    spot: BandSpot,
+    parent: &[i64],
+    top: usize,
+    rows: usize,
+    from: usize,
+    count: usize,
+) -> Result<(), NoMemory>
+    requires columns { from + count ≤ spot.width }
+    requires width { spot.width ≤ 8192 }
+    requires rows { top + rows ≤ 8192 }
+    requires inside { (top + rows) * spot.width ≤ length values.now }
+    requires small { AreSmall values.now }
+    ensures { OnOk result (encoder.new ≡ narrowed_by encoder.old (rows_part (frame_of spot parent.now) values.now from count top rows)) }
+{
+    'rows: for j in 0..rows {
+        match write_row(encoder, values, spot, parent, top + j, from, count) {
+            Ok(()) => {}
+            Err(e) => return Err(e),
+        }
+    }
+    Ok(())
+}

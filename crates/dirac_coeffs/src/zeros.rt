@@ -1,0 +1,78 @@
+ghost use Rattle.std.specs.Prelude.{◌≡◌, ℕ, ◌+◌, ◌*◌, ◌<◌, ◌≤◌, pos, true, false, length};
+ghost use Rattle.dirac_bands.specs.Geometry.{edge_of};
+ghost use Rattle.dirac_coeffs.specs.BandRead.{is_zero_block};
+ghost use Rattle.dirac_coeffs.specs.Written.{is_zero_band};
+ghost use Rattle.dirac_coeffs.specs.Contexts.{value_at};
+ghost use Rattle.dirac_coeffs.specs.Spots.{IsSpot, span_of};
+
+use crate::contexts::is_nought;
+use crate::parts::part_of;
+use crate::spot::BandSpot;
+
+/// Whether `count` values of row `y` from column `from` on are zeros.
+fn is_zero_row(values: &[i64], width: usize, y: usize, from: usize, count: usize) -> bool
+    requires columns { from + count ≤ width }
+    requires width { width ≤ 8192 }
+    requires row { y < 8192 }
+    requires inside { (y + 1) * width ≤ length values.now }
+    ensures zeros { result ≡ true → (i : ℕ) → i < count → value_at width values.now (from + i) y ≡ pos 0 }
+    ensures others { result ≡ false → ((i : ℕ) → i < count → value_at width values.now (from + i) y ≡ pos 0) → ⊥ }
+{
+    'values: for i in 0..count {
+        if !is_nought(values[y * width + (from + i)]) {
+            return false;
+        }
+    }
+    true
+}
+
+/// Whether the values of these columns of these rows are zeros.
+fn are_zero_rows(
+    values: &[i64],
+    width: usize,
+    top: usize,
+    rows: usize,
+    from: usize,
+    count: usize,
+) -> bool
+    requires columns { from + count ≤ width }
+    requires width { width ≤ 8192 }
+    requires rows { top + rows ≤ 8192 }
+    requires inside { (top + rows) * width ≤ length values.now }
+    ensures zeros { result ≡ true → (i j : ℕ) → i < count → j < rows → value_at width values.now (from + i) (top + j) ≡ pos 0 }
+    ensures others { result ≡ false → ((i j : ℕ) → i < count → j < rows → value_at width values.now (from + i) (top + j) ≡ pos 0) → ⊥ }
+{
+    'rows: for j in 0..rows {
+        if !is_zero_row(values, width, top + j, from, count) {
+            return false;
+        }
+    }
+    true
+}
+
+/// Whether codeblock `cx` of row `cy` has zeros alone, or no values.
+pub fn has_zeros_alone(values: &[i64], spot: BandSpot, cy: u32, cx: u32) -> bool
+    requires spot { IsSpot spot }
+    requires row { cy < spot.down }
+    requires column { cx < spot.across }
+    requires len { length values.now ≡ spot.width * spot.height }
+    ensures { result ≡ is_zero_block spot values.now cy cx }
+{
+    let columns = part_of(spot.width, spot.across, cx);
+    let rows = part_of(spot.height, spot.down, cy);
+    are_zero_rows(
+        values,
+        spot.width as usize,
+        rows.start,
+        rows.length,
+        columns.start,
+        columns.length,
+    )
+}
+
+/// Whether all values are zeros.
+pub fn are_all_zeros(values: &[i64]) -> bool
+    ensures { result ≡ is_zero_band values.now }
+{
+    values.iter().all(|v| is_nought(*v))
+}

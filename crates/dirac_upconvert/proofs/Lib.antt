@@ -1,0 +1,5 @@
+pub mod Doubling
+mod Examples
+pub mod Halves
+pub mod Mixing
+pub mod RowLemmas

@@ -1,0 +1,2 @@
+pub mod HalfSamples
+pub mod SubSamples

@@ -1,0 +1,71 @@
+-- Samples at positions counted in parts of a sample.
+use Rattle.std.specs.Prelude.{◌≡◌, ℕ, ℤ, pos, ◌-◌, ◌*◌, ◌/◌, ◌^◌, ◌≤◌, ◌==◌, ◌≤ℤ◌, ◌<ℤ◌, ◌+ℤ◌, ◌-ℤ◌, ◌*ℤ◌, if◌then◌else◌}
+use Rattle.std.specs.Int.{int_shr}
+use Rattle.std.specs.List.{All}
+use Rattle.dirac_types.specs.Table.{Table, clamped_at}
+use Rattle.dirac_upconvert.specs.HalfSamples.{IsSample}
+
+-- an upconverted plane: the plane's sizes, and the table of its samples and half samples
+pub record Up : Type 0 where
+  pub width : ℕ
+  pub height : ℕ
+  pub table : Table
+
+-- its table has one half sample between any two samples
+pub record IsUp (width height : ℕ) (table : Table) : Type 0 where
+  pub some_across : 1 ≤ width
+  pub some_down : 1 ≤ height
+  pub across : table.width ≡ 2 * width - 1
+  pub down : table.height ≡ 2 * height - 1
+  pub samples : All IsSample table.values
+
+-- the place of the table at or before a position; each place has 2 ^ bits positions
+abbrev pub place_at : ℤ → ℕ → ℤ
+place_at position bits = int_shr position bits
+
+-- how far the position lies behind that place
+abbrev pub rest_at : ℤ → ℕ → ℤ
+rest_at position bits = position -ℤ place_at position bits *ℤ pos (2 ^ bits)
+
+-- a sample times its two weights
+abbrev pub product : ℤ → ℤ → ℤ → ℤ
+product across down v = down *ℤ (across *ℤ v)
+
+-- the sum of the four samples at places h and h + 1 across and down, each times its two weights:
+-- the rest at place h + 1, and what is left of the scale at place h
+abbrev pub bilinear : Table → ℕ → ℤ → ℤ → ℤ → ℤ → ℤ
+bilinear t scale across down right below =
+    (product (pos scale -ℤ right) (pos scale -ℤ below) (clamped_at t across down)
+    +ℤ product right (pos scale -ℤ below) (clamped_at t (across +ℤ pos 1) down))
+    +ℤ (product (pos scale -ℤ right) below (clamped_at t across (down +ℤ pos 1))
+    +ℤ product right below (clamped_at t (across +ℤ pos 1) (down +ℤ pos 1)))
+
+-- a sum divided by 2 ^ bits, to the nearest
+abbrev pub rounded : ℕ → ℤ → ℤ
+rounded bits sum = int_shr (sum +ℤ pos (2 ^ bits / 2)) bits
+
+-- the sample at a position of the table that is counted in parts, 2 ^ bits to a place
+unfoldable pub part_sample : Table → ℕ → ℤ → ℤ → ℤ
+part_sample t bits x y =
+    rounded (2 * bits) (bilinear t (2 ^ bits) (place_at x bits) (place_at y bits) (rest_at x bits) (rest_at y bits))
+
+-- the sample at a position counted in 2 ^ precision parts of a sample; whole samples stand at even places
+abbrev pub sub_sample : Up → ℕ → ℤ → ℤ → ℤ
+sub_sample up precision x y =
+    if precision == 0
+    then clamped_at up.table (pos 2 *ℤ x) (pos 2 *ℤ y)
+    else part_sample up.table (precision - 1) x y
+
+-- how far a position may lie behind its place
+pub record IsRest (bits : ℕ) (rest : ℤ) : Type 0 where
+  pub least : pos 0 ≤ℤ rest
+  pub most : rest <ℤ pos (2 ^ bits)
+
+-- a sum of so many samples
+pub record IsWithin (count : ℕ) (sum : ℤ) : Type 0 where
+  pub least : pos 0 ≤ℤ (sum +ℤ pos (128 * count))
+  pub most : sum ≤ℤ pos (127 * count)
+
+-- two values, each times the weight of its place
+abbrev pub mixed : ℕ → ℤ → ℤ → ℤ → ℤ
+mixed scale rest a b = (pos scale -ℤ rest) *ℤ a +ℤ rest *ℤ b

@@ -1,0 +1,12 @@
+#![tactic(auto)]
+
+//! Upconverted reference planes: the half samples of a plane, and its samples at positions counted in
+//! parts of a sample.
+
+mod half_sample;
+mod lines;
+mod parts;
+mod plane;
+mod shared;
+
+pub use plane::{UpPlane, upconvert};

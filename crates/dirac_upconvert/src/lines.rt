@@ -1,0 +1,128 @@
+ghost use Rattle.std.specs.Prelude.{◌≡◌, ℕ, pos, ◌+◌, ◌-◌, ◌*◌, ◌<◌, ◌≤◌, length, slice_index_or};
+ghost use Rattle.std.specs.List.{All};
+ghost use Rattle.dirac_upconvert.specs.HalfSamples.{IsSample, between, doubled_at, half_behind};
+
+use crate::half_sample::half_sample;
+
+/// The half sample in column `x` between the rows `a0` and `b0`.
+#[inline(always)]
+fn half_in_column(
+    a3: &[i16],
+    a2: &[i16],
+    a1: &[i16],
+    a0: &[i16],
+    b0: &[i16],
+    b1: &[i16],
+    b2: &[i16],
+    b3: &[i16],
+    x: usize,
+) -> i16
+    requires inside { x < length a0.now }
+    requires lens { (length a1.now ≡ length a0.now) × (length a2.now ≡ length a0.now) × (length a3.now ≡ length a0.now) × (length b0.now ≡ length a0.now) × (length b1.now ≡ length a0.now) × (length b2.now ≡ length a0.now) × (length b3.now ≡ length a0.now) }
+    requires a3 { All IsSample a3.now }
+    requires a2 { All IsSample a2.now }
+    requires a1 { All IsSample a1.now }
+    requires a0 { All IsSample a0.now }
+    requires b0 { All IsSample b0.now }
+    requires b1 { All IsSample b1.now }
+    requires b2 { All IsSample b2.now }
+    requires b3 { All IsSample b3.now }
+    ensures value { result ≡ between (slice_index_or a3.now x (pos 0)) (slice_index_or a2.now x (pos 0)) (slice_index_or a1.now x (pos 0)) (slice_index_or a0.now x (pos 0)) (slice_index_or b0.now x (pos 0)) (slice_index_or b1.now x (pos 0)) (slice_index_or b2.now x (pos 0)) (slice_index_or b3.now x (pos 0)) }
+    ensures sample { IsSample result }
+{
+    half_sample(a3[x], a2[x], a1[x], a0[x], b0[x], b1[x], b2[x], b3[x])
+}
+
+/// The half samples between the rows `a0` and `b0`.
+#[inline(always)]
+pub fn half_of_rows(
+    a3: &[i16],
+    a2: &[i16],
+    a1: &[i16],
+    a0: &[i16],
+    b0: &[i16],
+    b1: &[i16],
+    b2: &[i16],
+    b3: &[i16],
+    out: &mut [i16],
+)
+    requires lens { (length a0.now ≡ length out.old) × (length a1.now ≡ length out.old) × (length a2.now ≡ length out.old) × (length a3.now ≡ length out.old) × (length b0.now ≡ length out.old) × (length b1.now ≡ length out.old) × (length b2.now ≡ length out.old) × (length b3.now ≡ length out.old) }
+    requires a3 { All IsSample a3.now }
+    requires a2 { All IsSample a2.now }
+    requires a1 { All IsSample a1.now }
+    requires a0 { All IsSample a0.now }
+    requires b0 { All IsSample b0.now }
+    requires b1 { All IsSample b1.now }
+    requires b2 { All IsSample b2.now }
+    requires b3 { All IsSample b3.now }
+    ensures value { (x : ℕ) → x < length out.old → slice_index_or out.new x (pos 0) ≡ between (slice_index_or a3.now x (pos 0)) (slice_index_or a2.now x (pos 0)) (slice_index_or a1.now x (pos 0)) (slice_index_or a0.now x (pos 0)) (slice_index_or b0.now x (pos 0)) (slice_index_or b1.now x (pos 0)) (slice_index_or b2.now x (pos 0)) (slice_index_or b3.now x (pos 0)) }
+{
+    for x in 0..out.len() {
+        out[x] = half_in_column(a3, a2, a1, a0, b0, b1, b2, b3, x);
+    }
+}
+
+/// The half sample behind place `i` of a line, where neighbours may lie beyond its ends.
+#[inline(always)]
+fn half_clamped(line: &[i16], i: usize) -> i16
+    requires inside { i < length line.now }
+    requires samples { All IsSample line.now }
+    ensures { result ≡ half_behind (λ k. slice_index_or line.now k (pos 0)) (length line.now - 1) i }
+{
+    let last = line.len() - 1;
+    half_sample(
+        line[i.saturating_sub(3)],
+        line[i.saturating_sub(2)],
+        line[i.saturating_sub(1)],
+        line[i],
+        line[(i + 1).min(last)],
+        line[(i + 2).min(last)],
+        line[(i + 3).min(last)],
+        line[(i + 4).min(last)],
+    )
+}
+
+/// The half sample behind place `i` of a line, where all neighbours lie inside.
+#[inline(always)]
+fn half_inside(line: &[i16], i: usize) -> i16
+    requires before { 3 ≤ i }
+    requires behind { i + 4 < length line.now }
+    requires samples { All IsSample line.now }
+    ensures { result ≡ half_behind (λ k. slice_index_or line.now k (pos 0)) (length line.now - 1) i }
+{
+    half_sample(
+        line[i - 3],
+        line[i - 2],
+        line[i - 1],
+        line[i],
+        line[i + 1],
+        line[i + 2],
+        line[i + 3],
+        line[i + 4],
+    )
+}
+
+/// Writes a line with its half samples between.
+pub fn double_line(line: &[i16], out: &mut [i16])
+    requires some { 1 ≤ length line.now }
+    requires len { length out.old + 1 ≡ 2 * length line.now }
+    requires samples { All IsSample line.now }
+    ensures { (p : ℕ) → p < length out.old → slice_index_or out.new p (pos 0) ≡ doubled_at (λ k. slice_index_or line.now k (pos 0)) (length line.now - 1) p }
+{
+    let last = line.len() - 1;
+    let low = last.min(3);
+    let high = last.saturating_sub(3).max(low);
+    'left: for i in 0..low {
+        out[2 * i] = line[i];
+        out[2 * i + 1] = half_clamped(line, i);
+    }
+    'inside: for i in low..high {
+        out[2 * i] = line[i];
+        out[2 * i + 1] = half_inside(line, i);
+    }
+    'right: for i in high..last {
+        out[2 * i] = line[i];
+        out[2 * i + 1] = half_clamped(line, i);
+    }
+    out[2 * last] = line[last];
+}

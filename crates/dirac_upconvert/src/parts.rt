@@ -1,0 +1,183 @@
+ghost use Rattle.std.specs.Prelude.{◌≡◌, ℕ, pos, ◌+◌, ◌*◌, ◌^◌, ◌<◌, ◌≤◌, ◌≤ℤ◌, ◌+ℤ◌, ◌*ℤ◌, unsigned_abs};
+ghost use Rattle.std.specs.Int.{int_rem_euclid};
+ghost use Rattle.std.specs.List.{All};
+ghost use Rattle.dirac_types.specs.Table.{clamped_at};
+ghost use Rattle.dirac_upconvert.specs.HalfSamples.{IsSample};
+ghost use Rattle.dirac_upconvert.specs.SubSamples.{IsRest, IsWithin, bilinear, mixed, part_sample, place_at, rest_at, rounded};
+
+use dirac_types::Plane;
+
+/// How many positions a place has.
+#[inline(always)]
+fn positions(bits: u32) -> i32
+    requires { bits ≤ 2 }
+    ensures { result ≡ pos (2 ^ bits) }
+{
+    1 << bits
+}
+
+#[inline(always)]
+fn wide_positions(bits: u32) -> i64
+    requires { bits ≤ 2 }
+    ensures { result ≡ pos (2 ^ bits) }
+{
+    1 << bits
+}
+
+/// The place at or before a position.
+#[inline(always)]
+fn place(position: i64, bits: u32) -> i64
+    requires bits { bits ≤ 2 }
+    requires position { unsigned_abs position < 2 ^ 34 }
+    ensures value { result ≡ place_at position bits }
+    ensures bound { unsigned_abs result ≤ 2 ^ 34 }
+{
+    position >> bits
+}
+
+#[inline(always)]
+fn remainder(position: i64, scale: i64) -> i32
+    requires { (pos 1 ≤ℤ scale) × (scale ≤ℤ pos 4) }
+    ensures { result ≡ int_rem_euclid position scale }
+{
+    position.rem_euclid(scale) as i32
+}
+
+/// How far a position lies behind its place.
+#[inline(always)]
+fn rest(position: i64, bits: u32) -> i32
+    requires { bits ≤ 2 }
+    ensures value { result ≡ rest_at position bits }
+    ensures within { IsRest bits result }
+{
+    remainder(position, wide_positions(bits))
+}
+
+#[inline(always)]
+fn multiply_add(sum: i32, weight: i32, value: i32) -> i32
+    requires { unsigned_abs sum + unsigned_abs weight * unsigned_abs value ≤ 2 ^ 20 }
+    ensures value { result ≡ sum +ℤ weight *ℤ value }
+{
+    sum + weight * value
+}
+
+/// Two values, each weighted by the nearness of its place.
+#[inline(always)]
+fn mix(bits: u32, rest: i32, a: i32, b: i32) -> i32
+    requires bits { bits ≤ 2 }
+    requires rest { IsRest bits rest }
+    requires a { IsWithin 4 a }
+    requires b { IsWithin 4 b }
+    ensures value { result ≡ mixed (2 ^ bits) rest a b }
+    ensures within { (m : ℕ) → IsWithin m a → IsWithin m b → IsWithin (2 ^ bits * m) result }
+{
+    let scale = positions(bits);
+    multiply_add(multiply_add(0, scale - rest, a), rest, b)
+}
+
+/// A sum divided by 2 to the power `bits`, to the nearest.
+#[inline(always)]
+fn rounded_sum(sum: i32, bits: u32) -> i32
+    requires sum { unsigned_abs sum ≤ 2 ^ 20 }
+    requires bits { bits ≤ 4 }
+    ensures { result ≡ rounded bits sum }
+{
+    let half = (1i32 << bits) >> 1;
+    (sum + half) >> bits
+}
+
+#[inline(always)]
+fn to_sample(value: i32) -> i16
+    requires { IsSample value }
+    ensures value { result ≡ value }
+    ensures sample { IsSample result }
+{
+    value as i16
+}
+
+/// The sample at a place that is clamped to the table.
+#[inline(always)]
+fn sample(table: &Plane, x: i64, y: i64) -> i32
+    requires { All IsSample table.now.values }
+    ensures value { result ≡ clamped_at table.now x y }
+    ensures sample { IsSample result }
+{
+    i32::from(table.clamped(x, y))
+}
+
+#[inline(always)]
+fn next(place: i64) -> i64
+    requires { unsigned_abs place ≤ 2 ^ 34 }
+    ensures { result ≡ place +ℤ pos 1 }
+{
+    place + 1
+}
+
+/// The samples of row `y` at places `across` and the next, each times its weight.
+#[inline(always)]
+fn mixed_row(table: &Plane, bits: u32, right: i32, across: i64, y: i64) -> i32
+    requires bits { bits ≤ 2 }
+    requires right { IsRest bits right }
+    requires across { unsigned_abs across ≤ 2 ^ 34 }
+    requires samples { All IsSample table.now.values }
+    ensures value { result ≡ mixed (2 ^ bits) right (clamped_at table.now across y) (clamped_at table.now (across +ℤ pos 1) y) }
+    ensures within { IsWithin (2 ^ bits * 1) result }
+{
+    mix(
+        bits,
+        right,
+        sample(table, across, y),
+        sample(table, next(across), y),
+    )
+}
+
+/// The sum of the four samples round a position, each times its two weights.
+#[inline(always)]
+fn mixed_rows(table: &Plane, bits: u32, x: i64, y: i64) -> i32
+    requires bits { bits ≤ 2 }
+    requires x { unsigned_abs x < 2 ^ 34 }
+    requires y { unsigned_abs y < 2 ^ 34 }
+    requires samples { All IsSample table.now.values }
+    ensures value { result ≡ bilinear table.now (2 ^ bits) (place_at x bits) (place_at y bits) (rest_at x bits) (rest_at y bits) }
+    ensures within { IsWithin (2 ^ bits * (2 ^ bits * 1)) result }
+{
+    let across = place(x, bits);
+    let down = place(y, bits);
+    let right = rest(x, bits);
+    let above = mixed_row(table, bits, right, across, down);
+    let under = mixed_row(table, bits, right, across, next(down));
+    mix(bits, rest(y, bits), above, under)
+}
+
+/// The sample at a position of the table that is counted in parts, 2 to the power `bits` to a place.
+#[inline(always)]
+pub fn part(table: &Plane, bits: u32, x: i64, y: i64) -> i16
+    requires bits { bits ≤ 2 }
+    requires x { unsigned_abs x < 2 ^ 34 }
+    requires y { unsigned_abs y < 2 ^ 34 }
+    requires samples { All IsSample table.now.values }
+    ensures value { result ≡ part_sample table.now bits x y }
+    ensures sample { IsSample result }
+{
+    to_sample(rounded_sum(mixed_rows(table, bits, x, y), 2 * bits))
+}
+
+#[inline(always)]
+fn twice(position: i64) -> i64
+    requires { unsigned_abs position < 2 ^ 34 }
+    ensures { result ≡ pos 2 *ℤ position }
+{
+    2 * position
+}
+
+/// The whole sample at a position, which stands at an even column of an even row.
+#[inline(always)]
+pub fn whole_sample(table: &Plane, x: i64, y: i64) -> i16
+    requires x { unsigned_abs x < 2 ^ 34 }
+    requires y { unsigned_abs y < 2 ^ 34 }
+    requires samples { All IsSample table.now.values }
+    ensures value { result ≡ clamped_at table.now (pos 2 *ℤ x) (pos 2 *ℤ y) }
+    ensures sample { IsSample result }
+{
+    to_sample(sample(table, twice(x), twice(y)))
+}

@@ -1,0 +1,123 @@
+ghost use Rattle.std.specs.Prelude.{◌≡◌, ℕ, ℤ, pos, ◌+◌, ◌-◌, ◌*◌, ◌^◌, ◌<◌, ◌≤◌, unsigned_abs, length, slice_index_or, IfOk};
+ghost use Rattle.std.specs.List.{All};
+ghost use Rattle.dirac_types.specs.Table.{Table, clamped_at, table_at};
+ghost use Rattle.dirac_upconvert.specs.HalfSamples.{IsSample, half, half_at, half_behind};
+ghost use Rattle.dirac_upconvert.specs.SubSamples.{Up, sub_sample};
+
+use crate::lines::{double_line, half_of_rows};
+use crate::parts::{part, whole_sample};
+use dirac_types::{NoMemory, Plane};
+use std::alloc::Global;
+use std::marker::Model;
+
+/// A reference plane with its half samples, and the size that it had without them.
+#[derive(Debug, Drop)]
+pub struct UpPlane {
+    width: u32,
+    height: u32,
+    table: Plane,
+}
+
+impl Model for UpPlane {
+    ghost use Rattle.dirac_upconvert.specs.SubSamples.{IsUp, Up};
+
+    ghost Value = { Up };
+
+    ghost view = { λ u. record { width = u.width; height = u.height; table = u.table } };
+
+    ghost invariant = { λ u. IsUp u.width u.height u.table };
+}
+
+/// Lends row `y` of a plane of samples.
+#[inline(always)]
+fn row_of_samples(plane: &Plane, y: u32) -> &[i16]
+    requires inside { y < plane.now.height }
+    requires samples { All IsSample plane.now.values }
+    ensures value { (x : ℕ) → x < plane.now.width → slice_index_or result.now x (pos 0) ≡ table_at plane.now x y }
+    ensures len { length result.now ≡ plane.now.width }
+    ensures samples { All IsSample result.now }
+{
+    plane.row(y)
+}
+
+/// The half samples between row `y` and the next; rows beyond the plane are its last ones.
+fn half_row(plane: &Plane, y: u32, line: &mut [i16])
+    requires inside { y < plane.now.height }
+    requires small { plane.now.height ≤ 4096 }
+    requires len { length line.old ≡ plane.now.width }
+    requires samples { All IsSample plane.now.values }
+    ensures value { (x : ℕ) → x < plane.now.width → slice_index_or line.new x (pos 0) ≡ half_behind (λ j. table_at plane.now x j) (plane.now.height - 1) y }
+    ensures samples { All IsSample line.new }
+{
+    let last = plane.height() - 1;
+    half_of_rows(
+        row_of_samples(plane, y.saturating_sub(3)),
+        row_of_samples(plane, y.saturating_sub(2)),
+        row_of_samples(plane, y.saturating_sub(1)),
+        row_of_samples(plane, y),
+        row_of_samples(plane, (y + 1).min(last)),
+        row_of_samples(plane, (y + 2).min(last)),
+        row_of_samples(plane, (y + 3).min(last)),
+        row_of_samples(plane, (y + 4).min(last)),
+        line,
+    );
+}
+
+/// Row `y` of the upconverted plane; `line` is room for one row of half samples.
+fn double_row(plane: &Plane, y: u32, line: &mut [i16], out: &mut [i16])
+    requires inside { y + 1 < 2 * plane.now.height }
+    requires some { 1 ≤ plane.now.width }
+    requires small { plane.now.height ≤ 4096 }
+    requires line { length line.old ≡ plane.now.width }
+    requires out { length out.old + 1 ≡ 2 * plane.now.width }
+    requires samples { All IsSample plane.now.values }
+    ensures { (x : ℕ) → x < length out.old → slice_index_or out.new x (pos 0) ≡ half_at plane.now x y }
+{
+    if y % 2 == 0 {
+        double_line(row_of_samples(plane, y / 2), out);
+    } else {
+        half_row(plane, y / 2, line);
+        double_line(line, out);
+    }
+}
+
+/// The plane with its half samples, first between its rows and then between the columns of that result
+/// (half-pixel upconversion, Dirac specification).
+pub fn upconvert(alloc: Global, plane: &Plane) -> Result<UpPlane, NoMemory>
+    requires across { plane.now.width ≤ 4096 }
+    requires down { plane.now.height ≤ 4096 }
+    requires samples { All IsSample plane.now.values }
+    ensures value { IfOk result (λ u. u ≡ record { width = plane.now.width; height = plane.now.height; table = half plane.now }) }
+    ensures whole { IfOk result (λ u. (x y : ℤ) → sub_sample u 0 x y ≡ clamped_at plane.now x y) }
+{
+    let width = plane.width();
+    let height = plane.height();
+    let mut line = vec![in alloc; 0i16; width as usize]?;
+    let mut table = Plane::try_new(alloc, 2 * width - 1, 2 * height - 1, 0)?;
+    for y in 0..2 * height - 1 {
+        double_row(plane, y, line.as_mut_slice(), table.row_mut(y));
+    }
+    Ok(UpPlane {
+        width,
+        height,
+        table,
+    })
+}
+
+impl UpPlane {
+    /// The sample at column `x` and row `y`, both counted in 2 to the power `precision` parts of a sample
+    /// (sub-pixel prediction, Dirac specification). Positions may lie outside the plane.
+    pub fn at(&self, precision: u8, x: i64, y: i64) -> i16
+        requires precision { precision ≤ 3 }
+        requires x { unsigned_abs x < 2 ^ 32 }
+        requires y { unsigned_abs y < 2 ^ 32 }
+        ensures value { result ≡ sub_sample self.now precision x y }
+        ensures sample { IsSample result }
+    {
+        if precision == 0 {
+            whole_sample(&self.table, x, y)
+        } else {
+            part(&self.table, u32::from(precision) - 1, x, y)
+        }
+    }
+}
