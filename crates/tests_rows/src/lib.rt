@@ -10,6 +10,8 @@ mod encoding;
 #[cfg(test)]
 mod geometry;
 #[cfg(test)]
+mod half_samples;
+#[cfg(test)]
 mod headers;
 #[cfg(test)]
 mod lifting;
