@@ -3,12 +3,12 @@ use Rattle.std.proofs.Common.{◌≡◌, ◌≢◌, ℕ, ℤ, pos, negsuc, zero,
 use Rattle.std.specs.Int.{int_div_euclid}
 use Rattle.std.specs.List.{All}
 use Rattle.std.proofs.lemmas.Int.{ints}
-use Rattle.std.proofs.lemmas.Nat.{mul-add-lt, mul-le, div-add-mod', div_below, mod_below, same_from_place}
-use Rattle.std.proofs.lemmas.List.{get_or-set_same, get_or-set_other, length-set, get_or_default, get_or_past, ext_get_or, take_at}
+use Rattle.std.proofs.lemmas.Nat.{mul-add-lt, mod-mul-add, div-mul-add, mul-le, div-add-mod', div_below, mod_below, same_from_place}
+use Rattle.std.proofs.lemmas.List.{get_or-set_same, get_or-set_other, length-set, get_or_default, get_or_past, get_or_push, get_or_append_left, length_push, ext_get_or, take_at}
 use Rattle.std.proofs.lemmas.Bool.{cases_eq, cases_lt, ne_eqb}
 use Rattle.std.proofs.Math.Nat.{suc-mul}
 use Rattle.dirac_types.specs.Table.{Table, with_values}
-use Rattle.dirac_bands.specs.DcSum.{mean_of_three, value_at, by_rows, prediction_in, IsDcSum}
+use Rattle.dirac_bands.specs.DcSum.{mean_of_three, value_at, by_rows, prediction_in, IsDcSum, sums_up_to, dc_sum}
 
 -- the row above ends a width earlier
 row_above : (y w : ℕ) → y ≢ 0 → y * w ≡ (y - 1) * w + w
@@ -253,3 +253,50 @@ lent_is t ws e = ap (by_rows t.width t.height) (take_at ws (drop (length ws) t.v
 pub only_sums : (t : Table) (ws : List ℤ) → 1 ≤ t.width → length ws ≡ length t.values → length t.values ≡ t.width * t.height → IsDcSum (by_rows t.width t.height t.values) (by_rows t.width t.height ws) → (sums : Table) → IsDcSum t sums → sums ≡ with_values t ws
 only_sums t ws one e len first sums second =
     sums_determined t (by_rows t.width t.height ws) sums one (e ∙ len) first second ∙ sym (lent_is t ws e)
+
+length-sums : (ds : List ℤ) (w n : ℕ) → length (sums_up_to ds w n) ≡ n
+unfolding sums_up_to
+length-sums ds w zero = refl
+length-sums ds w (suc n) =
+    let before : List ℤ = sums_up_to ds w n in
+    omega (arith, length_push before (get_or ds n (pos 0) +ℤ prediction_in before w (n % w) (n / w)), length-sums ds w n)
+
+sums_front : (ds : List ℤ) (w n q : ℕ) → q < n → get_or (sums_up_to ds w n) q (pos 0) ≡ get_or ds q (pos 0) +ℤ prediction_in (sums_up_to ds w q) w (q % w) (q / w)
+unfolding sums_up_to
+sums_front ds w zero q l = absurd (omega arith)
+sums_front ds w (suc n) q l =
+    let before : List ℤ = sums_up_to ds w n in
+    let last : ℤ = get_or ds n (pos 0) +ℤ prediction_in before w (n % w) (n / w) in
+    elim (cases_eq q n) [
+      | inl here ↦
+          get_or_push before last (pos 0) q (length-sums ds w n ∙ sym here)
+          ∙ ap (λ i. get_or ds i (pos 0) +ℤ prediction_in (sums_up_to ds w i) w (i % w) (i / w)) (sym here)
+      | inr other ↦
+          get_or_append_left before (last ∷ []) (pos 0) q (omega (arith, other, length-sums ds w n))
+          ∙ sums_front ds w n q (omega (arith, other))
+    ]
+
+-- the sums of a table are its sums
+pub is_sums : (t : Table) → length t.values ≡ t.width * t.height → IsDcSum t (dc_sum t)
+is_sums t len = record {
+  width = refl;
+  height = refl;
+  len = length-sums t.values t.width (length t.values);
+  each = λ x y l k.
+      let inside : y * t.width + x < length t.values = omega (arith, len, mul-add-lt y t.width x t.height k l) in
+      let column : (y * t.width + x) % t.width ≡ x = mod-mul-add y t.width x l in
+      let row : (y * t.width + x) / t.width ≡ y = div-mul-add y t.width x l in
+      let here : get_or (sums_up_to t.values t.width (length t.values)) (y * t.width + x) (pos 0)
+      ≡ get_or t.values (y * t.width + x) (pos 0) +ℤ prediction_in (sums_up_to t.values t.width (y * t.width + x)) t.width ((y * t.width + x) % t.width) ((y * t.width + x) / t.width) =
+      sums_front t.values t.width (length t.values) (y * t.width + x) inside in
+      here
+      ∙ ap (λ i. get_or t.values (y * t.width + x) (pos 0) +ℤ prediction_in (sums_up_to t.values t.width (y * t.width + x)) t.width i ((y * t.width + x) / t.width)) column
+      ∙ ap (λ j. get_or t.values (y * t.width + x) (pos 0) +ℤ prediction_in (sums_up_to t.values t.width (y * t.width + x)) t.width x j) row
+      ∙ ap (λ p. get_or t.values (y * t.width + x) (pos 0) +ℤ p)
+      (prediction_same t.width (sums_up_to t.values t.width (y * t.width + x)) (sums_up_to t.values t.width (length t.values)) x y l
+      (λ r h. sums_front t.values t.width (y * t.width + x) r h ∙ sym (sums_front t.values t.width (length t.values) r (omega (arith, h, inside)))));
+}
+
+-- what is lent comes back as the sums
+pub sums_lent : (t : Table) (ws : List ℤ) → 1 ≤ t.width → length ws ≡ length t.values → length t.values ≡ t.width * t.height → IsDcSum (by_rows t.width t.height t.values) (by_rows t.width t.height ws) → with_values t ws ≡ dc_sum t
+sums_lent t ws one e len first = sym (only_sums t ws one e len first (dc_sum t) (is_sums t len))

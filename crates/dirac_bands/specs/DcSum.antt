@@ -1,5 +1,5 @@
 -- The prediction of an intra picture's LL band.
-use Rattle.std.specs.Prelude.{◌≡◌, ℕ, ℤ, pos, ◌+◌, ◌-◌, ◌*◌, ◌<◌, ◌==◌, ◌+ℤ◌, List, length, slice_index_or, if◌then◌else◌}
+use Rattle.std.specs.Prelude.{◌≡◌, ℕ, zero, suc, ℤ, pos, ◌+◌, ◌-◌, ◌*◌, ◌/◌, ◌%◌, ◌<◌, ◌==◌, ◌+ℤ◌, List, [], ◌∷◌, ◌++◌, length, slice_index_or, if◌then◌else◌}
 use Rattle.std.specs.Int.{int_div_euclid}
 use Rattle.dirac_types.specs.Table.{Table, table_at}
 
@@ -35,3 +35,14 @@ pub record IsDcSum (differences sums : Table) : Type 0 where
   pub height : sums.height ≡ differences.height
   pub len : length sums.values ≡ length differences.values
   pub each : (x y : ℕ) → x < sums.width → y < sums.height → table_at sums x y ≡ table_at differences x y +ℤ prediction sums x y
+
+-- the sums of the first differences, by rows: each place's prediction is read off the sums before it
+unfoldable pub sums_up_to : List ℤ → ℕ → ℕ → List ℤ
+sums_up_to differences width zero = []
+sums_up_to differences width (suc n) =
+    let before = sums_up_to differences width n in
+    before ++ (slice_index_or differences n (pos 0) +ℤ prediction_in before width (n % width) (n / width)) ∷ []
+
+-- the sums of a table of differences
+abbrev pub dc_sum : Table → Table
+dc_sum t = record t { values = sums_up_to t.values t.width (length t.values) }

@@ -1,7 +1,7 @@
 ghost use Rattle.std.specs.Prelude.{◌≡◌, ℕ, ◌+◌, ◌*◌, ◌^◌, ◌<◌, ◌≤◌, ◌+ℤ◌, ◌-ℤ◌, unsigned_abs, length};
 ghost use Rattle.std.specs.List.{All};
 ghost use Rattle.dirac_types.specs.Table.{Table};
-ghost use Rattle.dirac_bands.specs.DcSum.{by_rows, mean_of_three, prediction_in, IsDcSum};
+ghost use Rattle.dirac_bands.specs.DcSum.{by_rows, mean_of_three, prediction_in, IsDcSum, dc_sum};
 
 use dirac_types::Wide;
 
@@ -88,6 +88,7 @@ pub fn dc_add(ll: &mut Wide)
     requires { All (λ v. unsigned_abs v < 2 ^ 64) ll.old.values }
     ensures sums { IsDcSum ll.old ll.new }
     ensures only { (sums : Table) → IsDcSum ll.old sums → sums ≡ ll.new }
+    ensures value { ll.new ≡ dc_sum ll.old }
     ensures growth { (b : ℕ) → All (λ v. unsigned_abs v ≤ b) ll.old.values → All (λ v. unsigned_abs v ≤ (ll.old.width + ll.old.height) * b) ll.new.values }
 {
     let width = ll.width() as usize;

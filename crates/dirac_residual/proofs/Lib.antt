@@ -1,0 +1,5 @@
+pub mod Bounds
+pub mod Levels
+pub mod Maps
+pub mod RowLemmas
+pub mod Sizes

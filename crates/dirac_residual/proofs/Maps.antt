@@ -1,0 +1,20 @@
+-- Values that are changed one by one, and elements that are read.
+use Rattle.std.proofs.Common.{◌≡◌, ℕ, zero, suc, ℤ, pos, ◌<◌, ◌≤◌, List, [], ◌∷◌, length, map, get_or, slice_get, Some, Result, Ok, Err, IfOk, arith, ap, sym, ◌∙◌}
+use Rattle.std.proofs.lemmas.List.{length-map, get_or-map, ext_get_or}
+use Rattle.dirac_coeffs.specs.declared.spot.CodedBand.{CodedBand}
+
+pub mapped_all : (f : ℤ → ℤ) (xs ys : List ℤ) (n : ℕ) → length ys ≡ length xs → ((k : ℕ) → k < n → get_or ys k (pos 0) ≡ f (get_or xs k (pos 0))) → length xs ≤ n → ys ≡ map f xs
+mapped_all f xs ys n len each all =
+    ext_get_or (pos 0) ys (map f xs) (len ∙ sym (length-map xs f)) (λ k l.
+    each k (omega (arith, l, len, all)) ∙ sym (get_or-map f xs k (pos 0) (pos 0) (omega (arith, l, len))))
+
+-- a band that is read by its index
+pub got_band : (bands : List CodedBand) (n : ℕ) (b : CodedBand) → n < length bands → b ≡ get_or bands n b → slice_get bands n ≡ Some b
+got_band [] n b l e = absurd (omega arith)
+got_band (x ∷ xs) zero b l e = ap Some (sym e)
+got_band (x ∷ xs) (suc n) b l e = got_band xs n b (omega arith) e
+
+-- a fact of what came of a call, where another follows from it
+pub ok_weaker : {T E : Type 0} {P Q : T → Type 0} (r : Result T E) → ((t : T) → P t → Q t) → IfOk r P → IfOk r Q
+ok_weaker (Ok x) f h = f x h
+ok_weaker (Err e) f h = tt

@@ -1,0 +1,11 @@
+#![tactic(auto)]
+
+//! From the quantised subbands of a plane to its residual, and to the samples of an intra picture.
+
+mod clip;
+mod cut;
+mod plane;
+mod restore;
+
+pub use clip::clipped;
+pub use plane::plane_residual;

@@ -1,0 +1,94 @@
+ghost use Rattle.std.specs.Prelude.{◌≡◌, ℕ, ◌+◌, ◌-◌, ◌*◌, ◌^◌, ◌<◌, ◌≤◌, length, unsigned_abs, IfOk};
+ghost use Rattle.std.specs.List.{All};
+ghost use Rattle.dirac_lift.specs.Level.{level};
+ghost use Rattle.dirac_residual.specs.Fits.{AreBandsOf, IsBesides};
+ghost use Rattle.dirac_residual.specs.Residual.{after_levels, residual, restored_band, summed};
+
+use crate::cut::cut_to;
+use crate::restore::restore_band;
+use dirac_bands::{dc_add, join_bands};
+use dirac_coeffs::CodedBand;
+use dirac_lift::synth_level;
+use dirac_types::{Kind, NoMemory, Wide};
+use std::alloc::Global;
+
+/// The LL band of level 0, whose values an intra picture codes as differences from their predictions.
+fn lowest_band(alloc: Global, band: &CodedBand, kind: Kind) -> Result<Wide, NoMemory>
+    requires index { band.now.index ≤ 99 }
+    requires across { band.now.table.width ≤ 4096 }
+    requires down { band.now.table.height ≤ 4096 }
+    requires small { All (λ v. unsigned_abs v < 2 ^ 39 - 1) band.now.table.values }
+    ensures value { IfOk result (λ t. t ≡ summed kind (restored_band kind band.now)) }
+    ensures bound { IfOk result (λ t. All (λ v. unsigned_abs v ≤ 2 ^ 77) t.values) }
+{
+    let mut low = restore_band(alloc, band, kind)?;
+    match kind {
+        Kind::Intra => dc_add(&mut low),
+        Kind::Inter => {}
+    }
+    Ok(low)
+}
+
+/// The LL band of the next level.
+fn next_level(
+    alloc: Global,
+    wavelet: u8,
+    kind: Kind,
+    low: &Wide,
+    hl: &CodedBand,
+    lh: &CodedBand,
+    hh: &CodedBand,
+) -> Result<Wide, NoMemory>
+    requires wavelet { wavelet ≤ 6 }
+    requires across { low.now.width ≤ 4096 }
+    requires down { low.now.height ≤ 4096 }
+    requires hl { IsBesides low.now hl.now }
+    requires lh { IsBesides low.now lh.now }
+    requires hh { IsBesides low.now hh.now }
+    requires small { All (λ v. unsigned_abs v ≤ 2 ^ 103) low.now.values }
+    ensures value { IfOk result (λ t. t ≡ level wavelet low.now (restored_band kind hl.now) (restored_band kind lh.now) (restored_band kind hh.now)) }
+    ensures growth { IfOk result (λ t. (b : ℕ) → 2 ^ 64 ≤ b → All (λ v. unsigned_abs v ≤ b) low.now.values → All (λ v. unsigned_abs v ≤ 72 * b + 40) t.values) }
+{
+    let hl = restore_band(alloc, hl, kind)?;
+    let lh = restore_band(alloc, lh, kind)?;
+    let hh = restore_band(alloc, hh, kind)?;
+    let mut plane = join_bands(alloc, low, &hl, &lh, &hh)?;
+    synth_level(wavelet, &mut plane);
+    Ok(plane)
+}
+
+/// The residual of a plane of `width` by `height` samples from its subbands, which stand in the order LL, then HL, LH
+/// and HH of levels 1 to `depth`: they are restored, in an intra picture LL is summed up, each level is synthesised
+/// from the lowest on, and what was padded is cut off (inverse wavelet transform, Dirac specification).
+pub fn plane_residual(
+    alloc: Global,
+    wavelet: u8,
+    depth: u8,
+    kind: Kind,
+    bands: &[CodedBand],
+    width: u32,
+    height: u32,
+) -> Result<Wide, NoMemory>
+    requires wavelet { wavelet ≤ 6 }
+    requires depth { (1 ≤ depth) × (depth ≤ 5) }
+    requires across { (1 ≤ width) × (width ≤ 8192) }
+    requires down { (1 ≤ height) × (height ≤ 8192) }
+    requires bands { AreBandsOf depth width height bands.now }
+    ensures value { IfOk result (λ t. t ≡ residual wavelet depth kind bands.now width height) }
+    ensures bound { IfOk result (λ t. All (λ v. unsigned_abs v ≤ 2 ^ 108) t.values) }
+{
+    let mut low = lowest_band(alloc, &bands[0], kind)?;
+    for n in 0..depth as usize {
+        let next = next_level(
+            alloc,
+            wavelet,
+            kind,
+            &low,
+            &bands[3 * n + 1],
+            &bands[3 * n + 2],
+            &bands[3 * n + 3],
+        )?;
+        low = next;
+    }
+    cut_to(alloc, &low, width, height)
+}

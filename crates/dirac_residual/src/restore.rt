@@ -1,0 +1,36 @@
+ghost use Rattle.std.specs.Prelude.{◌≡◌, ◌-◌, ◌^◌, ◌<◌, ◌≤◌, length, map, unsigned_abs, IfOk};
+ghost use Rattle.std.specs.List.{All};
+ghost use Rattle.dirac_quant.specs.Quantiser.{restored};
+ghost use Rattle.dirac_residual.specs.Residual.{restored_band};
+
+use dirac_coeffs::CodedBand;
+use dirac_quant::restore;
+use dirac_types::{Kind, NoMemory, Wide};
+use std::alloc::Global;
+
+/// Writes the coefficient that each coded number stands for.
+fn restore_values(coded: &[i64], index: u8, kind: Kind, values: &mut [i128])
+    requires len { length values.old ≡ length coded.now }
+    requires index { index ≤ 99 }
+    requires small { All (λ v. unsigned_abs v < 2 ^ 39 - 1) coded.now }
+    ensures value { values.new ≡ map (λ v. restored v index kind) coded.now }
+    ensures bound { All (λ v. unsigned_abs v < 2 ^ 64) values.new }
+{
+    for i in 0..coded.len() {
+        values[i] = restore(coded[i], index, kind);
+    }
+}
+
+/// The coefficients that a coded band stands for (inverse quantisation, Dirac specification).
+pub fn restore_band(alloc: Global, band: &CodedBand, kind: Kind) -> Result<Wide, NoMemory>
+    requires index { band.now.index ≤ 99 }
+    requires across { band.now.table.width ≤ 8192 }
+    requires down { band.now.table.height ≤ 8192 }
+    requires small { All (λ v. unsigned_abs v < 2 ^ 39 - 1) band.now.table.values }
+    ensures value { IfOk result (λ t. t ≡ restored_band kind band.now) }
+    ensures bound { IfOk result (λ t. All (λ v. unsigned_abs v < 2 ^ 64) t.values) }
+{
+    let mut plane = Wide::try_new(alloc, band.table.width(), band.table.height(), 0)?;
+    restore_values(band.table.values(), band.index, kind, plane.values_mut());
+    Ok(plane)
+}
