@@ -1,0 +1,9 @@
+pub mod Lengths
+pub mod Listed
+pub mod Parents
+pub mod Behind
+pub mod Every
+pub mod Lawful
+pub mod Answering
+pub mod Chroma
+pub mod Examples

@@ -1,0 +1,56 @@
+-- The subbands of a plane, in the order in which they are coded: LL, then HL, LH and HH of level 1, of level 2 and so on.
+use Rattle.std.specs.Prelude.{◌≡◌, ◌≤◌, ℕ, ℤ, ◌+◌, ◌-◌, ◌*◌, ◌/◌, ◌%◌, ◌==◌, nat_le, if◌then◌else◌, List, [], length, slice_get, Option, None, Some}
+use Rattle.dirac_types.specs.declared.formats.Band.{Band}
+use Rattle.dirac_types.specs.declared.formats.Band.TheVariants.{LL, HL, LH, HH}
+use Rattle.dirac_types.specs.Table.{Table}
+use Rattle.dirac_header.specs.declared.transform.Transform.{Transform}
+use Rattle.dirac_header.specs.Transform.{band_length}
+use Rattle.dirac_coeffs.specs.declared.spot.BandSpot.{BandSpot}
+use Rattle.dirac_coeffs.specs.declared.spot.CodedBand.{CodedBand}
+
+-- how many there are
+abbrev pub band_count : ℕ → ℕ
+band_count depth = 3 * depth + 1
+
+-- the orientation of band n
+abbrev pub orientation_of : ℕ → Band
+orientation_of n = if n == 0 then LL else if n % 3 == 1 then HL else if n % 3 == 2 then LH else HH
+
+-- the level of band n
+abbrev pub level_of : ℕ → ℕ
+level_of n = (n + 2) / 3
+
+-- counts of codeblocks, across and down: those told, else one
+abbrev pub counts_among : Option (ℕ × ℕ) → ℕ × ℕ
+counts_among None = (1, 1)
+counts_among (Some counts) = counts
+
+-- the counts of a level
+abbrev pub counts_at : List (ℕ × ℕ) → ℕ → ℕ × ℕ
+counts_at counts level = counts_among (slice_get counts level)
+
+-- what band n of a plane of this size is; the counts of its level serve all three planes
+unfoldable pub spot_of : Transform → ℕ → ℕ → ℕ → BandSpot
+spot_of t width height n = record {
+  band = orientation_of n;
+  width = band_length width t.depth (level_of n);
+  height = band_length height t.depth (level_of n);
+  across = (counts_at t.counts (level_of n)).0;
+  down = (counts_at t.counts (level_of n)).1;
+}
+
+-- the values of a band, where there is one
+abbrev pub values_among : Option CodedBand → List ℤ
+values_among None = []
+values_among (Some b) = b.table.values
+
+-- the values of the parent of the band behind these: of the same orientation, one level lower, from level 2 on
+unfoldable pub parent_values : List CodedBand → List ℤ
+parent_values before = if nat_le 4 (length before) then values_among (slice_get before (length before - 3)) else []
+
+-- the parent of the band behind these has this table
+pub record IsParentAmong (before : List CodedBand) (t : Table) : Type 0 where
+  pub lower : 4 ≤ length before
+  pub parent : CodedBand
+  pub listed : slice_get before (length before - 3) ≡ Some parent
+  pub table : t ≡ parent.table

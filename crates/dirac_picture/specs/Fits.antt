@@ -1,0 +1,69 @@
+-- What every coded picture of a sequence has.
+use Rattle.std.specs.Prelude.{◌≡◌, ℕ, ◌+◌, ◌≤◌, List, length, nat_le, slice_get, Option, None, Some, is_some}
+use Rattle.dirac_sequence.specs.declared.sequence.Sequence.{Sequence}
+use Rattle.dirac_header.specs.declared.header.PictureHeader.{PictureHeader}
+use Rattle.dirac_header.specs.declared.transform.Transform.{Transform}
+use Rattle.dirac_header.specs.Transform.{band_length}
+use Rattle.dirac_header.specs.Codes.{references_of}
+use Rattle.dirac_coeffs.specs.declared.spot.CodedBand.{CodedBand}
+use Rattle.dirac_coeffs.specs.Grammar.{IsCodedBand}
+use Rattle.dirac_picture.specs.declared.coded.CodedPicture.{CodedPicture}
+use Rattle.dirac_picture.specs.declared.coded.CodedResidual.{CodedResidual}
+use Rattle.dirac_picture.specs.Bands.{band_count, counts_at, spot_of}
+use Rattle.dirac_picture.specs.Grammar.{chroma_width, chroma_height}
+
+-- a count of codeblocks is from 1 to so many
+abbrev pub IsCount : ℕ → ℕ → Type 0
+IsCount count most = (1 ≤ count) × (count ≤ most)
+
+-- transform parameters of a picture of this size: at each level at most as many codeblocks as luma's bands have columns and rows
+pub record IsTransform (width height : ℕ) (t : Transform) : Type 0 where
+  pub wavelet : t.wavelet ≤ 6
+  pub depth : (1 ≤ t.depth) × (t.depth ≤ 5)
+  pub levels : length t.counts ≡ t.depth + 1
+  pub across : (level : ℕ) → level ≤ t.depth → IsCount (counts_at t.counts level).0 (band_length width t.depth level)
+  pub down : (level : ℕ) → level ≤ t.depth → IsCount (counts_at t.counts level).1 (band_length height t.depth level)
+
+-- a layout of bands: its levels, and at each from 1 to 8,192 codeblocks across and down
+pub record IsLayout (t : Transform) : Type 0 where
+  pub depth : (1 ≤ t.depth) × (t.depth ≤ 5)
+  pub levels : length t.counts ≡ t.depth + 1
+  pub across : (level : ℕ) → level ≤ t.depth → IsCount (counts_at t.counts level).0 8192
+  pub down : (level : ℕ) → level ≤ t.depth → IsCount (counts_at t.counts level).1 8192
+
+-- a plane's size
+pub record IsPlaneSize (width height : ℕ) : Type 0 where
+  pub across : (1 ≤ width) × (width ≤ 4096)
+  pub down : (1 ≤ height) × (height ≤ 4096)
+
+-- each of these bands is what its place in a plane of this size asks for
+abbrev pub AreBands : Transform → ℕ → ℕ → List CodedBand → Type 0
+AreBands t width height bands = (n : ℕ) (b : CodedBand) → slice_get bands n ≡ Some b → IsCodedBand (spot_of t width height n) b
+
+-- the bands of a plane of this size, all of them
+pub record AreBandsOf (t : Transform) (width height : ℕ) (bands : List CodedBand) : Type 0 where
+  pub count : length bands ≡ band_count t.depth
+  pub each : AreBands t width height bands
+
+-- the residual of a picture of this sequence
+pub record IsResidual (s : Sequence) (r : CodedResidual) : Type 0 where
+  pub transform : IsTransform s.width s.height r.transform
+  pub y : AreBandsOf r.transform s.width s.height r.y
+  pub u : AreBandsOf r.transform (chroma_width s) (chroma_height s) r.u
+  pub v : AreBandsOf r.transform (chroma_width s) (chroma_height s) r.v
+
+-- an intra picture has a residual
+abbrev pub HasResidual : Sequence → Option CodedResidual → Type 0
+HasResidual s None = ⊥
+HasResidual s (Some r) = IsResidual s r
+
+-- a header names just the references of its code
+pub record NamesReferences (code : ℕ) (head : PictureHeader) : Type 0 where
+  pub first : is_some head.ref1 ≡ nat_le 1 (references_of code)
+  pub second : is_some head.ref2 ≡ nat_le 2 (references_of code)
+
+-- a coded intra picture of this parse code fits the sequence
+pub record FitsSequence (code : ℕ) (s : Sequence) (p : CodedPicture) : Type 0 where
+  pub same_code : p.code ≡ code
+  pub header : NamesReferences code p.header
+  pub residual : HasResidual s p.residual

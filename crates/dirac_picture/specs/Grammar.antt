@@ -1,0 +1,83 @@
+-- The payload of a picture, field after field: picture parsing, Dirac specification.
+use Rattle.std.specs.Prelude.{ℕ, zero, suc, ◌/◌, ◌==◌, ◌&&◌, ◌||◌, if◌then◌else◌, Bool, true, List, [], ◌∷◌, ◌++◌, length, Option, None, Some, is_some, Result}
+use Rattle.dirac_types.specs.declared.faults.Cause.TheVariants.{MissingReference}
+use Rattle.dirac_types.specs.declared.faults.Refusal.{Refusal}
+use Rattle.dirac_types.specs.declared.picture.Picture.{Picture}
+use Rattle.dirac_bits.specs.Answers.{value_of}
+use Rattle.dirac_bits.specs.Cursor.{start}
+use Rattle.dirac_bits.specs.Syntax.{Syntax, done, refuse, ◌>>=◌, align, read}
+use Rattle.dirac_sequence.specs.declared.sequence.Sequence.{Sequence}
+use Rattle.dirac_sequence.specs.Ratios.{ratio_across, ratio_down}
+use Rattle.dirac_header.specs.declared.header.PictureHeader.{PictureHeader}
+use Rattle.dirac_header.specs.declared.transform.Transform.{Transform}
+use Rattle.dirac_header.specs.Header.{header}
+use Rattle.dirac_header.specs.Transform.{transform}
+use Rattle.dirac_coeffs.specs.declared.spot.CodedBand.{CodedBand}
+use Rattle.dirac_coeffs.specs.Grammar.{band}
+use Rattle.dirac_refs.specs.References.{listed}
+use Rattle.dirac_picture.specs.declared.coded.CodedPicture.{CodedPicture}
+use Rattle.dirac_picture.specs.declared.coded.CodedResidual.{CodedResidual}
+use Rattle.dirac_picture.specs.Bands.{band_count, spot_of, parent_values}
+
+-- the bands of a plane of this size: those before, and so many more
+unfoldable pub bands_behind : Transform → ℕ → ℕ → List CodedBand → ℕ → Syntax (List CodedBand)
+bands_behind t width height before zero = done before
+bands_behind t width height before (suc more) = do
+  b ← band (spot_of t width height (length before)) (parent_values before)
+  bands_behind t width height (before ++ b ∷ []) more
+
+-- all bands of a plane of this size
+abbrev pub plane_bands : Transform → ℕ → ℕ → Syntax (List CodedBand)
+plane_bands t width height = bands_behind t width height [] (band_count t.depth)
+
+-- the columns of a chroma plane
+abbrev pub chroma_width : Sequence → ℕ
+chroma_width s = s.width / ratio_across s.chroma
+
+-- its rows
+abbrev pub chroma_height : Sequence → ℕ
+chroma_height s = s.height / ratio_down s.chroma
+
+-- the bands of Y, U and V, with these transform parameters
+unfoldable pub planes : Sequence → Transform → Syntax CodedResidual
+planes s t = do
+  y ← plane_bands t s.width s.height
+  u ← plane_bands t (chroma_width s) (chroma_height s)
+  v ← plane_bands t (chroma_width s) (chroma_height s)
+  done (record { transform = t; y = y; u = u; v = v })
+
+-- the transform parameters and the bands
+unfoldable pub residual : Sequence → Syntax CodedResidual
+residual s = do
+  t ← transform s.width s.height
+  planes s t
+
+-- the fields behind the header; an inter picture's prediction, and whether it has a residual, will stand before the residual
+unfoldable pub body : ℕ → Sequence → PictureHeader → Syntax CodedPicture
+body code s head = do
+  gap ← align
+  coded ← residual s
+  done (record { code = code; header = head; residual = Some coded })
+
+-- a reference that a header names is listed
+abbrev pub is_listed : List Picture → Option ℕ → Bool
+is_listed refs None = true
+is_listed refs (Some number) = is_some (listed refs number)
+
+-- each reference that it names is
+abbrev pub are_listed : List Picture → PictureHeader → Bool
+are_listed refs head = is_listed refs head.ref1 && is_listed refs head.ref2
+
+-- the fields of a picture with this parse code; its references are looked up once its header is read
+unfoldable pub picture : ℕ → Sequence → List Picture → Syntax CodedPicture
+picture code s refs = do
+  head ← header code
+  if are_listed refs head then body code s head else refuse 0 MissingReference
+
+-- what a picture's payload reads to; bytes behind its last field are free
+abbrev pub picture_read : ℕ → Sequence → List Picture → List ℕ → Result CodedPicture Refusal
+picture_read code s refs payload = value_of (read (picture code s refs) (start payload))
+
+-- the parse codes of intra pictures
+abbrev pub is_intra : ℕ → Bool
+is_intra code = code == 0x08 || code == 0x0C

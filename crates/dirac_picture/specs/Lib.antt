@@ -1,0 +1,4 @@
+pub mod Bands
+pub mod Grammar
+pub mod Fits
+pub mod Answers

@@ -1,0 +1,15 @@
+//! The payload of a picture: its header, its transform parameters and the subbands of its three planes.
+//!
+//! `specs/Grammar` has the fields in their order, `specs/Fits` what every picture that is read has.
+#![tactic(auto)]
+
+mod coded;
+mod picture;
+mod plane;
+mod plane_bands;
+mod shared;
+mod spots;
+
+pub use coded::{CodedPicture, CodedResidual};
+pub use picture::read_picture;
+pub use plane_bands::PlaneBands;

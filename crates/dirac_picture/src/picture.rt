@@ -1,0 +1,142 @@
+ghost use Rattle.std.specs.Prelude.{◌≡◌, length, IfOk, IfErr, IsTrue, Ok};
+ghost use Rattle.dirac_bits.specs.Laws.{StartsWith};
+ghost use Rattle.dirac_bits.specs.Syntax.{read};
+ghost use Rattle.dirac_sequence.specs.Lawful.{IsSequence};
+ghost use Rattle.dirac_coeffs.specs.Answers.{ReadsOrStops, IsEarly};
+ghost use Rattle.dirac_picture.specs.declared.coded.CodedPicture.{CodedPicture as ThePicture};
+ghost use Rattle.dirac_picture.specs.Answers.{GivesOrStops};
+ghost use Rattle.dirac_picture.specs.Grammar as grammar;
+ghost use Rattle.dirac_picture.specs.Fits.{FitsSequence, IsLayout, IsPlaneSize, IsResidual, IsTransform, NamesReferences};
+
+use crate::coded::{CodedPicture, CodedResidual};
+use crate::plane::read_plane_bands;
+use dirac_bits::BitReader;
+use dirac_header::{PictureHeader, Transform, read_header, read_transform};
+use dirac_refs::RefBuffer;
+use dirac_sequence::{Sequence, ratio_across, ratio_down};
+use dirac_types::{Cause, Refusal, Stop};
+use std::alloc::Global;
+
+/// Reads the payload of an intra picture (picture parsing, Dirac specification). The place of a refusal counts from
+/// the payload's first byte; a reference that isn't listed is refused there.
+pub fn read_picture(
+    alloc: Global,
+    payload: &[u8],
+    code: u8,
+    sequence: &Sequence,
+    refs: &RefBuffer,
+) -> Result<CodedPicture, Stop>
+    requires code { IsTrue (grammar.is_intra code) }
+    requires sequence { IsSequence sequence.now }
+    ensures value { GivesOrStops result (grammar.picture_read code sequence.now refs.now payload.now) }
+    // What is answered is spelled by the payload's first bits.
+    ensures spelled { IfOk result (λ p. StartsWith (grammar.picture code sequence.now refs.now) p payload.now) }
+    // What its first bits spell is answered.
+    ensures only { (p : ThePicture) → StartsWith (grammar.picture code sequence.now refs.now) p payload.now → GivesOrStops result (Ok p) }
+    ensures early { IfErr result (IsEarly (length payload.now)) }
+    ensures fits { IfOk result (FitsSequence code sequence.now) }
+{
+    let mut r = BitReader::new(payload);
+    read_fields(alloc, &mut r, code, sequence, refs)
+}
+
+/// Reads the fields of a picture.
+#[tactic(auto, unfolding(crate::specs::Grammar::picture), using(dirac_bits::specs::Then::read_then))]
+fn read_fields(
+    alloc: Global,
+    r: &mut BitReader<'_>,
+    code: u8,
+    sequence: &Sequence,
+    refs: &RefBuffer,
+) -> Result<CodedPicture, Stop>
+    requires sequence { IsSequence sequence.now }
+    ensures value { ReadsOrStops result r.new (read (grammar.picture code sequence.now refs.now) r.old) }
+    ensures early { IfErr result (IsEarly (length r.old.bytes)) }
+    ensures fits { IfOk result (FitsSequence code sequence.now) }
+{
+    let header = read_header(r, code)?;
+    if !is_listed(refs, header.ref1) || !is_listed(refs, header.ref2) {
+        return Err(Stop::Refused(Refusal {
+            at: 0,
+            cause: Cause::MissingReference,
+        }));
+    }
+    read_body(alloc, r, code, sequence, header)
+}
+
+/// Whether a reference that a header names is listed.
+fn is_listed(refs: &RefBuffer, number: Option<u32>) -> bool
+    ensures { result ≡ grammar.is_listed refs.now number }
+{
+    match number {
+        None => true,
+        Some(number) => refs.find(number).is_some(),
+    }
+}
+
+/// Reads the fields behind a picture's header.
+#[tactic(auto, unfolding(crate::specs::Grammar::body), using(dirac_bits::specs::Then::read_then))]
+fn read_body(
+    alloc: Global,
+    r: &mut BitReader<'_>,
+    code: u8,
+    sequence: &Sequence,
+    header: PictureHeader,
+) -> Result<CodedPicture, Stop>
+    requires sequence { IsSequence sequence.now }
+    requires header { NamesReferences code header }
+    ensures value { ReadsOrStops result r.new (read (grammar.body code sequence.now header) r.old) }
+    ensures early { IfErr result (IsEarly (length r.old.bytes)) }
+    ensures kept { r.new.bytes ≡ r.old.bytes }
+    ensures fits { IfOk result (FitsSequence code sequence.now) }
+{
+    r.align();
+    let residual = read_residual(alloc, r, sequence)?;
+    Ok(CodedPicture {
+        code,
+        header,
+        residual: Some(residual),
+    })
+}
+
+/// Reads the transform parameters and the subbands.
+#[tactic(auto, unfolding(crate::specs::Grammar::residual), using(dirac_bits::specs::Then::read_then))]
+fn read_residual(
+    alloc: Global,
+    r: &mut BitReader<'_>,
+    sequence: &Sequence,
+) -> Result<CodedResidual, Stop>
+    requires sequence { IsSequence sequence.now }
+    ensures value { ReadsOrStops result r.new (read (grammar.residual sequence.now) r.old) }
+    ensures early { IfErr result (IsEarly (length r.old.bytes)) }
+    ensures kept { r.new.bytes ≡ r.old.bytes }
+    ensures fits { IfOk result (IsResidual sequence.now) }
+{
+    let transform = read_transform(r, sequence.width, sequence.height)?;
+    read_planes(alloc, r, transform, sequence)
+}
+
+/// Reads the subbands of the three planes.
+#[tactic(auto, unfolding(crate::specs::Grammar::planes), using(dirac_bits::specs::Then::read_then))]
+fn read_planes(
+    alloc: Global,
+    r: &mut BitReader<'_>,
+    transform: Transform,
+    sequence: &Sequence,
+) -> Result<CodedResidual, Stop>
+    requires transform { IsTransform sequence.now.width sequence.now.height transform }
+    requires layout { IsLayout transform }
+    requires luma { IsPlaneSize sequence.now.width sequence.now.height }
+    requires chroma { IsPlaneSize (grammar.chroma_width sequence.now) (grammar.chroma_height sequence.now) }
+    ensures value { ReadsOrStops result r.new (read (grammar.planes sequence.now transform) r.old) }
+    ensures early { IfErr result (IsEarly (length r.old.bytes)) }
+    ensures kept { r.new.bytes ≡ r.old.bytes }
+    ensures fits { IfOk result (IsResidual sequence.now) }
+{
+    let width = sequence.width / ratio_across(sequence.chroma);
+    let height = sequence.height / ratio_down(sequence.chroma);
+    let y = read_plane_bands(alloc, r, &transform, sequence.width, sequence.height)?;
+    let u = read_plane_bands(alloc, r, &transform, width, height)?;
+    let v = read_plane_bands(alloc, r, &transform, width, height)?;
+    Ok(CodedResidual { transform, y, u, v })
+}
