@@ -1,5 +1,5 @@
 pub mod Passing
+pub mod Fitting
 pub mod Leading
-pub mod Bands
 pub mod Streaming
 pub mod Rows

@@ -11,9 +11,10 @@ use Rattle.dirac_header.specs.Codes.{is_reference}
 use Rattle.dirac_refs.specs.declared.waiting.Waiting.{Waiting}
 use Rattle.dirac_refs.specs.References.{committed}
 use Rattle.dirac_refs.specs.Delivery.{key_of, delivered, flushed}
-use Rattle.dirac_decode.specs.declared.coded.CodedPicture.{CodedPicture}
+use Rattle.dirac_picture.specs.declared.coded.CodedPicture.{CodedPicture}
+use Rattle.dirac_picture.specs.Grammar.{picture_read, is_intra}
 use Rattle.dirac_decode.specs.declared.opened.Opened.{Opened}
-use Rattle.dirac_decode.specs.Content.{picture_read, rebuilt}
+use Rattle.dirac_decode.specs.Content.{rebuilt}
 
 -- the open sequence, the number of its first picture, its list of references, its waiting pictures,
 -- and the greatest length that a list had
@@ -80,11 +81,11 @@ abbrev pub made : Course → Opened → Result CodedPicture Refusal → Result M
 made course o (Ok coded) = Ok (shows course coded (rebuilt o.sequence coded))
 made course o (Err refusal) = Err (in_unit refusal)
 
--- a picture of the open sequence; any but an intra picture that isn't referred to isn't decoded yet
+-- a picture of the open sequence; an inter picture isn't decoded yet
 abbrev pub picture_moves : Course → Option Opened → ℕ → List ℕ → Result Moved Refusal
 picture_moves course None code payload = Err (record { at = 0; cause = NoSequence })
 picture_moves course (Some o) code payload =
-    if code == 0x08 then made course o (picture_read code o.sequence course.list payload) else Err (record { at = 4; cause = Unbuilt })
+    if is_intra code then made course o (picture_read code o.sequence course.list payload) else Err (record { at = 4; cause = Unbuilt })
 
 -- an end unit closes the sequence, and all that wait leave
 abbrev pub ended : Course → Moved

@@ -7,12 +7,12 @@ use Rattle.dirac_types.specs.declared.faults.Stop.TheVariants as stop
 use Rattle.dirac_types.specs.declared.picture.Picture.{Picture}
 use Rattle.dirac_sequence.specs.declared.sequence.Sequence.{Sequence}
 use Rattle.dirac_refs.specs.Delivery.{flushed, least, others as rest_of}
-use Rattle.dirac_decode.specs.declared.coded.CodedPicture.{CodedPicture}
+use Rattle.dirac_picture.specs.declared.coded.CodedPicture.{CodedPicture}
 use Rattle.dirac_decode.specs.declared.picture.Rebuilt.{Rebuilt}
 use Rattle.dirac_decode.specs.declared.state.Took.{Took}
 use Rattle.dirac_decode.specs.declared.state.Took.TheVariants as took
 use Rattle.dirac_decode.specs.Content.{rebuilt}
-use Rattle.dirac_decode.specs.Course.{Course, Moved}
+use Rattle.dirac_decode.specs.Course.{Course, Moved, as_reference}
 use Rattle.dirac_decode.specs.Decoding.{emptied}
 
 -- the answer is what the unit's content brings; after Ends the waiting pictures are left to the caller
@@ -54,6 +54,6 @@ pub record IsPopped (popped : Option Picture) (old new : Course) : Type 0 where
 
 -- a picture was read and rebuilt, or refused
 abbrev pub IsRebuilt : Result Rebuilt Stop → Result CodedPicture Refusal → Sequence → Type 0
-IsRebuilt (Ok r) read s = (read ≡ Ok r.coded) × (r.picture ≡ rebuilt s r.coded)
+IsRebuilt (Ok r) read s = (read ≡ Ok r.coded) × (r.picture ≡ rebuilt s r.coded) × (r.reference ≡ as_reference r.coded.code r.picture)
 IsRebuilt (Err (stop.Refused refusal)) read s = read ≡ Err refusal
 IsRebuilt (Err stop.NoMemory) read s = ⊤

@@ -5,7 +5,6 @@
 
 mod advance;
 mod answers;
-mod coded;
 mod decoder;
 mod opened;
 mod picture;
@@ -15,7 +14,8 @@ mod stream;
 mod written;
 
 pub use answers::{Decoded, Next, Tally};
-pub use coded::CodedPicture;
 pub use decoder::Decoder;
+pub use dirac_picture::{CodedPicture, CodedResidual, PlaneBands, read_picture};
 pub use opened::Opened;
+pub use picture::rebuild;
 pub use stream::decode_stream;

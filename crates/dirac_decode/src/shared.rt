@@ -5,6 +5,5 @@ fn is_shared<T: Send + Sync>() {}
 
 /// Each of these types may be shared by threads and sent to them.
 fn are_shared() {
-    is_shared::<crate::CodedPicture>();
     is_shared::<crate::Tally>();
 }

@@ -1,10 +1,9 @@
 ghost use Rattle.std.specs.Prelude.{◌≡◌, ℕ, ◌+◌, ◌<◌, ◌≤◌, ◌^◌, length, Ok, Option};
-ghost use Rattle.dirac_decode.specs.Course.{begun, header_moves, in_unit, is_same as same_header, first_or as first_of, moved, passed, picture_moves, shows};
+ghost use Rattle.dirac_decode.specs.Course.{as_reference, begun, header_moves, in_unit, is_same as same_header, first_or as first_of, moved, passed, picture_moves, shows};
 ghost use Rattle.dirac_decode.specs.Taking.{Fewer, IfRefused, IsPopped, IsTook};
 
-use crate::coded::CodedPicture;
 use crate::opened::Opened;
-use crate::picture::{Rebuilt, make_picture};
+use crate::picture::{Rebuilt, is_intra, make_picture};
 use dirac_refs::{Delivery, RefBuffer, key};
 use dirac_sequence::read_sequence;
 use dirac_types::{Cause, Picture, Refusal, Stop};
@@ -149,7 +148,7 @@ impl State {
                 cause: Cause::NoSequence,
             });
         };
-        if code != 0x08 {
+        if !is_intra(code) {
             return Took::Refused(Refusal {
                 at: 4,
                 cause: Cause::Unbuilt,
@@ -162,17 +161,21 @@ impl State {
         }
     }
 
-    /// A rebuilt picture, which none refers to, changes the list and joins those that wait.
+    /// A rebuilt picture changes the list and joins those that wait.
     fn show(&mut self, made: Rebuilt) -> Took
-        requires { made.coded.code ≡ 8 }
+        requires { made.reference ≡ as_reference made.coded.code made.picture }
         ensures took { IsTook result (Ok (shows self.old made.coded made.picture)) self.old self.new }
         ensures few { Fewer result (length self.old.waiting) (length self.new.waiting) }
         ensures accepted { IfRefused result (λ e. ⊥) }
     {
-        let Rebuilt { coded, picture } = made;
+        let Rebuilt {
+            coded,
+            picture,
+            reference,
+        } = made;
         let first = first_or(self.first, picture.number);
         self.first = Some(first);
-        self.refs.commit(coded.header.retire, None);
+        self.refs.commit(coded.header.retire, reference);
         self.most = self.most.max(self.refs.count());
         match self.waits.push(key(first, picture.number), picture) {
             None => Took::Nothing,

@@ -350,7 +350,7 @@ fn decodes_up_to_the_first_fault(rt: HostRuntime) -> Result<(), Fail> {
     for (place, byte, at, cause) in [
         (4, 0x02, 33, Cause::Wavelet),
         (4, 0xC0, 33, Cause::Depth),
-        (5, 0x20, 34, Cause::Unbuilt),
+        (5, 0x20, 34, Cause::NumberTooLong),
         (16, 0x00, 45, Cause::UnitShort),
     ] {
         let picture = changed(alloc, place, byte)?;
@@ -362,11 +362,81 @@ fn decodes_up_to_the_first_fault(rt: HostRuntime) -> Result<(), Fail> {
     decodes(&rt, alloc, &shorter, missing, 0, none)?;
     let two = stream(alloc, &[&GREY, &GREY[..16]])?;
     let second = faulty(2, 75, Cause::UnitShort);
-    decodes(&rt, alloc, &two, second, SAMPLES, one)?;
+    decodes(&rt, alloc, &two, second, SAMPLES, one)
+}
 
-    // pictures of other kinds aren't decoded yet
-    let reference = faulty(1, 23, Cause::Unbuilt);
-    decodes(&rt, alloc, &STREAM, reference, 0, none)
+// Decodes bytes in pieces, and compares the answer, what came out, and what was said beside it.
+fn shows<R: Abort + Threads + Sync>(
+    rt: &R,
+    alloc: Global,
+    bytes: &[u8],
+    answer: Ended,
+    raw: &[u8],
+    line: &str,
+) -> Result<(), Fail> {
+    for most in [1, 7, 4096] {
+        let mut words = Words::new(alloc);
+        words.push("decode")?;
+        let mut source = MemSource::new(Vec::from_slice(alloc, bytes)?, most, Vec::new(alloc));
+        let mut out = MemSink::new(alloc, most, Vec::new(alloc));
+        let mut side = MemSink::new(alloc, most, Vec::new(alloc));
+        let ended = run(
+            rt,
+            alloc,
+            &words,
+            &mut source,
+            &mut out,
+            &mut side,
+            &OpenGate,
+        );
+        assert_eq!(rt; ended, answer, "pieces of {most}");
+        assert_eq!(rt; out.taken(), raw, "pieces of {most}");
+        assert_eq!(rt; side.taken(), line.as_bytes(), "pieces of {most}");
+    }
+    Ok(())
+}
+
+// One intra picture of 2 by 2 samples, 4:4:4, by the Haar wavelet at depth 1: its LL band in luma has the value 1.
+const SMALL: [u8; 64] = [
+    0x42, 0x42, 0x43, 0x44, 0x00, 0x00, 0x00, 0x00, 0x12, 0x00, 0x00, 0x00, 0x00, 0x6F, 0xDB, 0xC5,
+    0xBC, 0x80, 0x42, 0x42, 0x43, 0x44, 0x0C, 0x00, 0x00, 0x00, 0x21, 0x00, 0x00, 0x00, 0x12, 0x00,
+    0x00, 0x00, 0x00, 0x80, 0x09, 0x00, 0x30, 0x2E, 0x80, 0x80, 0x80, 0x80, 0x80, 0x80, 0x80, 0x80,
+    0x80, 0x80, 0x80, 0x42, 0x42, 0x43, 0x44, 0x10, 0x00, 0x00, 0x00, 0x00, 0x00, 0x00, 0x00, 0x21,
+];
+
+#[test]
+fn decodes_intra_pictures(rt: HostRuntime) -> Result<(), Fail> {
+    let alloc = rt.alloc();
+    let none = "pictures=0 references=0\n";
+    let one = "pictures=1 references=1\n";
+    let grey = [0x80u8; 96];
+    let samples = [
+        0x81u8, 0x81, 0x81, 0x81, 0x80, 0x80, 0x80, 0x80, 0x80, 0x80, 0x80, 0x80,
+    ];
+    shows(&rt, alloc, &SMALL, Ended::Done, &samples, one)?;
+
+    // inter pictures aren't decoded yet; the picture before them is shown
+    let inter = faulty(2, 54, Cause::Unbuilt);
+    shows(&rt, alloc, &STREAM, inter, &grey, one)?;
+    let unended = faulty(2, 50, Cause::MissingEnd);
+    shows(&rt, alloc, &STREAM[..50], unended, &grey, one)?;
+    let cut = faulty(1, 49, Cause::Truncated);
+    shows(&rt, alloc, &STREAM[..49], cut, &[], none)?;
+
+    // blocks that begin with ones
+    let mut ones = Vec::from_slice(alloc, &SMALL)?;
+    if let Some(at) = ones.get_mut(39) {
+        *at = 0xFF;
+    }
+    let outside = faulty(1, 39, Cause::CodeWord);
+    shows(&rt, alloc, &ones, outside, &[], none)?;
+    let mut ones = Vec::from_slice(alloc, &STREAM[..38])?;
+    if let Some(at) = ones.get_mut(27) {
+        *at = 33;
+    }
+    ones.extend_from_slice(&[0x70, 0xFF, 0xFF])?;
+    ones.extend_from_slice(&[0x80; 11])?;
+    shows(&rt, alloc, &ones, outside, &[], none)
 }
 
 // Decodes a grey picture by reads of 10 bytes and writes of 4096, of which one fails.
