@@ -1,0 +1,164 @@
+-- The bits of transform parameters spell them.
+use Rattle.std.proofs.Common.{◌≡◌, ℕ, zero, suc, ◌+◌, ◌-◌, ◌/◌, ◌<◌, ◌≤◌, ◌^◌, ◌==◌, ◌||◌, if◌then◌else◌, Bool, true, false, List, [], ◌∷◌, ◌++◌, length, drop, Some, refl, sym, ap, ap₂, subst, ◌∙◌, arith, inl, inr, append_assoc, append-nil, length-append}
+use Rattle.std.specs.Prelude.{nat_lt, replicate, slice_get}
+use Rattle.std.specs.List.{AllByRecursion}
+use Rattle.std.proofs.lemmas.Bool.{cases_Bool, or_parts, ltb-false}
+use Rattle.std.proofs.lemmas.List.{drop_more, drop_all}
+use Rattle.std.proofs.lemmas.Option.{slice_get_within, get_or_from_slice_get}
+use Rattle.dirac_types.specs.declared.faults.Cause.TheVariants.{Wavelet, Depth, Codeblocks, CodeblockMode}
+use Rattle.dirac_types.specs.Numbers.{uint}
+use Rattle.dirac_bits.specs.Spelling.{Spells}
+use Rattle.dirac_bits.specs.Syntax.{Syntax, done, ◌>>=◌, field, between}
+use Rattle.dirac_bands.specs.Geometry.{padded_size}
+use Rattle.dirac_header.specs.declared.transform.Transform.{Transform}
+use Rattle.dirac_header.specs.Transform.{band_length, level_counts, counts_behind, partition, codeblocks, transform}
+use Rattle.dirac_header.specs.Written.{counts_bits, is_above_one, is_parted, partition_bits, codeblock_bits, transform_bits, IsTransform, FitFrom, TransformBehind}
+use Rattle.dirac_header.proofs.Sizes.{band_small}
+use Rattle.dirac_header.proofs.Spelled.{spells_then, spells_last, field_spelled, between_is}
+
+-- bands of a picture have no more columns or rows than a count can be
+band_fits : (size depth level : ℕ) → size < 2 ^ 32 → 1 ≤ depth → depth ≤ 5 → band_length size depth level < 2 ^ 32
+band_fits size depth level fits some few =
+    let padded = padded_size size depth in
+    let cases : Bool → ℕ = λ t. if t then padded / 2 ^ depth else padded / 2 ^ (depth - level + 1) in
+    elim (cases_Bool (level == 0)) [
+      | inl lowest ↦ subst (λ (t : Bool). cases t < 2 ^ 32) (sym lowest) (band_small depth size depth fits few some)
+      | inr above ↦ subst (λ (t : Bool). cases t < 2 ^ 32) (sym above) (band_small depth size (depth - level + 1) fits few (omega arith))
+    ]
+
+-- a picture size and a depth
+record IsSize (width height depth : ℕ) : Type 0 where
+  pub columns : width < 2 ^ 32
+  pub rows : height < 2 ^ 32
+  pub some : 1 ≤ depth
+  pub few : depth ≤ 5
+
+level_spelled : (width height depth level across down k : ℕ) → IsSize width height depth → (1 ≤ across) × (1 ≤ down) → across ≤ band_length width depth level → down ≤ band_length height depth level
+    → Spells (level_counts width height depth level) (across, down) k (uint across ++ uint down)
+unfolding level_counts
+level_spelled width height depth level across down k size some columns rows =
+    let first = band_fits width depth level size.columns size.some size.few in
+    let second = band_fits height depth level size.rows size.some size.few in
+    let pair : ℕ → ℕ → Syntax (ℕ × ℕ) = λ a b. done (a, b) in
+    let next : ℕ → Syntax (ℕ × ℕ) = λ a. field Codeblocks (between 1 (band_length height depth level)) >>= pair a in
+    let k1 = k + length (uint across) in
+    let rows_spelled = field_spelled Codeblocks (between 1 (band_length height depth level)) down k1 (omega arith) (between_is 1 (band_length height depth level) down some.1 rows) in
+    let last : Spells (next across) (across, down) k1 (uint down) =
+    spells_last (field Codeblocks (between 1 (band_length height depth level))) (pair across) down (across, down) k1 (uint down) rows_spelled (refl, refl) in
+    spells_then (field Codeblocks (between 1 (band_length width depth level))) next across (across, down) k (uint across) (uint down)
+    (field_spelled Codeblocks (between 1 (band_length width depth level)) across k (omega arith) (between_is 1 (band_length width depth level) across some.0 columns)) last
+
+counts_spelled : (width height depth : ℕ) (before counts : List (ℕ × ℕ)) (k : ℕ) → IsSize width height depth → AllByRecursion (λ c. (1 ≤ c.0) × (1 ≤ c.1)) counts
+    → FitFrom width height depth (length before) counts → Spells (counts_behind width height depth before (length counts)) (before ++ counts) k (counts_bits counts)
+unfolding counts_behind
+counts_spelled width height depth before [] k size some fit = (sym (append-nil before), refl)
+counts_spelled width height depth before (c ∷ counts) k size some fit =
+    let rest : ℕ × ℕ → Syntax (List (ℕ × ℕ)) = λ pair. counts_behind width height depth (before ++ pair ∷ []) (length counts) in
+    let first = uint c.0 ++ uint c.1 in
+    let k1 = k + length first in
+    let place : length before + 1 ≡ length (before ++ c ∷ []) = omega (arith, length-append before (c ∷ [])) in
+    let more = counts_spelled width height depth (before ++ c ∷ []) counts k1 size some.1 (subst (λ (level : ℕ). FitFrom width height depth level counts) place fit.2) in
+    let same : (before ++ c ∷ []) ++ counts ≡ before ++ c ∷ counts = append_assoc before (c ∷ []) counts in
+    spells_then (level_counts width height depth (length before)) rest c (before ++ c ∷ counts) k first (counts_bits counts)
+    (level_spelled width height depth (length before) c.0 c.1 k size some.0 fit.0 fit.1)
+    (subst (λ (xs : List (ℕ × ℕ)). Spells (rest c) xs k1 (counts_bits counts)) same more)
+
+partition_spelled : (width height depth : ℕ) (counts : List (ℕ × ℕ)) (k : ℕ) → IsSize width height depth → length counts ≡ depth + 1 → AllByRecursion (λ c. (1 ≤ c.0) × (1 ≤ c.1)) counts
+    → FitFrom width height depth 0 counts → Spells (partition width height depth) counts k (counts_bits counts ++ uint 0)
+unfolding partition
+partition_spelled width height depth counts k size levels some fit =
+    let mode : List (ℕ × ℕ) → Syntax (List (ℕ × ℕ)) = λ all. field CodeblockMode (between 0 0) >>= λ n. done all in
+    let k1 = k + length (counts_bits counts) in
+    let all = counts_spelled width height depth [] counts k size some fit in
+    let last : Spells (mode counts) counts k1 (uint 0) = (0, [], omega arith, sym (append-nil (uint 0)), (refl, refl)) in
+    spells_then (counts_behind width height depth [] (depth + 1)) mode counts counts k (counts_bits counts) (uint 0)
+    (subst (λ (n : ℕ). Spells (counts_behind width height depth [] n) counts k (counts_bits counts)) levels all) last
+
+-- where no count is above 1, all are 1
+all_ones : (counts : List (ℕ × ℕ)) (n : ℕ) → length counts ≡ n → AllByRecursion (λ c. (1 ≤ c.0) × (1 ≤ c.1)) counts → is_parted counts ≡ false → counts ≡ replicate n (1, 1)
+all_ones [] zero levels some one = refl
+all_ones [] (suc n) levels some one = absurd (omega arith)
+all_ones (c ∷ counts) zero levels some one = absurd (omega arith)
+all_ones (c ∷ counts) (suc n) levels some one =
+    let parts = or_parts (nat_lt 1 c.0 || nat_lt 1 c.1) (is_parted counts) one in
+    let two = or_parts (nat_lt 1 c.0) (nat_lt 1 c.1) parts.0 in
+    let across_few : c.0 ≤ 1 = ltb-false 1 c.0 two.0 in
+    let down_few : c.1 ≤ 1 = ltb-false 1 c.1 two.1 in
+    let both = some.0 in
+    let across : c.0 ≡ 1 = omega (arith, both.0) in
+    let down : c.1 ≡ 1 = omega (arith, both.1) in
+    let pair : ℕ → ℕ → ℕ × ℕ = λ a b. (a, b) in
+    let here : c ≡ (1, 1) = ap₂ pair across down in
+    let others = all_ones counts n (omega arith) some.1 parts.1 in
+    ap₂ (λ (x : ℕ × ℕ) (xs : List (ℕ × ℕ)). x ∷ xs) here others
+
+codeblocks_spelled : (width height depth : ℕ) (counts : List (ℕ × ℕ)) (k : ℕ) → IsSize width height depth → length counts ≡ depth + 1 → AllByRecursion (λ c. (1 ≤ c.0) × (1 ≤ c.1)) counts
+    → FitFrom width height depth 0 counts → Spells (codeblocks width height depth) counts k (codeblock_bits counts)
+unfolding codeblocks
+codeblocks_spelled width height depth counts k size levels some fit =
+    let bits : Bool → List Bool = λ t. (t ∷ []) ++ partition_bits t counts in
+    elim (cases_Bool (is_parted counts)) [
+      | inl parted ↦
+          subst (λ (t : Bool). Spells (codeblocks width height depth) counts k (bits t)) (sym parted)
+          (true, counts_bits counts ++ uint 0, refl, partition_spelled width height depth counts (k + 1) size levels some fit)
+      | inr one ↦
+          subst (λ (t : Bool). Spells (codeblocks width height depth) counts k (bits t)) (sym one) (false, [], refl, (sym (all_ones counts (depth + 1) levels some one), refl))
+    ]
+
+fields_spelled : (width height : ℕ) (t : Transform) (k : ℕ) → IsTransform t → width < 2 ^ 32 → height < 2 ^ 32 → FitFrom width height t.depth 0 t.counts → Spells (transform width height) t k (transform_bits t)
+unfolding transform
+fields_spelled width height t k is columns rows fit =
+    let size : IsSize width height t.depth = record { columns = columns; rows = rows; some = is.some; few = is.few } in
+    let make : ℕ → ℕ → List (ℕ × ℕ) → Syntax Transform = λ wavelet depth counts. done (record { wavelet = wavelet; depth = depth; counts = counts }) in
+    let second : ℕ → ℕ → Syntax Transform = λ wavelet depth. codeblocks width height depth >>= make wavelet depth in
+    let first : ℕ → Syntax Transform = λ wavelet. field Depth (between 1 5) >>= second wavelet in
+    let k1 = k + length (uint t.wavelet) in
+    let k2 = k1 + length (uint t.depth) in
+    let all = codeblocks_spelled width height t.depth t.counts k2 size is.levels is.counts fit in
+    let last : Spells (second t.wavelet t.depth) t k2 (codeblock_bits t.counts) =
+    spells_last (codeblocks width height t.depth) (make t.wavelet t.depth) t.counts t k2 (codeblock_bits t.counts) all (refl, refl) in
+    let depth = field_spelled Depth (between 1 5) t.depth k1 (omega (arith, is.few)) (between_is 1 5 t.depth is.some is.few) in
+    let two : Spells (first t.wavelet) t k1 (uint t.depth ++ codeblock_bits t.counts) =
+    spells_then (field Depth (between 1 5)) (second t.wavelet) t.depth t k1 (uint t.depth) (codeblock_bits t.counts) depth last in
+    let wavelet = field_spelled Wavelet (between 0 6) t.wavelet k (omega (arith, is.wavelet)) (between_is 0 6 t.wavelet (omega arith) is.wavelet) in
+    let all_bits = spells_then (field Wavelet (between 0 6)) first t.wavelet t k (uint t.wavelet) (uint t.depth ++ codeblock_bits t.counts) wavelet two in
+    let parts : uint t.wavelet ++ (uint t.depth ++ codeblock_bits t.counts) ≡ transform_bits t = sym (append_assoc (uint t.wavelet) (uint t.depth) (codeblock_bits t.counts)) in
+    subst (λ (l : List Bool). Spells (transform width height) t k l) parts all_bits
+
+-- the bits behind others, spelled
+pub transform_spelled : (before after : List Bool) (t : Transform) → IsTransform t → after ≡ before ++ transform_bits t → TransformBehind t before after
+transform_spelled before after t is e width height columns rows fit =
+    record { bits = transform_bits t; is = e; spells = fields_spelled width height t (length before) is columns rows fit }
+
+-- ---- the loops over levels
+
+-- the levels from one on
+level_next : (counts : List (ℕ × ℕ)) (level : ℕ) (c : ℕ × ℕ) → slice_get counts level ≡ Some c → drop level counts ≡ c ∷ drop (level + 1) counts
+level_next counts level c e =
+    drop_more counts level c (slice_get_within counts level c e) ∙ ap (λ x. x ∷ drop (level + 1) counts) (get_or_from_slice_get counts level c c e)
+
+-- one more level written
+pub level_written : (old mid new all : List Bool) (counts : List (ℕ × ℕ)) (level : ℕ) (c : ℕ × ℕ) → old ++ counts_bits (drop level counts) ≡ all
+    → slice_get counts level ≡ Some c → mid ≡ old ++ uint c.0 → new ≡ mid ++ uint c.1 → new ++ counts_bits (drop (level + 1) counts) ≡ all
+level_written old mid new all counts level c so_far is first second =
+    let a = uint c.0 in
+    let b = uint c.1 in
+    let rest = counts_bits (drop (level + 1) counts) in
+    let grown : new ≡ (old ++ a) ++ b = second ∙ ap (λ l. l ++ b) first in
+    let parts : ((old ++ a) ++ b) ++ rest ≡ old ++ ((a ++ b) ++ rest) = simp append_assoc in
+    ap (λ l. l ++ rest) grown ∙ parts ∙ ap (λ xs. old ++ counts_bits xs) (sym (level_next counts level c is)) ∙ so_far
+
+-- whether a count of this level or of a later one is above 1
+parted_from : (counts : List (ℕ × ℕ)) (level : ℕ) (c : ℕ × ℕ) → slice_get counts level ≡ Some c → is_parted (drop level counts) ≡ (is_above_one c.0 c.1 || is_parted (drop (level + 1) counts))
+parted_from counts level c is = ap is_parted (level_next counts level c is)
+
+pub parted_later : (counts : List (ℕ × ℕ)) (level across down : ℕ) → slice_get counts level ≡ Some (across, down) → is_above_one across down ≡ false
+    → is_parted (drop (level + 1) counts) ≡ is_parted (drop level counts)
+parted_later counts level across down is not_here = sym (parted_from counts level (across, down) is ∙ ap (λ (t : Bool). t || is_parted (drop (level + 1) counts)) not_here)
+
+pub parted_here : (counts : List (ℕ × ℕ)) (level across down : ℕ) → slice_get counts level ≡ Some (across, down) → is_above_one across down ≡ true
+    → is_parted (drop level counts) ≡ true
+parted_here counts level across down is here = parted_from counts level (across, down) is ∙ ap (λ (t : Bool). t || is_parted (drop (level + 1) counts)) here
+
+pub none_parted : (counts : List (ℕ × ℕ)) (n : ℕ) → n ≡ length counts → is_parted (drop n counts) ≡ false
+none_parted counts n is = ap is_parted (drop_all n counts (omega arith))
