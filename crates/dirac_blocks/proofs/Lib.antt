@@ -1,3 +1,6 @@
 mod Examples
+mod InContexts
+mod Appended
+mod Narrowing
 mod Putting
 mod Units

@@ -1,3 +1,5 @@
 pub mod Decisions
+pub mod Parts
 pub mod Puts
 pub mod Tables
+pub mod Written

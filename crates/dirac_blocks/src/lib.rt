@@ -2,11 +2,19 @@
 #![tactic(auto)]
 
 mod block;
+mod list_writer;
 mod lists;
+mod neighbours;
+mod parts;
 mod shared;
+mod split_writer;
 mod superblock;
 mod table;
+mod unit_loops;
+mod unit_writer;
+mod writer;
 
 pub use block::Block;
 pub use lists::{Blocks, Splits};
 pub use table::BlockData;
+pub use writer::write_blocks;

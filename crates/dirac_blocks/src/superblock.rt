@@ -6,10 +6,11 @@ use crate::block::Block;
 use crate::lists::Blocks;
 
 /// How many blocks a unit has across and down.
-fn unit_blocks(split: u8) -> usize
+pub fn unit_blocks(split: u8) -> usize
     requires { split ≤ 2 }
     ensures value { result ≡ unit_size split }
     ensures some { 1 ≤ result }
+    ensures few { result ≤ 4 }
 {
     match split {
         0 => 4,
@@ -19,7 +20,7 @@ fn unit_blocks(split: u8) -> usize
 }
 
 /// How many units a superblock has across and down.
-fn units_across(split: u8) -> usize
+pub fn units_across(split: u8) -> usize
     requires { split ≤ 2 }
     ensures value { result ≡ 2 ^ split }
     ensures few { result ≤ 4 }

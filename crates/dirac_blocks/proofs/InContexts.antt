@@ -1,0 +1,102 @@
+-- All decisions of a table's lists are in contexts that there are.
+use Rattle.std.proofs.Common.{◌≡◌, ◌-ℤ◌, ℕ, zero, suc, ℤ, pos, negsuc, ◌+◌, ◌*◌, ◌<◌, ◌==◌, min, Bool, true, false, List, [], ◌∷◌, ◌++◌, length, slice_index, Option, Some, None, if◌then◌else◌, sym, subst, arith, lit<}
+use Rattle.dirac_types.specs.Numbers.{digits_of}
+use Rattle.dirac_arith.specs.Interval.{Decision, InContexts}
+use Rattle.dirac_arith.specs.Spelling.{follow_at, opening, spelling, signed_spelling}
+use Rattle.dirac_blocks.specs.declared.parts.Part.{Part}
+use Rattle.dirac_blocks.specs.declared.parts.Part.TheVariants as part
+use Rattle.dirac_blocks.specs.Tables.{BlockTable}
+use Rattle.dirac_blocks.specs.Decisions.{Numbers, UnitPart, less_prediction, split_row, split_rows, unit_row, unit_rows, superblock_part, superblock_row, superblock_rows}
+use Rattle.dirac_blocks.specs.Parts.{part_at}
+
+in_append : (ds es : List Decision) → InContexts ds → InContexts es → InContexts (ds ++ es)
+in_append [] es p q = q
+in_append (d ∷ ds) es p q = (p.0, in_append ds es p.1 q)
+
+-- follow contexts that there are
+record AreBelow (follow : List ℕ) : Type 0 where
+  each : (i : ℕ) → follow_at follow i < 38
+
+in_opening : (follow : List ℕ) (bits i : ℕ) (digits : List Bool) → AreBelow follow → bits < 38 → InContexts (opening follow bits i digits)
+in_opening follow bits i [] f h = tt
+in_opening follow bits i (b ∷ bs) f h = (f.each i, (h, in_opening follow bits (i + 1) bs f h))
+
+in_spelling : (follow : List ℕ) (bits n : ℕ) → AreBelow follow → bits < 38 → InContexts (spelling follow bits n)
+unfolding spelling
+in_spelling follow bits n f h =
+    let last : Decision = (follow_at follow (length (digits_of n)), true) in
+    in_append (opening follow bits 0 (digits_of n)) (last ∷ []) (in_opening follow bits 0 (digits_of n) f h) (f.each (length (digits_of n)), tt)
+
+in_signed : (follow : List ℕ) (bits sign : ℕ) (v : ℤ) → AreBelow follow → bits < 38 → sign < 38 → InContexts (signed_spelling follow bits sign v)
+unfolding signed_spelling
+in_signed follow bits sign (pos zero) f h s = in_spelling follow bits 0 f h
+in_signed follow bits sign (pos (suc n)) f h s = let d : Decision = (sign, false) in in_append (spelling follow bits (suc n)) (d ∷ []) (in_spelling follow bits (suc n) f h) (s, tt)
+in_signed follow bits sign (negsuc n) f h s = let d : Decision = (sign, true) in in_append (spelling follow bits (suc n)) (d ∷ []) (in_spelling follow bits (suc n) f h) (s, tt)
+
+two_below : (a b i : ℕ) → a < 38 → b < 38 → follow_at (a ∷ b ∷ []) i < 38
+two_below a b zero p q = p
+two_below a b (suc i) p q =
+    let last : min (suc i) 1 ≡ 1 = omega arith in
+    subst (λ k. slice_index (a ∷ b ∷ []) k < 38) (sym last) q
+
+vector_below : (i : ℕ) → follow_at (27 ∷ 28 ∷ 29 ∷ 30 ∷ 31 ∷ []) i < 38
+vector_below zero = lit< tt
+vector_below (suc zero) = lit< tt
+vector_below (suc (suc zero)) = lit< tt
+vector_below (suc (suc (suc zero))) = lit< tt
+vector_below (suc (suc (suc (suc i)))) =
+    let last : min (suc (suc (suc (suc i)))) 4 ≡ 4 = omega arith in
+    subst (λ k. slice_index (27 ∷ 28 ∷ 29 ∷ 30 ∷ 31 ∷ []) k < 38) (sym last) (lit< tt)
+
+in_less : (follow : List ℕ) (bits sign : ℕ) (p : ℤ) (v : Option ℤ) → AreBelow follow → bits < 38 → sign < 38 → InContexts (less_prediction follow bits sign p v)
+in_less follow bits sign p None f h s = tt
+in_less follow bits sign p (Some v) f h s = in_signed follow bits sign (v -ℤ p) f h s
+
+-- a decision that is there or isn't
+in_either : (b : Bool) (d : Decision) → d.0 < 38 → InContexts (if b then d ∷ [] else [])
+in_either true d h = (h, tt)
+in_either false d h = tt
+
+in_part : (p : Part) (t : BlockTable) (i j : ℕ) → InContexts (part_at p t i j)
+in_part part.Modes t i j = (lit< tt, in_either (t.refs == 2) _ (lit< tt))
+in_part (part.Across r) t i j = in_less (27 ∷ 28 ∷ 29 ∷ 30 ∷ 31 ∷ []) 32 33 _ _ (record { each = vector_below }) (lit< tt) (lit< tt)
+in_part (part.Down r) t i j = in_less (27 ∷ 28 ∷ 29 ∷ 30 ∷ 31 ∷ []) 32 33 _ _ (record { each = vector_below }) (lit< tt) (lit< tt)
+in_part (part.Dc c) t i j = in_less (34 ∷ 35 ∷ []) 36 37 _ _ (record { each = λ n. two_below 34 35 n (lit< tt) (lit< tt) }) (lit< tt) (lit< tt)
+
+in_unit_row : (p : UnitPart) (size i j n : ℕ) → ((i j : ℕ) → InContexts (p i j)) → InContexts (unit_row p size i j n)
+unfolding unit_row
+in_unit_row p size i j zero h = tt
+in_unit_row p size i j (suc n) h = in_append (unit_row p size i j n) (p (i + n * size) j) (in_unit_row p size i j n h) (h (i + n * size) j)
+
+in_unit_rows : (p : UnitPart) (size across i j n : ℕ) → ((i j : ℕ) → InContexts (p i j)) → InContexts (unit_rows p size across i j n)
+unfolding unit_rows
+in_unit_rows p size across i j zero h = tt
+in_unit_rows p size across i j (suc n) h =
+    in_append (unit_rows p size across i j n) (unit_row p size i (j + n * size) across) (in_unit_rows p size across i j n h) (in_unit_row p size i (j + n * size) across h)
+
+in_superblock_row : (p : UnitPart) (t : BlockTable) (sy n : ℕ) → ((i j : ℕ) → InContexts (p i j)) → InContexts (superblock_row p t sy n)
+unfolding superblock_row
+in_superblock_row p t sy zero h = tt
+in_superblock_row p t sy (suc n) h =
+    in_append (superblock_row p t sy n) (superblock_part p t n sy) (in_superblock_row p t sy n h) (in_unit_rows p _ _ _ _ _ h)
+
+pub in_superblock_rows : (p : UnitPart) (t : BlockTable) (n : ℕ) → ((i j : ℕ) → InContexts (p i j)) → InContexts (superblock_rows p t n)
+unfolding superblock_rows
+in_superblock_rows p t zero h = tt
+in_superblock_rows p t (suc n) h =
+    in_append (superblock_rows p t n) (superblock_row p t n t.across) (in_superblock_rows p t n h) (in_superblock_row p t n t.across h)
+
+pub in_parts : (p : Part) (t : BlockTable) (n : ℕ) → InContexts (superblock_rows (part_at p t) t n)
+in_parts p t n = in_superblock_rows (part_at p t) t n (in_part p t)
+
+in_split_row : (numbers : Numbers) (sy n : ℕ) → InContexts (split_row numbers sy n)
+unfolding split_row
+in_split_row numbers sy zero = tt
+in_split_row numbers sy (suc n) =
+    in_append (split_row numbers sy n) (spelling (22 ∷ 23 ∷ []) 24 (numbers sy n)) (in_split_row numbers sy n)
+    (in_spelling (22 ∷ 23 ∷ []) 24 (numbers sy n) (record { each = λ i. two_below 22 23 i (lit< tt) (lit< tt) }) (lit< tt))
+
+pub in_split_rows : (across : ℕ) (numbers : Numbers) (n : ℕ) → InContexts (split_rows across numbers n)
+unfolding split_rows
+in_split_rows across numbers zero = tt
+in_split_rows across numbers (suc n) = in_append (split_rows across numbers n) (split_row numbers n across) (in_split_rows across numbers n) (in_split_row numbers n across)

@@ -1,0 +1,34 @@
+ghost use Rattle.std.specs.Prelude.{◌≡◌, IfOk};
+ghost use Rattle.dirac_arith.specs.Written.{flush};
+ghost use Rattle.dirac_blocks.specs.Decisions.{least_numbers, split_rows, unit_decisions};
+ghost use Rattle.dirac_blocks.specs.Parts.{part_at};
+
+use crate::parts::Part;
+use crate::split_writer::write_split_rows;
+use crate::table::BlockData;
+use crate::unit_loops::write_superblock_rows;
+use dirac_arith::Encoder;
+use dirac_types::NoMemory;
+use std::alloc::Global;
+
+/// The arithmetic block of the split numbers.
+pub fn split_block(alloc: Global, table: &BlockData) -> Result<Vec<u8>, NoMemory>
+    ensures { IfOk result (λ block. block.items ≡ flush (split_rows table.now.across (least_numbers table.now) table.now.down)) }
+{
+    let mut encoder = Encoder::new(alloc);
+    let across = table.across();
+    let down = table.down();
+    write_split_rows(&mut encoder, table, across, down)?;
+    encoder.finish()
+}
+
+/// The arithmetic block of what a list tells of each unit.
+pub fn part_block(alloc: Global, table: &BlockData, part: Part) -> Result<Vec<u8>, NoMemory>
+    ensures { IfOk result (λ block. block.items ≡ flush (unit_decisions table.now (part_at part table.now))) }
+{
+    let mut encoder = Encoder::new(alloc);
+    let across = table.across();
+    let down = table.down();
+    write_superblock_rows(&mut encoder, table, part, across, down)?;
+    encoder.finish()
+}

@@ -1,0 +1,64 @@
+ghost use Rattle.std.specs.Prelude.{◌≡◌, ◌<◌, ◌≤◌, [], ◌∷◌, OnOk};
+ghost use Rattle.dirac_arith.specs.Interval.{narrowed_by};
+ghost use Rattle.dirac_arith.specs.Spelling.{spelling};
+ghost use Rattle.dirac_blocks.specs.Decisions.{least_numbers, split_row, split_rows};
+
+use crate::neighbours::predict_split_at;
+use crate::table::BlockData;
+use dirac_arith::Encoder;
+use dirac_types::NoMemory;
+
+/// The contexts of follow decisions of a split number.
+const SPLIT_FOLLOW: [u8; 2] = [22, 23];
+
+/// Writes the number of superblock `sx` of row `sy`: its split less its prediction, modulo 3.
+fn write_split(encoder: &mut Encoder, table: &BlockData, sx: u32, sy: u32) -> Result<(), NoMemory>
+    requires column { sx < table.now.across }
+    requires row { sy < table.now.down }
+    ensures { OnOk result (encoder.new ≡ narrowed_by encoder.old (spelling (22 ∷ 23 ∷ []) 24 (least_numbers table.now sy sx))) }
+{
+    let split = table.split(sx, sy);
+    let prediction = predict_split_at(table, sx, sy);
+    let number = (split + 3 - prediction) % 3;
+    encoder.number(&SPLIT_FOLLOW, 24, u64::from(number))
+}
+
+/// Writes the numbers of the first `count` superblocks of row `sy`.
+fn write_split_row(
+    encoder: &mut Encoder,
+    table: &BlockData,
+    sy: u32,
+    count: u32,
+) -> Result<(), NoMemory>
+    requires column { count ≤ table.now.across }
+    requires row { sy < table.now.down }
+    ensures { OnOk result (encoder.new ≡ narrowed_by encoder.old (split_row (least_numbers table.now) sy count)) }
+{
+    'superblocks: for n in 0..count {
+        match write_split(encoder, table, n, sy) {
+            Ok(()) => {}
+            Err(e) => return Err(e),
+        }
+    }
+    Ok(())
+}
+
+/// Writes the numbers of the first `count` rows of superblocks, `across` in each: all that there are in a row.
+pub fn write_split_rows(
+    encoder: &mut Encoder,
+    table: &BlockData,
+    across: u32,
+    count: u32,
+) -> Result<(), NoMemory>
+    requires column { across ≡ table.now.across }
+    requires row { count ≤ table.now.down }
+    ensures { OnOk result (encoder.new ≡ narrowed_by encoder.old (split_rows table.now.across (least_numbers table.now) count)) }
+{
+    'rows: for n in 0..count {
+        match write_split_row(encoder, table, n, across) {
+            Ok(()) => {}
+            Err(e) => return Err(e),
+        }
+    }
+    Ok(())
+}

@@ -1,0 +1,184 @@
+ghost use Rattle.std.specs.Prelude.{◌≡◌, ◌-ℤ◌, ◌*◌, ◌<◌, length, option_map, OnOk};
+ghost use Rattle.std.specs.Option.{ForSome};
+ghost use Rattle.dirac_arith.specs.Interval.{narrowed_by};
+ghost use Rattle.dirac_arith.specs.Spelling.{AreContexts, signed_spelling};
+ghost use Rattle.dirac_vectors.specs.Neighbours.{IsShort};
+ghost use Rattle.dirac_vectors.specs.Predictions.{IsShortVector};
+ghost use Rattle.dirac_blocks.specs.Decisions.{differ, less_prediction, mode_part};
+ghost use Rattle.dirac_blocks.specs.Parts.{part_at};
+
+use crate::neighbours::{dc, predicted_dc, predicted_use_bit, predicted_vector, vector};
+use crate::parts::{Component, Part, Reference};
+use crate::table::BlockData;
+use dirac_arith::Encoder;
+use dirac_types::{NoMemory, Vector};
+
+/// The contexts of follow decisions of a vector's component.
+const VECTOR_FOLLOW: [u8; 5] = [27, 28, 29, 30, 31];
+
+/// The contexts of follow decisions of a DC value.
+const DC_FOLLOW: [u8; 2] = [34, 35];
+
+/// Whether two bits differ.
+fn differs(a: bool, b: bool) -> bool
+    ensures { result ≡ differ a b }
+{
+    match a {
+        true => !b,
+        false => b,
+    }
+}
+
+/// The horizontal component of a vector.
+fn x_of(v: Option<Vector>) -> Option<i32>
+    requires { ForSome v IsShortVector }
+    ensures value { result ≡ option_map (λ v. v.x) v }
+    ensures short { ForSome result IsShort }
+{
+    match v {
+        Some(v) => Some(v.x),
+        None => None,
+    }
+}
+
+/// The vertical component of a vector.
+fn y_of(v: Option<Vector>) -> Option<i32>
+    requires { ForSome v IsShortVector }
+    ensures value { result ≡ option_map (λ v. v.y) v }
+    ensures short { ForSome result IsShort }
+{
+    match v {
+        Some(v) => Some(v.y),
+        None => None,
+    }
+}
+
+/// Writes a value less its prediction.
+fn write_less(
+    encoder: &mut Encoder,
+    follow: &[u8],
+    bits: u8,
+    sign: u8,
+    prediction: i32,
+    value: i32,
+) -> Result<(), NoMemory>
+    requires some { 0 < length follow.now }
+    requires follow { AreContexts follow.now }
+    requires bits { bits < 38 }
+    requires sign { sign < 38 }
+    requires prediction { IsShort prediction }
+    requires value { IsShort value }
+    ensures { OnOk result (encoder.new ≡ narrowed_by encoder.old (signed_spelling follow.now bits sign (value -ℤ prediction))) }
+{
+    encoder.signed(follow, bits, sign, i64::from(value) - i64::from(prediction))
+}
+
+/// Writes a value, where there is one, less its prediction.
+fn write_difference(
+    encoder: &mut Encoder,
+    follow: &[u8],
+    bits: u8,
+    sign: u8,
+    prediction: i32,
+    value: Option<i32>,
+) -> Result<(), NoMemory>
+    requires some { 0 < length follow.now }
+    requires follow { AreContexts follow.now }
+    requires bits { bits < 38 }
+    requires sign { sign < 38 }
+    requires prediction { IsShort prediction }
+    requires value { ForSome value IsShort }
+    ensures { OnOk result (encoder.new ≡ narrowed_by encoder.old (less_prediction follow.now bits sign prediction value)) }
+{
+    match value {
+        None => Ok(()),
+        Some(v) => write_less(encoder, follow, bits, sign, prediction, v),
+    }
+}
+
+/// Writes which references a unit uses, by its first block.
+fn write_modes(encoder: &mut Encoder, table: &BlockData, i: u32, j: u32) -> Result<(), NoMemory>
+    requires column { i < 4 * table.now.across }
+    requires row { j < 4 * table.now.down }
+    ensures { OnOk result (encoder.new ≡ narrowed_by encoder.old (mode_part table.now i j)) }
+{
+    let block = table.at(i, j);
+    let first = predicted_use_bit(table, Reference::First, i, j);
+    encoder.decision(25, differs(block.ref1, first))?;
+    if table.refs() == 2 {
+        let second = predicted_use_bit(table, Reference::Second, i, j);
+        encoder.decision(26, differs(block.ref2, second))?;
+    }
+    Ok(())
+}
+
+/// Writes the horizontal component of a unit's vector, by its first block.
+fn write_across(
+    encoder: &mut Encoder,
+    table: &BlockData,
+    reference: Reference,
+    i: u32,
+    j: u32,
+) -> Result<(), NoMemory>
+    requires column { i < 4 * table.now.across }
+    requires row { j < 4 * table.now.down }
+    ensures { OnOk result (encoder.new ≡ narrowed_by encoder.old (part_at (Part.Across reference) table.now i j)) }
+{
+    let prediction = predicted_vector(table, reference, i, j);
+    let value = x_of(vector(table, reference, i, j));
+    write_difference(encoder, &VECTOR_FOLLOW, 32, 33, prediction.x, value)
+}
+
+/// Writes the vertical component of a unit's vector, by its first block.
+fn write_down(
+    encoder: &mut Encoder,
+    table: &BlockData,
+    reference: Reference,
+    i: u32,
+    j: u32,
+) -> Result<(), NoMemory>
+    requires column { i < 4 * table.now.across }
+    requires row { j < 4 * table.now.down }
+    ensures { OnOk result (encoder.new ≡ narrowed_by encoder.old (part_at (Part.Down reference) table.now i j)) }
+{
+    let prediction = predicted_vector(table, reference, i, j);
+    let value = y_of(vector(table, reference, i, j));
+    write_difference(encoder, &VECTOR_FOLLOW, 32, 33, prediction.y, value)
+}
+
+/// Writes a DC value of a unit, by its first block.
+fn write_dc(
+    encoder: &mut Encoder,
+    table: &BlockData,
+    component: Component,
+    i: u32,
+    j: u32,
+) -> Result<(), NoMemory>
+    requires column { i < 4 * table.now.across }
+    requires row { j < 4 * table.now.down }
+    ensures { OnOk result (encoder.new ≡ narrowed_by encoder.old (part_at (Part.Dc component) table.now i j)) }
+{
+    let prediction = predicted_dc(table, component, i, j);
+    let value = dc(table, component, i, j);
+    write_difference(encoder, &DC_FOLLOW, 36, 37, prediction, value)
+}
+
+/// Writes what this list tells of a unit, by its first block.
+pub fn write_unit(
+    encoder: &mut Encoder,
+    table: &BlockData,
+    part: Part,
+    i: u32,
+    j: u32,
+) -> Result<(), NoMemory>
+    requires column { i < 4 * table.now.across }
+    requires row { j < 4 * table.now.down }
+    ensures { OnOk result (encoder.new ≡ narrowed_by encoder.old (part_at part table.now i j)) }
+{
+    match part {
+        Part::Modes => write_modes(encoder, table, i, j),
+        Part::Across(reference) => write_across(encoder, table, reference, i, j),
+        Part::Down(reference) => write_down(encoder, table, reference, i, j),
+        Part::Dc(component) => write_dc(encoder, table, component, i, j),
+    }
+}

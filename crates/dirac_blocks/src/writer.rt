@@ -1,0 +1,96 @@
+ghost use Rattle.std.specs.Prelude.{◌≡◌, [], ◌∷◌, OnOk};
+ghost use Rattle.dirac_arith.specs.Written.{flush};
+ghost use Rattle.dirac_bits.specs.Writing.{IsWhole};
+ghost use Rattle.dirac_blocks.specs.Decisions.{block_decisions, least_numbers, second_lists, split_rows, unit_decisions};
+ghost use Rattle.dirac_blocks.specs.Parts.{part_at};
+ghost use Rattle.dirac_blocks.specs.Written.{with_block, with_lists};
+
+use crate::list_writer::{part_block, split_block};
+use crate::parts::{Component, Part, Reference};
+use crate::table::BlockData;
+use dirac_bits::BitWriter;
+use dirac_types::NoMemory;
+use std::alloc::Global;
+
+/// No block is as long as this in bytes: its length couldn't be spelt.
+const BLOCK_LIMIT: u64 = (1 << 39) - 1;
+
+/// Writes a block behind its length.
+fn write_block(w: &mut BitWriter, block: &[u8]) -> Result<(), NoMemory>
+    ensures { OnOk result (w.new ≡ with_block block.now w.old) }
+{
+    let len = block.len() as u64;
+    if len >= BLOCK_LIMIT {
+        return Err(NoMemory);
+    }
+    w.uint(len)?;
+    w.align()?;
+    w.block(block)
+}
+
+/// Writes the block of the split numbers.
+fn write_splits(alloc: Global, w: &mut BitWriter, table: &BlockData) -> Result<(), NoMemory>
+    ensures { OnOk result (w.new ≡ with_block (flush (split_rows table.now.across (least_numbers table.now) table.now.down)) w.old) }
+{
+    let block = split_block(alloc, table)?;
+    write_block(w, block.as_slice())
+}
+
+/// Writes the block of what a list tells of each unit.
+fn write_part(
+    alloc: Global,
+    w: &mut BitWriter,
+    table: &BlockData,
+    part: Part,
+) -> Result<(), NoMemory>
+    ensures { OnOk result (w.new ≡ with_block (flush (unit_decisions table.now (part_at part table.now))) w.old) }
+{
+    let block = part_block(alloc, table, part)?;
+    write_block(w, block.as_slice())
+}
+
+/// Writes the blocks of both components of the vectors of a reference.
+fn write_vectors(
+    alloc: Global,
+    w: &mut BitWriter,
+    table: &BlockData,
+    reference: Reference,
+) -> Result<(), NoMemory>
+    ensures { OnOk result (w.new ≡ with_lists (unit_decisions table.now (part_at (Part.Across reference) table.now) ∷ unit_decisions table.now (part_at (Part.Down reference) table.now) ∷ []) w.old) }
+{
+    write_part(alloc, w, table, Part::Across(reference))?;
+    write_part(alloc, w, table, Part::Down(reference))
+}
+
+/// Writes the blocks of the second reference, where there is one.
+fn write_second(alloc: Global, w: &mut BitWriter, table: &BlockData) -> Result<(), NoMemory>
+    ensures { OnOk result (w.new ≡ with_lists (second_lists table.now) w.old) }
+{
+    if table.refs() == 2 {
+        return write_vectors(alloc, w, table, Reference::Second);
+    }
+    Ok(())
+}
+
+/// Writes the blocks of the DC values.
+fn write_dcs(alloc: Global, w: &mut BitWriter, table: &BlockData) -> Result<(), NoMemory>
+    ensures { OnOk result (w.new ≡ with_lists (unit_decisions table.now (part_at (Part.Dc Component.Y) table.now) ∷ unit_decisions table.now (part_at (Part.Dc Component.U) table.now) ∷ unit_decisions table.now (part_at (Part.Dc Component.V) table.now) ∷ []) w.old) }
+{
+    write_part(alloc, w, table, Part::Dc(Component::Y))?;
+    write_part(alloc, w, table, Part::Dc(Component::U))?;
+    write_part(alloc, w, table, Part::Dc(Component::V))
+}
+
+/// Writes a block table (block data, Dirac specification): for each of its lists a length and an arithmetic block.
+/// After want of memory a part may stand.
+#[tactic(auto, using(crate::proofs::Appended::lists_append))]
+pub fn write_blocks(alloc: Global, w: &mut BitWriter, blocks: &BlockData) -> Result<(), NoMemory>
+    requires { IsWhole w.old }
+    ensures { OnOk result (w.new ≡ with_lists (block_decisions blocks.now (least_numbers blocks.now)) w.old) }
+{
+    write_splits(alloc, w, blocks)?;
+    write_part(alloc, w, blocks, Part::Modes)?;
+    write_vectors(alloc, w, blocks, Reference::First)?;
+    write_second(alloc, w, blocks)?;
+    write_dcs(alloc, w, blocks)
+}
