@@ -1,4 +1,6 @@
 pub mod Carried
+pub mod Chain
+pub mod Deciding
 pub mod Decoding
 pub mod Encoding
 pub mod Front

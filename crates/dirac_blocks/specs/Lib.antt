@@ -1,4 +1,6 @@
+pub mod Answers
 pub mod Decisions
+pub mod Grammar
 pub mod Parts
 pub mod Puts
 pub mod Tables

@@ -6,6 +6,7 @@ mod list_writer;
 mod lists;
 mod neighbours;
 mod parts;
+mod reader;
 mod shared;
 mod split_writer;
 mod superblock;
@@ -16,5 +17,6 @@ mod writer;
 
 pub use block::Block;
 pub use lists::{Blocks, Splits};
+pub use reader::read_blocks;
 pub use table::BlockData;
 pub use writer::write_blocks;

@@ -1,0 +1,62 @@
+-- What a block reads to, decision by decision: a decision is true where the front of the block lies in the part of the
+-- interval that true keeps. Each step gives its value and the reading behind it, or why there is none.
+use Rattle.std.specs.Prelude.{◌≡◌, ℕ, zero, suc, ℤ, pos, ◌+◌, ◌-◌, ◌*◌, ◌==◌, nat_le, nat_lt, if◌then◌else◌, Bool, true, ◌&&◌, List, Result, Ok, Err}
+use Rattle.dirac_types.specs.declared.faults.Cause.{Cause}
+use Rattle.dirac_types.specs.declared.faults.Cause.TheVariants.{CodeWord, NumberTooLong}
+use Rattle.dirac_types.specs.Bits.{bit_value}
+use Rattle.dirac_arith.specs.Chain.{◌>>=◌}
+use Rattle.dirac_arith.specs.Front.{front}
+use Rattle.dirac_arith.specs.Interval.{Decision, Interval, narrowed, narrowed_by, whole}
+use Rattle.dirac_arith.specs.Reading.{Reading}
+use Rattle.dirac_arith.specs.Spelling.{follow_at, signed_value}
+
+-- the start of a block
+abbrev pub begin : List ℕ → Reading
+begin block = record { block = block; at = whole }
+
+-- whether the front of the block lies in the interval
+abbrev pub lies_in : List ℕ → Interval → Bool
+lies_in block s = nat_le s.low (front block (16 + s.doublings)) && nat_lt (front block (16 + s.doublings)) (s.low + s.range)
+
+-- the reading after a decision
+abbrev pub after : Reading → Decision → Reading
+after r d = record { block = r.block; at = narrowed r.at d }
+
+-- the reading after more decisions
+abbrev pub after_all : Reading → List Decision → Reading
+after_all r ds = record { block = r.block; at = narrowed_by r.at ds }
+
+-- the truth of the next decision in a context
+abbrev pub truth_of : ℕ → Reading → Bool
+truth_of context r = lies_in r.block (narrowed r.at (context, true))
+
+-- the next decision; a block that begins with sixteen ones has none
+unfoldable pub decided : ℕ → Reading → Result (Bool × Reading) Cause
+decided context r =
+    if front r.block 16 == 0xFFFF then Err CodeWord else Ok (truth_of context r, after r (context, truth_of context r))
+
+-- a number, its digits so far making `value`, where so many more may follow: digit number i is next, behind its follow decision
+unfoldable pub number_from_digit : List ℕ → ℕ → ℕ → ℕ → ℕ → Reading → Result (ℕ × Reading) Cause
+number_from_digit follow bits i zero value r = do
+  last ← decided (follow_at follow i) r
+  if last.0 then Ok (value - 1, last.1) else Err NumberTooLong
+number_from_digit follow bits i (suc left) value r = do
+  last ← decided (follow_at follow i) r
+  if last.0 then Ok (value - 1, last.1) else (decided bits last.1 >>= λ digit. number_from_digit follow bits (i + 1) left (2 * value + bit_value digit.0) digit.1)
+
+-- an unsigned number
+unfoldable pub number_read : List ℕ → ℕ → Reading → Result (ℕ × Reading) Cause
+number_read follow bits r = number_from_digit follow bits 0 38 1 r
+
+-- the sign of this number, where it isn't 0
+unfoldable pub sign_read : ℕ → ℕ × Reading → Result (ℤ × Reading) Cause
+sign_read sign n = if n.0 == 0 then Ok (pos 0, n.1) else (decided sign n.1 >>= λ negative. Ok (signed_value n.0 negative.0, negative.1))
+
+-- a signed number: a magnitude and its sign
+unfoldable pub signed_read : List ℕ → ℕ → ℕ → Reading → Result (ℤ × Reading) Cause
+signed_read follow bits sign r = number_read follow bits r >>= sign_read sign
+
+-- a decoder's answer is what is read, and it stands behind that; nothing is said of its place after a refusal
+abbrev pub Gives : {A : Type 0} → Result A Cause → Reading → Result (A × Reading) Cause → Type 0
+Gives (Ok v) new read = read ≡ Ok (v, new)
+Gives (Err cause) new read = read ≡ Err cause

