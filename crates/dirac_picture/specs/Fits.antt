@@ -1,16 +1,21 @@
 -- What every coded picture of a sequence has.
-use Rattle.std.specs.Prelude.{◌≡◌, ℕ, ◌+◌, ◌≤◌, List, length, nat_le, slice_get, Option, None, Some, is_some}
+use Rattle.std.specs.Prelude.{◌≡◌, ℕ, ◌+◌, ◌≤◌, true, false, IsTrue, List, length, nat_le, slice_get, unsigned_abs, Option, None, Some, is_some}
+use Rattle.dirac_types.specs.declared.formats.Chroma.{Chroma}
 use Rattle.dirac_sequence.specs.declared.sequence.Sequence.{Sequence}
 use Rattle.dirac_header.specs.declared.header.PictureHeader.{PictureHeader}
+use Rattle.dirac_header.specs.declared.prediction.Prediction.{Prediction}
 use Rattle.dirac_header.specs.declared.transform.Transform.{Transform}
+use Rattle.dirac_header.specs.Prediction.{is_grid}
 use Rattle.dirac_header.specs.Transform.{band_length}
 use Rattle.dirac_header.specs.Codes.{references_of}
+use Rattle.dirac_blocks.specs.Tables.{IsBlockTable}
 use Rattle.dirac_coeffs.specs.declared.spot.CodedBand.{CodedBand}
 use Rattle.dirac_coeffs.specs.Grammar.{IsCodedBand}
+use Rattle.dirac_picture.specs.declared.coded.CodedMotion.{CodedMotion}
 use Rattle.dirac_picture.specs.declared.coded.CodedPicture.{CodedPicture}
 use Rattle.dirac_picture.specs.declared.coded.CodedResidual.{CodedResidual}
 use Rattle.dirac_picture.specs.Bands.{band_count, counts_at, spot_of}
-use Rattle.dirac_picture.specs.Grammar.{chroma_width, chroma_height}
+use Rattle.dirac_picture.specs.Grammar.{chroma_width, chroma_height, is_intra, superblocks_over}
 
 -- a count of codeblocks is from 1 to so many
 abbrev pub IsCount : ℕ → ℕ → Type 0
@@ -53,17 +58,38 @@ pub record IsResidual (s : Sequence) (r : CodedResidual) : Type 0 where
   pub v : AreBandsOf r.transform (chroma_width s) (chroma_height s) r.v
 
 -- an intra picture has a residual
-abbrev pub HasResidual : Sequence → Option CodedResidual → Type 0
-HasResidual s None = ⊥
-HasResidual s (Some r) = IsResidual s r
+abbrev pub HasResidual : ℕ → Sequence → Option CodedResidual → Type 0
+HasResidual code s None = is_intra code ≡ false
+HasResidual code s (Some r) = IsResidual s r
+
+-- prediction parameters that a picture of this chroma format may have
+pub record IsPrediction (chroma : Chroma) (p : Prediction) : Type 0 where
+  pub grid : IsTrue (is_grid chroma p.grid)
+  pub precision : p.precision ≤ 3
+  pub bits : (1 ≤ p.weight_bits) × (p.weight_bits ≤ 8)
+  pub weights : (unsigned_abs p.weight1 ≤ 255) × (unsigned_abs p.weight2 ≤ 255)
+
+-- the prediction of an inter picture of this parse code: its block table covers the picture, with as many references
+pub record IsMotion (code : ℕ) (s : Sequence) (m : CodedMotion) : Type 0 where
+  pub prediction : IsPrediction s.chroma m.prediction
+  pub across : m.blocks.across ≡ superblocks_over s.width m.prediction.grid.xbsep
+  pub down : m.blocks.down ≡ superblocks_over s.height m.prediction.grid.ybsep
+  pub refs : m.blocks.refs ≡ references_of code
+  pub table : IsBlockTable m.blocks
+
+-- just inter pictures are predicted
+abbrev pub HasMotion : ℕ → Sequence → Option CodedMotion → Type 0
+HasMotion code s None = is_intra code ≡ true
+HasMotion code s (Some m) = (is_intra code ≡ false) × IsMotion code s m
 
 -- a header names just the references of its code
 pub record NamesReferences (code : ℕ) (head : PictureHeader) : Type 0 where
   pub first : is_some head.ref1 ≡ nat_le 1 (references_of code)
   pub second : is_some head.ref2 ≡ nat_le 2 (references_of code)
 
--- a coded intra picture of this parse code fits the sequence
+-- a coded picture of this parse code fits the sequence
 pub record FitsSequence (code : ℕ) (s : Sequence) (p : CodedPicture) : Type 0 where
   pub same_code : p.code ≡ code
   pub header : NamesReferences code p.header
-  pub residual : HasResidual s p.residual
+  pub motion : HasMotion code s p.motion
+  pub residual : HasResidual code s p.residual

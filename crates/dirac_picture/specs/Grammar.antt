@@ -1,20 +1,24 @@
 -- The payload of a picture, field after field: picture parsing, Dirac specification.
-use Rattle.std.specs.Prelude.{ℕ, zero, suc, ◌/◌, ◌==◌, ◌&&◌, ◌||◌, if◌then◌else◌, Bool, true, List, [], ◌∷◌, ◌++◌, length, Option, None, Some, is_some, Result}
+use Rattle.std.specs.Prelude.{ℕ, zero, suc, ◌+◌, ◌-◌, ◌*◌, ◌/◌, ◌==◌, nat_le, ◌&&◌, ◌||◌, if◌then◌else◌, Bool, true, false, List, [], ◌∷◌, ◌++◌, length, Option, None, Some, is_some, Result}
 use Rattle.dirac_types.specs.declared.faults.Cause.TheVariants.{MissingReference}
 use Rattle.dirac_types.specs.declared.faults.Refusal.{Refusal}
 use Rattle.dirac_types.specs.declared.picture.Picture.{Picture}
 use Rattle.dirac_bits.specs.Answers.{value_of}
 use Rattle.dirac_bits.specs.Cursor.{start}
-use Rattle.dirac_bits.specs.Syntax.{Syntax, done, refuse, ◌>>=◌, align, read}
+use Rattle.dirac_bits.specs.Syntax.{Syntax, done, refuse, ◌>>=◌, align, flag, read}
 use Rattle.dirac_sequence.specs.declared.sequence.Sequence.{Sequence}
 use Rattle.dirac_sequence.specs.Ratios.{ratio_across, ratio_down}
 use Rattle.dirac_header.specs.declared.header.PictureHeader.{PictureHeader}
 use Rattle.dirac_header.specs.declared.transform.Transform.{Transform}
+use Rattle.dirac_header.specs.Codes.{references_of}
 use Rattle.dirac_header.specs.Header.{header}
+use Rattle.dirac_header.specs.Prediction.{prediction}
 use Rattle.dirac_header.specs.Transform.{transform}
 use Rattle.dirac_coeffs.specs.declared.spot.CodedBand.{CodedBand}
 use Rattle.dirac_coeffs.specs.Grammar.{band}
+use Rattle.dirac_blocks.specs.Grammar.{blocks}
 use Rattle.dirac_refs.specs.References.{listed}
+use Rattle.dirac_picture.specs.declared.coded.CodedMotion.{CodedMotion}
 use Rattle.dirac_picture.specs.declared.coded.CodedPicture.{CodedPicture}
 use Rattle.dirac_picture.specs.declared.coded.CodedResidual.{CodedResidual}
 use Rattle.dirac_picture.specs.Bands.{band_count, spot_of, parent_values}
@@ -52,12 +56,45 @@ residual s = do
   t ← transform s.width s.height
   planes s t
 
--- the fields behind the header; an inter picture's prediction, and whether it has a residual, will stand before the residual
+-- the parse codes of intra pictures
+abbrev pub is_intra : ℕ → Bool
+is_intra code = code == 0x08 || code == 0x0C
+
+-- the parse codes of pictures: inter pictures have references
+abbrev pub is_picture : ℕ → Bool
+is_picture code = is_intra code || nat_le 1 (references_of code)
+
+-- how many superblocks cover so many samples; each is four blocks long
+abbrev pub superblocks_over : ℕ → ℕ → ℕ
+superblocks_over size separation = (size + 4 * separation - 1) / (4 * separation)
+
+-- the prediction parameters and the block table
+unfoldable pub prediction_fields : ℕ → Sequence → Syntax CodedMotion
+prediction_fields code s = do
+  p ← prediction code s.chroma
+  t ← blocks (superblocks_over s.width p.grid.xbsep) (superblocks_over s.height p.grid.ybsep) (references_of code)
+  done (record { prediction = p; blocks = t })
+
+-- what an inter picture is predicted from
+unfoldable pub motion : ℕ → Sequence → Syntax (Option CodedMotion)
+motion code s = if is_intra code then done None else (prediction_fields code s >>= λ m. done (Some m))
+
+-- whether the residual is 0, which an inter picture says
+unfoldable pub zero_residual : ℕ → Syntax Bool
+zero_residual code = if is_intra code then done false else flag
+
+-- the residual, where it isn't 0
+unfoldable pub residual_unless : Bool → Sequence → Syntax (Option CodedResidual)
+residual_unless zero s = if zero then done None else (residual s >>= λ r. done (Some r))
+
+-- the fields behind the header
 unfoldable pub body : ℕ → Sequence → PictureHeader → Syntax CodedPicture
 body code s head = do
+  motion ← motion code s
   gap ← align
-  coded ← residual s
-  done (record { code = code; header = head; residual = Some coded })
+  zero ← zero_residual code
+  coded ← residual_unless zero s
+  done (record { code = code; header = head; motion = motion; residual = coded })
 
 -- a reference that a header names is listed
 abbrev pub is_listed : List Picture → Option ℕ → Bool
@@ -77,7 +114,3 @@ picture code s refs = do
 -- what a picture's payload reads to; bytes behind its last field are free
 abbrev pub picture_read : ℕ → Sequence → List Picture → List ℕ → Result CodedPicture Refusal
 picture_read code s refs payload = value_of (read (picture code s refs) (start payload))
-
--- the parse codes of intra pictures
-abbrev pub is_intra : ℕ → Bool
-is_intra code = code == 0x08 || code == 0x0C

@@ -1,5 +1,13 @@
 use crate::plane_bands::PlaneBands;
-use dirac_header::{PictureHeader, Transform};
+use dirac_blocks::BlockData;
+use dirac_header::{PictureHeader, Prediction, Transform};
+
+/// How an inter picture is predicted: its parameters, and what each of its blocks is predicted from.
+#[derive(Drop)]
+pub struct CodedMotion {
+    pub prediction: Prediction,
+    pub blocks: BlockData,
+}
 
 /// The coefficients of a picture: how they are laid out, and the subbands of its planes.
 #[derive(Drop)]
@@ -16,6 +24,8 @@ pub struct CodedPicture {
     /// The parse code of its unit.
     pub code: u8,
     pub header: PictureHeader,
-    /// What its planes are made of; an intra picture always has it.
+    /// What it is predicted from; just inter pictures have it.
+    pub motion: Option<CodedMotion>,
+    /// What its planes are made of beside their prediction; an intra picture always has it.
     pub residual: Option<CodedResidual>,
 }

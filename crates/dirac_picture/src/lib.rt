@@ -1,15 +1,18 @@
-//! The payload of a picture: its header, its transform parameters and the subbands of its three planes.
+//! The payload of a picture: its header, what it is predicted from, its transform parameters and the subbands of its
+//! three planes.
 //!
 //! `specs/Grammar` has the fields in their order, `specs/Fits` what every picture that is read has.
 #![tactic(auto)]
 
 mod coded;
+mod motion;
 mod picture;
 mod plane;
 mod plane_bands;
 mod shared;
 mod spots;
 
-pub use coded::{CodedPicture, CodedResidual};
+pub use coded::{CodedMotion, CodedPicture, CodedResidual};
+pub use motion::is_intra;
 pub use picture::read_picture;
 pub use plane_bands::PlaneBands;

@@ -1,14 +1,16 @@
-ghost use Rattle.std.specs.Prelude.{◌≡◌, length, IfOk, IfErr, IsTrue, Ok};
+ghost use Rattle.std.specs.Prelude.{◌≡◌, length, IfOk, IfErr, IsTrue, Ok, true, false, ◌≤◌};
 ghost use Rattle.dirac_bits.specs.Laws.{StartsWith};
+ghost use Rattle.dirac_bits.specs.Answers.{Reads};
 ghost use Rattle.dirac_bits.specs.Syntax.{read};
 ghost use Rattle.dirac_sequence.specs.Lawful.{IsSequence};
 ghost use Rattle.dirac_coeffs.specs.Answers.{ReadsOrStops, IsEarly};
 ghost use Rattle.dirac_picture.specs.declared.coded.CodedPicture.{CodedPicture as ThePicture};
 ghost use Rattle.dirac_picture.specs.Answers.{GivesOrStops};
 ghost use Rattle.dirac_picture.specs.Grammar as grammar;
-ghost use Rattle.dirac_picture.specs.Fits.{FitsSequence, IsLayout, IsPlaneSize, IsResidual, IsTransform, NamesReferences};
+ghost use Rattle.dirac_picture.specs.Fits.{FitsSequence, IsLayout, IsPlaneSize, HasResidual, IsResidual, IsTransform, NamesReferences};
 
 use crate::coded::{CodedPicture, CodedResidual};
+use crate::motion::{is_intra, read_motion};
 use crate::plane::read_plane_bands;
 use dirac_bits::BitReader;
 use dirac_header::{PictureHeader, Transform, read_header, read_transform};
@@ -17,7 +19,7 @@ use dirac_sequence::{Sequence, ratio_across, ratio_down};
 use dirac_types::{Cause, Refusal, Stop};
 use std::alloc::Global;
 
-/// Reads the payload of an intra picture (picture parsing, Dirac specification). The place of a refusal counts from
+/// Reads the payload of a picture (picture parsing, Dirac specification). The place of a refusal counts from
 /// the payload's first byte; a reference that isn't listed is refused there.
 pub fn read_picture(
     alloc: Global,
@@ -26,7 +28,7 @@ pub fn read_picture(
     sequence: &Sequence,
     refs: &RefBuffer,
 ) -> Result<CodedPicture, Stop>
-    requires code { IsTrue (grammar.is_intra code) }
+    requires code { IsTrue (grammar.is_picture code) }
     requires sequence { IsSequence sequence.now }
     ensures value { GivesOrStops result (grammar.picture_read code sequence.now refs.now payload.now) }
     // What is answered is spelled by the payload's first bits.
@@ -35,6 +37,8 @@ pub fn read_picture(
     ensures only { (p : ThePicture) → StartsWith (grammar.picture code sequence.now refs.now) p payload.now → GivesOrStops result (Ok p) }
     ensures early { IfErr result (IsEarly (length payload.now)) }
     ensures fits { IfOk result (FitsSequence code sequence.now) }
+    // Each reference that its header names is listed.
+    ensures listed { IfOk result (λ p. IsTrue (grammar.are_listed refs.now p.header)) }
 {
     let mut r = BitReader::new(payload);
     read_fields(alloc, &mut r, code, sequence, refs)
@@ -49,10 +53,12 @@ fn read_fields(
     sequence: &Sequence,
     refs: &RefBuffer,
 ) -> Result<CodedPicture, Stop>
+    requires code { IsTrue (grammar.is_picture code) }
     requires sequence { IsSequence sequence.now }
     ensures value { ReadsOrStops result r.new (read (grammar.picture code sequence.now refs.now) r.old) }
     ensures early { IfErr result (IsEarly (length r.old.bytes)) }
     ensures fits { IfOk result (FitsSequence code sequence.now) }
+    ensures listed { IfOk result (λ p. IsTrue (grammar.are_listed refs.now p.header)) }
 {
     let header = read_header(r, code)?;
     if !is_listed(refs, header.ref1) || !is_listed(refs, header.ref2) {
@@ -83,20 +89,62 @@ fn read_body(
     sequence: &Sequence,
     header: PictureHeader,
 ) -> Result<CodedPicture, Stop>
+    requires code { IsTrue (grammar.is_picture code) }
     requires sequence { IsSequence sequence.now }
     requires header { NamesReferences code header }
     ensures value { ReadsOrStops result r.new (read (grammar.body code sequence.now header) r.old) }
     ensures early { IfErr result (IsEarly (length r.old.bytes)) }
     ensures kept { r.new.bytes ≡ r.old.bytes }
     ensures fits { IfOk result (FitsSequence code sequence.now) }
+    ensures header { IfOk result (λ p. p.header ≡ header) }
 {
+    let motion = read_motion(alloc, r, code, sequence)?;
     r.align();
-    let residual = read_residual(alloc, r, sequence)?;
+    let zero = read_zero_residual(r, code)?;
+    let residual = read_residual_unless(alloc, r, code, zero, sequence)?;
     Ok(CodedPicture {
         code,
         header,
-        residual: Some(residual),
+        motion,
+        residual,
     })
+}
+
+/// Reads whether the residual is 0, which an inter picture says.
+#[tactic(auto, unfolding(crate::specs::Grammar::zero_residual))]
+fn read_zero_residual(r: &mut BitReader<'_>, code: u8) -> Result<bool, Refusal>
+    ensures value { Reads (λ b. b) result r.new (read (grammar.zero_residual code) r.old) }
+    ensures early { IfErr result (λ e. e.at ≤ length r.old.bytes) }
+    ensures kept { r.new.bytes ≡ r.old.bytes }
+    ensures inter { IfOk result (λ zero. zero ≡ true → grammar.is_intra code ≡ false) }
+{
+    if is_intra(code) {
+        return Ok(false);
+    }
+    r.bit()
+}
+
+/// Reads the residual, where it isn't 0.
+#[tactic(auto, unfolding(crate::specs::Grammar::residual_unless), using(dirac_bits::specs::Then::read_then))]
+fn read_residual_unless(
+    alloc: Global,
+    r: &mut BitReader<'_>,
+    code: u8,
+    zero: bool,
+    sequence: &Sequence,
+) -> Result<Option<CodedResidual>, Stop>
+    requires inter { zero ≡ true → grammar.is_intra code ≡ false }
+    requires sequence { IsSequence sequence.now }
+    ensures value { ReadsOrStops result r.new (read (grammar.residual_unless zero sequence.now) r.old) }
+    ensures early { IfErr result (IsEarly (length r.old.bytes)) }
+    ensures kept { r.new.bytes ≡ r.old.bytes }
+    ensures fits { IfOk result (HasResidual code sequence.now) }
+{
+    if zero {
+        return Ok(None);
+    }
+    let residual = read_residual(alloc, r, sequence)?;
+    Ok(Some(residual))
 }
 
 /// Reads the transform parameters and the subbands.

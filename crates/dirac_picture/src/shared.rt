@@ -7,5 +7,6 @@ fn is_shared<T: Send + Sync>() {}
 fn are_shared() {
     is_shared::<crate::PlaneBands>();
     is_shared::<crate::CodedResidual>();
+    is_shared::<crate::CodedMotion>();
     is_shared::<crate::CodedPicture>();
 }

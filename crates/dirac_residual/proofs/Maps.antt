@@ -1,5 +1,7 @@
 -- Values that are changed one by one, and elements that are read.
 use Rattle.std.proofs.Common.{◌≡◌, ℕ, zero, suc, ℤ, pos, ◌<◌, ◌≤◌, List, [], ◌∷◌, length, map, get_or, slice_get, Some, Result, Ok, Err, IfOk, arith, ap, sym, ◌∙◌}
+use Rattle.std.specs.Simd.Lanes.{zip2}
+use Rattle.std.proofs.lemmas.Simd.{length-zip2, get_or-zip2}
 use Rattle.std.proofs.lemmas.List.{length-map, get_or-map, ext_get_or}
 use Rattle.dirac_coeffs.specs.declared.spot.CodedBand.{CodedBand}
 
@@ -7,6 +9,17 @@ pub mapped_all : (f : ℤ → ℤ) (xs ys : List ℤ) (n : ℕ) → length ys �
 mapped_all f xs ys n len each all =
     ext_get_or (pos 0) ys (map f xs) (len ∙ sym (length-map xs f)) (λ k l.
     each k (omega (arith, l, len, all)) ∙ sym (get_or-map f xs k (pos 0) (pos 0) (omega (arith, l, len))))
+
+-- the same of values that come of two lists
+pub mapped_both : (f : ℤ → ℤ) (g : ℤ → ℤ → ℤ) (xs ys zs : List ℤ) (n : ℕ) → length ys ≡ length xs → length zs ≡ length xs
+    → ((k : ℕ) → k < n → get_or zs k (pos 0) ≡ f (g (get_or xs k (pos 0)) (get_or ys k (pos 0)))) → length xs ≤ n → zs ≡ map f (zip2 g xs ys)
+mapped_both f g xs ys zs n two three each all =
+    let len : length (zip2 g xs ys) ≡ length xs = length-zip2 g xs ys (sym two) in
+    ext_get_or (pos 0) zs (map f (zip2 g xs ys)) (three ∙ sym len ∙ sym (length-map (zip2 g xs ys) f)) (λ k l.
+    let h : k < length xs = omega (arith, l, three) in
+    each k (omega (arith, h, all))
+    ∙ ap f (sym (get_or-zip2 g xs ys k (pos 0) (pos 0) (pos 0) h (omega (arith, h, two))))
+    ∙ sym (get_or-map f (zip2 g xs ys) k (pos 0) (pos 0) (omega (arith, h, len))))
 
 -- a band that is read by its index
 pub got_band : (bands : List CodedBand) (n : ℕ) (b : CodedBand) → n < length bands → b ≡ get_or bands n b → slice_get bands n ≡ Some b

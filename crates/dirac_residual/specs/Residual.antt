@@ -1,6 +1,7 @@
 -- From the quantised subbands of a plane to its residual, and to the samples of an intra picture.
-use Rattle.std.specs.Prelude.{ℕ, zero, suc, ℤ, pos, negsuc, ◌+◌, ◌*◌, List, [], map, Option, None, Some, slice_get}
+use Rattle.std.specs.Prelude.{ℕ, zero, suc, ℤ, pos, negsuc, ◌+◌, ◌*◌, ◌+ℤ◌, List, [], map, Option, None, Some, slice_get}
 use Rattle.std.specs.Int.{int_max, int_min}
+use Rattle.std.specs.Simd.Lanes.{zip2}
 use Rattle.dirac_types.specs.declared.formats.Kind.{Kind}
 use Rattle.dirac_types.specs.declared.formats.Kind.TheVariants.{Intra, Inter}
 use Rattle.dirac_types.specs.Table.{Table, table_at}
@@ -53,3 +54,11 @@ clip v = int_max (negsuc 127) (int_min v (pos 127))
 -- the plane of these values, clipped
 abbrev pub clipped : Table → Table
 clipped t = record { width = t.width; height = t.height; values = map clip t.values }
+
+-- values and others of the same places, summed
+abbrev pub summed_with : List ℤ → List ℤ → List ℤ
+summed_with values others = zip2 (λ v other. v +ℤ other) values others
+
+-- a residual plus what is predicted, by rows
+abbrev pub with_prediction : Table → List ℤ → Table
+with_prediction t predicted = record { width = t.width; height = t.height; values = summed_with t.values predicted }

@@ -1,5 +1,6 @@
-ghost use Rattle.std.specs.Prelude.{◌≡◌, ◌≤◌, length, map, IfOk};
-ghost use Rattle.dirac_residual.specs.Residual.{clip, clipped};
+ghost use Rattle.std.specs.Prelude.{◌≡◌, ◌<◌, ◌≤◌, ◌^◌, ◌+ℤ◌, pos, length, map, slice_index_or, slice_set, unsigned_abs, IfOk};
+ghost use Rattle.std.specs.List.{All};
+ghost use Rattle.dirac_residual.specs.Residual.{clip, clipped, summed_with, with_prediction};
 
 use dirac_types::{NoMemory, Plane, Wide};
 use std::alloc::Global;
@@ -29,5 +30,51 @@ pub fn clipped(alloc: Global, values: &Wide) -> Result<Plane, NoMemory>
 {
     let mut plane = Plane::try_new(alloc, values.width(), values.height(), 0)?;
     clip_values(values.values(), plane.values_mut());
+    Ok(plane)
+}
+
+/// A residual plus a predicted value, clipped to the range of samples.
+#[inline(always)]
+fn clip_sum(residual: i128, predicted: i32) -> i16
+    requires { unsigned_abs residual ≤ 2 ^ 108 }
+    ensures { result ≡ clip (residual +ℤ predicted) }
+{
+    clip_value(residual + i128::from(predicted))
+}
+
+/// Writes the sum at one place.
+#[inline(always)]
+fn put_sum(residual: &[i128], predicted: &[i32], samples: &mut [i16], i: usize)
+    requires inside { i < length residual.now }
+    requires predicted { length predicted.now ≡ length residual.now }
+    requires samples { length samples.old ≡ length residual.now }
+    requires bound { All (λ v. unsigned_abs v ≤ 2 ^ 108) residual.now }
+    ensures { samples.new ≡ slice_set samples.old i (clip (slice_index_or residual.now i (pos 0) +ℤ slice_index_or predicted.now i (pos 0))) }
+{
+    samples[i] = clip_sum(residual[i], predicted[i]);
+}
+
+fn clip_sums(residual: &[i128], predicted: &[i32], samples: &mut [i16])
+    requires predicted { length predicted.now ≡ length residual.now }
+    requires samples { length samples.old ≡ length residual.now }
+    requires bound { All (λ v. unsigned_abs v ≤ 2 ^ 108) residual.now }
+    ensures { samples.new ≡ map clip (summed_with residual.now predicted.now) }
+{
+    for i in 0..residual.len() {
+        put_sum(residual, predicted, samples, i);
+    }
+}
+
+/// The plane whose samples are the values of a residual plus their predictions, which stand by rows, each sum
+/// clipped to -128 to 127 (picture decoding, Dirac specification).
+pub fn clipped_sum(alloc: Global, residual: &Wide, predicted: &[i32]) -> Result<Plane, NoMemory>
+    requires across { residual.now.width ≤ 8192 }
+    requires down { residual.now.height ≤ 8192 }
+    requires predicted { length predicted.now ≡ length residual.now.values }
+    requires bound { All (λ v. unsigned_abs v ≤ 2 ^ 108) residual.now.values }
+    ensures { IfOk result (λ plane. plane ≡ clipped (with_prediction residual.now predicted.now)) }
+{
+    let mut plane = Plane::try_new(alloc, residual.width(), residual.height(), 0)?;
+    clip_sums(residual.values(), predicted, plane.values_mut());
     Ok(plane)
 }

@@ -7,5 +7,5 @@ mod cut;
 mod plane;
 mod restore;
 
-pub use clip::clipped;
+pub use clip::{clipped, clipped_sum};
 pub use plane::plane_residual;
