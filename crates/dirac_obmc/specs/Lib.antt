@@ -1,0 +1,3 @@
+pub mod Compensation
+pub mod Given
+pub mod Weights

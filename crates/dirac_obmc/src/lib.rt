@@ -1,0 +1,12 @@
+//! Motion compensation: what the overlapped blocks of an inter picture predict for a plane.
+#![tactic(auto)]
+
+mod motion;
+mod predict;
+mod predicted;
+mod weights;
+
+pub use motion::{Motion, Part};
+pub use predict::{predict_plane, predict_rows};
+pub use predicted::Predicted;
+pub use weights::weight;

@@ -1,0 +1,29 @@
+use dirac_blocks::BlockData;
+use dirac_header::Prediction;
+use dirac_types::Chroma;
+use dirac_upconvert::UpPlane;
+
+/// A plane of a picture.
+#[derive(Clone, Copy, Debug, PartialEq, Eq)]
+pub enum Part {
+    Y,
+    U,
+    V,
+}
+
+/// What one plane of an inter picture is predicted from: the picture's blocks and parameters, and this plane of
+/// each reference.
+#[derive(Clone, Copy)]
+pub struct Motion<'a> {
+    pub blocks: &'a BlockData,
+    pub prediction: &'a Prediction,
+    pub up1: &'a UpPlane,
+    /// There where the block table has two references.
+    pub up2: Option<&'a UpPlane>,
+    pub part: Part,
+    pub chroma: Chroma,
+    /// The number of columns of this plane.
+    pub width: u32,
+    /// The number of rows of this plane.
+    pub height: u32,
+}
