@@ -85,15 +85,15 @@ zero_residual code = if is_intra code then done false else flag
 
 -- the residual, where it isn't 0
 unfoldable pub residual_unless : Bool → Sequence → Syntax (Option CodedResidual)
-residual_unless zero s = if zero then done None else (residual s >>= λ r. done (Some r))
+residual_unless none s = if none then done None else (residual s >>= λ r. done (Some r))
 
 -- the fields behind the header
 unfoldable pub body : ℕ → Sequence → PictureHeader → Syntax CodedPicture
 body code s head = do
   motion ← motion code s
   gap ← align
-  zero ← zero_residual code
-  coded ← residual_unless zero s
+  none ← zero_residual code
+  coded ← residual_unless none s
   done (record { code = code; header = head; motion = motion; residual = coded })
 
 -- a reference that a header names is listed
