@@ -1,7 +1,7 @@
 -- The content of a stream, unit by unit: the open sequence, its references, the pictures that wait.
 use Rattle.std.specs.Prelude.{ℕ, ◌+◌, ◌==◌, nat_eq, ◌&&◌, if◌then◌else◌, Bool, List, [], ◌∷◌, ◌++◌, length, max, Option, None, Some, Result, Ok, Err}
 use Rattle.std.specs.List.{starts_with}
-use Rattle.dirac_types.specs.declared.faults.Cause.TheVariants.{NoSequence, SequenceChanged, Unbuilt}
+use Rattle.dirac_types.specs.declared.faults.Cause.TheVariants.{NoSequence, SequenceChanged}
 use Rattle.dirac_types.specs.declared.faults.Refusal.{Refusal}
 use Rattle.dirac_types.specs.declared.picture.Picture.{Picture}
 use Rattle.dirac_units.specs.Info.{fields_are_read}
@@ -12,7 +12,7 @@ use Rattle.dirac_refs.specs.declared.waiting.Waiting.{Waiting}
 use Rattle.dirac_refs.specs.References.{committed}
 use Rattle.dirac_refs.specs.Delivery.{key_of, delivered, flushed}
 use Rattle.dirac_picture.specs.declared.coded.CodedPicture.{CodedPicture}
-use Rattle.dirac_picture.specs.Grammar.{picture_read, is_intra}
+use Rattle.dirac_picture.specs.Grammar.{picture_read}
 use Rattle.dirac_decode.specs.declared.opened.Opened.{Opened}
 use Rattle.dirac_decode.specs.Content.{rebuilt}
 
@@ -78,14 +78,13 @@ shows course coded p =
 
 -- a picture was read, or refused
 abbrev pub made : Course → Opened → Result CodedPicture Refusal → Result Moved Refusal
-made course o (Ok coded) = Ok (shows course coded (rebuilt o.sequence coded))
+made course o (Ok coded) = Ok (shows course coded (rebuilt o.sequence course.list coded))
 made course o (Err refusal) = Err (in_unit refusal)
 
--- a picture of the open sequence; an inter picture isn't decoded yet
+-- a picture of the open sequence
 abbrev pub picture_moves : Course → Option Opened → ℕ → List ℕ → Result Moved Refusal
 picture_moves course None code payload = Err (record { at = 0; cause = NoSequence })
-picture_moves course (Some o) code payload =
-    if is_intra code then made course o (picture_read code o.sequence course.list payload) else Err (record { at = 4; cause = Unbuilt })
+picture_moves course (Some o) code payload = made course o (picture_read code o.sequence course.list payload)
 
 -- an end unit closes the sequence, and all that wait leave
 abbrev pub ended : Course → Moved

@@ -1,17 +1,20 @@
 -- What the content of one unit brought, as the decoder's state answers it.
-use Rattle.std.specs.Prelude.{◌≡◌, ℕ, ◌+◌, ◌≤◌, [], ◌∷◌, length, Option, None, Result, Ok, Err, ⊤}
+use Rattle.std.specs.Prelude.{◌≡◌, ℕ, ◌+◌, ◌≤◌, List, [], ◌∷◌, length, Option, None, Some, Result, Ok, Err, ⊤}
+use Rattle.std.specs.List.{All}
 use Rattle.std.specs.Option.{option_to_list}
 use Rattle.dirac_types.specs.declared.faults.Refusal.{Refusal}
 use Rattle.dirac_types.specs.declared.faults.Stop.{Stop}
 use Rattle.dirac_types.specs.declared.faults.Stop.TheVariants as stop
 use Rattle.dirac_types.specs.declared.picture.Picture.{Picture}
 use Rattle.dirac_sequence.specs.declared.sequence.Sequence.{Sequence}
+use Rattle.dirac_sequence.specs.Lawful.{IsSequence}
 use Rattle.dirac_refs.specs.Delivery.{flushed, least, others as rest_of}
 use Rattle.dirac_picture.specs.declared.coded.CodedPicture.{CodedPicture}
+use Rattle.dirac_decode.specs.declared.opened.Opened.{Opened}
 use Rattle.dirac_decode.specs.declared.picture.Rebuilt.{Rebuilt}
 use Rattle.dirac_decode.specs.declared.state.Took.{Took}
 use Rattle.dirac_decode.specs.declared.state.Took.TheVariants as took
-use Rattle.dirac_decode.specs.Content.{rebuilt}
+use Rattle.dirac_decode.specs.Content.{IsPicture, rebuilt}
 use Rattle.dirac_decode.specs.Course.{Course, Moved, as_reference}
 use Rattle.dirac_decode.specs.Decoding.{emptied}
 
@@ -53,7 +56,20 @@ pub record IsPopped (popped : Option Picture) (old new : Course) : Type 0 where
   pub none : popped ≡ None → length old.waiting ≡ 0
 
 -- a picture was read and rebuilt, or refused
-abbrev pub IsRebuilt : Result Rebuilt Stop → Result CodedPicture Refusal → Sequence → Type 0
-IsRebuilt (Ok r) read s = (read ≡ Ok r.coded) × (r.picture ≡ rebuilt s r.coded) × (r.reference ≡ as_reference r.coded.code r.picture)
-IsRebuilt (Err (stop.Refused refusal)) read s = read ≡ Err refusal
-IsRebuilt (Err stop.NoMemory) read s = ⊤
+abbrev pub IsRebuilt : Result Rebuilt Stop → Result CodedPicture Refusal → Sequence → List Picture → Type 0
+IsRebuilt (Ok r) read s refs =
+    (read ≡ Ok r.coded)
+    × (r.picture ≡ rebuilt s refs r.coded)
+    × (r.reference ≡ as_reference r.coded.code r.picture)
+IsRebuilt (Err (stop.Refused refusal)) read s refs = read ≡ Err refusal
+IsRebuilt (Err stop.NoMemory) read s refs = ⊤
+
+-- the open sequence can be read, and all listed pictures are of it; without one none is listed
+abbrev pub IsOpen : Option Opened → List Picture → Type 0
+IsOpen None refs = refs ≡ []
+IsOpen (Some o) refs = IsSequence o.sequence × All (IsPicture o.sequence) refs
+
+-- a picture of the open sequence
+abbrev pub IsOfOpen : Option Opened → Picture → Type 0
+IsOfOpen None p = ⊥
+IsOfOpen (Some o) p = IsPicture o.sequence p

@@ -5,9 +5,11 @@
 
 mod advance;
 mod answers;
+mod compensate;
 mod decoder;
 mod opened;
 mod picture;
+mod planes;
 mod shared;
 mod state;
 mod stream;
@@ -15,7 +17,7 @@ mod written;
 
 pub use answers::{Decoded, Next, Tally};
 pub use decoder::Decoder;
-pub use dirac_picture::{CodedPicture, CodedResidual, PlaneBands, read_picture};
+pub use dirac_picture::{CodedMotion, CodedPicture, CodedResidual, PlaneBands, read_picture};
 pub use opened::Opened;
 pub use picture::rebuild;
 pub use stream::decode_stream;

@@ -1,109 +1,110 @@
-ghost use Rattle.std.specs.Prelude.{◌≡◌, ◌≤◌, length, IfErr, IfOk, IsTrue};
+ghost use Rattle.std.specs.Prelude.{◌≡◌, ◌≤◌, length, IfErr, IfOk, IfSome, IsTrue};
+ghost use Rattle.std.specs.List.{All};
 ghost use Rattle.dirac_sequence.specs.Lawful.{IsSequence};
-ghost use Rattle.dirac_picture.specs.Fits.{AreBandsOf, FitsSequence, IsPlaneSize, IsResidual, IsTransform};
-ghost use Rattle.dirac_picture.specs.Grammar.{chroma_height, chroma_width, is_intra as has_intra_code, picture_read};
-ghost use Rattle.dirac_decode.specs.Content.{grey_picture, intra_picture, plane_samples, rebuilt};
+ghost use Rattle.dirac_picture.specs.Fits.{FitsSequence, IsMotion, IsResidual, NamesReferences};
+ghost use Rattle.dirac_picture.specs.Grammar.{is_picture, picture_read};
+ghost use Rattle.dirac_decode.specs.Content as content;
+ghost use Rattle.dirac_decode.specs.Content.{AreReferences, IsPicture, rebuilt};
 ghost use Rattle.dirac_decode.specs.Course.{as_reference};
 ghost use Rattle.dirac_decode.specs.Taking.{IfStopped, IsRebuilt};
 
-use dirac_header::{Transform, is_reference};
-use dirac_picture::{CodedPicture, CodedResidual, PlaneBands, read_picture};
+use crate::compensate::predict;
+use crate::planes::residual_of;
+use dirac_header::{PictureHeader, is_reference};
+use dirac_obmc::Part;
+use dirac_picture::{CodedMotion, CodedPicture, CodedResidual, read_picture};
 use dirac_refs::RefBuffer;
-use dirac_residual::{clipped, plane_residual};
-use dirac_sequence::{Sequence, ratio_across, ratio_down};
+use dirac_residual::{clipped, clipped_sum};
+use dirac_sequence::Sequence;
 use dirac_types::{Kind, NoMemory, Picture, Plane, Stop};
 use std::alloc::Global;
 
-/// Whether a picture with this parse code is intra coded.
-pub(crate) fn is_intra(code: u8) -> bool
-    ensures { result ≡ has_intra_code code }
-{
-    code == 0x08 || code == 0x0C
-}
-
-/// The samples of a plane of an intra picture.
-#[tactic(auto, using(crate::proofs::Fitting::bands_of_plane))]
-fn rebuild_plane(
+/// The samples of a plane of an intra picture: its residual, clipped.
+fn intra_samples(
     alloc: Global,
-    transform: &Transform,
-    bands: &PlaneBands,
-    width: u32,
-    height: u32,
+    sequence: &Sequence,
+    part: Part,
+    residual: &Option<CodedResidual>,
 ) -> Result<Plane, NoMemory>
-    requires wavelet { transform.now.wavelet ≤ 6 }
-    requires depth { (1 ≤ transform.now.depth) × (transform.now.depth ≤ 5) }
-    requires size { IsPlaneSize width height }
-    requires bands { AreBandsOf transform.now width height bands.now }
-    ensures { IfOk result (λ p. p ≡ plane_samples transform.now bands.now width height) }
+    requires sequence { IsSequence sequence.now }
+    requires fits { IfSome residual.now (IsResidual sequence.now) }
+    ensures value { IfOk result (λ t. t ≡ content.intra_samples sequence.now residual.now part) }
 {
-    let residual = plane_residual(
-        alloc,
-        transform.wavelet,
-        transform.depth,
-        Kind::Intra,
-        bands.bands(),
-        width,
-        height,
-    )?;
+    let residual = residual_of(alloc, sequence, Kind::Intra, part, residual)?;
     clipped(alloc, &residual)
 }
 
-/// An intra picture of this number, from its residual.
-fn rebuild_planes(
+/// The samples of a plane of an inter picture: its residual and what is predicted, clipped.
+fn inter_samples(
     alloc: Global,
-    number: u32,
-    residual: &CodedResidual,
+    code: u8,
     sequence: &Sequence,
-) -> Result<Picture, NoMemory>
+    refs: &RefBuffer,
+    header: &PictureHeader,
+    motion: &CodedMotion,
+    residual: &Option<CodedResidual>,
+    part: Part,
+) -> Result<Plane, NoMemory>
     requires sequence { IsSequence sequence.now }
-    requires fits { IsResidual sequence.now residual.now }
-    ensures { IfOk result (λ p. p ≡ intra_picture sequence.now number residual.now) }
+    requires motion { IsMotion code sequence.now motion.now }
+    requires names { NamesReferences code header.now }
+    requires refs { AreReferences sequence.now refs.now header.now }
+    requires fits { IfSome residual.now (IsResidual sequence.now) }
+    ensures value { IfOk result (λ t. t ≡ content.inter_samples sequence.now refs.now header.now motion.now residual.now part) }
 {
-    let width = sequence.width / ratio_across(sequence.chroma);
-    let height = sequence.height / ratio_down(sequence.chroma);
-    Ok(Picture {
-        number,
-        y: rebuild_plane(
+    let predicted = predict(alloc, code, sequence, refs, header, motion, part)?;
+    let residual = residual_of(alloc, sequence, Kind::Inter, part, residual)?;
+    clipped_sum(alloc, &residual, predicted.values())
+}
+
+/// The samples of a plane.
+fn samples(
+    alloc: Global,
+    coded: &CodedPicture,
+    sequence: &Sequence,
+    refs: &RefBuffer,
+    part: Part,
+) -> Result<Plane, NoMemory>
+    requires sequence { IsSequence sequence.now }
+    requires fits { FitsSequence coded.now.code sequence.now coded.now }
+    requires refs { AreReferences sequence.now refs.now coded.now.header }
+    ensures value { IfOk result (λ t. t ≡ content.plane_samples sequence.now refs.now coded.now part) }
+{
+    match &coded.motion {
+        None => intra_samples(alloc, sequence, part, &coded.residual),
+        Some(motion) => inter_samples(
             alloc,
-            &residual.transform,
-            &residual.y,
-            sequence.width,
-            sequence.height,
-        )?,
-        u: rebuild_plane(alloc, &residual.transform, &residual.u, width, height)?,
-        v: rebuild_plane(alloc, &residual.transform, &residual.v, width, height)?,
-    })
+            coded.code,
+            sequence,
+            refs,
+            &coded.header,
+            motion,
+            &coded.residual,
+            part,
+        ),
+    }
 }
 
-/// A picture of this number all of whose samples are 0.
-fn make_grey(alloc: Global, number: u32, sequence: &Sequence) -> Result<Picture, NoMemory>
-    requires { IsSequence sequence.now }
-    ensures { IfOk result (λ p. p ≡ grey_picture sequence.now number) }
-{
-    let width = sequence.width / ratio_across(sequence.chroma);
-    let height = sequence.height / ratio_down(sequence.chroma);
-    Ok(Picture {
-        number,
-        y: Plane::try_new(alloc, sequence.width, sequence.height, 0)?,
-        u: Plane::try_new(alloc, width, height, 0)?,
-        v: Plane::try_new(alloc, width, height, 0)?,
-    })
-}
-
-/// The picture that a coded intra picture stands for (picture decoding, Dirac specification).
+/// The picture that a coded picture stands for, from its residual and its references (picture decoding, Dirac
+/// specification).
 pub fn rebuild(
     alloc: Global,
     coded: &CodedPicture,
     sequence: &Sequence,
+    refs: &RefBuffer,
 ) -> Result<Picture, NoMemory>
     requires sequence { IsSequence sequence.now }
     requires fits { FitsSequence coded.now.code sequence.now coded.now }
-    ensures { IfOk result (λ p. p ≡ rebuilt sequence.now coded.now) }
+    requires refs { AreReferences sequence.now refs.now coded.now.header }
+    ensures value { IfOk result (λ p. p ≡ rebuilt sequence.now refs.now coded.now) }
+    ensures fits { IfOk result (IsPicture sequence.now) }
 {
-    match &coded.residual {
-        None => make_grey(alloc, coded.header.number, sequence),
-        Some(residual) => rebuild_planes(alloc, coded.header.number, residual, sequence),
-    }
+    Ok(Picture {
+        number: coded.header.number,
+        y: samples(alloc, coded, sequence, refs, Part::Y)?,
+        u: samples(alloc, coded, sequence, refs, Part::U)?,
+        v: samples(alloc, coded, sequence, refs, Part::V)?,
+    })
 }
 
 /// A picture as it was coded, and as it was rebuilt; and once more where later pictures may refer to it.
@@ -133,16 +134,18 @@ pub(crate) fn make_picture(
     sequence: &Sequence,
     refs: &RefBuffer,
 ) -> Result<Rebuilt, Stop>
-    requires code { IsTrue (has_intra_code code) }
+    requires code { IsTrue (is_picture code) }
     requires sequence { IsSequence sequence.now }
-    ensures value { IsRebuilt result (picture_read code sequence.now refs.now payload.now) sequence.now }
+    requires refs { All (IsPicture sequence.now) refs.now }
+    ensures value { IsRebuilt result (picture_read code sequence.now refs.now payload.now) sequence.now refs.now }
+    ensures fits { IfOk result (λ r. IsPicture sequence.now r.picture) }
     ensures early { IfErr result (λ e. IfStopped e (λ r. r.at ≤ length payload.now)) }
 {
     let coded = match read_picture(alloc, payload, code, sequence, refs) {
         Err(stop) => return Err(stop),
         Ok(coded) => coded,
     };
-    let picture = match rebuild(alloc, &coded, sequence) {
+    let picture = match rebuild(alloc, &coded, sequence, refs) {
         Err(_) => return Err(Stop::NoMemory),
         Ok(picture) => picture,
     };

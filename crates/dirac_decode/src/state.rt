@@ -1,9 +1,10 @@
-ghost use Rattle.std.specs.Prelude.{◌≡◌, ℕ, ◌+◌, ◌<◌, ◌≤◌, ◌^◌, length, Ok, Option};
+ghost use Rattle.std.specs.Prelude.{◌≡◌, ℕ, ◌+◌, ◌<◌, ◌≤◌, ◌^◌, length, IsTrue, Ok, Option};
+ghost use Rattle.dirac_picture.specs.Grammar.{is_picture};
 ghost use Rattle.dirac_decode.specs.Course.{as_reference, begun, header_moves, in_unit, is_same as same_header, first_or as first_of, moved, passed, picture_moves, shows};
-ghost use Rattle.dirac_decode.specs.Taking.{Fewer, IfRefused, IsPopped, IsTook};
+ghost use Rattle.dirac_decode.specs.Taking.{Fewer, IfRefused, IsOfOpen, IsPopped, IsTook};
 
 use crate::opened::Opened;
-use crate::picture::{Rebuilt, is_intra, make_picture};
+use crate::picture::{Rebuilt, make_picture};
 use dirac_refs::{Delivery, RefBuffer, key};
 use dirac_sequence::read_sequence;
 use dirac_types::{Cause, Picture, Refusal, Stop};
@@ -22,15 +23,15 @@ pub(crate) struct State {
 }
 
 impl Model for State {
-    ghost use Rattle.std.specs.Prelude.{◌≤◌, IfSome, length};
-    ghost use Rattle.dirac_sequence.specs.Lawful.{IsSequence};
+    ghost use Rattle.std.specs.Prelude.{◌≤◌};
     ghost use Rattle.dirac_decode.specs.Course.{Course};
+    ghost use Rattle.dirac_decode.specs.Taking.{IsOpen};
 
     ghost Value = { Course };
 
     ghost view = { λ s. record { opened = s.opened; first = s.first; list = s.refs; waiting = s.waits; most = s.most } };
 
-    ghost invariant = { λ s. IfSome s.opened (λ o. IsSequence o.sequence) × (s.most ≤ 8) };
+    ghost invariant = { λ s. IsOpen s.opened s.refs × (s.most ≤ 8) };
 }
 
 /// What a unit's content brought.
@@ -137,7 +138,8 @@ impl State {
 
     /// Reads and rebuilds a picture of the open sequence.
     fn take_picture(&mut self, alloc: Global, code: u8, payload: &[u8]) -> Took
-        requires { length payload.now < 2 ^ 63 }
+        requires code { IsTrue (is_picture code) }
+        requires few { length payload.now < 2 ^ 63 }
         ensures took { IsTook result (picture_moves self.old self.old.opened code payload.now) self.old self.new }
         ensures early { IfRefused result (λ e. e.at ≤ 13 + length payload.now) }
         ensures few { Fewer result (length self.old.waiting) (length self.new.waiting) }
@@ -148,12 +150,6 @@ impl State {
                 cause: Cause::NoSequence,
             });
         };
-        if !is_intra(code) {
-            return Took::Refused(Refusal {
-                at: 4,
-                cause: Cause::Unbuilt,
-            });
-        }
         match make_picture(alloc, payload, code, &opened.sequence, &self.refs) {
             Err(Stop::Refused(refusal)) => Took::Refused(behind_parse_info(refusal)),
             Err(Stop::NoMemory) => Took::NoMemory,
@@ -163,7 +159,8 @@ impl State {
 
     /// A rebuilt picture changes the list and joins those that wait.
     fn show(&mut self, made: Rebuilt) -> Took
-        requires { made.reference ≡ as_reference made.coded.code made.picture }
+        requires reference { made.reference ≡ as_reference made.coded.code made.picture }
+        requires fits { IsOfOpen self.old.opened made.picture }
         ensures took { IsTook result (Ok (shows self.old made.coded made.picture)) self.old self.new }
         ensures few { Fewer result (length self.old.waiting) (length self.new.waiting) }
         ensures accepted { IfRefused result (λ e. ⊥) }

@@ -1,0 +1,65 @@
+-- The listed pictures are pictures of the open sequence.
+use Rattle.std.proofs.Common.{◌≡◌, ℕ, ◌≤◌, Bool, true, false, not, ◌&&◌, nat_le, if◌then◌else◌, List, [], ◌∷◌, ◌++◌, length, drop, Option, None, Some, refl, subst, sym, IsTrue, arith}
+use Rattle.std.specs.Prelude.{◌==◌, is_some}
+use Rattle.std.specs.List.{All, filter}
+use Rattle.std.specs.Option.{ForSome}
+use Rattle.std.proofs.lemmas.List.Elements.{All-filter, All-drop, All-append, All-cons, All-nil, All-get_or}
+use Rattle.dirac_types.specs.declared.picture.Picture.{Picture}
+use Rattle.dirac_sequence.specs.declared.sequence.Sequence.{Sequence}
+use Rattle.dirac_header.specs.Codes.{is_reference}
+use Rattle.dirac_header.specs.declared.header.PictureHeader.{PictureHeader}
+use Rattle.dirac_refs.specs.References.{listed, without, retire, append, appended, committed}
+use Rattle.dirac_picture.specs.Grammar.{is_listed, are_listed}
+use Rattle.dirac_decode.specs.declared.opened.Opened.{Opened}
+use Rattle.dirac_decode.specs.Content.{named, IsPicture, AreReferences}
+use Rattle.dirac_decode.specs.Course.{as_reference}
+use Rattle.dirac_decode.specs.Taking.{IsOpen, IsOfOpen}
+
+first_fits : (P : Picture → Type 0) (q : Picture) (list : List Picture) → All P (q ∷ list) → P q
+first_fits P q list all = All-get_or P (q ∷ list) 0 q (omega arith) all
+
+rest_fits : (P : Picture → Type 0) (q : Picture) (list : List Picture) → All P (q ∷ list) → All P list
+rest_fits P q list all = All-drop P 1 (q ∷ list) all
+
+-- a picture that is found is one of the list
+found_fits : (P : Picture → Type 0) (list : List Picture) (number : ℕ) (p : Picture) → All P list → listed list number ≡ Some p → P p
+found_fits P [] number p all is = absurd cc
+found_fits P (q ∷ list) number p all is =
+    elim (q.number == number) as (λ b. (if b then Some q else listed list number) ≡ Some p → P p) [
+      | true ↦ λ e. let same : q ≡ p = cc in subst P same (first_fits P q list all)
+      | false ↦ λ e. found_fits P list number p (rest_fits P q list all) e
+    ] is
+
+named_fits : (s : Sequence) (refs : List Picture) (number : Option ℕ) → All (IsPicture s) refs → ForSome (named refs number) (IsPicture s)
+named_fits s refs None all = λ p is. absurd cc
+named_fits s refs (Some n) all = λ p is. found_fits (IsPicture s) refs n p all is
+
+-- what a header names, where all listed pictures are of the sequence
+pub references_fit : (s : Sequence) (refs : List Picture) (head : PictureHeader) → IsTrue (are_listed refs head) → All (IsPicture s) refs → AreReferences s refs head
+references_fit s refs head there all = record { listed = there; first = named_fits s refs head.ref1 all; second = named_fits s refs head.ref2 all }
+
+-- the list without some pictures, and with one more
+retire_fits : (P : Picture → Type 0) (list : List Picture) (retired : Option ℕ) → All P list → All P (retire list retired)
+retire_fits P list None all = all
+retire_fits P list (Some number) all = All-filter (λ p. not (p.number == number)) P list all
+
+shorter_fits : (P : Picture → Type 0) (list : List Picture) (b : Bool) → All P list → All P (if b then drop 1 list else list)
+shorter_fits P list true all = All-drop P 1 list all
+shorter_fits P list false all = all
+
+appended_fits : (P : Picture → Type 0) (list : List Picture) (p : Picture) → All P list → P p → All P (append list p)
+appended_fits P list p all one =
+    All-append P (if nat_le 8 (length list) then drop 1 list else list) (p ∷ []) (shorter_fits P list (nat_le 8 (length list)) all) (All-cons P p [] one (All-nil P))
+
+reference_fits : (P : Picture → Type 0) (list : List Picture) (reference : Bool) (p : Picture) → All P list → P p
+    → All P (appended list (if reference then Some p else None))
+reference_fits P list true p all one =
+    appended_fits P (without p.number list) p (All-filter (λ q. not (q.number == p.number)) P list all) one
+reference_fits P list false p all one = all
+
+-- after a picture of the open sequence
+pub open_still : (o : Option Opened) (refs : List Picture) (retired : Option ℕ) (code : ℕ) (p : Picture) → IsOpen o refs → IsOfOpen o p
+    → IsOpen o (committed refs retired (as_reference code p))
+open_still None refs retired code p lawful one = absurd one
+open_still (Some o) refs retired code p lawful one =
+    (lawful.0, reference_fits (IsPicture o.sequence) (retire refs retired) (is_reference code) p (retire_fits (IsPicture o.sequence) refs retired lawful.1) one)

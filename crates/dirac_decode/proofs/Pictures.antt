@@ -1,0 +1,38 @@
+-- Rebuilt pictures are pictures of their sequence.
+use Rattle.std.proofs.Common.{◌≡◌, ℤ, pos, negsuc, ◌≤ℤ◌, List, map, get_or, Option, None, Some, arith, refl}
+use Rattle.std.specs.List.{All}
+use Rattle.std.specs.Int.{int_min}
+use Rattle.std.proofs.lemmas.Int.{ints, int_max_is, int_min_is}
+use Rattle.std.proofs.lemmas.List.Elements.{All-map}
+use Rattle.dirac_types.specs.Table.{Table}
+use Rattle.dirac_types.specs.declared.picture.Picture.{Picture}
+use Rattle.dirac_sequence.specs.declared.sequence.Sequence.{Sequence}
+use Rattle.dirac_header.specs.declared.header.PictureHeader.{PictureHeader}
+use Rattle.dirac_upconvert.specs.HalfSamples.{IsSample}
+use Rattle.dirac_obmc.specs.declared.motion.Part.{Part}
+use Rattle.dirac_picture.specs.declared.coded.CodedMotion.{CodedMotion}
+use Rattle.dirac_picture.specs.declared.coded.CodedPicture.{CodedPicture}
+use Rattle.dirac_picture.specs.declared.coded.CodedResidual.{CodedResidual}
+use Rattle.dirac_residual.specs.Residual.{clip, clipped}
+use Rattle.dirac_decode.specs.Content.{IsPlane, width_of, height_of, samples_from, plane_samples}
+
+-- a clipped value is a sample
+clip_is_sample : (v : ℤ) → IsSample (clip v)
+clip_is_sample v = record {
+  least = omega (arith, ints, int_max_is (negsuc 127) (int_min v (pos 127)), int_min_is v (pos 127));
+  most = omega (arith, ints, int_max_is (negsuc 127) (int_min v (pos 127)), int_min_is v (pos 127));
+}
+
+all_clipped : (vs : List ℤ) → All IsSample (map clip vs)
+all_clipped vs = All-map IsSample clip vs (λ k d h. clip_is_sample (get_or vs k d))
+
+-- the samples of a plane
+samples_fit : (s : Sequence) (refs : List Picture) (head : PictureHeader) (m : Option CodedMotion) (coded : Option CodedResidual) (part : Part)
+    → IsPlane (width_of s part) (height_of s part) (samples_from s refs head m coded part)
+samples_fit s refs head None None part = record { across = refl; down = refl; samples = all_clipped _ }
+samples_fit s refs head None (Some r) part = record { across = refl; down = refl; samples = all_clipped _ }
+samples_fit s refs head (Some m) None part = record { across = refl; down = refl; samples = all_clipped _ }
+samples_fit s refs head (Some m) (Some r) part = record { across = refl; down = refl; samples = all_clipped _ }
+
+pub plane_fits : (s : Sequence) (refs : List Picture) (coded : CodedPicture) (part : Part) → IsPlane (width_of s part) (height_of s part) (plane_samples s refs coded part)
+plane_fits s refs coded part = samples_fit s refs coded.header coded.motion coded.residual part
