@@ -1,5 +1,7 @@
 pub mod Bytes
+pub mod Carrieds
 pub mod Decided
+pub mod Decidings
 pub mod Decisions
 pub mod Doublings
 pub mod Encodings

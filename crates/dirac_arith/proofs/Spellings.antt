@@ -62,7 +62,7 @@ narrowed_by-append s [] es = refl
 narrowed_by-append s (d ∷ ds) es = narrowed_by-append (narrowed s d) ds es
 
 -- digits from number i on, one more follow decision, and more
-pub spelt_from : List ℕ → ℕ → ℕ → List Bool → Bool → List Decision → List Decision
+unfoldable pub spelt_from : List ℕ → ℕ → ℕ → List Bool → Bool → List Decision → List Decision
 spelt_from follow bits i [] last more = (follow_at follow i, last) ∷ more
 spelt_from follow bits i (b ∷ bs) last more = (follow_at follow i, false) ∷ (bits, b) ∷ spelt_from follow bits (i + 1) bs last more
 

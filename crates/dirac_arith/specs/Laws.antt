@@ -1,9 +1,12 @@
 -- What holds of all blocks and decisions.
-use Rattle.std.specs.Prelude.{◌≡◌, ◌-◌, ◌^◌, ◌<◌, ℕ, ℤ, true, false, List, ◌∷◌, ◌++◌, length, map, nat_abs}
+use Rattle.std.specs.Prelude.{◌≡◌, ◌≢◌, ◌↔◌, ◌⊎◌, ◌-◌, ◌^◌, ◌<◌, ℕ, ℤ, Bool, true, false, List, [], ◌∷◌, ◌++◌, length, map, nat_abs, Ok, Err}
 use Rattle.dirac_types.specs.Numbers.{uint, sint}
 use Rattle.dirac_arith.specs.Interval.{Decision, InContexts}
+use Rattle.dirac_types.specs.declared.faults.Cause.TheVariants.{CodeWord, NumberTooLong}
 use Rattle.dirac_arith.specs.Carried.{Carries}
-use Rattle.dirac_arith.specs.Spelling.{spelling, signed_spelling}
+use Rattle.dirac_arith.specs.Deciding.{begin, decided, number_read, signed_read}
+use Rattle.dirac_arith.specs.Front.{front}
+use Rattle.dirac_arith.specs.Spelling.{spelt, spelling, signed_spelling}
 use Rattle.dirac_arith.specs.Written.{flush}
 use Rattle.dirac_arith.specs.Reading.{Reading, Reads}
 
@@ -45,3 +48,60 @@ ReadingComposes = (a b c : Reading) (ds es : List Decision) → Reads a ds b →
 -- the block that is written for decisions carries them
 abbrev pub FlushedIsCarried : Type 0
 FlushedIsCarried = (ds : List Decision) → InContexts ds → Carries (flush ds) ds
+
+-- behind decisions that it carries, a block that doesn't begin with sixteen ones carries one more in each context
+abbrev pub CarriesSomeTruth : Type 0
+CarriesSomeTruth =
+    (block : List ℕ) (common : List Decision) (context : ℕ) → front block 16 ≢ 0xFFFF → Carries block common
+    → (truth : Bool) × Carries block (common ++ (context, truth) ∷ [])
+
+-- and a number, or the begin of one that is too long
+abbrev pub CarriesSomeNumber : Type 0
+CarriesSomeNumber =
+    (block : List ℕ) (common : List Decision) (follow : List ℕ) (bits : ℕ) → front block 16 ≢ 0xFFFF → Carries block common
+    → ((v : ℕ) × (v < 2 ^ 39 - 1) × Carries block (common ++ spelling follow bits v))
+    ⊎ ((digits : List Bool) × (length digits ≡ 38) × Carries block (common ++ spelt follow bits digits false))
+
+-- the same of signed numbers
+abbrev pub CarriesSomeSigned : Type 0
+CarriesSomeSigned =
+    (block : List ℕ) (common : List Decision) (follow : List ℕ) (bits sign : ℕ) → front block 16 ≢ 0xFFFF → Carries block common
+    → ((v : ℤ) × (nat_abs v < 2 ^ 39 - 1) × Carries block (common ++ signed_spelling follow bits sign v))
+    ⊎ ((digits : List Bool) × (length digits ≡ 38) × Carries block (common ++ spelt follow bits digits false))
+
+-- behind decisions that were read, the next one reads to the truth that the block allows
+abbrev pub DecisionIsRead : Type 0
+DecisionIsRead =
+    (block : List ℕ) (common : List Decision) (old new : Reading) (context : ℕ) (truth : Bool) → front block 16 ≢ 0xFFFF → Reads (begin block) common old
+    → (decided context old ≡ Ok (truth, new)) ↔ Reads old ((context, truth) ∷ []) new
+
+-- a number reads to the one that the block carries
+abbrev pub NumberIsRead : Type 0
+NumberIsRead =
+    (block : List ℕ) (common : List Decision) (old new : Reading) (follow : List ℕ) (bits v : ℕ) → Reads (begin block) common old
+    → (number_read follow bits old ≡ Ok (v, new)) ↔ ((v < 2 ^ 39 - 1) × Reads old (spelling follow bits v) new)
+
+-- it is refused where it is too long
+abbrev pub LongNumberIsRefused : Type 0
+LongNumberIsRefused =
+    (block : List ℕ) (common : List Decision) (old : Reading) (follow : List ℕ) (bits : ℕ) → Reads (begin block) common old
+    → (number_read follow bits old ≡ Err NumberTooLong) ↔ ((digits : List Bool) × (length digits ≡ 38) × ((new : Reading) × Reads old (spelt follow bits digits false) new))
+
+-- the same of signed numbers
+abbrev pub SignedIsRead : Type 0
+SignedIsRead =
+    (block : List ℕ) (common : List Decision) (old new : Reading) (follow : List ℕ) (bits sign : ℕ) (v : ℤ) → Reads (begin block) common old
+    → (signed_read follow bits sign old ≡ Ok (v, new)) ↔ ((nat_abs v < 2 ^ 39 - 1) × Reads old (signed_spelling follow bits sign v) new)
+
+abbrev pub LongSignedIsRefused : Type 0
+LongSignedIsRefused =
+    (block : List ℕ) (common : List Decision) (old : Reading) (follow : List ℕ) (bits sign : ℕ) → Reads (begin block) common old
+    → (signed_read follow bits sign old ≡ Err NumberTooLong) ↔ ((digits : List Bool) × (length digits ≡ 38) × ((new : Reading) × Reads old (spelt follow bits digits false) new))
+
+-- decisions and numbers are refused for the block's first bits exactly where sixteen of them are ones
+abbrev pub OnesReadToNothing : Type 0
+OnesReadToNothing =
+    (r : Reading) (follow : List ℕ) (context bits sign : ℕ)
+    → ((decided context r ≡ Err CodeWord) ↔ (front r.block 16 ≡ 0xFFFF))
+    × ((number_read follow bits r ≡ Err CodeWord) ↔ (front r.block 16 ≡ 0xFFFF))
+    × ((signed_read follow bits sign r ≡ Err CodeWord) ↔ (front r.block 16 ≡ 0xFFFF))

@@ -1,6 +1,7 @@
 //! Arithmetic decoding of one block.
 ghost use Rattle.std.specs.Prelude.{◌≡◌, ◌≢◌, ◌↔◌, ◌+◌, ◌-◌, ◌*◌, ◌/◌, ◌^◌, ◌<◌, ◌≤◌, ◌⊎◌, ℕ, ℤ, nat_abs, Bool, false, List, length, slice_index, IfOk, IfErr, OnErr, Ok, Err};
 ghost use Rattle.dirac_arith.specs.Carried.{Lies};
+ghost use Rattle.dirac_arith.specs.Deciding.{Gives, decided, number_read, signed_read};
 ghost use Rattle.dirac_arith.specs.Front.{front};
 ghost use Rattle.dirac_arith.specs.Interval.{narrowed, narrowed_by, whole};
 ghost use Rattle.dirac_arith.specs.Reading.{Reads};
@@ -62,6 +63,7 @@ impl<'a> Decoder<'a> {
     pub fn decision(&mut self, ctx: u8) -> Result<bool, Cause>
         requires context { ctx < 38 }
         requires room { self.old.at.doublings < 2 ^ 62 }
+        ensures read { Gives result self.new (decided ctx self.old) }
         ensures moves { IfOk result (λ truth. self.new ≡ record { block = self.old.block; at = narrowed self.old.at (ctx, truth) }) }
         ensures lies { IfOk result (λ truth. Lies self.old.block (narrowed self.old.at (ctx, truth))) }
         ensures one { (truth : Bool) → Lies self.old.block (narrowed self.old.at (ctx, truth)) → result ≡ Ok truth }
@@ -88,6 +90,7 @@ impl<'a> Decoder<'a> {
         requires follow { AreContexts follow.now }
         requires bits { bits < 38 }
         requires room { self.old.at.doublings < 2 ^ 61 }
+        ensures read { Gives result self.new (number_read follow.now bits self.old) }
         ensures found { IfOk result (λ v. Reads self.old (spelling follow.now bits v) self.new) }
         ensures most { IfOk result (λ v. v < 2 ^ 39 - 1) }
         ensures long { result ≡ Err Cause.NumberTooLong →
@@ -144,6 +147,7 @@ impl<'a> Decoder<'a> {
         requires bits { bits < 38 }
         requires sign { sign < 38 }
         requires room { self.old.at.doublings < 2 ^ 61 }
+        ensures read { Gives result self.new (signed_read follow.now bits sign self.old) }
         ensures found { IfOk result (λ v. Reads self.old (signed_spelling follow.now bits sign v) self.new) }
         ensures most { IfOk result (λ v. nat_abs v < 2 ^ 39 - 1) }
         ensures long { result ≡ Err Cause.NumberTooLong →

@@ -1,5 +1,5 @@
 //! Laws of blocks and decisions, each as the contract of a function that does nothing.
-ghost use Rattle.dirac_arith.specs.Laws.{FlushedIsCarried, CarriesOneTruth, CarriesOneOfEqualLength, CarriesOneNumber, CarriesOneSigned, TruthsAreBits, SignedTruthsAreBits, ReadingComposes};
+ghost use Rattle.dirac_arith.specs.Laws.{FlushedIsCarried, CarriesOneTruth, CarriesOneOfEqualLength, CarriesOneNumber, CarriesOneSigned, TruthsAreBits, SignedTruthsAreBits, ReadingComposes, CarriesSomeTruth, CarriesSomeNumber, CarriesSomeSigned, DecisionIsRead, NumberIsRead, LongNumberIsRefused, SignedIsRead, LongSignedIsRefused, OnesReadToNothing};
 
 /// Of two lists of decisions that first differ in one truth at the same context a block carries at most one.
 pub fn block_carries_one_truth()
@@ -27,4 +27,22 @@ pub fn reading_composes()
 /// The block that is written for decisions of the 38 contexts carries them.
 pub fn written_block_carries()
     ensures { FlushedIsCarried }
+{}
+
+/// Behind decisions that it carries, a block that doesn't begin with sixteen ones carries more: a decision in each
+/// context, and a number or the begin of one that is too long.
+pub fn block_carries_more()
+    ensures decision { CarriesSomeTruth }
+    ensures number { CarriesSomeNumber }
+    ensures signed { CarriesSomeSigned }
+{}
+
+/// What a block reads to, decision by decision, is what it carries.
+pub fn reading_is_carrying()
+    ensures decision { DecisionIsRead }
+    ensures number { NumberIsRead }
+    ensures long { LongNumberIsRefused }
+    ensures signed { SignedIsRead }
+    ensures long_signed { LongSignedIsRefused }
+    ensures ones { OnesReadToNothing }
 {}

@@ -14,6 +14,6 @@ mod tail;
 pub use decoder::Decoder;
 pub use encoder::Encoder;
 pub use laws::{
-    block_carries_one_number, block_carries_one_truth, reading_composes, truths_are_bits,
-    written_block_carries,
+    block_carries_more, block_carries_one_number, block_carries_one_truth, reading_composes,
+    reading_is_carrying, truths_are_bits, written_block_carries,
 };

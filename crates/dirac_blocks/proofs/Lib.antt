@@ -1,6 +1,9 @@
-mod Examples
-mod InContexts
 mod Appended
+mod Examples
+mod Fills
+mod InContexts
 mod Narrowing
 mod Putting
+mod Repeating
+mod UnitValues
 mod Units

@@ -4,7 +4,7 @@ use Rattle.std.proofs.lemmas.Bool.{cases_eq}
 use Rattle.dirac_blocks.specs.Tables.{unit_size, first_of}
 
 -- what holds of the splits 0 to 2 holds of each split
-of_splits : (P : ℕ → Type 0) (split : ℕ) → split ≤ 2 → P 0 → P 1 → P 2 → P split
+pub of_splits : (P : ℕ → Type 0) (split : ℕ) → split ≤ 2 → P 0 → P 1 → P 2 → P split
 of_splits P split h p q r =
     elim (cases_eq split 0) [
       | inl e ↦ subst P (sym e) p

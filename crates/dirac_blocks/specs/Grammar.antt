@@ -1,9 +1,8 @@
 -- A block table in a payload: for each of its lists a length and an arithmetic block, which is read over the table that
 -- the lists before gave. Superblocks are read by rows, the units of one by rows, and what a unit has holds for all its blocks.
-use Rattle.std.specs.Prelude.{◌≡◌, ℕ, zero, suc, ℤ, pos, negsuc, ◌+◌, ◌+ℤ◌, ◌*◌, ◌%◌, ◌^◌, ◌==◌, int_le, if◌then◌else◌, Bool, true, false, not, ◌||◌, ◌&&◌, List, [], ◌∷◌, replicate, slice_set, Result, Ok, Err}
+use Rattle.std.specs.Prelude.{ℕ, zero, suc, ℤ, pos, negsuc, ◌+◌, ◌+ℤ◌, ◌*◌, ◌%◌, ◌^◌, ◌==◌, int_le, if◌then◌else◌, Bool, true, false, not, ◌||◌, ◌&&◌, List, [], ◌∷◌, replicate, slice_set, Result, Ok, Err}
 use Rattle.dirac_types.specs.declared.faults.Cause.{Cause}
 use Rattle.dirac_types.specs.declared.faults.Cause.TheVariants.{VectorRange, DcRange}
-use Rattle.dirac_types.specs.declared.formats.Vector.{Vector}
 use Rattle.dirac_arith.specs.Chain.{◌>>=◌ as ◌>>◌}
 use Rattle.dirac_arith.specs.Deciding.{begin, decided, number_read, signed_read}
 use Rattle.dirac_arith.specs.Reading.{Reading}
@@ -192,14 +191,19 @@ dcs_listed t = do
   t ← listed (units_step (parts.Dc components.U)) t
   listed (units_step (parts.Dc components.V)) t
 
+-- the vectors and the DC values
+unfoldable pub values_listed : BlockTable → Syntax BlockTable
+values_listed t = do
+  t ← vectors_listed references.First t
+  t ← second_listed t
+  dcs_listed t
+
 -- all lists, in the order of their blocks
 unfoldable pub lists_of : BlockTable → Syntax BlockTable
 lists_of t = do
   t ← listed splits_step t
   t ← listed (units_step parts.Modes) t
-  t ← vectors_listed references.First t
-  t ← second_listed t
-  dcs_listed t
+  values_listed t
 
 -- a block table
 unfoldable pub blocks : ℕ → ℕ → ℕ → Syntax BlockTable

@@ -3,5 +3,6 @@ pub mod Decisions
 pub mod Grammar
 pub mod Parts
 pub mod Puts
+pub mod Reached
 pub mod Tables
 pub mod Written

@@ -2,16 +2,21 @@
 #![tactic(auto)]
 
 mod block;
+mod filling;
+mod list_reader;
 mod list_writer;
 mod lists;
 mod neighbours;
 mod parts;
 mod reader;
 mod shared;
+mod split_reader;
 mod split_writer;
 mod superblock;
 mod table;
 mod unit_loops;
+mod unit_reader;
+mod unit_reading;
 mod unit_writer;
 mod writer;
 

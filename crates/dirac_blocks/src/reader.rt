@@ -4,6 +4,7 @@ ghost use Rattle.dirac_blocks.specs.Answers.{ReadsOrStops, IsEarly};
 ghost use Rattle.dirac_blocks.specs.Grammar.{blocks};
 ghost use Rattle.dirac_blocks.specs.Tables.{IsBlockTable, IsSize};
 
+use crate::list_reader::read_lists;
 use crate::table::BlockData;
 use dirac_bits::BitReader;
 use dirac_types::Stop;
@@ -12,6 +13,7 @@ use std::alloc::Global;
 /// Reads a block table (block data, Dirac specification) of `across` by `down` superblocks for so many references:
 /// passes to the next byte, and takes for each of its lists a length and an arithmetic block. What an arithmetic
 /// block doesn't hold is refused at its first byte.
+#[tactic(auto, unfolding(crate::specs::Grammar::blocks))]
 pub fn read_blocks(
     alloc: Global,
     r: &mut BitReader<'_>,
@@ -28,5 +30,13 @@ pub fn read_blocks(
     ensures down { IfOk result (λ t. t.down ≡ down) }
     ensures refs { IfOk result (λ t. t.refs ≡ refs) }
 {
-    Err(Stop::NoMemory)
+    let mut table = BlockData::try_new(alloc, across, down, refs)?;
+    r.align();
+    match read_lists(r, &mut table) {
+        Ok(()) => {
+            let _ = table.refs();
+            Ok(table)
+        }
+        Err(refusal) => Err(Stop::Refused(refusal)),
+    }
 }

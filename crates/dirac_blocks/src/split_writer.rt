@@ -9,7 +9,7 @@ use dirac_arith::Encoder;
 use dirac_types::NoMemory;
 
 /// The contexts of follow decisions of a split number.
-const SPLIT_FOLLOW: [u8; 2] = [22, 23];
+pub const SPLIT_FOLLOW: [u8; 2] = [22, 23];
 
 /// Writes the number of superblock `sx` of row `sy`: its split less its prediction, modulo 3.
 fn write_split(encoder: &mut Encoder, table: &BlockData, sx: u32, sy: u32) -> Result<(), NoMemory>

@@ -1,8 +1,11 @@
 ghost use Rattle.std.specs.Prelude.{◌≡◌, ◌*◌, ◌^◌, ◌<◌, ◌≤◌, All, length, replicate, IfOk};
+ghost use Rattle.dirac_blocks.specs.Grammar.{with_split, with_unit};
 ghost use Rattle.dirac_blocks.specs.Puts.{IsPut};
+ghost use Rattle.dirac_blocks.specs.Reached.{AllGrey, IsUnit};
 ghost use Rattle.dirac_blocks.specs.Tables.{BlockTable, IsBlock, IsBlockTable, IsSize, grey, split_at, block_at};
 
 use crate::block::Block;
+use crate::filling::fill_rows;
 use crate::lists::{Blocks, Splits, new_blocks, new_splits};
 use crate::superblock::put_superblock;
 use dirac_types::{NoMemory, Vector};
@@ -117,6 +120,39 @@ impl BlockData {
             4 * top,
             split,
             units,
+        );
+    }
+
+    /// Writes how superblock `sx` of row `sy` is split; no block is read yet.
+    pub(crate) fn set_split(&mut self, sx: u32, sy: u32, split: u8)
+        requires across { sx < self.old.across }
+        requires down { sy < self.old.down }
+        requires split { split ≤ 2 }
+        requires grey { AllGrey self.old.blocks }
+        ensures value { self.new ≡ with_split self.old sx sy split }
+        ensures lawful { IsBlockTable self.new }
+    {
+        let place = sy as usize * self.across as usize + sx as usize;
+        self.splits.set(place, split);
+    }
+
+    /// Writes the blocks of a unit, of `size` by `size` equal blocks from block `i` of row `j` on.
+    pub(crate) fn set_unit(&mut self, size: u32, i: u32, j: u32, block: Block)
+        requires unit { IsUnit self.old size i j }
+        requires block { IsBlock self.old.refs block }
+        ensures value { self.new ≡ with_unit self.old size i j block }
+        ensures lawful { IsBlockTable self.new }
+    {
+        let width = 4 * self.across as usize;
+        let length = size as usize;
+        fill_rows(
+            &mut self.blocks,
+            width,
+            length,
+            i as usize,
+            j as usize,
+            block,
+            length,
         );
     }
 

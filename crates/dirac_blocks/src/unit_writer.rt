@@ -14,13 +14,13 @@ use dirac_arith::Encoder;
 use dirac_types::{NoMemory, Vector};
 
 /// The contexts of follow decisions of a vector's component.
-const VECTOR_FOLLOW: [u8; 5] = [27, 28, 29, 30, 31];
+pub const VECTOR_FOLLOW: [u8; 5] = [27, 28, 29, 30, 31];
 
 /// The contexts of follow decisions of a DC value.
-const DC_FOLLOW: [u8; 2] = [34, 35];
+pub const DC_FOLLOW: [u8; 2] = [34, 35];
 
 /// Whether two bits differ.
-fn differs(a: bool, b: bool) -> bool
+pub fn differs(a: bool, b: bool) -> bool
     ensures { result ≡ differ a b }
 {
     match a {

@@ -1,10 +1,13 @@
-use Rattle.std.proofs.Common.{◌≡◌, ◌+◌, ◌*◌, ◌^◌, ◌<◌, ◌≤◌, Ok, slice_set, ap, sym, subst, arith, ◌∙◌}
+use Rattle.std.proofs.Common.{◌≡◌, ◌≢◌, Bool, Result, ◌+◌, ◌*◌, ◌^◌, ◌<◌, ◌≤◌, Ok, slice_set, ap, sym, subst, arith, ◌∙◌}
 use Rattle.std.proofs.lemmas.Bool.{both_ways}
 use Rattle.dirac_arith.specs.Carried.{Lies}
+use Rattle.dirac_arith.specs.Front.{front}
 use Rattle.dirac_arith.specs.Interval.{narrowed, contexts_after}
 use Rattle.dirac_arith.specs.Reading.{Reading}
 use Rattle.dirac_arith.specs.Registers.{doublings_of}
 use Rattle.dirac_arith.specs.Decoding.{reading}
+use Rattle.dirac_types.specs.declared.faults.Cause.{Cause}
+use Rattle.dirac_arith.proofs.Decidings.{decided_is, decided_shut}
 use Rattle.dirac_arith.proofs.Intervals.{doublings_is, stands_self, one_truth, lies_kept}
 use Rattle.dirac_arith.proofs.Windows.{window_from_lies}
 use Rattle.dirac_arith.proofs.Decisions.{chances_set, moves, lies_moved}
@@ -86,3 +89,16 @@ returns-clause-few c =
     let is = doublings_is a.block.now c.fill-self-inside.result _ _ (filled.stands _ _ stands) in
     let P : Reading → Type 0 = λ x. doublings_of c.fill-self-inside.result ≤ x.at.doublings + 9 in
     subst P c.self.view_is (omega (arith, is, decided.few, decided.next))
+
+pub returns-then-self-clause-read : goal.returns-then-self-clause-read
+returns-then-self-clause-read c =
+    let P : Reading → Type 0 = λ x. front x.block 16 ≡ 0xFFFF in
+    decided_shut c.args.ctx c.args.self.now (subst P c.self.view_is (c.self.invariant.refused c.if-self.true).0)
+
+pub returns-clause-read : goal.returns-clause-read
+returns-clause-read c =
+    let truth = c.decide-decided.result.truth in
+    let P : Reading → Type 0 = λ x. front x.block 16 ≢ 0xFFFF in
+    let some = subst P c.self.view_is (c.self.invariant.inside c.if-self.false).0 in
+    decided_is c.args.ctx truth c.args.self.now some (returns-clause-lies c)
+    ∙ ap (λ (s : Reading). let y : Result (Bool × Reading) Cause = Ok (truth, s) in y) (sym (returns-clause-moves c))

@@ -2,6 +2,7 @@ use Rattle.std.proofs.Common.{◌≡◌, subst, arith}
 use Rattle.dirac_arith.specs.Carried.{Lies}
 use Rattle.dirac_arith.specs.Front.{front}
 use Rattle.dirac_arith.specs.Reading.{Reading}
+use Rattle.dirac_arith.proofs.Carrieds.{signed_gives}
 use Rattle.dirac_arith.proofs.Numbers.{signed_read, no_signed_read, sound_tame, shut}
 use Rattle.dirac_arith.proofs.Spellings.{IsTame}
 use Rattle.dirac_arith.proofs.decoder.Decoder.signed.Goals as goal
@@ -29,3 +30,10 @@ returns-clause-no_number c =
     let closed = subst S c.self.view_is (shut a c.self.invariant) in
     no_signed_read c.read_signed.result c.args.self.now c.read_signed.new.self c.args.follow.now c.args.bits c.args.sign digits tame
     (λ e. closed (taken.refused.0 e)) taken.found taken.only count lies
+
+pub returns-clause-read : goal.returns-clause-read
+returns-clause-read c =
+    let taken = c.read_signed.ensures in
+    let T : Reading → Type 0 = λ x. IsTame x.at in
+    let tame = subst T c.self.view_is (sound_tame c.self.inside (omega arith) c.self.invariant) in
+    signed_gives c.read_signed.result c.args.self.now c.read_signed.new.self c.args.follow.now c.args.bits c.args.sign tame taken.found taken.most taken.long taken.refused taken.only

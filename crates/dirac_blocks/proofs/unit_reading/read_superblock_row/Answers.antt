@@ -1,0 +1,29 @@
+use Rattle.std.proofs.Common.{arith}
+use Rattle.dirac_blocks.specs.Grammar.{superblock_step}
+use Rattle.dirac_blocks.specs.Reached.{progress}
+use Rattle.dirac_blocks.proofs.Repeating.{repeated_none, repeated_next, repeated_stops, shape_refl, shape_join}
+use Rattle.dirac_blocks.proofs.unit_reading.read_superblock_row.Goals as goal
+
+pub superblocks-init : goal.superblocks-init
+superblocks-init c =
+    record {
+      value = repeated_none (superblock_step c.args.part c.args.sy) (progress c.args.table.now c.args.decoder.now);
+      shape = shape_refl c.args.table.now;
+      few = omega arith;
+    }
+
+pub superblocks-preserved : goal.superblocks-preserved
+superblocks-preserved c =
+    record {
+      value =
+          repeated_next (superblock_step c.args.part c.args.sy) c.superblocks.n (progress c.args.table.now c.args.decoder.now) (progress c.superblocks.table c.superblocks.decoder) _ c.superblocks.invariant.value c.in-Ok.ensures.value;
+      shape = shape_join c.args.table.now c.superblocks.table c.read_superblock.new.table c.superblocks.invariant.shape c.read_superblock.ensures.shape;
+      few = omega (arith, c.read_superblock.ensures.few);
+    }
+
+pub returns-in-Err-clause-value : goal.returns-in-Err-clause-value
+returns-in-Err-clause-value c =
+    repeated_stops (superblock_step c.args.part c.args.sy) c.superblocks.n c.args.count (progress c.args.table.now c.args.decoder.now) (progress c.superblocks.table c.superblocks.decoder) c.in-Err.cause (omega arith) c.superblocks.invariant.value c.in-Err.ensures.value
+
+pub returns-in-Err-clause-shape : goal.returns-in-Err-clause-shape
+returns-in-Err-clause-shape c = shape_join c.args.table.now c.superblocks.table c.read_superblock.new.table c.superblocks.invariant.shape c.read_superblock.ensures.shape

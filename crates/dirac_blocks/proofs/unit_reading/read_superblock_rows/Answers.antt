@@ -1,0 +1,29 @@
+use Rattle.std.proofs.Common.{arith}
+use Rattle.dirac_blocks.specs.Grammar.{repeated, superblock_step}
+use Rattle.dirac_blocks.specs.Reached.{progress}
+use Rattle.dirac_blocks.proofs.Repeating.{repeated_none, repeated_next, repeated_stops, shape_refl, shape_join}
+use Rattle.dirac_blocks.proofs.unit_reading.read_superblock_rows.Goals as goal
+
+pub rows-init : goal.rows-init
+rows-init c =
+    record {
+      value = repeated_none (λ sy. repeated (superblock_step c.args.part sy) c.args.across) (progress c.args.table.now c.args.decoder.now);
+      shape = shape_refl c.args.table.now;
+      few = omega arith;
+    }
+
+pub rows-preserved : goal.rows-preserved
+rows-preserved c =
+    record {
+      value =
+          repeated_next (λ sy. repeated (superblock_step c.args.part sy) c.args.across) c.rows.n (progress c.args.table.now c.args.decoder.now) (progress c.rows.table c.rows.decoder) _ c.rows.invariant.value c.in-Ok.ensures.value;
+      shape = shape_join c.args.table.now c.rows.table c.read_superblock_row.new.table c.rows.invariant.shape c.read_superblock_row.ensures.shape;
+      few = omega (arith, c.read_superblock_row.ensures.few);
+    }
+
+pub returns-in-Err-clause-value : goal.returns-in-Err-clause-value
+returns-in-Err-clause-value c =
+    repeated_stops (λ sy. repeated (superblock_step c.args.part sy) c.args.across) c.rows.n c.args.count (progress c.args.table.now c.args.decoder.now) (progress c.rows.table c.rows.decoder) c.in-Err.cause (omega arith) c.rows.invariant.value c.in-Err.ensures.value
+
+pub returns-in-Err-clause-shape : goal.returns-in-Err-clause-shape
+returns-in-Err-clause-shape c = shape_join c.args.table.now c.rows.table c.read_superblock_row.new.table c.rows.invariant.shape c.read_superblock_row.ensures.shape

@@ -1,0 +1,135 @@
+ghost use Rattle.std.specs.Prelude.{◌≡◌, ◌≤◌, length, IfErr};
+ghost use Rattle.dirac_bits.specs.Syntax.{read};
+ghost use Rattle.dirac_blocks.specs.Grammar.{dcs_listed, listed, lists_of, second_listed, splits_step, units_step, values_listed, vectors_listed};
+ghost use Rattle.dirac_blocks.specs.Reached.{AllGrey, Lists, SameBlocks, SameShape, SameSize};
+
+use crate::parts::{Component, Part, Reference};
+use crate::split_reader::read_splits;
+use crate::table::BlockData;
+use crate::unit_reading::read_units;
+use dirac_arith::Decoder;
+use dirac_bits::BitReader;
+use dirac_types::Refusal;
+
+/// Reads the block of the splits.
+#[tactic(auto, unfolding(crate::specs::Grammar::listed))]
+fn read_split_list(r: &mut BitReader<'_>, table: &mut BlockData) -> Result<(), Refusal>
+    requires { AllGrey table.old.blocks }
+    ensures value { Lists result table.new r.new (read (listed splits_step table.old) r.old) }
+    ensures blocks { SameBlocks table.old table.new }
+    ensures early { IfErr result (λ e. e.at ≤ length r.old.bytes) }
+    ensures kept { r.new.bytes ≡ r.old.bytes }
+{
+    let len = r.uint()?;
+    r.align();
+    let at = r.place();
+    let block = r.block(len)?;
+    let mut decoder = Decoder::new(block);
+    match read_splits(&mut decoder, table) {
+        Ok(()) => Ok(()),
+        Err(cause) => Err(Refusal { at, cause }),
+    }
+}
+
+/// Reads the block of what a list tells of each unit.
+#[tactic(auto, unfolding(crate::specs::Grammar::listed))]
+fn read_list(r: &mut BitReader<'_>, table: &mut BlockData, part: Part) -> Result<(), Refusal>
+    ensures value { Lists result table.new r.new (read (listed (units_step part) table.old) r.old) }
+    ensures shape { SameShape table.old table.new }
+    ensures early { IfErr result (λ e. e.at ≤ length r.old.bytes) }
+    ensures kept { r.new.bytes ≡ r.old.bytes }
+{
+    let len = r.uint()?;
+    r.align();
+    let at = r.place();
+    let block = r.block(len)?;
+    let mut decoder = Decoder::new(block);
+    match read_units(&mut decoder, table, part) {
+        Ok(()) => Ok(()),
+        Err(cause) => Err(Refusal { at, cause }),
+    }
+}
+
+/// Reads the blocks of both components of the vectors of a reference.
+#[tactic(auto, unfolding(crate::specs::Grammar::vectors_listed), using(dirac_bits::specs::Then::read_then))]
+fn read_vectors(
+    r: &mut BitReader<'_>,
+    table: &mut BlockData,
+    reference: Reference,
+) -> Result<(), Refusal>
+    ensures value { Lists result table.new r.new (read (vectors_listed reference table.old) r.old) }
+    ensures shape { SameShape table.old table.new }
+    ensures early { IfErr result (λ e. e.at ≤ length r.old.bytes) }
+    ensures kept { r.new.bytes ≡ r.old.bytes }
+{
+    match read_list(r, table, Part::Across(reference)) {
+        Ok(()) => read_list(r, table, Part::Down(reference)),
+        Err(e) => Err(e),
+    }
+}
+
+/// Reads the blocks of the second reference, where there is one.
+#[tactic(auto, unfolding(crate::specs::Grammar::second_listed))]
+fn read_second(r: &mut BitReader<'_>, table: &mut BlockData) -> Result<(), Refusal>
+    ensures value { Lists result table.new r.new (read (second_listed table.old) r.old) }
+    ensures shape { SameShape table.old table.new }
+    ensures early { IfErr result (λ e. e.at ≤ length r.old.bytes) }
+    ensures kept { r.new.bytes ≡ r.old.bytes }
+{
+    if table.refs() == 2 {
+        return read_vectors(r, table, Reference::Second);
+    }
+    Ok(())
+}
+
+/// Reads the blocks of the DC values.
+#[tactic(auto, unfolding(crate::specs::Grammar::dcs_listed), using(dirac_bits::specs::Then::read_then))]
+fn read_dcs(r: &mut BitReader<'_>, table: &mut BlockData) -> Result<(), Refusal>
+    ensures value { Lists result table.new r.new (read (dcs_listed table.old) r.old) }
+    ensures shape { SameShape table.old table.new }
+    ensures early { IfErr result (λ e. e.at ≤ length r.old.bytes) }
+    ensures kept { r.new.bytes ≡ r.old.bytes }
+{
+    match read_list(r, table, Part::Dc(Component::Y)) {
+        Ok(()) => match read_list(r, table, Part::Dc(Component::U)) {
+            Ok(()) => read_list(r, table, Part::Dc(Component::V)),
+            Err(e) => Err(e),
+        },
+        Err(e) => Err(e),
+    }
+}
+
+/// Reads the blocks of the vectors and DC values.
+#[tactic(auto, unfolding(crate::specs::Grammar::values_listed), using(dirac_bits::specs::Then::read_then))]
+fn read_values(r: &mut BitReader<'_>, table: &mut BlockData) -> Result<(), Refusal>
+    ensures value { Lists result table.new r.new (read (values_listed table.old) r.old) }
+    ensures shape { SameShape table.old table.new }
+    ensures early { IfErr result (λ e. e.at ≤ length r.old.bytes) }
+    ensures kept { r.new.bytes ≡ r.old.bytes }
+{
+    match read_vectors(r, table, Reference::First) {
+        Ok(()) => match read_second(r, table) {
+            Ok(()) => read_dcs(r, table),
+            Err(e) => Err(e),
+        },
+        Err(e) => Err(e),
+    }
+}
+
+/// Reads the blocks of all lists into a table of which nothing is read.
+#[tactic(auto, unfolding(crate::specs::Grammar::lists_of), using(dirac_bits::specs::Then::read_then))]
+pub fn read_lists(r: &mut BitReader<'_>, table: &mut BlockData) -> Result<(), Refusal>
+    requires { AllGrey table.old.blocks }
+    ensures value { Lists result table.new r.new (read (lists_of table.old) r.old) }
+    ensures size { SameSize table.old table.new }
+    ensures early { IfErr result (λ e. e.at ≤ length r.old.bytes) }
+    ensures kept { r.new.bytes ≡ r.old.bytes }
+{
+    match read_split_list(r, table) {
+        Ok(()) => match read_list(r, table, Part::Modes) {
+            Ok(()) => read_values(r, table),
+            Err(e) => Err(e),
+        },
+        Err(e) => Err(e),
+    }
+}

@@ -1,0 +1,98 @@
+ghost use Rattle.std.specs.Prelude.{◌≡◌, ◌+◌, ◌*◌, ◌^◌, ◌<◌, ◌≤◌};
+ghost use Rattle.dirac_blocks.specs.Grammar.{repeated, split_step, splits_step};
+ghost use Rattle.dirac_blocks.specs.Reached.{AllGrey, Moves, SameBlocks, progress};
+
+use crate::neighbours::predict_split_at;
+use crate::split_writer::SPLIT_FOLLOW;
+use crate::table::BlockData;
+use dirac_arith::Decoder;
+use dirac_types::Cause;
+
+/// Reads how superblock `sx` of row `sy` is split: the sum modulo 3 of a number and the prediction.
+#[tactic(auto, unfolding(crate::specs::Grammar::split_step))]
+fn read_split(
+    decoder: &mut Decoder<'_>,
+    table: &mut BlockData,
+    sx: u32,
+    sy: u32,
+) -> Result<(), Cause>
+    requires column { sx < table.old.across }
+    requires row { sy < table.old.down }
+    requires grey { AllGrey table.old.blocks }
+    requires room { decoder.old.at.doublings < 2 ^ 61 }
+    ensures value { Moves result table.new decoder.new (split_step sy sx (progress table.old decoder.old)) }
+    ensures blocks { SameBlocks table.old table.new }
+    ensures few { decoder.new.at.doublings ≤ decoder.old.at.doublings + 693 }
+{
+    match decoder.number(&SPLIT_FOLLOW, 24) {
+        Ok(number) => {
+            let prediction = predict_split_at(table, sx, sy);
+            let split = (number + u64::from(prediction)) % 3;
+            table.set_split(sx, sy, split as u8);
+            Ok(())
+        }
+        Err(cause) => Err(cause),
+    }
+}
+
+/// Reads how the first `count` superblocks of row `sy` are split.
+fn read_split_row(
+    decoder: &mut Decoder<'_>,
+    table: &mut BlockData,
+    sy: u32,
+    count: u32,
+) -> Result<(), Cause>
+    requires column { count ≤ table.old.across }
+    requires row { sy < table.old.down }
+    requires most { table.old.across ≤ 1024 }
+    requires grey { AllGrey table.old.blocks }
+    requires room { decoder.old.at.doublings < 2 ^ 60 }
+    ensures value { Moves result table.new decoder.new (repeated (split_step sy) count (progress table.old decoder.old)) }
+    ensures blocks { SameBlocks table.old table.new }
+    ensures few { decoder.new.at.doublings ≤ decoder.old.at.doublings + 693 * count }
+{
+    'superblocks: for n in 0..count {
+        match read_split(decoder, table, n, sy) {
+            Ok(()) => {}
+            Err(cause) => return Err(cause),
+        }
+    }
+    Ok(())
+}
+
+/// Reads how the superblocks of the first `count` rows are split, `across` in each: all that there are in a row.
+fn read_split_rows(
+    decoder: &mut Decoder<'_>,
+    table: &mut BlockData,
+    across: u32,
+    count: u32,
+) -> Result<(), Cause>
+    requires column { across ≤ table.old.across }
+    requires row { count ≤ table.old.down }
+    requires most_across { table.old.across ≤ 1024 }
+    requires most_down { table.old.down ≤ 1024 }
+    requires grey { AllGrey table.old.blocks }
+    requires room { decoder.old.at.doublings ≡ 0 }
+    ensures value { Moves result table.new decoder.new (repeated (λ sy. repeated (split_step sy) across) count (progress table.old decoder.old)) }
+    ensures blocks { SameBlocks table.old table.new }
+{
+    'rows: for n in 0..count {
+        match read_split_row(decoder, table, n, across) {
+            Ok(()) => {}
+            Err(cause) => return Err(cause),
+        }
+    }
+    Ok(())
+}
+
+/// Reads how all superblocks are split; no block is read yet.
+pub fn read_splits(decoder: &mut Decoder<'_>, table: &mut BlockData) -> Result<(), Cause>
+    requires grey { AllGrey table.old.blocks }
+    requires room { decoder.old.at.doublings ≡ 0 }
+    ensures value { Moves result table.new decoder.new (splits_step (progress table.old decoder.old)) }
+    ensures blocks { SameBlocks table.old table.new }
+{
+    let across = table.across();
+    let down = table.down();
+    read_split_rows(decoder, table, across, down)
+}

@@ -1,0 +1,281 @@
+ghost use Rattle.std.specs.Prelude.{◌≡◌, ℤ, ◌+◌, ◌*◌, ◌<◌, ◌≤◌, ◌^◌, false, true, length, IfOk};
+ghost use Rattle.dirac_arith.specs.Deciding.{Gives};
+ghost use Rattle.dirac_arith.specs.Spelling.{AreContexts};
+ghost use Rattle.dirac_vectors.specs.Neighbours.{IsShort};
+ghost use Rattle.dirac_blocks.specs.Grammar.{block_using, component_read, is_dc, is_short, mode_read, second_use_read, unit_read, uses, value_read, with_across, with_dc, with_down};
+ghost use Rattle.dirac_blocks.specs.Tables.{IsBlock};
+
+use crate::block::Block;
+use crate::neighbours::{predicted_dc, predicted_use_bit, predicted_vector};
+use crate::parts::{Component, Part, Reference};
+use crate::table::BlockData;
+use crate::unit_writer::{DC_FOLLOW, VECTOR_FOLLOW, differs};
+use dirac_arith::Decoder;
+use dirac_types::{Cause, Vector};
+
+/// Whether a value has 16 bits.
+fn fits(value: i64) -> bool
+    ensures value { result ≡ is_short value }
+    ensures short { result ≡ true → IsShort value }
+{
+    -32768 <= value && value <= 32767
+}
+
+/// Reads a value that is predicted; one without 16 bits is refused for this cause.
+fn read_value(
+    decoder: &mut Decoder<'_>,
+    cause: Cause,
+    follow: &[u8],
+    bits: u8,
+    sign: u8,
+    prediction: i32,
+) -> Result<i32, Cause>
+    requires some { 0 < length follow.now }
+    requires follow { AreContexts follow.now }
+    requires bits { bits < 38 }
+    requires sign { sign < 38 }
+    requires prediction { IsShort prediction }
+    requires room { decoder.old.at.doublings < 2 ^ 61 }
+    ensures value { Gives result decoder.new (value_read cause follow.now bits sign prediction decoder.old) }
+    ensures short { IfOk result IsShort }
+    ensures few { decoder.new.at.doublings ≤ decoder.old.at.doublings + 702 }
+{
+    match decoder.signed(follow, bits, sign) {
+        Ok(number) => {
+            let value = number + i64::from(prediction);
+            if fits(value) {
+                Ok(value as i32)
+            } else {
+                Err(cause)
+            }
+        }
+        Err(e) => Err(e),
+    }
+}
+
+/// Reads a component of a vector that is predicted.
+fn read_component(decoder: &mut Decoder<'_>, prediction: i32) -> Result<i32, Cause>
+    requires prediction { IsShort prediction }
+    requires room { decoder.old.at.doublings < 2 ^ 61 }
+    ensures value { Gives result decoder.new (component_read prediction decoder.old) }
+    ensures short { IfOk result IsShort }
+    ensures few { decoder.new.at.doublings ≤ decoder.old.at.doublings + 702 }
+{
+    read_value(
+        decoder,
+        Cause::VectorRange,
+        &VECTOR_FOLLOW,
+        32,
+        33,
+        prediction,
+    )
+}
+
+/// Reads whether a unit uses reference 2, where there is one; `i` and `j` are the place of its first block.
+fn read_second_use(
+    decoder: &mut Decoder<'_>,
+    table: &BlockData,
+    i: u32,
+    j: u32,
+) -> Result<bool, Cause>
+    requires column { i < 4 * table.now.across }
+    requires row { j < 4 * table.now.down }
+    requires room { decoder.old.at.doublings < 2 ^ 61 }
+    ensures value { Gives result decoder.new (second_use_read table.now i j decoder.old) }
+    ensures single { table.now.refs ≡ 1 → IfOk result (λ second. second ≡ false) }
+    ensures few { decoder.new.at.doublings ≤ decoder.old.at.doublings + 9 }
+{
+    if table.refs() != 2 {
+        return Ok(false);
+    }
+    match decoder.decision(26) {
+        Ok(bit) => {
+            let prediction = predicted_use_bit(table, Reference::Second, i, j);
+            Ok(differs(bit, prediction))
+        }
+        Err(e) => Err(e),
+    }
+}
+
+/// A block that uses these references, all of whose values are 0.
+fn block_of(first: bool, second: bool) -> Block
+    ensures { result ≡ block_using first second }
+{
+    let nowhere = Vector { x: 0, y: 0 };
+    Block {
+        ref1: first,
+        ref2: second,
+        v1: nowhere,
+        v2: nowhere,
+        dc_y: 0,
+        dc_u: 0,
+        dc_v: 0,
+    }
+}
+
+/// Reads which references a unit uses.
+fn read_mode(decoder: &mut Decoder<'_>, table: &BlockData, i: u32, j: u32) -> Result<Block, Cause>
+    requires column { i < 4 * table.now.across }
+    requires row { j < 4 * table.now.down }
+    requires room { decoder.old.at.doublings < 2 ^ 60 }
+    ensures value { Gives result decoder.new (mode_read table.now i j decoder.old) }
+    ensures block { IfOk result (IsBlock table.now.refs) }
+    ensures few { decoder.new.at.doublings ≤ decoder.old.at.doublings + 18 }
+{
+    match decoder.decision(25) {
+        Ok(bit) => {
+            let prediction = predicted_use_bit(table, Reference::First, i, j);
+            let first = differs(bit, prediction);
+            match read_second_use(decoder, table, i, j) {
+                Ok(second) => Ok(block_of(first, second)),
+                Err(e) => Err(e),
+            }
+        }
+        Err(e) => Err(e),
+    }
+}
+
+/// Whether a block uses a reference.
+fn has_reference(block: Block, reference: Reference) -> bool
+    ensures { result ≡ uses reference block }
+{
+    match reference {
+        Reference::First => block.ref1,
+        Reference::Second => block.ref2,
+    }
+}
+
+/// The block with this horizontal component of a vector.
+fn set_across(mut block: Block, reference: Reference, value: i32) -> Block
+    ensures { result ≡ with_across reference block value }
+{
+    match reference {
+        Reference::First => block.v1.x = value,
+        Reference::Second => block.v2.x = value,
+    }
+    block
+}
+
+/// The block with this vertical component of a vector.
+fn set_down(mut block: Block, reference: Reference, value: i32) -> Block
+    ensures { result ≡ with_down reference block value }
+{
+    match reference {
+        Reference::First => block.v1.y = value,
+        Reference::Second => block.v2.y = value,
+    }
+    block
+}
+
+/// The block with this DC value.
+fn set_dc(mut block: Block, component: Component, value: i32) -> Block
+    ensures { result ≡ with_dc component block value }
+{
+    match component {
+        Component::Y => block.dc_y = value,
+        Component::U => block.dc_u = value,
+        Component::V => block.dc_v = value,
+    }
+    block
+}
+
+/// Reads the horizontal component of a unit's vector, where the unit uses the reference.
+fn read_across(
+    decoder: &mut Decoder<'_>,
+    table: &BlockData,
+    reference: Reference,
+    i: u32,
+    j: u32,
+) -> Result<Block, Cause>
+    requires column { i < 4 * table.now.across }
+    requires row { j < 4 * table.now.down }
+    requires room { decoder.old.at.doublings < 2 ^ 61 }
+    ensures value { Gives result decoder.new (unit_read (Part.Across reference) table.now i j decoder.old) }
+    ensures block { IfOk result (IsBlock table.now.refs) }
+    ensures few { decoder.new.at.doublings ≤ decoder.old.at.doublings + 702 }
+{
+    let block = table.at(i, j);
+    if !has_reference(block, reference) {
+        return Ok(block);
+    }
+    let prediction = predicted_vector(table, reference, i, j);
+    match read_component(decoder, prediction.x) {
+        Ok(value) => Ok(set_across(block, reference, value)),
+        Err(e) => Err(e),
+    }
+}
+
+/// Reads the vertical component of a unit's vector, where the unit uses the reference.
+fn read_down(
+    decoder: &mut Decoder<'_>,
+    table: &BlockData,
+    reference: Reference,
+    i: u32,
+    j: u32,
+) -> Result<Block, Cause>
+    requires column { i < 4 * table.now.across }
+    requires row { j < 4 * table.now.down }
+    requires room { decoder.old.at.doublings < 2 ^ 61 }
+    ensures value { Gives result decoder.new (unit_read (Part.Down reference) table.now i j decoder.old) }
+    ensures block { IfOk result (IsBlock table.now.refs) }
+    ensures few { decoder.new.at.doublings ≤ decoder.old.at.doublings + 702 }
+{
+    let block = table.at(i, j);
+    if !has_reference(block, reference) {
+        return Ok(block);
+    }
+    let prediction = predicted_vector(table, reference, i, j);
+    match read_component(decoder, prediction.y) {
+        Ok(value) => Ok(set_down(block, reference, value)),
+        Err(e) => Err(e),
+    }
+}
+
+/// Reads a DC value of a unit, where it is a DC block.
+fn read_dc(
+    decoder: &mut Decoder<'_>,
+    table: &BlockData,
+    component: Component,
+    i: u32,
+    j: u32,
+) -> Result<Block, Cause>
+    requires column { i < 4 * table.now.across }
+    requires row { j < 4 * table.now.down }
+    requires room { decoder.old.at.doublings < 2 ^ 61 }
+    ensures value { Gives result decoder.new (unit_read (Part.Dc component) table.now i j decoder.old) }
+    ensures block { IfOk result (IsBlock table.now.refs) }
+    ensures few { decoder.new.at.doublings ≤ decoder.old.at.doublings + 702 }
+{
+    let block = table.at(i, j);
+    if block.ref1 || block.ref2 {
+        return Ok(block);
+    }
+    let prediction = predicted_dc(table, component, i, j);
+    match read_value(decoder, Cause::DcRange, &DC_FOLLOW, 36, 37, prediction) {
+        Ok(value) => Ok(set_dc(block, component, value)),
+        Err(e) => Err(e),
+    }
+}
+
+/// The block of a unit, with what this list tells of it; `i` and `j` are the place of its first block.
+pub fn read_unit_block(
+    decoder: &mut Decoder<'_>,
+    table: &BlockData,
+    part: Part,
+    i: u32,
+    j: u32,
+) -> Result<Block, Cause>
+    requires column { i < 4 * table.now.across }
+    requires row { j < 4 * table.now.down }
+    requires room { decoder.old.at.doublings < 2 ^ 60 }
+    ensures value { Gives result decoder.new (unit_read part table.now i j decoder.old) }
+    ensures block { IfOk result (IsBlock table.now.refs) }
+    ensures few { decoder.new.at.doublings ≤ decoder.old.at.doublings + 702 }
+{
+    match part {
+        Part::Modes => read_mode(decoder, table, i, j),
+        Part::Across(reference) => read_across(decoder, table, reference, i, j),
+        Part::Down(reference) => read_down(decoder, table, reference, i, j),
+        Part::Dc(component) => read_dc(decoder, table, component, i, j),
+    }
+}
