@@ -1,0 +1,4 @@
+pub mod Eight
+pub mod FewTerms
+pub mod Ramps
+pub mod Shares

@@ -9,4 +9,4 @@ mod weights;
 pub use motion::{Motion, Part};
 pub use predict::{predict_plane, predict_rows};
 pub use predicted::Predicted;
-pub use weights::weight;
+pub use weights::{weight, weights_sum_to_64, weights_sum_to_eight};
