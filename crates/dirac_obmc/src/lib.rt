@@ -1,9 +1,11 @@
 //! Motion compensation: what the overlapped blocks of an inter picture predict for a plane.
 #![tactic(auto)]
 
+mod direction;
 mod motion;
 mod predict;
 mod predicted;
+mod values;
 mod weights;
 
 pub use motion::{Motion, Part};
