@@ -103,11 +103,14 @@ abbrev pub total : (ℕ → ℤ) → ℕ → ℤ
 total f zero = pos 0
 total f (suc n) = total f n +ℤ f n
 
--- what block i of row j adds at column x of row y: its weights across and down times what it predicts
+-- the weight of block i of row j at column x of row y: the product of its weights across and down
+abbrev pub weight_of : Compensation → ℕ → ℕ → ℕ → ℕ → ℕ
+weight_of m x y j i =
+    share i (blocks_across m) (x_length m) (x_separation m) x * share j (blocks_down m) (y_length m) (y_separation m) y
+
+-- what block i of row j adds at column x of row y: its weight times what it predicts
 unfoldable pub term : Compensation → ℕ → ℕ → ℕ → ℕ → ℤ
-term m x y j i =
-    pos (share i (blocks_across m) (x_length m) (x_separation m) x * share j (blocks_down m) (y_length m) (y_separation m) y)
-    *ℤ predicts m (block_at m.blocks i j) x y
+term m x y j i = pos (weight_of m x y j i) *ℤ predicts m (block_at m.blocks i j) x y
 
 -- the sum over all blocks
 abbrev pub blended : Compensation → ℕ → ℕ → ℤ

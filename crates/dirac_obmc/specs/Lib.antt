@@ -1,3 +1,5 @@
+pub mod Adding
 pub mod Compensation
+pub mod Directions
 pub mod Given
 pub mod Weights

@@ -1,12 +1,14 @@
 //! Motion compensation: what the overlapped blocks of an inter picture predict for a plane.
 #![tactic(auto)]
 
+mod direction;
 mod motion;
 mod predict;
 mod predicted;
+mod values;
 mod weights;
 
 pub use motion::{Motion, Part};
 pub use predict::{predict_plane, predict_rows};
 pub use predicted::Predicted;
-pub use weights::weight;
+pub use weights::{weight, weights_sum_to_64, weights_sum_to_eight};

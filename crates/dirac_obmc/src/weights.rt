@@ -1,5 +1,6 @@
 ghost use Rattle.std.specs.Prelude.{◌≡◌, ℕ, ◌*◌, ◌<◌, ◌≤◌};
 ghost use Rattle.dirac_obmc.specs.Weights.{IsOverlap, share, sum_below, weight_at};
+ghost use Rattle.dirac_obmc.specs.Compensation.{Compensation, IsMotion, blocks_across, blocks_down, weight_of};
 
 /// The weight of a block at its place `t`, where `count` blocks stand side by side (overlapped blocks, Dirac
 /// specification). Lengths and separations are those of the plane.
@@ -38,4 +39,16 @@ fn ramp(margin: u32, t: u32) -> u32
         return if t == 0 { 3 } else { 5 };
     }
     1 + (6 * t + margin - 1) / (2 * margin - 1)
+}
+
+/// The weights of all blocks at a place across, or down, sum to 8, however the blocks overlap.
+pub fn weights_sum_to_eight()
+    ensures { (count length separation x : ℕ) → IsOverlap length separation → x < count * separation → sum_below (λ block. share block count length separation x) count ≡ 8 }
+{
+}
+
+/// The weights of all blocks at a sample that they cover sum to 64.
+pub fn weights_sum_to_64()
+    ensures { (m : Compensation) → IsMotion m → (x y : ℕ) → x < m.width → y < m.height → sum_below (λ j. sum_below (λ i. weight_of m x y j i) (blocks_across m)) (blocks_down m) ≡ 64 }
+{
 }

@@ -3,3 +3,4 @@ mod Examples
 pub mod Halves
 pub mod Mixing
 pub mod RowLemmas
+pub mod SampleRows

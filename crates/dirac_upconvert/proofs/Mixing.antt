@@ -116,12 +116,12 @@ rounded_sample (suc (suc zero)) z few w = shifted_sample (z +ℤ pos 8) 16 (omeg
 rounded_sample (suc (suc (suc k))) z few w = absurd (omega arith)
 
 -- a number shifted down fits where the number does
-shr_fits : (w : Width) (z : ℤ) (m : ℕ) → SFits w z → SFits w (shr_z z m)
+pub shr_fits : (w : Width) (z : ℤ) (m : ℕ) → SFits w z → SFits w (shr_z z m)
 shr_fits w (pos n) m f = record { sfits = let small : n / m ≤ n = div-le_self n m in omega (arith, f.sfits, small) }
 shr_fits w (negsuc n) m f = record { sfits = let small : n / m ≤ n = div-le_self n m in omega (arith, f.sfits, small) }
 
 -- a sum shifted down, through the bits
-shr_sum_is : (w : Width) (x h : ℤ) (m : ℕ) → SFits w x → SFits w h → SFits w (x +ℤ h) → to_z w (of_z w (shr_z (to_z w (of_z w (to_z w (of_z w x) +ℤ to_z w (of_z w h)))) m)) ≡ shr_z (x +ℤ h) m
+pub shr_sum_is : (w : Width) (x h : ℤ) (m : ℕ) → SFits w x → SFits w h → SFits w (x +ℤ h) → to_z w (of_z w (shr_z (to_z w (of_z w (to_z w (of_z w x) +ℤ to_z w (of_z w h)))) m)) ≡ shr_z (x +ℤ h) m
 shr_sum_is w x h m fx fh fs =
     rw (to_z-of_z w x fx) (rw (to_z-of_z w h fh) (rw (to_z-of_z w (x +ℤ h) fs) (to_z-of_z w (shr_z (x +ℤ h) m) (shr_fits w (x +ℤ h) m fs))))
 

@@ -1,8 +1,8 @@
-ghost use Rattle.std.specs.Prelude.{◌≡◌, ℕ, ℤ, pos, ◌+◌, ◌-◌, ◌*◌, ◌^◌, ◌<◌, ◌≤◌, unsigned_abs, length, slice_index_or, IfOk};
+ghost use Rattle.std.specs.Prelude.{◌≡◌, ℕ, ℤ, pos, ◌+◌, ◌-◌, ◌*◌, ◌^◌, ◌<◌, ◌≤◌, ◌+ℤ◌, unsigned_abs, length, slice_index_or, IfOk};
 ghost use Rattle.std.specs.List.{All};
 ghost use Rattle.dirac_types.specs.Table.{Table, clamped_at, table_at};
 ghost use Rattle.dirac_upconvert.specs.HalfSamples.{IsSample, half, half_at, half_behind};
-ghost use Rattle.dirac_upconvert.specs.SubSamples.{Up, sub_sample};
+ghost use Rattle.dirac_upconvert.specs.SubSamples.{IsUp, Up, sub_sample};
 
 use crate::lines::{double_line, half_of_rows};
 use crate::parts::{part, whole_sample};
@@ -120,4 +120,52 @@ impl UpPlane {
             part(&self.table, u32::from(precision) - 1, x, y)
         }
     }
+
+    /// The number of columns of the plane without its half samples.
+    pub fn width(&self) -> u32
+        ensures value { result ≡ self.now.width }
+        ensures lawful { IsUp self.now.width self.now.height self.now.table }
+    {
+        self.width
+    }
+
+    /// The number of rows of the plane without its half samples.
+    pub fn height(&self) -> u32
+        ensures value { result ≡ self.now.height }
+        ensures lawful { IsUp self.now.width self.now.height self.now.table }
+    {
+        self.height
+    }
+
+    /// Writes the samples of row `y` from column `x` on, a whole sample apart; both are counted in 2 to the power
+    /// `precision` parts of a sample. Positions may lie outside the plane.
+    pub fn sub_row(&self, precision: u8, x: i64, y: i64, out: &mut [i16])
+        requires precision { precision ≤ 3 }
+        requires x { unsigned_abs x < 2 ^ 31 }
+        requires y { unsigned_abs y < 2 ^ 32 }
+        requires few { length out.old ≤ 4096 }
+        ensures value { (k : ℕ) → k < length out.old → slice_index_or out.new k (pos 0) ≡ sub_sample self.now precision (x +ℤ pos (2 ^ precision * k)) y }
+        ensures samples { All IsSample out.new }
+    {
+        for k in 0..out.len() {
+            out[k] = self.at(precision, ahead(x, precision, k), y);
+        }
+    }
+}
+
+/// The position so many samples behind another.
+fn ahead(x: i64, precision: u8, samples: usize) -> i64
+    requires precision { precision ≤ 3 }
+    requires x { unsigned_abs x < 2 ^ 31 }
+    requires samples { samples ≤ 4096 }
+    ensures value { result ≡ x +ℤ pos (2 ^ precision * samples) }
+    ensures small { unsigned_abs result < 2 ^ 32 }
+{
+    let parts = match precision {
+        0 => samples,
+        1 => 2 * samples,
+        2 => 4 * samples,
+        _ => 8 * samples,
+    };
+    x + parts as i64
 }

@@ -1,0 +1,124 @@
+-- What the rules of block lengths and separations say of those of a plane.
+use Rattle.std.proofs.Common.{◌≡◌, ℕ, zero, suc, ◌+◌, ◌-◌, ◌*◌, ◌/◌, ◌%◌, ◌≤◌, ◌<◌, ◌⊎◌, Bool, true, ◌&&◌, arith, refl, inl, inr, ap}
+use Rattle.std.specs.Prelude.{IsTrue}
+use Rattle.std.proofs.lemmas.Bool.{and_parts}
+use Rattle.dirac_types.specs.declared.formats.Chroma.{Chroma}
+use Rattle.dirac_types.specs.declared.formats.Chroma.TheVariants.{C444, C422, C420}
+use Rattle.dirac_sequence.specs.Ratios.{ratio_across, ratio_down}
+use Rattle.dirac_header.specs.Prediction.{is_divisible, is_grid, is_overlap}
+use Rattle.dirac_obmc.specs.declared.motion.Part.{Part}
+use Rattle.dirac_obmc.specs.declared.motion.Part.TheVariants as part
+use Rattle.dirac_obmc.specs.Compensation.{Compensation, IsMotion, ratio_of, x_length, x_separation, y_length, y_separation}
+use Rattle.dirac_obmc.specs.Weights.{IsOverlap}
+use Rattle.std.proofs.lemmas.Bool.Decides.{nat_tests}
+
+-- lengths and separations that may be divided by a ratio
+record IsDivisible (ratio length separation : ℕ) : Type 0 where
+  some : 1 ≤ separation
+  least : separation ≤ length
+  most : length ≤ 2 * separation
+  small : length ≤ 64
+  lengths : length % ratio ≡ 0
+  separations : separation % ratio ≡ 0
+  even : (length - separation) % (2 * ratio) ≡ 0
+
+divisible : (ratio length separation : ℕ) → IsTrue (is_overlap length separation) → IsTrue (is_divisible ratio length separation) → IsDivisible ratio length separation
+divisible ratio length separation o d = record {
+  some = grind (arith, nat_tests);
+  least = grind (arith, nat_tests);
+  most = grind (arith, nat_tests);
+  small = grind (arith, nat_tests);
+  lengths = grind (arith, nat_tests);
+  separations = grind (arith, nat_tests);
+  even = grind (arith, nat_tests);
+}
+
+whole : (ratio length separation : ℕ) → 1 ≤ ratio → ratio ≤ 2 → IsDivisible ratio length separation → IsOverlap (length / 1) (separation / 1)
+whole ratio length separation some few d = record {
+  some = omega (arith, d.some);
+  least = omega (arith, d.least);
+  most = omega (arith, d.most);
+  even = elim (one_or_two ratio some few) [
+    | inl e ↦ omega (arith, even_of 2 (length - separation) (ap (λ r. 2 * r) e) d.even)
+    | inr e ↦ omega (arith, even_of 4 (length - separation) (ap (λ r. 2 * r) e) d.even)
+  ];
+  small = omega (arith, d.small);
+} where
+  one_or_two : (n : ℕ) → 1 ≤ n → n ≤ 2 → (n ≡ 1) ⊎ (n ≡ 2)
+  one_or_two n l h = grind arith
+  even_of : (k n : ℕ) → 2 * ratio ≡ k → n % (2 * ratio) ≡ 0 → n % k ≡ 0
+  even_of k n e h = rw (← e) h
+
+divided : (ratio length separation : ℕ) → 1 ≤ ratio → ratio ≤ 2 → IsDivisible ratio length separation → IsOverlap (length / ratio) (separation / ratio)
+divided zero length separation some few d = absurd (omega arith)
+divided (suc zero) length separation some few d = record {
+  some = omega (arith, d.some);
+  least = omega (arith, d.least);
+  most = omega (arith, d.most);
+  even = omega (arith, d.even);
+  small = omega (arith, d.small);
+}
+divided (suc (suc zero)) length separation some few d = record {
+  some = omega (arith, d.some, d.separations);
+  least = omega (arith, d.least);
+  most = omega (arith, d.most, d.lengths, d.separations);
+  even = omega (arith, d.even, d.lengths, d.separations);
+  small = omega (arith, d.small);
+}
+divided (suc (suc (suc ratio))) length separation some few d = absurd (omega arith)
+
+-- in luma and in chroma
+of_part : (p : Part) (ratio length separation : ℕ) → 1 ≤ ratio → ratio ≤ 2 → IsDivisible ratio length separation → IsOverlap (length / ratio_of p ratio) (separation / ratio_of p ratio)
+of_part part.Y ratio length separation some few d = whole ratio length separation some few d
+of_part part.U ratio length separation some few d = divided ratio length separation some few d
+of_part part.V ratio length separation some few d = divided ratio length separation some few d
+
+some_across : (c : Chroma) → 1 ≤ ratio_across c
+some_across C444 = omega arith
+some_across C422 = omega arith
+some_across C420 = omega arith
+
+few_across : (c : Chroma) → ratio_across c ≤ 2
+few_across C444 = omega arith
+few_across C422 = omega arith
+few_across C420 = omega arith
+
+some_down : (c : Chroma) → 1 ≤ ratio_down c
+some_down C444 = omega arith
+some_down C422 = omega arith
+some_down C420 = omega arith
+
+few_down : (c : Chroma) → ratio_down c ≤ 2
+few_down C444 = omega arith
+few_down C422 = omega arith
+few_down C420 = omega arith
+
+-- the four rules of a grid
+record AreRules (a b c d : Bool) : Type 0 where
+  first : IsTrue a
+  second : IsTrue b
+  third : IsTrue c
+  fourth : IsTrue d
+
+rules_of : (a b c d : Bool) → IsTrue (a && b && c && d) → AreRules a b c d
+rules_of a b c d h =
+    let r = and_parts (a && b && c) d h in
+    let q = and_parts (a && b) c r.0 in
+    let p = and_parts a b q.0 in
+    record { first = p.0; second = p.1; third = q.1; fourth = r.1 }
+
+grid_rules : (m : Compensation) → IsMotion m → AreRules (is_overlap m.prediction.grid.xblen m.prediction.grid.xbsep) (is_divisible (ratio_across m.chroma) m.prediction.grid.xblen m.prediction.grid.xbsep)
+    (is_overlap m.prediction.grid.yblen m.prediction.grid.ybsep) (is_divisible (ratio_down m.chroma) m.prediction.grid.yblen m.prediction.grid.ybsep)
+grid_rules m h = rules_of _ _ _ _ h.grid
+
+pub overlap_across : (m : Compensation) → IsMotion m → IsOverlap (x_length m) (x_separation m)
+overlap_across m h =
+    let g = grid_rules m h in
+    of_part m.part (ratio_across m.chroma) m.prediction.grid.xblen m.prediction.grid.xbsep (some_across m.chroma) (few_across m.chroma)
+    (divisible (ratio_across m.chroma) m.prediction.grid.xblen m.prediction.grid.xbsep g.first g.second)
+
+pub overlap_down : (m : Compensation) → IsMotion m → IsOverlap (y_length m) (y_separation m)
+overlap_down m h =
+    let g = grid_rules m h in
+    of_part m.part (ratio_down m.chroma) m.prediction.grid.yblen m.prediction.grid.ybsep (some_down m.chroma) (few_down m.chroma)
+    (divisible (ratio_down m.chroma) m.prediction.grid.yblen m.prediction.grid.ybsep g.third g.fourth)

@@ -1,0 +1,12 @@
+use Rattle.std.proofs.Common.{arith, ◌∙◌}
+use Rattle.dirac_obmc.proofs.Rounding.{rounded_is, rounded_small}
+use Rattle.dirac_obmc.proofs.values.rounded.Goals as goal
+
+pub returns-clause-value : goal.returns-clause-value
+returns-clause-value c =
+    rw (c.from.ensures, c.from-2.ensures) (rounded_is c.args.sum c.args.bits c.requires.bits.1 c.requires.sum)
+
+pub returns-clause-small : goal.returns-clause-small
+returns-clause-small c =
+    rw (c.from.ensures, c.from-2.ensures, rounded_is c.args.sum c.args.bits c.requires.bits.1 c.requires.sum)
+    (rounded_small c.args.sum c.args.bits c.requires.bits.0 c.requires.bits.1 c.requires.sum)

@@ -1,0 +1,69 @@
+ghost use Rattle.std.specs.Prelude.{◌≡◌, ◌≤◌};
+ghost use Rattle.dirac_obmc.specs.Compensation.{IsMotion, ratio_of, across_ratio, down_ratio};
+ghost use Rattle.dirac_obmc.specs.Directions.{IsAcross, IsDown};
+ghost use Rattle.dirac_obmc.specs.Given.{given};
+
+use crate::motion::{Motion, Part};
+use dirac_sequence::{ratio_across, ratio_down};
+
+/// How the blocks stand along one direction of a plane: how many, and their length and separation in its samples.
+#[derive(Clone, Copy)]
+pub struct Direction {
+    pub count: u32,
+    pub length: u32,
+    pub separation: u32,
+}
+
+/// How many luma samples a sample of this part stands for, where a chroma sample stands for `ratio`.
+fn ratio(part: Part, ratio: u32) -> u32
+    ensures { result ≡ ratio_of part ratio }
+{
+    match part {
+        Part::Y => 1,
+        Part::U | Part::V => ratio,
+    }
+}
+
+/// How many luma samples a sample of the plane stands for across.
+pub fn across_ratio(motion: &Motion<'_>) -> u32
+    ensures value { result ≡ Rattle.dirac_obmc.specs.Compensation.across_ratio (given motion.now) }
+    ensures some { 1 ≤ result }
+    ensures most { result ≤ 2 }
+{
+    ratio(motion.part, ratio_across(motion.chroma))
+}
+
+/// How many luma samples a sample of the plane stands for down.
+pub fn down_ratio(motion: &Motion<'_>) -> u32
+    ensures value { result ≡ Rattle.dirac_obmc.specs.Compensation.down_ratio (given motion.now) }
+    ensures some { 1 ≤ result }
+    ensures most { result ≤ 2 }
+{
+    ratio(motion.part, ratio_down(motion.chroma))
+}
+
+/// The blocks of the plane from left to right.
+pub fn across(motion: &Motion<'_>) -> Direction
+    requires { IsMotion (given motion.now) }
+    ensures { IsAcross (given motion.now) result }
+{
+    let ratio = across_ratio(motion);
+    Direction {
+        count: 4 * motion.blocks.across(),
+        length: motion.prediction.grid.xblen / ratio,
+        separation: motion.prediction.grid.xbsep / ratio,
+    }
+}
+
+/// The blocks of the plane from top to bottom.
+pub fn down(motion: &Motion<'_>) -> Direction
+    requires { IsMotion (given motion.now) }
+    ensures { IsDown (given motion.now) result }
+{
+    let ratio = down_ratio(motion);
+    Direction {
+        count: 4 * motion.blocks.down(),
+        length: motion.prediction.grid.yblen / ratio,
+        separation: motion.prediction.grid.ybsep / ratio,
+    }
+}

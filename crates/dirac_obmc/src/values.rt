@@ -1,0 +1,267 @@
+ghost use Rattle.std.specs.Prelude.{◌≡◌, ℕ, pos, ◌+◌, ◌*◌, ◌^◌, ◌<◌, ◌≤◌, ◌+ℤ◌, ◌*ℤ◌, unsigned_abs, length, slice_index_or};
+ghost use Rattle.std.specs.Int.{int_div_euclid};
+ghost use Rattle.std.specs.List.{All};
+ghost use Rattle.dirac_vectors.specs.Neighbours.{IsShort};
+ghost use Rattle.dirac_vectors.specs.Predictions.{IsShortVector};
+ghost use Rattle.dirac_blocks.specs.Tables.{IsBlock};
+ghost use Rattle.dirac_upconvert.specs.HalfSamples.{IsSample};
+ghost use Rattle.dirac_upconvert.specs.SubSamples.{rounded};
+ghost use Rattle.dirac_obmc.specs.Compensation.{IsMotion, dc_of, from_one, from_two, moved_sample, predicts, second_sample};
+ghost use Rattle.dirac_obmc.specs.Given.{given};
+
+use crate::direction::{across_ratio, down_ratio};
+use crate::motion::{Motion, Part};
+use dirac_blocks::Block;
+use dirac_header::Prediction;
+use dirac_types::Vector;
+use dirac_upconvert::UpPlane;
+
+/// A place in parts of a sample.
+fn in_parts(precision: u8, place: u32) -> i64
+    requires precision { precision ≤ 3 }
+    requires place { place ≤ 8192 }
+    ensures value { result ≡ pos (2 ^ precision * place) }
+    ensures small { unsigned_abs result ≤ 2 ^ 16 }
+{
+    let place = i64::from(place);
+    match precision {
+        0 => place,
+        1 => 2 * place,
+        2 => 4 * place,
+        _ => 8 * place,
+    }
+}
+
+/// A part of a vector divided by a ratio, rounding down.
+fn divided(vector: i32, ratio: u32) -> i64
+    requires vector { IsShort vector }
+    requires ratio { (1 ≤ ratio) × (ratio ≤ 2) }
+    ensures value { result ≡ int_div_euclid vector (pos ratio) }
+    ensures small { unsigned_abs result ≤ 2 ^ 15 }
+{
+    let vector = i64::from(vector);
+    if ratio == 1 {
+        vector
+    } else {
+        vector.div_euclid(2)
+    }
+}
+
+/// The position, in parts of a sample, to which a vector's part leads from a place.
+fn position(precision: u8, ratio: u32, place: u32, vector: i32) -> i64
+    requires precision { precision ≤ 3 }
+    requires ratio { (1 ≤ ratio) × (ratio ≤ 2) }
+    requires place { place ≤ 8192 }
+    requires vector { IsShort vector }
+    ensures value { result ≡ Rattle.dirac_obmc.specs.Compensation.position precision ratio place vector }
+    ensures small { unsigned_abs result ≤ 2 ^ 17 }
+{
+    in_parts(precision, place) + divided(vector, ratio)
+}
+
+/// The samples of a reference to which a vector leads from row `y`, from column `x` on.
+fn moved_row(motion: &Motion<'_>, up: &UpPlane, vector: Vector, x: u32, y: u32, out: &mut [i16])
+    requires motion { IsMotion (given motion.now) }
+    requires vector { IsShortVector vector }
+    requires x { x ≤ 4096 }
+    requires y { y ≤ 4096 }
+    requires few { length out.old ≤ 64 }
+    ensures value { (k : ℕ) → k < length out.old → slice_index_or out.new k (pos 0) ≡ moved_sample (given motion.now) up.now vector (x + k) y }
+    ensures samples { All IsSample out.new }
+{
+    let precision = motion.prediction.precision;
+    let across = position(precision, across_ratio(motion), x, vector.x);
+    let down = position(precision, down_ratio(motion), y, vector.y);
+    up.sub_row(precision, across, down, out);
+}
+
+/// The same of the second reference, and 0 where there is none.
+fn second_row(motion: &Motion<'_>, vector: Vector, x: u32, y: u32, out: &mut [i16])
+    requires motion { IsMotion (given motion.now) }
+    requires vector { IsShortVector vector }
+    requires x { x ≤ 4096 }
+    requires y { y ≤ 4096 }
+    requires few { length out.old ≤ 64 }
+    ensures value { (k : ℕ) → k < length out.old → slice_index_or out.new k (pos 0) ≡ second_sample (given motion.now) (given motion.now).up2 vector (x + k) y }
+    ensures samples { All IsSample out.new }
+{
+    match motion.up2 {
+        Some(up) => moved_row(motion, up, vector, x, y, out),
+        None => clear(out),
+    }
+}
+
+fn clear(out: &mut [i16])
+    ensures value { (k : ℕ) → k < length out.old → slice_index_or out.new k (pos 0) ≡ pos 0 }
+    ensures samples { All IsSample out.new }
+{
+    for k in 0..out.len() {
+        out[k] = 0;
+    }
+}
+
+/// A sum divided by 2 to the power `bits`, to the nearest.
+#[inline(always)]
+fn rounded(sum: i32, bits: u8) -> i32
+    requires sum { unsigned_abs sum ≤ 65280 }
+    requires bits { (1 ≤ bits) × (bits ≤ 8) }
+    ensures value { result ≡ Rattle.dirac_upconvert.specs.SubSamples.rounded bits sum }
+    ensures small { unsigned_abs result ≤ 2 ^ 15 }
+{
+    let half = (1i32 << u32::from(bits)) >> 1;
+    (sum + half) >> u32::from(bits)
+}
+
+/// A sample times a weight.
+#[inline(always)]
+fn times(sample: i16, weight: i32) -> i32
+    requires sample { IsSample sample }
+    requires weight { unsigned_abs weight ≤ 510 }
+    ensures value { result ≡ sample *ℤ weight }
+    ensures small { unsigned_abs result ≤ 128 * unsigned_abs weight }
+{
+    i32::from(sample) * weight
+}
+
+/// A sample times its weight, divided by 2 to the power `bits`.
+#[inline(always)]
+fn weighted(sample: i16, weight: i32, bits: u8) -> i32
+    requires sample { IsSample sample }
+    requires weight { unsigned_abs weight ≤ 510 }
+    requires bits { (1 ≤ bits) × (bits ≤ 8) }
+    ensures { result ≡ Rattle.dirac_upconvert.specs.SubSamples.rounded bits (sample *ℤ weight) }
+{
+    rounded(times(sample, weight), bits)
+}
+
+#[inline(always)]
+fn sum(a: i32, b: i32) -> i32
+    requires a { unsigned_abs a ≤ 32640 }
+    requires b { unsigned_abs b ≤ 32640 }
+    ensures value { result ≡ a +ℤ b }
+    ensures small { unsigned_abs result ≤ 65280 }
+{
+    a + b
+}
+
+/// Two samples, each times its weight, divided by 2 to the power `bits`.
+#[inline(always)]
+fn weighted_both(first: i16, weight1: i32, second: i16, weight2: i32, bits: u8) -> i32
+    requires first { IsSample first }
+    requires weight1 { unsigned_abs weight1 ≤ 255 }
+    requires second { IsSample second }
+    requires weight2 { unsigned_abs weight2 ≤ 255 }
+    requires bits { (1 ≤ bits) × (bits ≤ 8) }
+    ensures { result ≡ Rattle.dirac_upconvert.specs.SubSamples.rounded bits (first *ℤ weight1 +ℤ second *ℤ weight2) }
+{
+    rounded(sum(times(first, weight1), times(second, weight2)), bits)
+}
+
+fn weight_of_one(p: &Prediction) -> i32
+    requires weights { (unsigned_abs p.now.weight1 ≤ 255) × (unsigned_abs p.now.weight2 ≤ 255) }
+    ensures value { result ≡ p.now.weight1 +ℤ p.now.weight2 }
+    ensures small { unsigned_abs result ≤ 510 }
+{
+    p.weight1 + p.weight2
+}
+
+/// The values of a block with one reference.
+fn weigh_one(p: &Prediction, samples: &[i16], out: &mut [i32])
+    requires bits { (1 ≤ p.now.weight_bits) × (p.now.weight_bits ≤ 8) }
+    requires weights { (unsigned_abs p.now.weight1 ≤ 255) × (unsigned_abs p.now.weight2 ≤ 255) }
+    requires len { length samples.now ≡ length out.old }
+    requires samples { All IsSample samples.now }
+    ensures { (k : ℕ) → k < length out.old → slice_index_or out.new k (pos 0) ≡ from_one p.now (slice_index_or samples.now k (pos 0)) }
+{
+    let weight = weight_of_one(p);
+    let bits = p.weight_bits;
+    for k in 0..out.len() {
+        out[k] = weighted(samples[k], weight, bits);
+    }
+}
+
+/// The value at place `k` of a block with two references.
+#[inline(always)]
+fn value_of_two(p: &Prediction, first: &[i16], second: &[i16], k: usize) -> i32
+    requires bits { (1 ≤ p.now.weight_bits) × (p.now.weight_bits ≤ 8) }
+    requires weights { (unsigned_abs p.now.weight1 ≤ 255) × (unsigned_abs p.now.weight2 ≤ 255) }
+    requires inside { (k < length first.now) × (k < length second.now) }
+    requires first { All IsSample first.now }
+    requires second { All IsSample second.now }
+    ensures { result ≡ from_two p.now (slice_index_or first.now k (pos 0)) (slice_index_or second.now k (pos 0)) }
+{
+    weighted_both(
+        first[k],
+        p.weight1,
+        second[k],
+        p.weight2,
+        p.weight_bits,
+    )
+}
+
+/// The values of a block with two references.
+fn weigh_two(p: &Prediction, first: &[i16], second: &[i16], out: &mut [i32])
+    requires bits { (1 ≤ p.now.weight_bits) × (p.now.weight_bits ≤ 8) }
+    requires weights { (unsigned_abs p.now.weight1 ≤ 255) × (unsigned_abs p.now.weight2 ≤ 255) }
+    requires len { (length first.now ≡ length out.old) × (length second.now ≡ length out.old) }
+    requires first { All IsSample first.now }
+    requires second { All IsSample second.now }
+    ensures { (k : ℕ) → k < length out.old → slice_index_or out.new k (pos 0) ≡ from_two p.now (slice_index_or first.now k (pos 0)) (slice_index_or second.now k (pos 0)) }
+{
+    for k in 0..out.len() {
+        out[k] = value_of_two(p, first, second, k);
+    }
+}
+
+/// The DC value of a block for this part.
+fn dc(part: Part, block: &Block) -> i32
+    ensures { result ≡ dc_of part block.now }
+{
+    match part {
+        Part::Y => block.dc_y,
+        Part::U => block.dc_u,
+        Part::V => block.dc_v,
+    }
+}
+
+fn set_all(value: i32, out: &mut [i32])
+    ensures { (k : ℕ) → k < length out.old → slice_index_or out.new k (pos 0) ≡ value }
+{
+    for k in 0..out.len() {
+        out[k] = value;
+    }
+}
+
+/// What a block predicts in row `y` from column `x` on; `first` and `second` are room for the samples of the
+/// references.
+#[tactic(auto, unfolding(crate::specs::Compensation::predicts))]
+pub fn block_values(
+    motion: &Motion<'_>,
+    block: &Block,
+    x: u32,
+    y: u32,
+    first: &mut [i16],
+    second: &mut [i16],
+    out: &mut [i32],
+)
+    requires motion { IsMotion (given motion.now) }
+    requires block { IsBlock motion.now.blocks.now.refs block.now }
+    requires x { x ≤ 4096 }
+    requires y { y ≤ 4096 }
+    requires few { length out.old ≤ 64 }
+    requires lens { (length first.old ≡ length out.old) × (length second.old ≡ length out.old) }
+    ensures { (k : ℕ) → k < length out.old → slice_index_or out.new k (pos 0) ≡ predicts (given motion.now) block.now (x + k) y }
+{
+    if block.ref1 {
+        moved_row(motion, motion.up1, block.v1, x, y, first);
+    }
+    if block.ref2 {
+        second_row(motion, block.v2, x, y, second);
+    }
+    match (block.ref1, block.ref2) {
+        (true, true) => weigh_two(motion.prediction, first, second, out),
+        (true, false) => weigh_one(motion.prediction, first, out),
+        (false, true) => weigh_one(motion.prediction, second, out),
+        (false, false) => set_all(dc(motion.part, block), out),
+    }
+}
