@@ -1,0 +1,5 @@
+mod Accepted
+mod Examples
+pub mod Packed
+pub mod Spelled
+mod Written

@@ -7,7 +7,9 @@ mod read;
 mod sequence;
 mod shared;
 mod tables;
+mod write;
 
 pub use read::read_sequence;
 pub use sequence::{Sequence, ratio_across, ratio_down};
 pub use tables::preset;
+pub use write::{sequence_of, write_sequence};

@@ -4,6 +4,8 @@
 
 mod decode;
 mod ended;
+#[cfg(test)]
+mod inter_tests;
 mod line;
 mod list;
 mod run;

@@ -9,7 +9,7 @@ use std::test::Fail;
 use std::thread::Threads;
 
 // A sequence header, an intra picture, an inter picture and an end unit.
-const STREAM: [u8; 95] = [
+pub(crate) const STREAM: [u8; 95] = [
     0x42, 0x42, 0x43, 0x44, 0x00, 0x00, 0x00, 0x00, 0x13, 0x00, 0x00, 0x00, 0x00, 0x6F, 0xC1, 0x83,
     0x08, 0x30, 0x79, 0x42, 0x42, 0x43, 0x44, 0x0C, 0x00, 0x00, 0x00, 0x1F, 0x00, 0x00, 0x00, 0x13,
     0x00, 0x00, 0x00, 0x00, 0x80, 0x90, 0x80, 0x80, 0x80, 0x80, 0x80, 0x80, 0x80, 0x80, 0x80, 0x80,
@@ -52,18 +52,18 @@ fn runs<R: Abort + Threads + Sync>(
     Ok(())
 }
 
-fn faulty(unit: u64, at: u64, cause: Cause) -> Ended {
+pub(crate) fn faulty(unit: u64, at: u64, cause: Cause) -> Ended {
     Ended::Fault(Fault { unit, at, cause })
 }
 
 // The parse info of a unit with this code and these offsets.
-fn header(code: u8, next: u32, previous: u32) -> [u8; 13] {
+pub(crate) fn header(code: u8, next: u32, previous: u32) -> [u8; 13] {
     let [a, b, c, d] = next.to_be_bytes();
     let [e, f, g, h] = previous.to_be_bytes();
     [0x42, 0x42, 0x43, 0x44, code, a, b, c, d, e, f, g, h]
 }
 
-fn joined(alloc: Global, pieces: &[&[u8]]) -> Result<Vec<u8>, Fail> {
+pub(crate) fn joined(alloc: Global, pieces: &[&[u8]]) -> Result<Vec<u8>, Fail> {
     let mut bytes = Vec::new(alloc);
     for piece in pieces {
         bytes.extend_from_slice(piece)?;
@@ -366,7 +366,7 @@ fn decodes_up_to_the_first_fault(rt: HostRuntime) -> Result<(), Fail> {
 }
 
 // Decodes bytes in pieces, and compares the answer, what came out, and what was said beside it.
-fn shows<R: Abort + Threads + Sync>(
+pub(crate) fn shows<R: Abort + Threads + Sync>(
     rt: &R,
     alloc: Global,
     bytes: &[u8],
@@ -415,9 +415,6 @@ fn decodes_intra_pictures(rt: HostRuntime) -> Result<(), Fail> {
     ];
     shows(&rt, alloc, &SMALL, Ended::Done, &samples, one)?;
 
-    // inter pictures aren't decoded yet; the picture before them is shown
-    let inter = faulty(2, 54, Cause::Unbuilt);
-    shows(&rt, alloc, &STREAM, inter, &grey, one)?;
     let unended = faulty(2, 50, Cause::MissingEnd);
     shows(&rt, alloc, &STREAM[..50], unended, &grey, one)?;
     let cut = faulty(1, 49, Cause::Truncated);

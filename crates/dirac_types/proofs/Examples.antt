@@ -1,6 +1,10 @@
 -- The definitions of numbers, computed on small cases.
-use Rattle.std.proofs.Common.{◌≡◌, true, false, [], ◌∷◌, pos, negsuc, refl}
+use Rattle.std.proofs.Common.{◌≡◌, true, false, [], ◌∷◌, pos, negsuc, refl, Some}
+use Rattle.dirac_types.specs.declared.settings.Name.TheVariants as name
+use Rattle.dirac_types.specs.declared.settings.Settings.{Settings}
 use Rattle.dirac_types.specs.Bits.{bits_of, number_from}
+use Rattle.dirac_types.specs.Bytes.{bytes_in, bytes_of}
+use Rattle.dirac_types.specs.Settings.{first_bad, table, format_of, of_base}
 use Rattle.dirac_types.specs.Numbers.{digits_within, digits_of, uint, sint, literal}
 
 uint_five : uint 5 ≡ false ∷ true ∷ false ∷ false ∷ true ∷ []
@@ -24,3 +28,20 @@ bytes = refl
 
 spelt : number_from 0 (bits_of (0xB5 ∷ [])) ≡ 181
 spelt = refl
+
+again : bytes_of (bits_of (0x42 ∷ 0xB5 ∷ [])) ≡ 0x42 ∷ 0xB5 ∷ []
+unfolding bytes_in
+again = refl
+
+-- the first setting out of its range is reported, in the order of the table
+first : first_bad (table (record (of_base 0) { width = 7; depth = 5 })) ≡ Some (record { name = name.Width; value = 7 })
+unfolding table format_of
+first = refl
+
+unknown_base : first_bad (table (record (of_base 0) { base = 17; chroma = 3 })) ≡ Some (record { name = name.Base; value = 17 })
+unfolding table format_of
+unknown_base = refl
+
+defaults : (s : Settings) → s ≡ of_base 8 → (s.width ≡ 720) × (s.height ≡ 576) × (s.chroma ≡ 1) × (s.signal ≡ 2)
+unfolding format_of
+defaults s is = rw is (refl, refl, refl, refl)

@@ -1,2 +1,3 @@
 pub mod Digits
 mod Examples
+pub mod InRange

@@ -78,8 +78,6 @@ pub enum Cause {
     VectorRange,
     /// A DC value outside 16 bits.
     DcRange,
-    /// A form of input that isn't decoded yet.
-    Unbuilt,
 }
 
 impl Cause {
@@ -124,7 +122,6 @@ impl Cause {
             Cause::CodeWord => "CodeWord",
             Cause::VectorRange => "VectorRange",
             Cause::DcRange => "DcRange",
-            Cause::Unbuilt => "Unbuilt",
         }
     }
 }

@@ -1,5 +1,8 @@
-ghost use Rattle.std.specs.Prelude.{◌≡◌};
+ghost use Rattle.std.specs.Prelude.{◌≡◌, ◌≤◌, OnOk, OnErr};
 ghost use Rattle.dirac_types.specs.Names.{text_of};
+ghost use Rattle.dirac_types.specs.Settings as settings;
+
+use crate::ranges::{first_bad, format_of, table};
 
 /// A setting of the encoder, or the count of generated pictures.
 #[derive(Clone, Copy, Debug, PartialEq, Eq)]
@@ -69,4 +72,102 @@ impl Name {
 pub struct BadSetting {
     pub name: Name,
     pub value: u64,
+}
+
+/// What the encoder is asked for; each setting has a range, and a default that may depend on the base video format.
+#[derive(Clone, Copy, Debug, PartialEq, Eq)]
+pub struct Settings {
+    /// The number of the base video format.
+    pub base: u32,
+    /// The chroma format: 0 for 4:4:4, 1 for 4:2:2, 2 for 4:2:0.
+    pub chroma: u32,
+    /// Luma samples across, a multiple of the chroma ratio.
+    pub width: u32,
+    /// Luma samples down, a multiple of the chroma ratio.
+    pub height: u32,
+    /// The index of the frame rate.
+    pub rate: u32,
+    /// The index of the signal range.
+    pub signal: u32,
+    /// Written into the sequence header as it is, like the level.
+    pub profile: u32,
+    pub level: u32,
+    /// The index of the wavelet.
+    pub wavelet: u32,
+    /// The transform depth: how many times a plane is split into subbands.
+    pub depth: u32,
+    /// The quantiser index; 0 loses nothing.
+    pub index: u32,
+    /// The most codeblocks of a subband above the lowest, across and down.
+    pub codeblocks: u32,
+    /// The index of the block parameters.
+    pub blocks: u32,
+    /// How many times a luma sample is halved for motion vectors.
+    pub precision: u32,
+    /// The most references of a picture.
+    pub references: u32,
+    /// The pictures of a group, of which the first is intra.
+    pub gop: u32,
+    /// The pictures between two anchors.
+    pub between: u32,
+    /// How far the coarse search goes, in samples of its level.
+    pub range: u32,
+    /// The levels of the pyramid above the picture itself.
+    pub pyramid: u32,
+    /// What a bit costs, in absolute differences.
+    pub bias: u32,
+    /// How many workers search; they change no byte.
+    pub workers: u32,
+    /// The most pictures that are coded.
+    pub pictures: u32,
+    /// The longest unit of a picture, in bytes.
+    pub unit_bytes: u32,
+}
+
+impl Settings {
+    /// The defaults with this base video format.
+    pub fn of_base(base: u32) -> Settings
+        requires { base ≤ 16 }
+        ensures { result ≡ settings.of_base base }
+    {
+        let format = format_of(base);
+        Settings {
+            base,
+            chroma: format.chroma,
+            width: format.width,
+            height: format.height,
+            rate: format.rate,
+            signal: format.signal,
+            profile: 0,
+            level: 0,
+            wavelet: 0,
+            depth: 4,
+            index: 12,
+            codeblocks: 1,
+            blocks: 2,
+            precision: 2,
+            references: 2,
+            gop: 1,
+            between: 2,
+            range: 4,
+            pyramid: 3,
+            bias: 4,
+            workers: 1,
+            pictures: 2147483647,
+            unit_bytes: 4294967295,
+        }
+    }
+
+    /// Whether each setting is in its range. An `Err` names the first that isn't, in the order of the fields.
+    pub fn check(&self) -> Result<(), BadSetting>
+        ensures exact { result ≡ settings.verdict (settings.first_bad (settings.table self.now)) }
+        ensures accepted { OnOk result (settings.IsAccepted self.now) }
+        ensures refused { OnErr result (settings.IsAccepted self.now → ⊥) }
+    {
+        let rows = table(self);
+        match first_bad(&rows) {
+            None => Ok(()),
+            Some(bad) => Err(bad),
+        }
+    }
 }

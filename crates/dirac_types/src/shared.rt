@@ -13,4 +13,5 @@ fn are_shared() {
     is_shared::<crate::Stop>();
     is_shared::<crate::BlockGrid>();
     is_shared::<crate::Vector>();
+    is_shared::<crate::Settings>();
 }

@@ -1,0 +1,45 @@
+-- From the samples of an intra picture's plane to its quantised subbands.
+use Rattle.std.specs.Prelude.{ℕ, ℤ, zero, suc, ◌-◌, ◌-ℤ◌, List, [], ◌∷◌, ◌++◌, map, min, if◌then◌else◌}
+use Rattle.dirac_types.specs.Table.{Table, table_at}
+use Rattle.dirac_quant.specs.Quantiser.{reduced}
+use Rattle.dirac_bands.specs.DcSum.{prediction}
+use Rattle.dirac_bands.specs.Geometry.{padded_size}
+use Rattle.dirac_bands.specs.Interleaving.{band_of, table_of}
+use Rattle.dirac_coeffs.specs.declared.spot.CodedBand.{CodedBand}
+use Rattle.dirac_coeffs.specs.Written.{is_zero_band}
+use Rattle.dirac_lift.specs.Level.{analysed}
+
+-- a plane padded up to multiples of 2 ^ depth: the last sample of each row again, then the last row again
+abbrev pub padded : ℕ → Table → Table
+padded depth t =
+    table_of (padded_size t.width depth) (padded_size t.height depth) (λ x y. table_at t (min x (t.width - 1)) (min y (t.height - 1)))
+
+-- a table less the predictions of its values
+abbrev pub differences : Table → Table
+differences t = table_of t.width t.height (λ x y. table_at t x y -ℤ prediction t x y)
+
+-- the values of a table as numbers of this index
+abbrev pub reduced_values : ℕ → Table → List ℤ
+reduced_values index t = map (λ v. reduced v index) t.values
+
+-- a table coded at this index; a band of zeros has index 0
+abbrev pub coded : ℕ → Table → CodedBand
+coded index t = record {
+  index = if is_zero_band (reduced_values index t) then 0 else index;
+  table = record { width = t.width; height = t.height; values = reduced_values index t };
+}
+
+-- HL, LH and HH of an analysed level
+abbrev pub coded_level : ℕ → Table → List CodedBand
+coded_level index t = coded index (band_of t 1 0) ∷ coded index (band_of t 0 1) ∷ coded index (band_of t 1 1) ∷ []
+
+-- the subbands of a table that is analysed so often: its LL band is analysed in turn, and the last one is coded at index 0,
+-- less its predictions
+unfoldable pub coded_bands : ℕ → ℕ → Table → ℕ → List CodedBand
+coded_bands wavelet index t zero = coded 0 (differences t) ∷ []
+coded_bands wavelet index t (suc depth) =
+    coded_bands wavelet index (band_of (analysed wavelet t) 0 0) depth ++ coded_level index (analysed wavelet t)
+
+-- the subbands of a plane
+abbrev pub plane_bands : ℕ → ℕ → ℕ → Table → List CodedBand
+plane_bands wavelet depth index t = coded_bands wavelet index (padded depth t) depth

@@ -1,0 +1,41 @@
+-- What the subbands of an analysed plane are, whatever their values.
+use Rattle.std.specs.Prelude.{◌≡◌, ℕ, ℤ, zero, suc, ◌+◌, ◌-◌, ◌*◌, ◌/◌, ◌^◌, ◌<◌, ◌≤◌, List, length, true, Some, slice_get, unsigned_abs}
+use Rattle.std.specs.List.{All}
+use Rattle.dirac_types.specs.Table.{Table}
+use Rattle.dirac_coeffs.specs.declared.spot.CodedBand.{CodedBand}
+use Rattle.dirac_coeffs.specs.Written.{is_zero_band}
+use Rattle.dirac_residual.specs.Residual.{clip}
+
+-- samples are from -128 to 127: clipping keeps them
+abbrev pub AreSamples : List ℤ → Type 0
+AreSamples xs = All (λ v. clip v ≡ v) xs
+
+-- how large the values of a plane are at most after so many levels
+unfoldable pub grown : ℕ → ℕ
+grown zero = 128
+grown (suc levels) = 128 * grown levels + 32
+
+-- a table that can be analysed so often
+pub record IsDivisible (depth : ℕ) (t : Table) : Type 0 where
+  pub across : ℕ
+  pub down : ℕ
+  pub width : t.width ≡ across * 2 ^ depth
+  pub height : t.height ≡ down * 2 ^ depth
+
+-- a coded band of these sizes
+pub record IsCoded (width height : ℕ) (b : CodedBand) : Type 0 where
+  pub index : b.index ≤ 99
+  pub across : b.table.width ≡ width
+  pub down : b.table.height ≡ height
+  pub len : length b.table.values ≡ width * height
+  pub small : All (λ v. unsigned_abs v < 2 ^ 38) b.table.values
+  pub zeros : is_zero_band b.table.values ≡ true → b.index ≡ 0
+
+-- the bands of an analysis whose LL band has these sizes: those of a level are twice those of the level below
+pub record AreCoded (across down depth : ℕ) (bands : List CodedBand) : Type 0 where
+  pub count : length bands ≡ 3 * depth + 1
+  pub each : (n : ℕ) (b : CodedBand) → slice_get bands n ≡ Some b → IsCoded (across * 2 ^ ((n - 1) / 3)) (down * 2 ^ ((n - 1) / 3)) b
+
+-- how often 2 ^ depth goes into the padded size: the columns or rows of the LL band
+abbrev pub lowest_size : ℕ → ℕ → ℕ
+lowest_size size depth = (size + 2 ^ depth - 1) / 2 ^ depth

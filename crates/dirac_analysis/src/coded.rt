@@ -1,0 +1,69 @@
+ghost use Rattle.std.specs.Prelude.{◌≡◌, ◌-◌, ◌+◌, ◌*◌, ◌≤◌, ◌<◌, ◌^◌, length, map, unsigned_abs, IfOk, true};
+ghost use Rattle.std.specs.List.{All};
+ghost use Rattle.dirac_quant.specs.Quantiser.{reduced};
+ghost use Rattle.dirac_coeffs.specs.Contexts as contexts;
+ghost use Rattle.dirac_coeffs.specs.Written.{is_zero_band};
+ghost use Rattle.dirac_analysis.specs.Analysis.{coded};
+ghost use Rattle.dirac_analysis.specs.Fits.{IsCoded};
+
+use dirac_coeffs::CodedBand;
+use dirac_quant::reduce;
+use dirac_types::{BandTable, NoMemory, Wide};
+use std::alloc::Global;
+
+#[inline(always)]
+fn reduce_value(value: i128, index: u8) -> i64
+    requires small { unsigned_abs value < 2 ^ 38 }
+    requires index { index ≤ 99 }
+    ensures value { result ≡ reduced value index }
+    ensures small { unsigned_abs result < 2 ^ 38 }
+{
+    reduce(value as i64, index)
+}
+
+/// Writes the number that codes each value.
+fn reduce_values(values: &[i128], index: u8, coded: &mut [i64])
+    requires len { length coded.old ≡ length values.now }
+    requires index { index ≤ 99 }
+    requires small { All (λ v. unsigned_abs v < 2 ^ 38) values.now }
+    ensures value { coded.new ≡ map (λ v. reduced v index) values.now }
+    ensures small { All (λ v. unsigned_abs v < 2 ^ 38) coded.new }
+{
+    for i in 0..values.len() {
+        coded[i] = reduce_value(values[i], index);
+    }
+}
+
+fn is_zero(value: i64) -> bool
+    ensures { result ≡ contexts.is_zero value }
+{
+    value == 0
+}
+
+fn are_all_zeros(values: &[i64]) -> bool
+    ensures { result ≡ is_zero_band values.now }
+{
+    values.iter().all(|value| is_zero(*value))
+}
+
+/// A table of coefficients coded at this quantiser index; a band of zeros has index 0.
+pub(crate) fn code_band(alloc: Global, table: &Wide, index: u8) -> Result<CodedBand, NoMemory>
+    requires index { index ≤ 99 }
+    requires across { table.now.width ≤ 8192 }
+    requires down { table.now.height ≤ 8192 }
+    requires small { All (λ v. unsigned_abs v < 2 ^ 38) table.now.values }
+    ensures value { IfOk result (λ b. b ≡ coded index table.now) }
+    ensures fits { IfOk result (IsCoded table.now.width table.now.height) }
+{
+    let mut numbers = BandTable::try_new(alloc, table.width(), table.height(), 0)?;
+    reduce_values(table.values(), index, numbers.values_mut());
+    let index = if are_all_zeros(numbers.values()) {
+        0
+    } else {
+        index
+    };
+    Ok(CodedBand {
+        index,
+        table: numbers,
+    })
+}

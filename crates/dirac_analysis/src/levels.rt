@@ -1,0 +1,124 @@
+ghost use Rattle.std.specs.Prelude.{◌≡◌, ℕ, ◌-◌, ◌+◌, ◌*◌, ◌/◌, ◌%◌, ◌≤◌, ◌<◌, ◌^◌, [], ◌∷◌, ◌++◌, length, map, unsigned_abs, IfOk};
+ghost use Rattle.std.specs.List.{All};
+ghost use Rattle.dirac_types.specs.declared.formats.Kind.TheVariants.{Intra};
+ghost use Rattle.dirac_bands.specs.DcSum.{dc_sum};
+ghost use Rattle.dirac_bands.specs.Interleaving.{band_of};
+ghost use Rattle.dirac_lift.specs.Level.{analysed, level};
+ghost use Rattle.dirac_residual.specs.Residual.{after_levels, restored_band};
+ghost use Rattle.dirac_analysis.specs.Analysis.{coded, coded_bands, differences};
+ghost use Rattle.dirac_analysis.specs.Fits.{AreCoded, IsCoded, IsDivisible, grown};
+
+use crate::coded::code_band;
+use dirac_bands::{dc_subtract, split_bands};
+use dirac_coeffs::CodedBand;
+use dirac_lift::analyse_level;
+use dirac_picture::PlaneBands;
+use dirac_types::{NoMemory, Wide};
+use std::alloc::Global;
+
+/// One level of an analysis: its LL band, and the other three coded.
+#[derive(Drop)]
+struct Level {
+    low: Wide,
+    hl: CodedBand,
+    lh: CodedBand,
+    hh: CodedBand,
+}
+
+/// The differences of a table from the predictions of its values, coded at index 0.
+fn code_lowest(alloc: Global, mut low: Wide) -> Result<CodedBand, NoMemory>
+    requires across { low.width ≤ 8192 }
+    requires down { low.height ≤ 8192 }
+    requires small { All (λ v. unsigned_abs v ≤ 2 ^ 36) low.values }
+    ensures value { IfOk result (λ b. b ≡ coded 0 (differences low)) }
+    ensures fits { IfOk result (IsCoded low.width low.height) }
+    ensures undone { IfOk result (λ b. dc_sum (restored_band Intra b) ≡ low) }
+{
+    dc_subtract(&mut low);
+    prove!(low.width() >= 1);
+    code_band(alloc, &low, 0)
+}
+
+/// Analyses one level.
+fn split_level(alloc: Global, mut plane: Wide, wavelet: u8, index: u8) -> Result<Level, NoMemory>
+    requires wavelet { wavelet ≤ 6 }
+    requires index { index ≤ 99 }
+    requires across { (plane.width % 2 ≡ 0) × (plane.width ≤ 8192) }
+    requires down { (plane.height % 2 ≡ 0) × (plane.height ≤ 8192) }
+    requires small { All (λ v. unsigned_abs v ≤ 2 ^ 29) plane.values }
+    ensures low { IfOk result (λ l. l.low ≡ band_of (analysed wavelet plane) 0 0) }
+    ensures hl { IfOk result (λ l. l.hl ≡ coded index (band_of (analysed wavelet plane) 1 0)) }
+    ensures lh { IfOk result (λ l. l.lh ≡ coded index (band_of (analysed wavelet plane) 0 1)) }
+    ensures hh { IfOk result (λ l. l.hh ≡ coded index (band_of (analysed wavelet plane) 1 1)) }
+    ensures growth { IfOk result (λ l. (b : ℕ) → All (λ v. unsigned_abs v ≤ b) plane.values → All (λ v. unsigned_abs v ≤ 128 * b + 32) l.low.values) }
+    ensures hl_fits { IfOk result (λ l. IsCoded (plane.width / 2) (plane.height / 2) l.hl) }
+    ensures lh_fits { IfOk result (λ l. IsCoded (plane.width / 2) (plane.height / 2) l.lh) }
+    ensures hh_fits { IfOk result (λ l. IsCoded (plane.width / 2) (plane.height / 2) l.hh) }
+    ensures undone { IfOk result (λ l. index ≡ 0 → level wavelet l.low (restored_band Intra l.hl) (restored_band Intra l.lh) (restored_band Intra l.hh) ≡ plane) }
+{
+    analyse_level(wavelet, &mut plane);
+    let bands = split_bands(alloc, &plane)?;
+    let hl = code_band(alloc, &bands.hl, index)?;
+    let lh = code_band(alloc, &bands.lh, index)?;
+    let hh = code_band(alloc, &bands.hh, index)?;
+    Ok(Level {
+        low: bands.ll,
+        hl,
+        lh,
+        hh,
+    })
+}
+
+/// The subbands of a table that is analysed `depth` times, those of the lowest level first.
+pub(crate) fn code_levels(
+    alloc: Global,
+    plane: Wide,
+    wavelet: u8,
+    index: u8,
+    depth: u8,
+) -> Result<PlaneBands, NoMemory>
+    requires wavelet { wavelet ≤ 6 }
+    requires index { index ≤ 99 }
+    requires depth { depth ≤ 4 }
+    requires across { plane.width ≤ 8192 }
+    requires down { plane.height ≤ 8192 }
+    requires whole { IsDivisible depth plane }
+    requires small { All (λ v. unsigned_abs v ≤ grown (4 - depth)) plane.values }
+    ensures value { IfOk result (λ b. b ≡ coded_bands wavelet index plane depth) }
+    ensures fits { IfOk result (λ b. (across down : ℕ) → plane.width ≡ across * 2 ^ depth → plane.height ≡ down * 2 ^ depth → AreCoded across down depth b) }
+    ensures undone { IfOk result (λ b. index ≡ 0 → after_levels wavelet Intra b depth ≡ plane) }
+{
+    if depth == 0 {
+        let lowest = code_lowest(alloc, plane)?;
+        let bands = single(alloc, lowest)?;
+        return Ok(bands);
+    }
+    let Level { low, hl, lh, hh } = split_level(alloc, plane, wavelet, index)?;
+    let lower = code_levels(alloc, low, wavelet, index, depth - 1)?;
+    let bands = with_level(lower, hl, lh, hh)?;
+    Ok(bands)
+}
+
+/// The bands with those of one level more.
+fn with_level(
+    mut bands: PlaneBands,
+    hl: CodedBand,
+    lh: CodedBand,
+    hh: CodedBand,
+) -> Result<PlaneBands, NoMemory>
+    ensures { IfOk result (λ b. b ≡ bands ++ hl ∷ lh ∷ hh ∷ []) }
+{
+    bands.push(hl)?;
+    bands.push(lh)?;
+    bands.push(hh)?;
+    Ok(bands)
+}
+
+/// A plane's one band.
+fn single(alloc: Global, band: CodedBand) -> Result<PlaneBands, NoMemory>
+    ensures { IfOk result (λ b. b ≡ band ∷ []) }
+{
+    let mut bands = PlaneBands::new(alloc);
+    bands.push(band)?;
+    Ok(bands)
+}

@@ -1,0 +1,9 @@
+//! From the samples of an intra picture's plane to its quantised subbands: what the decoder's residual undoes.
+#![tactic(auto)]
+
+mod coded;
+mod levels;
+mod padding;
+mod plane;
+
+pub use plane::analyse_plane;

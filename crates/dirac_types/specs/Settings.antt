@@ -1,0 +1,126 @@
+-- The settings of the encoder: their ranges and defaults, and which of them is out of its range.
+use Rattle.std.specs.Prelude.{◌≡◌, ℕ, ◌≤◌, ◌%◌, ◌==◌, nat_le, ◌&&◌, if◌then◌else◌, Bool, List, [], ◌∷◌, slice_index_or, Option, Some, None, Result, Ok, Err}
+use Rattle.std.specs.List.{AllByRecursion}
+use Rattle.dirac_types.specs.declared.settings.BadSetting.{BadSetting}
+use Rattle.dirac_types.specs.declared.settings.Name.{Name}
+use Rattle.dirac_types.specs.declared.settings.Name.TheVariants as name
+use Rattle.dirac_types.specs.declared.settings.Settings.{Settings}
+use Rattle.dirac_types.specs.declared.ranges.Format.{Format}
+use Rattle.dirac_types.specs.declared.ranges.Ranged.{Ranged}
+
+-- a setting with its value: it may be from the least to the most, and is a multiple of the step
+abbrev pub setting : Name → ℕ → ℕ → ℕ → ℕ → Ranged
+setting name value least most step = record { name = name; value = value; least = least; most = most; step = step }
+
+-- luma samples beside each other for one chroma sample, by the number of the chroma format
+abbrev pub step_across : ℕ → ℕ
+step_across chroma = if chroma == 0 then 1 else 2
+
+-- luma samples below each other for one chroma sample
+abbrev pub step_down : ℕ → ℕ
+step_down chroma = if chroma == 2 then 2 else 1
+
+-- the settings with their ranges, in the order in which they are checked
+unfoldable pub table : Settings → List Ranged
+table s =
+    setting name.Base s.base 0 16 1
+    ∷ setting name.Chroma s.chroma 0 2 1
+    ∷ setting name.Width s.width 1 4096 (step_across s.chroma)
+    ∷ setting name.Height s.height 1 2304 (step_down s.chroma)
+    ∷ setting name.Rate s.rate 1 10 1
+    ∷ setting name.Signal s.signal 1 2 1
+    ∷ setting name.Profile s.profile 0 255 1
+    ∷ setting name.Level s.level 0 255 1
+    ∷ setting name.Wavelet s.wavelet 0 6 1
+    ∷ setting name.Depth s.depth 1 4 1
+    ∷ setting name.Index s.index 0 99 1
+    ∷ setting name.Codeblocks s.codeblocks 1 8 1
+    ∷ setting name.Blocks s.blocks 2 4 1
+    ∷ setting name.Precision s.precision 0 3 1
+    ∷ setting name.References s.references 1 2 1
+    ∷ setting name.Gop s.gop 1 1 1
+    ∷ setting name.Between s.between 0 3 1
+    ∷ setting name.Range s.range 0 16 1
+    ∷ setting name.Pyramid s.pyramid 0 4 1
+    ∷ setting name.Bias s.bias 0 255 1
+    ∷ setting name.Workers s.workers 1 1 1
+    ∷ setting name.Pictures s.pictures 1 2147483647 1
+    ∷ setting name.UnitBytes s.unit_bytes 14 4294967295 1
+    ∷ []
+
+-- the value is in its range
+abbrev pub is_in_range : Ranged → Bool
+is_in_range r = (nat_le r.least r.value && nat_le r.value r.most) && r.value % r.step == 0
+
+-- the first that is out of its range
+abbrev pub first_bad : List Ranged → Option BadSetting
+first_bad [] = None
+first_bad (r ∷ rows) = if is_in_range r then first_bad rows else Some (record { name = r.name; value = r.value })
+
+-- the answer of a check that found this
+abbrev pub verdict : Option BadSetting → Result (Unit {0}) BadSetting
+verdict None = Ok tt
+verdict (Some bad) = Err bad
+
+abbrev pub IsInRange : Ranged → Type 0
+IsInRange r = (r.least ≤ r.value) × (r.value ≤ r.most) × (r.value % r.step ≡ 0)
+
+-- each setting is in its range
+abbrev pub IsAccepted : Settings → Type 0
+IsAccepted s = AllByRecursion IsInRange (table s)
+
+abbrev pub defaults : ℕ → ℕ → ℕ → ℕ → ℕ → Format
+defaults chroma width height rate signal = record { chroma = chroma; width = width; height = height; rate = rate; signal = signal }
+
+-- chroma format, size, frame rate and signal range of the base video formats, by their numbers
+abbrev pub formats : List Format
+formats =
+    defaults 2 640 480 1 1
+    ∷ defaults 2 176 120 9 1
+    ∷ defaults 2 176 144 10 1
+    ∷ defaults 2 352 240 9 1
+    ∷ defaults 2 352 288 10 1
+    ∷ defaults 2 704 480 9 1
+    ∷ defaults 2 704 576 10 1
+    ∷ defaults 1 720 480 4 2
+    ∷ defaults 1 720 576 3 2
+    ∷ defaults 1 1280 720 7 2
+    ∷ defaults 1 1280 720 6 2
+    ∷ defaults 1 1920 1080 4 2
+    ∷ defaults 1 1920 1080 3 2
+    ∷ defaults 1 1920 1080 7 2
+    ∷ defaults 1 1920 1080 6 2
+    ∷ defaults 0 2048 1080 2 2
+    ∷ defaults 0 4096 2160 2 2
+    ∷ []
+
+unfoldable pub format_of : ℕ → Format
+format_of base = slice_index_or formats base (defaults 2 640 480 1 1)
+
+-- the defaults with this base video format
+abbrev pub of_base : ℕ → Settings
+of_base base = let format = format_of base in record {
+  base = base;
+  chroma = format.chroma;
+  width = format.width;
+  height = format.height;
+  rate = format.rate;
+  signal = format.signal;
+  profile = 0;
+  level = 0;
+  wavelet = 0;
+  depth = 4;
+  index = 12;
+  codeblocks = 1;
+  blocks = 2;
+  precision = 2;
+  references = 2;
+  gop = 1;
+  between = 2;
+  range = 4;
+  pyramid = 3;
+  bias = 4;
+  workers = 1;
+  pictures = 2147483647;
+  unit_bytes = 4294967295;
+}

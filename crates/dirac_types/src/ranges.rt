@@ -1,0 +1,149 @@
+//! The ranges of the settings, and what the base video formats say of them.
+
+ghost use Rattle.std.specs.Prelude.{◌≡◌, ◌≤◌, ◌<◌, All};
+ghost use Rattle.dirac_types.specs.Settings as settings;
+
+use crate::settings::{BadSetting, Name, Settings};
+
+/// A setting with its value and its range: from `least` to `most`, and a multiple of `step`.
+#[derive(Clone, Copy)]
+pub struct Ranged {
+    pub name: Name,
+    pub value: u32,
+    pub least: u32,
+    pub most: u32,
+    pub step: u32,
+}
+
+/// What a base video format says of the settings.
+#[derive(Clone, Copy)]
+pub struct Format {
+    pub chroma: u32,
+    pub width: u32,
+    pub height: u32,
+    pub rate: u32,
+    pub signal: u32,
+}
+
+/// The settings with their ranges, in the order in which they are checked.
+#[tactic(auto, unfolding(crate::specs::Settings::table))]
+pub fn table(s: &Settings) -> [Ranged; 23]
+    ensures value { result ≡ settings.table s.now }
+    ensures whole { All (λ r. 1 ≤ r.step) result }
+{
+    [
+        setting(Name::Base, s.base, 0, 16, 1),
+        setting(Name::Chroma, s.chroma, 0, 2, 1),
+        setting(Name::Width, s.width, 1, 4096, step_across(s.chroma)),
+        setting(Name::Height, s.height, 1, 2304, step_down(s.chroma)),
+        setting(Name::Rate, s.rate, 1, 10, 1),
+        setting(Name::Signal, s.signal, 1, 2, 1),
+        setting(Name::Profile, s.profile, 0, 255, 1),
+        setting(Name::Level, s.level, 0, 255, 1),
+        setting(Name::Wavelet, s.wavelet, 0, 6, 1),
+        setting(Name::Depth, s.depth, 1, 4, 1),
+        setting(Name::Index, s.index, 0, 99, 1),
+        setting(Name::Codeblocks, s.codeblocks, 1, 8, 1),
+        setting(Name::Blocks, s.blocks, 2, 4, 1),
+        setting(Name::Precision, s.precision, 0, 3, 1),
+        setting(Name::References, s.references, 1, 2, 1),
+        setting(Name::Gop, s.gop, 1, 1, 1),
+        setting(Name::Between, s.between, 0, 3, 1),
+        setting(Name::Range, s.range, 0, 16, 1),
+        setting(Name::Pyramid, s.pyramid, 0, 4, 1),
+        setting(Name::Bias, s.bias, 0, 255, 1),
+        setting(Name::Workers, s.workers, 1, 1, 1),
+        setting(Name::Pictures, s.pictures, 1, 2147483647, 1),
+        setting(Name::UnitBytes, s.unit_bytes, 14, 4294967295, 1),
+    ]
+}
+
+fn setting(name: Name, value: u32, least: u32, most: u32, step: u32) -> Ranged
+    ensures { result ≡ settings.setting name value least most step }
+{
+    Ranged {
+        name,
+        value,
+        least,
+        most,
+        step,
+    }
+}
+
+/// Luma samples beside each other for one chroma sample.
+fn step_across(chroma: u32) -> u32
+    ensures value { result ≡ settings.step_across chroma }
+    ensures whole { 1 ≤ result }
+{
+    if chroma == 0 { 1 } else { 2 }
+}
+
+/// Luma samples below each other for one chroma sample.
+fn step_down(chroma: u32) -> u32
+    ensures value { result ≡ settings.step_down chroma }
+    ensures whole { 1 ≤ result }
+{
+    if chroma == 2 { 2 } else { 1 }
+}
+
+/// The first setting that is out of its range.
+pub fn first_bad(rows: &[Ranged]) -> Option<BadSetting>
+    requires { All (λ r. 1 ≤ r.step) rows.now }
+    ensures { result ≡ settings.first_bad rows.now }
+{
+    'rows: for row in rows {
+        if !is_in_range(row) {
+            return Some(BadSetting {
+                name: row.name,
+                value: u64::from(row.value),
+            });
+        }
+    }
+    None
+}
+
+fn is_in_range(row: &Ranged) -> bool
+    requires { 1 ≤ row.now.step }
+    ensures { result ≡ settings.is_in_range row.now }
+{
+    row.least <= row.value && row.value <= row.most && row.value % row.step == 0
+}
+
+/// The settings that depend on the base video format.
+#[tactic(auto, unfolding(crate::specs::Settings::format_of))]
+pub fn format_of(base: u32) -> Format
+    requires { base ≤ 16 }
+    ensures { result ≡ settings.format_of base }
+{
+    match base {
+        0 => defaults(2, 640, 480, 1, 1),
+        1 => defaults(2, 176, 120, 9, 1),
+        2 => defaults(2, 176, 144, 10, 1),
+        3 => defaults(2, 352, 240, 9, 1),
+        4 => defaults(2, 352, 288, 10, 1),
+        5 => defaults(2, 704, 480, 9, 1),
+        6 => defaults(2, 704, 576, 10, 1),
+        7 => defaults(1, 720, 480, 4, 2),
+        8 => defaults(1, 720, 576, 3, 2),
+        9 => defaults(1, 1280, 720, 7, 2),
+        10 => defaults(1, 1280, 720, 6, 2),
+        11 => defaults(1, 1920, 1080, 4, 2),
+        12 => defaults(1, 1920, 1080, 3, 2),
+        13 => defaults(1, 1920, 1080, 7, 2),
+        14 => defaults(1, 1920, 1080, 6, 2),
+        15 => defaults(0, 2048, 1080, 2, 2),
+        _ => defaults(0, 4096, 2160, 2, 2),
+    }
+}
+
+fn defaults(chroma: u32, width: u32, height: u32, rate: u32, signal: u32) -> Format
+    ensures { result ≡ settings.defaults chroma width height rate signal }
+{
+    Format {
+        chroma,
+        width,
+        height,
+        rate,
+        signal,
+    }
+}
