@@ -81,15 +81,15 @@ fn refuses_each_field_of_an_inter_picture(rt: HostRuntime) -> Result<(), Fail> {
     for (place, byte, at, cause) in [
         // block parameters 1 and 5
         (68, 0x2D, 68, Cause::BlockPreset),
-        (68, 0x1B, 68, Cause::BlockPreset),
+        (68, 0x4D, 68, Cause::BlockPreset),
         // vector precision 4
-        (68, 0x64, 68, Cause::Precision),
+        (68, 0x63, 68, Cause::Precision),
         // prediction mode 1 behind precision 2
         (68, 0x6C, 68, Cause::PredictionMode),
-        // the blocks of splits, modes and vectors begin with ones, or pass the payload
+        // the block of splits or of modes begins with ones, or passes the payload
         (71, 0xFF, 71, Cause::CodeWord),
         (73, 0xFF, 73, Cause::CodeWord),
-        (70, 0x08, 71, Cause::UnitShort),
+        (70, 0x56, 71, Cause::UnitShort),
     ] {
         let bytes = changed(alloc, place, byte)?;
         let fault = faulty(2, at, cause);
