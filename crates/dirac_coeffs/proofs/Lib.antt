@@ -14,3 +14,4 @@ pub mod Writing
 pub mod ZeroTests
 pub mod SpelledBand
 pub mod Examples
+pub mod Going

@@ -11,12 +11,12 @@ use Rattle.dirac_coeffs.specs.BandRead.{band_read}
 use Rattle.dirac_coeffs.specs.Carried.{AreSmall, CarriesBand, CarriesLong, band_until}
 use Rattle.dirac_coeffs.specs.Decisions.{band_decisions}
 use Rattle.dirac_coeffs.specs.Grammar.{band_table}
-use Rattle.dirac_coeffs.specs.Laws.{BandIsRead, LongIsRefused, OnesAreRefused}
+use Rattle.dirac_coeffs.specs.Laws.{BandIsRead, OnesAreRefused}
 use Rattle.dirac_coeffs.specs.Places.{ZeroFrom}
 use Rattle.dirac_coeffs.specs.Reached.{BandRead, BandBroken}
 use Rattle.dirac_coeffs.specs.Spots.{IsSpot}
 use Rattle.dirac_coeffs.proofs.Coding.{reads_carry}
-use Rattle.dirac_coeffs.proofs.Found.{band_found, band_carried, ones_read, long_read, read_ones}
+use Rattle.dirac_coeffs.proofs.Found.{band_found, band_carried, ones_read, read_ones}
 
 -- before anything is read all values are zeros
 pub zeros_first : (w n : ℕ) → ZeroFrom w 0 0 (replicate n (pos 0))
@@ -69,9 +69,6 @@ broken_is_long spot parent block xs new len small b =
 
 pub band_is_read : BandIsRead
 band_is_read spot parent block xs is = (λ e. band_carried spot parent block xs e, λ a. band_found spot parent block xs a.0 is a.1)
-
-pub long_is_refused : LongIsRefused
-long_is_refused spot parent block is b = long_read spot parent block is b
 
 pub ones_are_refused : OnesAreRefused
 ones_are_refused spot parent block = (λ e. read_ones spot parent block e, λ ones. ones_read spot parent block ones)

@@ -41,13 +41,12 @@ BandIsRead =
     IsSpot spot →
     (band_read spot parent block ≡ Ok xs) ↔ ((ms : Marks) × CarriesBand spot parent block xs ms)
 
--- it is refused for a number that is too long
+-- it is refused for a number that is too long exactly where it carries the decisions up to one
 abbrev pub LongIsRefused : Type 0
 LongIsRefused =
     (spot : BandSpot) (parent : List ℤ) (block : List ℕ) →
     IsSpot spot →
-    CarriesLong spot parent block →
-    band_read spot parent block ≡ Err NumberTooLong
+    (band_read spot parent block ≡ Err NumberTooLong) ↔ CarriesLong spot parent block
 
 -- and for its first bits exactly where sixteen of them are ones
 abbrev pub OnesAreRefused : Type 0

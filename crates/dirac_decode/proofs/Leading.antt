@@ -1,5 +1,5 @@
 -- What one step of the decoder says of the pictures that are still to come.
-use Rattle.std.proofs.Common.{◌≡◌, ◌∙◌, ℕ, suc, ◌+◌, ◌-◌, ◌^◌, Bool, true, false, List, [], ◌∷◌, ◌++◌, length, Option, None, Some, Ok, Err, refl, sym, ap, subst, arith}
+use Rattle.std.proofs.Common.{◌≡◌, ◌∙◌, if◌then◌else◌, ℕ, suc, ◌+◌, ◌-◌, ◌^◌, Bool, true, false, List, [], ◌∷◌, ◌++◌, length, Option, None, Some, Ok, Err, refl, sym, ap, subst, arith}
 use Rattle.std.specs.Prelude.{IfSome}
 use Rattle.std.specs.Io.KnownBytes.{prepend_known}
 use Rattle.std.proofs.lemmas.List.{append-nil}
@@ -167,3 +167,8 @@ answers_shown met.Stopped due p rest moving is = absurd (moving refl)
 -- nothing is asked of an answer before something was met
 pub answers_any : (m : Met) (due : List Picture) (answer : Next) → m ≡ met.Going → Answers m due answer
 answers_any m due answer going = subst (λ (x : Met). Answers x due answer) (sym going) tt
+
+-- a decoder that drains has the course's greatest length
+pub most_of : (draining : Bool) (course : Course) → (if draining then emptied course else course).most ≡ course.most
+most_of true course = refl
+most_of false course = refl

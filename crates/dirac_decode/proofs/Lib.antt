@@ -6,3 +6,4 @@ pub mod Rows
 pub mod Pictures
 pub mod Listing
 pub mod Covering
+pub mod Flushing

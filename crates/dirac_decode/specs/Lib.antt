@@ -6,3 +6,4 @@ pub mod Taking
 pub mod Advancing
 pub mod Raw
 pub mod Decoded
+pub mod Sequences

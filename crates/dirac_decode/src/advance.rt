@@ -42,6 +42,7 @@ pub(crate) fn advance_by_unit<S: Source>(
     ensures few { units.old.spot.index + shown_by result + length state.new.waiting
         ≤ units.new.spot.index + length state.old.waiting }
     ensures fits { units.new.spot.index < 2 ^ 64 }
+    ensures most { state.old.most ≤ state.new.most }
     ensures whole { result ≡ Advanced.End → IsAtEnd (S.held source.new) }
     ensures read { result ≡ Advanced.ReadFault → Rose (S.faults source.old) (S.faults source.new) }
     ensures count { S.faults source.old ≤ S.faults source.new }
@@ -75,6 +76,7 @@ pub(crate) fn next_due(state: &mut State, draining: bool) -> Option<Picture>
     ensures due { IfSome result (λ p. due_of draining state.old ≡ p ∷ flushed state.new.waiting) }
     ensures fewer { length state.new.waiting + length (option_to_list result) ≤ length state.old.waiting }
     ensures same { draining ≡ false → state.new ≡ state.old }
+    ensures most { state.new.most ≡ state.old.most }
 {
     if draining {
         return state.pop();

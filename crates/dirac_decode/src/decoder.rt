@@ -72,6 +72,8 @@ impl Decoder {
         ensures read { result ≡ Next.ReadFault → Rose (S.faults source.old) (S.faults source.new) }
         ensures count { S.faults source.old ≤ S.faults source.new }
         ensures fits { self.new.given < 2 ^ 64 }
+        // Whatever is answered, the greatest length of the list never falls.
+        ensures greatest { self.old.course.most ≤ self.new.course.most }
         ensures room { self.new.units.spot.at + length self.new.units.ahead + S.left source.new
             ≤ self.old.units.spot.at + length self.old.units.ahead + S.left source.old }
     {

@@ -82,6 +82,7 @@ impl State {
         ensures took { IsTook result (moved self.old code payload) self.old self.new }
         ensures early { IfRefused result (λ e. e.at ≤ 13 + length payload) }
         ensures few { Fewer result (length self.old.waiting) (length self.new.waiting) }
+        ensures most { self.old.most ≤ self.new.most }
     {
         if !fields_are_read(code) {
             return self.pass(code);
@@ -97,6 +98,7 @@ impl State {
     fn pass(&mut self, code: u8) -> Took
         ensures took { IsTook result (Ok (passed self.old code)) self.old self.new }
         ensures few { Fewer result (length self.old.waiting) (length self.new.waiting) }
+        ensures most { self.old.most ≤ self.new.most }
     {
         if code == 0x10 {
             self.opened = None;
@@ -113,6 +115,7 @@ impl State {
         ensures took { IsTook result (header_moves self.old self.old.opened payload) self.old self.new }
         ensures early { IfRefused result (λ e. e.at ≤ 13 + length payload) }
         ensures few { Fewer result (length self.old.waiting) (length self.new.waiting) }
+        ensures most { self.old.most ≤ self.new.most }
     {
         if let Some(opened) = &self.opened {
             if is_same(payload.bytes(), opened.header.bytes()) {
@@ -143,6 +146,7 @@ impl State {
         ensures took { IsTook result (picture_moves self.old self.old.opened code payload.now) self.old self.new }
         ensures early { IfRefused result (λ e. e.at ≤ 13 + length payload.now) }
         ensures few { Fewer result (length self.old.waiting) (length self.new.waiting) }
+        ensures most { self.old.most ≤ self.new.most }
     {
         let Some(opened) = &self.opened else {
             return Took::Refused(Refusal {
@@ -163,6 +167,7 @@ impl State {
         requires fits { IsOfOpen self.old.opened made.picture }
         ensures took { IsTook result (Ok (shows self.old made.coded made.picture)) self.old self.new }
         ensures few { Fewer result (length self.old.waiting) (length self.new.waiting) }
+        ensures most { self.old.most ≤ self.new.most }
         ensures accepted { IfRefused result (λ e. ⊥) }
     {
         let Rebuilt {

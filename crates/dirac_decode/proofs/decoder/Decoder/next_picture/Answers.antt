@@ -2,7 +2,7 @@ use Rattle.std.proofs.Common.{◌≡◌, ◌+◌, ◌∙◌, ap, arith, false, s
 use Rattle.dirac_units.specs.declared.unit.Met.TheVariants as met
 use Rattle.dirac_refs.specs.Delivery.{flushed}
 use Rattle.dirac_decode.specs.Decoding.{decoding}
-use Rattle.dirac_decode.proofs.Leading.{answers_any, answers_shown, going_before, leads_going, leads_on, leads_unit}
+use Rattle.dirac_decode.proofs.Leading.{most_of, answers_any, answers_shown, going_before, leads_going, leads_on, leads_unit}
 use Rattle.dirac_decode.proofs.decoder.Decoder.next_picture.Goals as goal
 
 pub overflow_add-self : goal.overflow_add-self
@@ -27,6 +27,7 @@ returns-in-Some g c = record {
   read = λ e. cc;
   count = c.units.invariant.count;
   fits = omega (arith, c.units.invariant.few, c.units.invariant.fits, c.in-Some.ensures.fewer);
+  greatest = omega (arith, c.units.invariant.most, c.in-Some.ensures.most, most_of c.units.self-inside.draining c.next_due.new.state);
   room = c.units.invariant.room;
 }
 
@@ -41,6 +42,7 @@ units-preserved-in-On g c =
       given = c.units.invariant.given;
       few = omega (arith, c.units.invariant.few, c.in-None.ensures.fewer, c.in-On.ensures.few);
       fits = c.in-On.ensures.fits;
+      most = omega (arith, c.units.invariant.most, c.in-None.ensures.most, c.in-On.ensures.most);
       going = λ e. c.in-On.ensures.goes_on.0;
       moving = c.units.invariant.moving;
       still = λ ne. absurd (ne before);
@@ -60,6 +62,7 @@ units-preserved-in-Drains g c =
       given = c.units.invariant.given;
       few = omega (arith, c.units.invariant.few, c.in-None.ensures.fewer, c.in-Drains.ensures.few);
       fits = c.in-Drains.ensures.fits;
+      most = omega (arith, c.units.invariant.most, c.in-None.ensures.most, c.in-Drains.ensures.most);
       going = λ e. c.in-Drains.ensures.goes_on.0;
       moving = c.units.invariant.moving;
       still = λ ne. absurd (ne before);
@@ -79,6 +82,7 @@ units-preserved-in-End g c =
       given = c.units.invariant.given;
       few = omega (arith, c.units.invariant.few, c.in-None.ensures.fewer, c.in-End.ensures.few);
       fits = c.in-End.ensures.fits;
+      most = omega (arith, c.units.invariant.most, c.in-None.ensures.most, c.in-End.ensures.most);
       going = λ e. cc;
       moving = λ e. cc;
       still = λ ne. absurd (ne before);
@@ -98,6 +102,7 @@ units-preserved g c =
       given = c.units.invariant.given;
       few = omega (arith, c.units.invariant.few, c.in-None.ensures.fewer, c.in-Fault.ensures.few);
       fits = c.in-Fault.ensures.fits;
+      most = omega (arith, c.units.invariant.most, c.in-None.ensures.most, c.in-Fault.ensures.most);
       going = λ e. cc;
       moving = λ e. cc;
       still = λ ne. absurd (ne before);
@@ -124,5 +129,6 @@ returns-in-Shown g c =
       read = λ e. cc;
       count = omega (arith, c.units.invariant.count, c.in-Shown.ensures.count);
       fits = omega (arith, c.units.invariant.few, c.in-None.ensures.fewer, c.in-Shown.ensures.few, c.in-Shown.ensures.fits);
+      greatest = omega (arith, c.units.invariant.most, c.in-None.ensures.most, c.in-Shown.ensures.most);
       room = omega (arith, c.units.invariant.room, c.in-Shown.ensures.room);
     }

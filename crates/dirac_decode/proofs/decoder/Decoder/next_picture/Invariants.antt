@@ -11,6 +11,7 @@ invariant-units g l = record {
   given : l.self-inside.given ≡ l.fn.self.given;
   few : l.self-inside.given + length l.self-inside.state.waiting ≤ l.self-inside.units.spot.index;
   fits : l.self-inside.units.spot.index < 2 ^ 64;
+  most : l.fn.self.course.most ≤ l.self-inside.state.most;
   going : l.self-inside.met ≡ met.Going → l.self-inside.units.met ≡ met.Going;
   moving : l.self-inside.met ≡ met.Stopped → ⊥;
   still : (l.fn.self.met ≡ met.Going → ⊥) → (l.source ≡ l.initial.source) × (decoding l.self-inside.units l.self-inside.state l.self-inside.draining l.self-inside.given l.self-inside.met ≡ l.fn.self);
