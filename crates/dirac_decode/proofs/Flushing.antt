@@ -61,7 +61,10 @@ opening_leaves course payload (Ok s) m is =
     ap left_by same
 opening_leaves course payload (Err refusal) m is = absurd cc
 
-repeat_leaves : (course : Course) (same : Bool) (m : Moved) → (if same then Ok (staying course) else Err (record { at = 0; cause = SequenceChanged })) ≡ Ok m → pushed_all course.waiting [] ≡ left_by m
+abbrev changed : Refusal
+changed = record { at = 0; cause = SequenceChanged }
+
+repeat_leaves : (course : Course) (same : Bool) (m : Moved) → (if same then Ok (staying course) else Err changed) ≡ Ok m → pushed_all course.waiting [] ≡ left_by m
 repeat_leaves course true m is = let same : staying course ≡ m = cc in ap left_by same
 repeat_leaves course false m is = absurd cc
 
@@ -73,10 +76,10 @@ header_leaves course (Some o) payload m is = repeat_leaves course (is_same paylo
 unit_chosen : (course : Course) (unit : UnitText) (m : Moved) (fields header end : Bool) → end ≡ false
     → (if fields then (if header then header_moves course course.opened unit.payload else picture_moves course course.opened unit.info.code unit.payload) else Ok (if end then ended course else staying course)) ≡ Ok m
     → pushed_all course.waiting (if fields && not header then pushed_in course course.opened unit else []) ≡ left_by m
-unit_chosen course unit m true true end no is = header_leaves course course.opened unit.payload m is
-unit_chosen course unit m true false end no is = picture_leaves course course.opened unit m is
-unit_chosen course unit m false header true no is = absurd cc
-unit_chosen course unit m false header false no is = let same : staying course ≡ m = cc in ap left_by same
+unit_chosen course unit m true true end shut is = header_leaves course course.opened unit.payload m is
+unit_chosen course unit m true false end shut is = picture_leaves course course.opened unit m is
+unit_chosen course unit m false header true shut is = absurd cc
+unit_chosen course unit m false header false shut is = let same : staying course ≡ m = cc in ap left_by same
 
 unit_leaves : (course : Course) (unit : UnitText) (m : Moved) → unit.info.code ≢ 0x10 → moved course unit.info.code unit.payload ≡ Ok m
     → pushed_all course.waiting (pushed_by course unit) ≡ left_by m
