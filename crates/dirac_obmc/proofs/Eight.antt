@@ -1,8 +1,8 @@
 -- The weights of all blocks at a place sum to 8.
-use Rattle.std.proofs.Common.{◌≡◌, ◌≢◌, ℕ, zero, suc, ◌+◌, ◌-◌, ◌*◌, ◌/◌, ◌%◌, ◌≤◌, ◌<◌, arith, refl, inl, inr, ap, sym, ◌∙◌}
+use Rattle.std.proofs.Common.{◌≡◌, ℕ, zero, suc, ◌+◌, ◌-◌, ◌*◌, ◌/◌, ◌%◌, ◌≤◌, ◌<◌, arith, inl, inr, ap, sym, ◌∙◌}
 use Rattle.std.proofs.lemmas.Bool.{cases_eq, cases_lt}
 use Rattle.std.proofs.lemmas.Nat.{row_fits, mod_below, div-add-mod'}
-use Rattle.dirac_obmc.specs.Weights.{IsOverlap, margin, ramp, share, sum_below, weight_at}
+use Rattle.dirac_obmc.specs.Weights.{IsOverlap, margin, ramp, share, sum_below}
 use Rattle.dirac_obmc.proofs.FewTerms.{sum_one, sum_two}
 use Rattle.dirac_obmc.proofs.Ramps.{ramps}
 use Rattle.dirac_obmc.proofs.Shares.{IsSized, sized, weight_first, weight_last, weight_rising, weight_falling, weight_flat, share_before, share_behind, share_inside}
@@ -120,6 +120,6 @@ eight count length separation x o inside =
       | inl rise ↦ by_block b count length separation x r s place rest rise inside (reached b count length separation x r s place inside) some
       | inr flat ↦ alone b count length separation x r s place rest flat (in_flat b count length separation x r s place inside flat)
     ] where
-  positive : (n k y : ℕ) → y < n * k → 0 < n
-  positive zero k y l = absurd (omega arith)
-  positive (suc n) k y l = omega arith
+      positive : (n k y : ℕ) → y < n * k → 0 < n
+      positive zero k y l = absurd (omega arith)
+      positive (suc n) k y l = omega arith

@@ -1,11 +1,11 @@
 -- What the rules of block lengths and separations say of those of a plane.
-use Rattle.std.proofs.Common.{◌≡◌, ℕ, zero, suc, ◌+◌, ◌-◌, ◌*◌, ◌/◌, ◌%◌, ◌≤◌, ◌<◌, ◌⊎◌, Bool, true, ◌&&◌, arith, refl, inl, inr, ap}
+use Rattle.std.proofs.Common.{◌≡◌, ℕ, zero, suc, ◌-◌, ◌*◌, ◌/◌, ◌%◌, ◌≤◌, ◌⊎◌, Bool, ◌&&◌, arith, inl, inr, ap}
 use Rattle.std.specs.Prelude.{IsTrue}
 use Rattle.std.proofs.lemmas.Bool.{and_parts}
 use Rattle.dirac_types.specs.declared.formats.Chroma.{Chroma}
 use Rattle.dirac_types.specs.declared.formats.Chroma.TheVariants.{C444, C422, C420}
 use Rattle.dirac_sequence.specs.Ratios.{ratio_across, ratio_down}
-use Rattle.dirac_header.specs.Prediction.{is_divisible, is_grid, is_overlap}
+use Rattle.dirac_header.specs.Prediction.{is_divisible, is_overlap}
 use Rattle.dirac_obmc.specs.declared.motion.Part.{Part}
 use Rattle.dirac_obmc.specs.declared.motion.Part.TheVariants as part
 use Rattle.dirac_obmc.specs.Compensation.{Compensation, IsMotion, ratio_of, x_length, x_separation, y_length, y_separation}
@@ -46,6 +46,7 @@ whole ratio length separation some few d = record {
 } where
   one_or_two : (n : ℕ) → 1 ≤ n → n ≤ 2 → (n ≡ 1) ⊎ (n ≡ 2)
   one_or_two n l h = grind arith
+
   even_of : (k n : ℕ) → 2 * ratio ≡ k → n % (2 * ratio) ≡ 0 → n % k ≡ 0
   even_of k n e h = rw (← e) h
 

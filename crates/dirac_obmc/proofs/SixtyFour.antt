@@ -1,5 +1,5 @@
 -- The weights of all blocks at a sample sum to 64.
-use Rattle.std.proofs.Common.{◌≡◌, ℕ, zero, suc, ◌+◌, ◌*◌, ◌<◌, ◌≤◌, arith, refl, ap, ◌∙◌}
+use Rattle.std.proofs.Common.{◌≡◌, ℕ, zero, suc, ◌+◌, ◌*◌, ◌<◌, arith, refl, ap, ◌∙◌}
 use Rattle.std.proofs.Math.Nat.{mul-add, mul_comm}
 use Rattle.dirac_obmc.specs.Compensation.{Compensation, IsMotion, blocks_across, blocks_down, weight_of, x_length, x_separation, y_length, y_separation}
 use Rattle.dirac_obmc.specs.Weights.{share, sum_below}

@@ -1,5 +1,5 @@
 -- What the blocks of a plane predict: overlapped block motion compensation, Dirac specification.
-use Rattle.std.specs.Prelude.{◌≡◌, ℕ, zero, suc, ℤ, pos, ◌+◌, ◌-◌, ◌*◌, ◌/◌, ◌^◌, ◌≤◌, ◌+ℤ◌, ◌*ℤ◌, Bool, if◌then◌else◌, Option, Some, None, IsSome, IsTrue, option_map, unsigned_abs}
+use Rattle.std.specs.Prelude.{◌≡◌, ℕ, zero, suc, ℤ, pos, ◌+◌, ◌-◌, ◌*◌, ◌/◌, ◌^◌, ◌≤◌, ◌+ℤ◌, ◌*ℤ◌, if◌then◌else◌, Option, Some, None, IsSome, IsTrue, unsigned_abs}
 use Rattle.std.specs.Int.{int_div_euclid, int_shr}
 use Rattle.std.specs.Option.{ForSome}
 use Rattle.dirac_types.specs.Table.{Table}

@@ -5,6 +5,9 @@ mod direction;
 mod motion;
 mod predict;
 mod predicted;
+mod rows;
+mod shared;
+mod sums;
 mod values;
 mod weights;
 

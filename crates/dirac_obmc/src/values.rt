@@ -190,13 +190,7 @@ fn value_of_two(p: &Prediction, first: &[i16], second: &[i16], k: usize) -> i32
     requires second { All IsSample second.now }
     ensures { result ≡ from_two p.now (slice_index_or first.now k (pos 0)) (slice_index_or second.now k (pos 0)) }
 {
-    weighted_both(
-        first[k],
-        p.weight1,
-        second[k],
-        p.weight2,
-        p.weight_bits,
-    )
+    weighted_both(first[k], p.weight1, second[k], p.weight2, p.weight_bits)
 }
 
 /// The values of a block with two references.

@@ -1,6 +1,11 @@
-ghost use Rattle.std.specs.Prelude.{◌≡◌, ℕ, ◌*◌, ◌<◌, ◌≤◌};
+ghost use Rattle.std.specs.Prelude.{◌≡◌, ℕ, ◌*◌, ◌/◌, ◌%◌, ◌<◌, ◌≤◌, IfOk, replicate};
 ghost use Rattle.dirac_obmc.specs.Weights.{IsOverlap, share, sum_below, weight_at};
 ghost use Rattle.dirac_obmc.specs.Compensation.{Compensation, IsMotion, blocks_across, blocks_down, weight_of};
+ghost use Rattle.dirac_obmc.specs.Directions.{IsWeights};
+
+use crate::direction::Direction;
+use dirac_types::NoMemory;
+use std::alloc::Global;
 
 /// The weight of a block at its place `t`, where `count` blocks stand side by side (overlapped blocks, Dirac
 /// specification). Lengths and separations are those of the plane.
@@ -41,14 +46,74 @@ fn ramp(margin: u32, t: u32) -> u32
     1 + (6 * t + margin - 1) / (2 * margin - 1)
 }
 
+/// The weight of a block at a place of its plane, 0 where the block doesn't hold the place.
+#[tactic(auto, unfolding(crate::specs::Weights::share))]
+pub fn share(blocks: Direction, block: u32, place: u32) -> u8
+    requires sizes { IsOverlap blocks.length blocks.separation }
+    requires block { block < blocks.count }
+    requires count { blocks.count ≤ 4096 }
+    requires place { place ≤ 4096 }
+    ensures value { result ≡ Rattle.dirac_obmc.specs.Weights.share block blocks.count blocks.length blocks.separation place }
+    ensures small { result ≤ 8 }
+{
+    let place = place + (blocks.length - blocks.separation) / 2;
+    let begin = block * blocks.separation;
+    if begin <= place && place < begin + blocks.length {
+        weight(
+            block,
+            blocks.count,
+            blocks.length,
+            blocks.separation,
+            place - begin,
+        ) as u8
+    } else {
+        0
+    }
+}
+
+/// The weight at a place of the list of all weights, block after block.
+fn weight_in_list(blocks: Direction, place: u32) -> u8
+    requires sizes { IsOverlap blocks.length blocks.separation }
+    requires place { place < blocks.count * blocks.length }
+    ensures value { result ≡ weight_at (place / blocks.length) blocks.count blocks.length blocks.separation (place % blocks.length) }
+    ensures small { result ≤ 8 }
+{
+    weight(
+        place / blocks.length,
+        blocks.count,
+        blocks.length,
+        blocks.separation,
+        place % blocks.length,
+    ) as u8
+}
+
+/// So many weights 0.
+fn no_weights(alloc: Global, count: usize) -> Result<Vec<u8>, NoMemory>
+    ensures { IfOk result (λ ws. ws.items ≡ replicate count 0) }
+{
+    Ok(vec![in alloc; 0; count]?)
+}
+
+/// The weights of all blocks of a direction, block after block.
+pub fn weight_table(alloc: Global, blocks: Direction) -> Result<Vec<u8>, NoMemory>
+    requires sizes { IsOverlap blocks.length blocks.separation }
+    requires count { blocks.count ≤ 4096 }
+    ensures { IfOk result (λ ws. IsWeights blocks.count blocks.length blocks.separation ws.items) }
+{
+    let count = blocks.count * blocks.length;
+    let mut weights = no_weights(alloc, count as usize)?;
+    for place in 0..count {
+        weights[place as usize] = weight_in_list(blocks, place);
+    }
+    Ok(weights)
+}
+
 /// The weights of all blocks at a place across, or down, sum to 8, however the blocks overlap.
 pub fn weights_sum_to_eight()
     ensures { (count length separation x : ℕ) → IsOverlap length separation → x < count * separation → sum_below (λ block. share block count length separation x) count ≡ 8 }
-{
-}
+{}
 
 /// The weights of all blocks at a sample that they cover sum to 64.
 pub fn weights_sum_to_64()
     ensures { (m : Compensation) → IsMotion m → (x y : ℕ) → x < m.width → y < m.height → sum_below (λ j. sum_below (λ i. weight_of m x y j i) (blocks_across m)) (blocks_down m) ≡ 64 }
-{
-}
+{}

@@ -1,4 +1,3 @@
-use Rattle.std.proofs.Common.{arith, ◌∙◌}
 use Rattle.dirac_obmc.proofs.Rounding.{rounded_is, rounded_small}
 use Rattle.dirac_obmc.proofs.values.rounded.Goals as goal
 

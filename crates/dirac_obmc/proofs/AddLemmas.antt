@@ -1,0 +1,92 @@
+-- Rows of sums to which values are added.
+use Rattle.std.proofs.Common.{◌≡◌, ℕ, ℤ, pos, suc, ◌+◌, ◌-◌, ◌<◌, ◌≤◌, ◌+ℤ◌, unsigned_abs, List, length, get_or, set, arith, refl, inl, inr, ap, sym, subst, ◌∙◌}
+use Rattle.std.specs.List.{All}
+use Rattle.std.proofs.lemmas.Bool.{cases_eq, cases_lt}
+use Rattle.std.proofs.lemmas.Int.{ints}
+use Rattle.std.proofs.lemmas.List.{get_or-set_same, get_or-set_other, length-set, get_or_default}
+use Rattle.dirac_obmc.specs.Adding.{Adds, AddsPart}
+use Rattle.dirac_obmc.specs.Compensation.{total}
+
+add_nought : (x : ℤ) → x +ℤ pos 0 ≡ x
+add_nought x = omega (arith, ints)
+
+pub part_none : (start : ℕ) (f : ℕ → ℤ) (xs : List ℤ) → AddsPart start f 0 xs xs
+part_none start f xs = record { len = refl; before = λ x l. refl; done = λ k l. absurd (omega arith); rest = λ x l. refl }
+
+-- one more sum has grown
+pub part_more : (start : ℕ) (f : ℕ → ℤ) (n m : ℕ) (xs ys : List ℤ) (v : ℤ) → AddsPart start f n xs ys → start + n < length ys → m ≡ n + 1
+    → v ≡ get_or ys (start + n) (pos 0) +ℤ f n → AddsPart start f m xs (set ys (start + n) v)
+part_more start f n m xs ys v a fits next e = record {
+  len = length-set ys (start + n) v ∙ a.len;
+  before = λ x l. get_or-set_other ys (start + n) x v (pos 0) (omega arith) ∙ a.before x l;
+  done = λ k l. elim (cases_eq k n) [
+    | inl here ↦
+        ap (λ i. get_or (set ys (start + n) v) (start + i) (pos 0)) here
+        ∙ get_or-set_same ys (start + n) v (pos 0) fits ∙ e
+        ∙ ap (λ z. z +ℤ f n) (a.rest (start + n) (omega arith))
+        ∙ ap (λ i. get_or xs (start + i) (pos 0) +ℤ f i) (sym here)
+    | inr other ↦ get_or-set_other ys (start + n) (start + k) v (pos 0) (omega arith) ∙ a.done k (omega arith)
+  ];
+  rest = λ x l. get_or-set_other ys (start + n) x v (pos 0) (omega arith) ∙ a.rest x (omega arith);
+}
+
+-- a sum that hasn't grown yet
+pub part_next : (start : ℕ) (f : ℕ → ℤ) (n b : ℕ) (xs ys : List ℤ) → AddsPart start f n xs ys → All (λ v. unsigned_abs v ≤ b) xs → start + n < length xs → unsigned_abs (get_or ys (start + n) (pos 0)) ≤ b
+part_next start f n b xs ys a h inside =
+    rw (a.rest (start + n) (omega arith)) (h (start + n) (pos 0) inside)
+
+pub part_all : (start : ℕ) (f : ℕ → ℤ) (n count : ℕ) (xs ys : List ℤ) → AddsPart start f n xs ys → n ≡ count → AddsPart start f count xs ys
+part_all start f n count xs ys a e = subst (λ (i : ℕ). AddsPart start f i xs ys) e a
+
+-- nothing is added
+pub adds_none : (f : ℕ → ℤ) (n : ℕ) (xs : List ℤ) → ((x : ℕ) → x < n → f x ≡ pos 0) → Adds f n xs xs
+adds_none f n xs h = record { len = refl; each = λ x l. sym (add_nought (get_or xs x (pos 0))) ∙ ap (λ z. get_or xs x (pos 0) +ℤ z) (sym (h x l)) }
+
+-- a part grows, where f is 0 outside of it
+pub adds_part : (start : ℕ) (g f : ℕ → ℤ) (count n : ℕ) (xs ys : List ℤ) → AddsPart start g count xs ys → ((k : ℕ) → k < count → g k ≡ f (start + k))
+    → ((x : ℕ) → x < n → x < start → f x ≡ pos 0) → ((x : ℕ) → x < n → start + count ≤ x → f x ≡ pos 0) → Adds f n xs ys
+adds_part start g f count n xs ys a same before behind = record {
+  len = a.len;
+  each = λ x l. elim (cases_lt x start) [
+    | inl left ↦ a.before x left ∙ sym (add_nought (get_or xs x (pos 0))) ∙ ap (λ z. get_or xs x (pos 0) +ℤ z) (sym (before x l left))
+    | inr right ↦ elim (cases_lt x (start + count)) [
+      | inl inside ↦
+          let place : start + (x - start) ≡ x = omega arith in
+          ap (λ i. get_or ys i (pos 0)) (sym place) ∙ a.done (x - start) (omega arith)
+          ∙ ap (λ z. get_or xs (start + (x - start)) (pos 0) +ℤ z) (same (x - start) (omega arith))
+          ∙ ap (λ i. get_or xs i (pos 0) +ℤ f i) place
+      | inr past ↦ a.rest x past ∙ sym (add_nought (get_or xs x (pos 0))) ∙ ap (λ z. get_or xs x (pos 0) +ℤ z) (sym (behind x l past))
+    ]
+  ];
+}
+
+-- one more term is added
+pub adds_more : (f : ℕ → ℕ → ℤ) (k m n : ℕ) (xs ys zs : List ℤ) → Adds (λ x. total (f x) k) n xs ys → Adds (λ x. f x k) n ys zs → m ≡ k + 1 → Adds (λ x. total (f x) m) n xs zs
+adds_more f k m n xs ys zs a b next = record {
+  len = b.len ∙ a.len;
+  each = λ x l.
+      let last : suc k ≡ m = omega (arith, next) in
+      b.each x l ∙ ap (λ z. z +ℤ f x k) (a.each x l) ∙ regroup (get_or xs x (pos 0)) (total (f x) k) (f x k)
+      ∙ ap (λ i. get_or xs x (pos 0) +ℤ total (f x) i) last;
+} where
+  regroup : (p q r : ℤ) → (p +ℤ q) +ℤ r ≡ p +ℤ (q +ℤ r)
+  regroup p q r = omega (arith, ints)
+
+-- how large the sums are then
+pub adds_bounded : (f : ℕ → ℤ) (n a b c : ℕ) (xs ys : List ℤ) → Adds f n xs ys → length xs ≡ n → All (λ v. unsigned_abs v ≤ a) xs → ((x : ℕ) → x < n → unsigned_abs (f x) ≤ b) → a + b ≤ c
+    → All (λ v. unsigned_abs v ≤ c) ys
+adds_bounded f n a b c xs ys s len h g l k d inside =
+    let place : k < n = omega (arith, s.len) in
+    let old : unsigned_abs (get_or xs k (pos 0)) ≤ a = h k (pos 0) (omega arith) in
+    rw (get_or_default ys k d (pos 0) inside, s.each k place)
+    (abs_within (get_or xs k (pos 0)) (f k) old (g k place))
+  where
+    abs_within : (x y : ℤ) → unsigned_abs x ≤ a → unsigned_abs y ≤ b → unsigned_abs (x +ℤ y) ≤ c
+    abs_within x y p q = omega (arith, ints)
+
+pub adds_all : (f : ℕ → ℕ → ℤ) (k m n : ℕ) (xs ys : List ℤ) → Adds (λ x. total (f x) k) n xs ys → k ≡ m → Adds (λ x. total (f x) m) n xs ys
+adds_all f k m n xs ys a e = subst (λ (i : ℕ). Adds (λ x. total (f x) i) n xs ys) e a
+
+-- sums that are 0
+pub noughts_small : (xs : List ℤ) → ((x : ℕ) → get_or xs x (pos 0) ≡ pos 0) → All (λ v. unsigned_abs v ≤ 0) xs
+noughts_small xs h k d inside = rw (get_or_default xs k d (pos 0) inside, h k) (omega arith)

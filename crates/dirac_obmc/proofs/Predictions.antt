@@ -1,0 +1,60 @@
+-- Tables of predictions.
+use Rattle.std.proofs.Common.{◌≡◌, ℕ, ℤ, pos, negsuc, ◌+◌, ◌-◌, ◌*◌, ◌/◌, ◌%◌, ◌^◌, ◌<◌, ◌≤◌, ◌+ℤ◌, unsigned_abs, replicate, arith, ap, ◌∙◌}
+use Rattle.std.specs.Prelude.{◌≤ℤ◌}
+use Rattle.std.specs.Int.{int_shr}
+use Rattle.std.proofs.Math.Nat.{mul_comm}
+use Rattle.std.specs.List.{All}
+use Rattle.std.proofs.lemmas.Int.{ints}
+use Rattle.std.proofs.lemmas.List.FromFn.{get_or-map-range_with_len, length-map-range_with_len}
+use Rattle.std.proofs.lemmas.Nat.{mod_below, div_below}
+use Rattle.dirac_types.specs.Table.{Table}
+use Rattle.std.proofs.lemmas.List.{length-replicate}
+use Rattle.dirac_upconvert.specs.HalfSamples.{filled, table_of}
+use Rattle.dirac_upconvert.proofs.RowLemmas.{RowsFilled}
+use Rattle.dirac_obmc.specs.Compensation.{Compensation, IsMotion, blended, blocks_down, predicted_at, predicted_plane, predicted_rows}
+use Rattle.dirac_obmc.specs.Directions.{IsSound}
+use Rattle.dirac_obmc.proofs.Bounds.{rows_small}
+
+-- a sum of values times weights of 64 in all, divided by 64
+divided_small : (z : ℤ) → unsigned_abs z ≤ 2 ^ 21 → unsigned_abs (int_shr (z +ℤ pos 32) 6) ≤ 2 ^ 15
+divided_small z l = shifted (z +ℤ pos 32) (most z l) (least z l) where
+  shifted : (y : ℤ) → unsigned_abs y ≤ 2 ^ 21 + 32 → (pos 0 ≤ℤ (y +ℤ pos (2 ^ 21))) → unsigned_abs (int_shr y 6) ≤ 2 ^ 15
+  shifted (pos n) p q = omega (arith, ints)
+  shifted (negsuc n) p q = omega (arith, ints)
+
+  most : (y : ℤ) → unsigned_abs y ≤ 2 ^ 21 → unsigned_abs (y +ℤ pos 32) ≤ 2 ^ 21 + 32
+  most y p = omega (arith, ints)
+
+  least : (y : ℤ) → unsigned_abs y ≤ 2 ^ 21 → pos 0 ≤ℤ ((y +ℤ pos 32) +ℤ pos (2 ^ 21))
+  least y p = omega (arith, ints)
+
+predicted_small : (m : Compensation) (x y : ℕ) → IsMotion m → IsSound m → x < m.width → y < m.height → unsigned_abs (predicted_at m x y) ≤ 2 ^ 15
+predicted_small m x y h s right below = divided_small (blended m x y) (rows_small m x y (blocks_down m) h s right below (omega arith))
+
+-- a table whose values are told by column and row
+filled_small : (f : ℕ → ℕ → ℤ) (w h b : ℕ) → 0 < w → ((x y : ℕ) → x < w → y < h → unsigned_abs (f x y) ≤ b) → All (λ v. unsigned_abs v ≤ b) (filled w h f)
+unfolding filled
+filled_small f w h b some small k d inside =
+    let l : k < w * h = omega (arith, inside, length-map-range_with_len (λ p. f (p % w) (p / w)) 0 (w * h)) in
+    rw (get_or-map-range_with_len (λ p. f (p % w) (p / w)) 0 (w * h) k k d l (omega arith))
+    (small (k % w) (k / w) (mod_below k w some) (div_below k w h some (omega (arith, l, mul_comm w h))))
+
+pub rows_are_small : (m : Compensation) (t : Table) (first end : ℕ) → IsMotion m → IsSound m → end ≤ m.height → t ≡ predicted_rows m first end → All (λ v. unsigned_abs v ≤ 2 ^ 15) t.values
+rows_are_small m t first end h s inside e =
+    rw e (filled_small (λ x y. predicted_at m x (first + y)) m.width (end - first) (2 ^ 15) (omega (arith, h.some_across))
+    (λ x y l k. predicted_small m x (first + y) h s l (omega arith)))
+
+-- all rows are the plane
+pub plane_is : (m : Compensation) → predicted_rows m 0 m.height ≡ predicted_plane m
+plane_is m =
+    ap (λ n. table_of m.width n (λ x y. predicted_at m x (0 + y))) (omega arith)
+    ∙ ap (table_of m.width m.height) (λ i x y. predicted_at m x (from_first y i)) where
+      from_first : (y : ℕ) → 0 + y ≡ y
+      from_first y = omega arith
+
+-- no row is told yet
+pub rows_none : (f : ℕ → ℕ → ℤ) (t : Table) (w h n : ℕ) → t ≡ record { width = w; height = h; values = replicate (w * h) (pos 0) } → n ≡ 0 → RowsFilled f t.width t.height t.values n
+rows_none f t w h n e none = record {
+  len = rw e (length-replicate (w * h) (pos 0));
+  done = λ x y l k. absurd (omega arith);
+}

@@ -1,0 +1,83 @@
+ghost use Rattle.std.specs.Prelude.{◌≡◌, ℕ, pos, ◌+◌, ◌-◌, ◌*◌, ◌^◌, ◌<◌, ◌≤◌, ◌+ℤ◌, ◌*ℤ◌, unsigned_abs, length, slice_index, slice_index_or};
+ghost use Rattle.std.specs.Int.{int_shr};
+ghost use Rattle.std.specs.List.{All};
+ghost use Rattle.dirac_obmc.specs.Adding.{AddsPart};
+
+/// A value times its weights across and down.
+#[inline(always)]
+fn weighted(weight: u8, down: u8, value: i32) -> i32
+    requires weight { weight ≤ 8 }
+    requires down { down ≤ 8 }
+    requires value { unsigned_abs value ≤ 2 ^ 15 }
+    ensures value { result ≡ pos (weight * down) *ℤ value }
+    ensures small { unsigned_abs result ≤ 2 ^ 21 }
+{
+    i32::from(weight * down) * value
+}
+
+#[inline(always)]
+fn sum(sum: i32, more: i32) -> i32
+    requires sum { unsigned_abs sum ≤ 2 ^ 22 }
+    requires more { unsigned_abs more ≤ 2 ^ 21 }
+    ensures { result ≡ sum +ℤ more }
+{
+    sum + more
+}
+
+/// Adds `count` values, each times its weights, to the sums from place `start` on; the weights stand from place
+/// `first` on.
+pub fn add_values(
+    sums: &mut [i32],
+    start: usize,
+    values: &[i32],
+    count: usize,
+    weights: &[u8],
+    first: usize,
+    down: u8,
+)
+    requires sums { All (λ v. unsigned_abs v ≤ 2 ^ 22) sums.old }
+    requires inside { start + count ≤ length sums.old }
+    requires enough { count ≤ length values.now }
+    requires values { (k : ℕ) → k < count → unsigned_abs (slice_index_or values.now k (pos 0)) ≤ 2 ^ 15 }
+    requires weighed { first + count ≤ length weights.now }
+    requires weights { All (λ w. w ≤ 8) weights.now }
+    requires down { down ≤ 8 }
+    ensures { AddsPart start (λ k. pos (slice_index weights.now (first + k) * down) *ℤ slice_index_or values.now k (pos 0)) count sums.old sums.new }
+{
+    for k in 0..count {
+        sums[start + k] = sum(
+            sums[start + k],
+            weighted(weights[first + k], down, values[k]),
+        );
+    }
+}
+
+/// Makes all sums 0.
+pub fn clear_sums(sums: &mut [i32])
+    ensures { (x : ℕ) → slice_index_or sums.new x (pos 0) ≡ pos 0 }
+{
+    for x in 0..sums.len() {
+        sums[x] = 0;
+    }
+}
+
+/// A sum of values times weights of 64 in all, divided by 64 to the nearest.
+#[inline(always)]
+fn divided(sum: i32) -> i32
+    requires { unsigned_abs sum ≤ 2 ^ 21 }
+    ensures value { result ≡ int_shr (sum +ℤ pos 32) 6 }
+    ensures small { unsigned_abs result ≤ 2 ^ 15 }
+{
+    (sum + 32) >> 6
+}
+
+/// Divides the sums of a row by the sum of the weights.
+pub fn divide_sums(sums: &[i32], out: &mut [i32])
+    requires len { length sums.now ≡ length out.old }
+    requires sums { All (λ v. unsigned_abs v ≤ 2 ^ 21) sums.now }
+    ensures value { (x : ℕ) → x < length out.old → slice_index_or out.new x (pos 0) ≡ int_shr (slice_index_or sums.now x (pos 0) +ℤ pos 32) 6 }
+{
+    for x in 0..out.len() {
+        out[x] = divided(sums[x]);
+    }
+}
