@@ -1,9 +1,14 @@
 mod Appended
 mod Examples
+mod Filled
 mod Fills
+mod ForwardLoops
+mod Forwards
 mod InContexts
 mod Narrowing
+mod Nearby
 mod Putting
 mod Repeating
+mod SplitForwards
 mod UnitValues
 mod Units

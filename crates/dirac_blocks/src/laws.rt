@@ -1,0 +1,8 @@
+//! What holds of all block tables, each as the contract of a function that does nothing.
+ghost use Rattle.dirac_blocks.specs.Laws.{CarriedIsRead, CarriedSplitsAreRead};
+
+/// A list is read from the block that carries it.
+pub fn carried_lists_are_read()
+    ensures units { CarriedIsRead }
+    ensures splits { CarriedSplitsAreRead }
+{}
