@@ -192,10 +192,10 @@ rows_go part u m size across i j count (suc n) r s inv toward units fits some fe
     }
 
 -- the units of a superblock fill it
-units_fill : (split : ℕ) → split ≤ 2 → 2 ^ split * unit_size split ≡ 4
+pub units_fill : (split : ℕ) → split ≤ 2 → 2 ^ split * unit_size split ≡ 4
 units_fill split h = of_splits (λ s. 2 ^ s * unit_size s ≡ 4) split h (omega arith) (omega arith) (omega arith)
 
-size_some : (split : ℕ) → split ≤ 2 → 1 ≤ unit_size split
+pub size_some : (split : ℕ) → split ≤ 2 → 1 ≤ unit_size split
 size_some split h = of_splits (λ s. 1 ≤ unit_size s) split h (omega arith) (omega arith) (omega arith)
 
 pub unit_of_superblock : (u : BlockTable) (sx sy k l : ℕ) → sx < u.across → sy < u.down → k < 2 ^ split_at u sx sy → l < 2 ^ split_at u sx sy

@@ -1,4 +1,6 @@
 mod Appended
+mod BackwardLoops
+mod Backwards
 mod Examples
 mod Filled
 mod Fills

@@ -13,7 +13,15 @@ CarriedIsRead =
     CarriesPart part former block t →
     ReadsTo (units_step part) former block t
 
--- and so are splits
+-- and what is read is carried
+abbrev pub ReadIsCarried : Type 0
+ReadIsCarried =
+    (part : Part) (former t : BlockTable) (block : List ℕ) →
+    IsBlockTable former →
+    ReadsTo (units_step part) former block t →
+    CarriesPart part former block t
+
+-- splits are read from the block that carries them
 abbrev pub CarriedSplitsAreRead : Type 0
 CarriedSplitsAreRead =
     (former t : BlockTable) (block : List ℕ) →

@@ -1,8 +1,13 @@
 //! What holds of all block tables, each as the contract of a function that does nothing.
-ghost use Rattle.dirac_blocks.specs.Laws.{CarriedIsRead, CarriedSplitsAreRead};
+ghost use Rattle.dirac_blocks.specs.Laws.{CarriedIsRead, CarriedSplitsAreRead, ReadIsCarried};
 
 /// A list is read from the block that carries it.
 pub fn carried_lists_are_read()
     ensures units { CarriedIsRead }
     ensures splits { CarriedSplitsAreRead }
+{}
+
+/// A list that is read is carried.
+pub fn read_lists_are_carried()
+    ensures units { ReadIsCarried }
 {}
