@@ -11,6 +11,7 @@ mod Narrowing
 mod Nearby
 mod Putting
 mod Repeating
+mod SplitBackwards
 mod SplitForwards
 mod UnitValues
 mod Units

@@ -3,6 +3,7 @@ use Rattle.std.specs.Prelude.{◌≡◌, ◌↔◌, ℕ, List}
 use Rattle.dirac_blocks.specs.declared.parts.Part.{Part}
 use Rattle.dirac_blocks.specs.Carried.{CarriesPart, CarriesSplits, ReadsTo}
 use Rattle.dirac_blocks.specs.Grammar.{splits_step, units_step}
+use Rattle.dirac_blocks.specs.Reached.{AllGrey}
 use Rattle.dirac_blocks.specs.Tables.{BlockTable, IsBlockTable}
 
 -- what a list tells of each unit is read from the block that carries it
@@ -28,3 +29,12 @@ CarriedSplitsAreRead =
     IsBlockTable former →
     CarriesSplits former block t →
     ReadsTo splits_step former block t
+
+-- and splits that are read into a table without blocks are carried
+abbrev pub ReadSplitsAreCarried : Type 0
+ReadSplitsAreCarried =
+    (former t : BlockTable) (block : List ℕ) →
+    IsBlockTable former →
+    AllGrey former.blocks →
+    ReadsTo splits_step former block t →
+    CarriesSplits former block t
