@@ -51,14 +51,14 @@ value_or d (Ok x) = x
 value_or d (Err e) = d
 
 -- an answer is one
-one_answer : {A : Type 0} (x : Result A Cause) (v w : A) → x ≡ Ok v → x ≡ Ok w → v ≡ w
+pub one_answer : {A : Type 0} (x : Result A Cause) (v w : A) → x ≡ Ok v → x ≡ Ok w → v ≡ w
 unfolding value_or
 one_answer x v w p q = sym (ap (value_or v) p) ∙ ap (value_or v) q
 
-no_answer : {A : Type 0} (x : Result A Cause) (v : A) (e : Cause) → x ≡ Ok v → x ≡ Err e → ⊥
+pub no_answer : {A : Type 0} (x : Result A Cause) (v : A) (e : Cause) → x ≡ Ok v → x ≡ Err e → ⊥
 no_answer x v e p q = cc
 
-one_cause : {A : Type 0} (x : Result A Cause) → x ≡ Err cause.NumberTooLong → x ≡ Err cause.CodeWord → ⊥
+pub one_cause : {A : Type 0} (x : Result A Cause) → x ≡ Err cause.NumberTooLong → x ≡ Err cause.CodeWord → ⊥
 one_cause x p q = cc
 
 -- a block that doesn't begin with ones lies in the first interval
@@ -170,7 +170,7 @@ pub is_led : (block : List ℕ) (common : List Decision) (r : Reading) → Reads
 is_led block common r reads = subst IsLed (sym reads.moved) (led_by block common reads.lies)
 
 -- what is read of a reading that decisions led to
-reads_of : (r s : Reading) (ds : List Decision) → s ≡ after_all r ds → Lies r.block (narrowed_by r.at ds) → Reads r ds s
+pub reads_of : (r s : Reading) (ds : List Decision) → s ≡ after_all r ds → Lies r.block (narrowed_by r.at ds) → Reads r ds s
 reads_of r s ds moved lies = record { moved = moved; lies = λ some. lies }
 
 pub decision_is_read : DecisionIsRead
@@ -189,11 +189,11 @@ decision_is_read block common old new context truth some reads =
       λ r. decided_is context truth old same (r.lies (omega arith)) ∙ ap (λ (s : Reading). let x : Result (Bool × Reading) Cause = Ok (truth, s) in x) (sym r.moved),
     )
 
-not_shut : (r : Reading) (ds : List Decision) → IsLed r → 0 < length ds → (0 < length ds → Lies r.block (narrowed_by r.at ds)) → front r.block 16 ≢ 0xFFFF
+pub not_shut : (r : Reading) (ds : List Decision) → IsLed r → 0 < length ds → (0 < length ds → Lies r.block (narrowed_by r.at ds)) → front r.block 16 ≢ 0xFFFF
 not_shut r ds led some lies = led.some (lies_first r.block r.at ds led.tame (lies some))
 
 -- a number reads to a value, or it is refused, as the front allows
-number_reads : (r new : Reading) (follow : List ℕ) (bits v : ℕ) → IsLed r → front r.block 16 ≢ 0xFFFF
+pub number_reads : (r new : Reading) (follow : List ℕ) (bits v : ℕ) → IsLed r → front r.block 16 ≢ 0xFFFF
     → number_read follow bits r ≡ Ok (v, new) → (v < 2 ^ 39 - 1) × Reads r (spelling follow bits v) new
 number_reads r new follow bits v led some e =
     elim (some_number r.block r.at follow bits (led.lies some)) [
@@ -208,7 +208,7 @@ number_reads r new follow bits v led some e =
           absurd (no_answer (number_read follow bits r) (v, new) cause.NumberTooLong e (number_is_long follow bits long.0 r led.tame some long.1 long.2))
     ]
 
-number_breaks : (r : Reading) (follow : List ℕ) (bits : ℕ) → IsLed r → front r.block 16 ≢ 0xFFFF
+pub number_breaks : (r : Reading) (follow : List ℕ) (bits : ℕ) → IsLed r → front r.block 16 ≢ 0xFFFF
     → number_read follow bits r ≡ Err cause.NumberTooLong → (digits : List Bool) × (length digits ≡ 38) × ((new : Reading) × Reads r (spelt follow bits digits false) new)
 number_breaks r follow bits led some e =
     elim (some_number r.block r.at follow bits (led.lies some)) [
@@ -219,7 +219,7 @@ number_breaks r follow bits led some e =
           (long.0, long.1, (after_all r ds, reads_of r (after_all r ds) ds refl long.2))
     ]
 
-signed_reads : (r new : Reading) (follow : List ℕ) (bits sign : ℕ) (v : ℤ) → IsLed r → front r.block 16 ≢ 0xFFFF
+pub signed_reads : (r new : Reading) (follow : List ℕ) (bits sign : ℕ) (v : ℤ) → IsLed r → front r.block 16 ≢ 0xFFFF
     → signed_read follow bits sign r ≡ Ok (v, new) → (nat_abs v < 2 ^ 39 - 1) × Reads r (signed_spelling follow bits sign v) new
 signed_reads r new follow bits sign v led some e =
     elim (some_signed r.block r.at follow bits sign (led.lies some)) [
@@ -234,7 +234,7 @@ signed_reads r new follow bits sign v led some e =
           absurd (no_answer (signed_read follow bits sign r) (v, new) cause.NumberTooLong e (signed_is_long follow bits sign long.0 r led.tame some long.1 long.2))
     ]
 
-signed_breaks : (r : Reading) (follow : List ℕ) (bits sign : ℕ) → IsLed r → front r.block 16 ≢ 0xFFFF
+pub signed_breaks : (r : Reading) (follow : List ℕ) (bits sign : ℕ) → IsLed r → front r.block 16 ≢ 0xFFFF
     → signed_read follow bits sign r ≡ Err cause.NumberTooLong → (digits : List Bool) × (length digits ≡ 38) × ((new : Reading) × Reads r (spelt follow bits digits false) new)
 signed_breaks r follow bits sign led some e =
     elim (some_signed r.block r.at follow bits sign (led.lies some)) [
@@ -275,7 +275,7 @@ long_number_is_refused block common old follow bits reads =
           number_is_long follow bits p.0 old led.tame some p.1 (r.lies more),
     )
 
-signed_more : (follow : List ℕ) (bits sign : ℕ) (v : ℤ) → 0 < length (signed_spelling follow bits sign v)
+pub signed_more : (follow : List ℕ) (bits sign : ℕ) (v : ℤ) → 0 < length (signed_spelling follow bits sign v)
 signed_more follow bits sign v =
     omega (arith, signed_some follow bits sign v [], length-append (signed_spelling follow bits sign v) [])
 

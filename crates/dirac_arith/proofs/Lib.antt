@@ -8,6 +8,7 @@ pub mod Encodings
 pub mod Examples
 pub mod Fronts
 pub mod Intervals
+pub mod Led
 pub mod Numbers
 pub mod Spellings
 pub mod Steps

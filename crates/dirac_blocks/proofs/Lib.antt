@@ -1,9 +1,17 @@
 mod Appended
+mod BackwardLoops
+mod Backwards
 mod Examples
+mod Filled
 mod Fills
+mod ForwardLoops
+mod Forwards
 mod InContexts
 mod Narrowing
+mod Nearby
 mod Putting
 mod Repeating
+mod SplitBackwards
+mod SplitForwards
 mod UnitValues
 mod Units

@@ -1,6 +1,8 @@
 pub mod Answers
+pub mod Carried
 pub mod Decisions
 pub mod Grammar
+pub mod Laws
 pub mod Parts
 pub mod Puts
 pub mod Reached

@@ -3,6 +3,7 @@
 
 mod block;
 mod filling;
+mod laws;
 mod list_reader;
 mod list_writer;
 mod lists;
@@ -21,6 +22,7 @@ mod unit_writer;
 mod writer;
 
 pub use block::Block;
+pub use laws::{carried_lists_are_read, read_lists_are_carried};
 pub use lists::{Blocks, Splits};
 pub use reader::read_blocks;
 pub use table::BlockData;

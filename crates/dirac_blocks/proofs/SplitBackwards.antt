@@ -1,0 +1,224 @@
+-- Splits that are read are carried.
+use Rattle.std.proofs.Common.{◌≡◌, ℕ, zero, suc, ◌+◌, ◌-◌, ◌*◌, ◌/◌, ◌%◌, ◌^◌, ◌<◌, ◌≤◌, ◌⊎◌, inl, inr, List, [], ◌∷◌, ◌++◌, length, length-set, Result, Ok, Err, refl, sym, ap, ap₂, ◌∙◌, arith, subst}
+use Rattle.std.specs.Prelude.{if◌then◌else◌, ◌==◌}
+use Rattle.std.proofs.lemmas.Bool.{cases_lt, cases_eq, eq-eqb, ne_eqb}
+use Rattle.std.proofs.lemmas.Nat.{mul-le, mul-add-lt}
+use Rattle.dirac_types.specs.declared.faults.Cause.{Cause}
+use Rattle.dirac_arith.specs.Chain.{◌>>=◌}
+use Rattle.dirac_arith.specs.Deciding.{begin, number_read}
+use Rattle.dirac_arith.specs.Interval.{Decision}
+use Rattle.dirac_arith.specs.Reading.{Reading, Reads}
+use Rattle.dirac_arith.specs.Spelling.{spelling}
+use Rattle.dirac_arith.proofs.Carrieds.{IsLed}
+use Rattle.dirac_arith.proofs.Led.{led_begin, led_more, reads_nothing, reads_carried, number_leads}
+use Rattle.dirac_arith.proofs.Spellings.{reads_more}
+use Rattle.dirac_blocks.specs.Carried.{CarriesSplits}
+use Rattle.dirac_blocks.specs.Decisions.{Numbers, predicted_split, split_row, split_rows}
+use Rattle.dirac_blocks.specs.Grammar.{Progress, Step, repeated, with_split, split_step, splits_step}
+use Rattle.dirac_blocks.specs.Laws.{ReadSplitsAreCarried}
+use Rattle.dirac_blocks.specs.Reached.{AllGrey, SameBlocks, progress}
+use Rattle.dirac_blocks.specs.Tables.{BlockTable, IsBlockTable, split_at}
+use Rattle.dirac_blocks.proofs.Backwards.{passed, same_answer}
+use Rattle.dirac_blocks.proofs.Fills.{split_lawful}
+use Rattle.dirac_blocks.proofs.Putting.{split_inside}
+use Rattle.dirac_blocks.proofs.Repeating.{blocks_join, blocks_refl}
+use Rattle.dirac_blocks.proofs.SplitForwards.{SameSplits, split_near, split_here, split_there}
+
+-- lists of numbers that are the same
+split_row_same : (f g : Numbers) (y z n : ℕ) → ((k : ℕ) → k < n → f y k ≡ g z k) → split_row f y n ≡ split_row g z n
+unfolding split_row
+split_row_same f g y z zero same = refl
+split_row_same f g y z (suc n) same =
+    ap₂ (λ (a b : List Decision). a ++ b) (split_row_same f g y z n (λ k l. same k (omega arith))) (ap (λ (v : ℕ). spelling (22 ∷ 23 ∷ []) 24 v) (same n (omega arith)))
+
+split_rows_same : (across : ℕ) (f g : Numbers) (n : ℕ) → ((y x : ℕ) → y < n → x < across → f y x ≡ g y x) → split_rows across f n ≡ split_rows across g n
+unfolding split_rows
+split_rows_same across f g zero same = refl
+split_rows_same across f g (suc n) same =
+    ap₂ (λ (a b : List Decision). a ++ b) (split_rows_same across f g n (λ y x p q. same y x (omega arith) q)) (split_row_same f g n n across (λ k l. same n k (omega arith) l))
+
+-- a choice with one more value
+abbrev with_value : {A : Type 0} → (ℕ → A) → ℕ → A → ℕ → A
+with_value f n v k = if k == n then v else f k
+
+value_there : {A : Type 0} (f : ℕ → A) (n : ℕ) (v : A) (k : ℕ) → k < n → with_value f n v k ≡ f k
+value_there f n v k l = rw (ne_eqb k n (λ e. omega arith)) refl
+
+value_here : {A : Type 0} (f : ℕ → A) (n : ℕ) (v : A) (k : ℕ) → k ≡ n → with_value f n v k ≡ v
+value_here f n v k e = rw (eq-eqb k n e) refl
+
+-- places of a row that aren't among its first n, and all other rows
+abbrev IsBeside : ℕ → ℕ → ℕ → ℕ → Type 0
+IsBeside sy n x y = (n ≤ x) ⊎ ((y < sy) ⊎ (sy < y))
+
+-- the first n splits of row sy were read
+record RowCame (m : BlockTable) (r : Reading) (t : BlockTable) (s : Reading) (sy n : ℕ) : Type 0 where
+  lawful : IsBlockTable t
+  rest : SameBlocks m t
+  outside : (x y : ℕ) → x < m.across → IsBeside sy n x y → split_at t x y ≡ split_at m x y
+  led : IsLed s
+  numbers : ℕ → ℕ
+  small : (k : ℕ) → k < n → numbers k < 2 ^ 39 - 1
+  are : (u : BlockTable) → SameSplits t u n (sy + 1) → (k : ℕ) → k < n → (numbers k + predicted_split u k sy) % 3 ≡ split_at u k sy
+  reads : Reads r (split_row (λ y. numbers) sy n) s
+
+row_came : (m t : BlockTable) (sy n : ℕ) (r s : Reading) → IsBlockTable m → AllGrey m.blocks → n ≤ m.across → sy < m.down → IsLed r
+    → repeated (split_step sy) n (progress m r) ≡ Ok (progress t s) → RowCame m r t s sy n
+unfolding split_row repeated split_step
+row_came m t sy zero r s inv grey few hy led e =
+    let one = same_answer (progress m r) (progress t s) e in
+    let table : m ≡ t = ap (λ x. x.table) one in
+    let place : r ≡ s = ap (λ x. x.reading) one in
+    let here : RowCame m r m r sy 0 = record {
+      lawful = inv;
+      rest = blocks_refl m;
+      outside = λ x y p o. refl;
+      led = led;
+      numbers = λ k. 0;
+      small = λ k l. absurd (omega arith);
+      are = λ u w k l. absurd (omega arith);
+      reads = reads_nothing r;
+    } in
+    subst (λ (x : BlockTable). RowCame m r x s sy 0) table (subst (λ (x : Reading). RowCame m r m x sy 0) place here)
+row_came m t sy (suc n) r s inv grey few hy led e =
+    let q = passed (repeated (split_step sy) n (progress m r)) (split_step sy n) (progress t s) e in
+    let mid = q.value.table in
+    let g = row_came m mid sy n r q.value.reading inv grey (omega arith) hy led q.first in
+    let across = g.rest.across in
+    let down = g.rest.down in
+    let grey' : AllGrey mid.blocks = subst AllGrey (sym g.rest.blocks) grey in
+    let last = passed (number_read (22 ∷ 23 ∷ []) 24 q.value.reading)
+    (λ number. let x : Result Progress Cause = Ok (record { table = with_split mid n sy ((number.0 + predicted_split mid n sy) % 3); reading = number.1 }) in x) (progress t s) q.next in
+    let number = last.value.0 in
+    let v = (number + predicted_split mid n sy) % 3 in
+    let new = with_split mid n sy v in
+    let one = same_answer (progress new last.value.1) (progress t s) last.next in
+    let table : new ≡ t = ap (λ x. x.table) one in
+    let place : last.value.1 ≡ s = ap (λ x. x.reading) one in
+    let leads = number_leads q.value.reading last.value.1 (22 ∷ 23 ∷ []) 24 number g.led last.first in
+    let numbers = with_value g.numbers n number in
+    let row = split_row (λ y. numbers) sy n in
+    let same_row : split_row (λ y. g.numbers) sy n ≡ row = split_row_same (λ y. g.numbers) (λ y. numbers) sy sy n (λ k l. sym (value_there g.numbers n number k l)) in
+    let same_last : spelling (22 ∷ 23 ∷ []) 24 number ≡ spelling (22 ∷ 23 ∷ []) 24 (numbers n) = ap (λ (w : ℕ). spelling (22 ∷ 23 ∷ []) 24 w) (sym (value_here g.numbers n number n refl)) in
+    let inside = split_inside mid n sy g.lawful (omega arith) (omega arith) in
+    let told : split_at new n sy ≡ v = split_here mid n sy v (omega arith) inside in
+    let beside : (x y : ℕ) → x < m.across → ((x ≡ n → y ≡ sy → ⊥)) → split_at new x y ≡ split_at mid x y = λ x y p o. split_there mid n sy v x y (omega arith) (omega arith) o in
+    let here : RowCame m r new last.value.1 sy (suc n) = record {
+      lawful = split_lawful mid n sy v g.lawful grey' (omega arith);
+      rest = blocks_join m mid new g.rest (record { across = refl; down = refl; refs = refl; blocks = refl });
+      outside = λ x y p o. beside x y p (never sy n x y o) ∙ g.outside x y p (wider sy n x y o);
+      led = led_more q.value.reading last.value.1 (spelling (22 ∷ 23 ∷ []) 24 number) g.led leads.1;
+      numbers = numbers;
+      small = λ k l.
+          elim (cases_eq k n) [
+            | inl is ↦ subst (λ (w : ℕ). w < 2 ^ 39 - 1) (sym (value_here g.numbers n number k is)) leads.0
+            | inr not ↦ subst (λ (w : ℕ). w < 2 ^ 39 - 1) (sym (value_there g.numbers n number k (omega arith))) (g.small k (omega arith))
+          ];
+      are = λ u w k l.
+          let before : SameSplits mid u n (sy + 1) = record { each = λ x y a b. sym (beside x y (omega arith) (λ c d. omega arith)) ∙ w.each x y (omega arith) b } in
+          let over : SameSplits mid u (n + 1) sy = record { each = λ x y a b. sym (beside x y (omega arith) (λ c d. omega arith)) ∙ w.each x y (omega arith) (omega arith) } in
+          elim (cases_eq k n) [
+            | inl is ↦
+                let near = split_near mid u n sy before over in
+                let sum : (numbers n + predicted_split u n sy) % 3 ≡ split_at u n sy =
+                ap (λ (a : ℕ). (a + predicted_split u n sy) % 3) (value_here g.numbers n number n refl) ∙ ap (λ (b : ℕ). (number + b) % 3) (sym near)
+                ∙ sym told ∙ w.each n sy (omega arith) (omega arith) in
+                subst (λ (j : ℕ). (numbers j + predicted_split u j sy) % 3 ≡ split_at u j sy) (sym is) sum
+            | inr not ↦
+                ap (λ (a : ℕ). (a + predicted_split u k sy) % 3) (value_there g.numbers n number k (omega arith)) ∙ g.are u before k (omega arith)
+          ];
+      reads = subst (λ (ds : List Decision). Reads r ds last.value.1)
+          (ap₂ (λ (a b : List Decision). a ++ b) same_row same_last)
+          (reads_more r q.value.reading last.value.1 (split_row (λ y. g.numbers) sy n) (spelling (22 ∷ 23 ∷ []) 24 number) g.reads leads.1);
+    } in
+    subst (λ (x : BlockTable). RowCame m r x s sy (suc n)) table (subst (λ (x : Reading). RowCame m r new x sy (suc n)) place here)
+  where
+  never : (sy n x y : ℕ) → IsBeside sy (suc n) x y → x ≡ n → y ≡ sy → ⊥
+  never sy n x y (inl l) a b = omega arith
+  never sy n x y (inr (inl l)) a b = omega arith
+  never sy n x y (inr (inr l)) a b = omega arith
+  wider : (sy n x y : ℕ) → IsBeside sy (suc n) x y → IsBeside sy n x y
+  wider sy n x y (inl l) = inl (omega arith)
+  wider sy n x y (inr l) = inr l
+
+-- the first n rows were read
+record RowsCame (m : BlockTable) (r : Reading) (t : BlockTable) (s : Reading) (n : ℕ) : Type 0 where
+  lawful : IsBlockTable t
+  rest : SameBlocks m t
+  led : IsLed s
+  numbers : Numbers
+  small : (x y : ℕ) → x < m.across → y < n → numbers y x < 2 ^ 39 - 1
+  are : (u : BlockTable) → SameSplits t u m.across n → (x y : ℕ) → x < m.across → y < n → (numbers y x + predicted_split u x y) % 3 ≡ split_at u x y
+  reads : Reads r (split_rows m.across numbers n) s
+
+rows_came : (m t : BlockTable) (n : ℕ) (r s : Reading) → IsBlockTable m → AllGrey m.blocks → n ≤ m.down → IsLed r
+    → repeated (λ sy. repeated (split_step sy) m.across) n (progress m r) ≡ Ok (progress t s) → RowsCame m r t s n
+unfolding split_rows repeated
+rows_came m t zero r s inv grey few led e =
+    let one = same_answer (progress m r) (progress t s) e in
+    let table : m ≡ t = ap (λ x. x.table) one in
+    let place : r ≡ s = ap (λ x. x.reading) one in
+    let here : RowsCame m r m r 0 = record {
+      lawful = inv;
+      rest = blocks_refl m;
+      led = led;
+      numbers = λ y x. 0;
+      small = λ x y p l. absurd (omega arith);
+      are = λ u w x y p l. absurd (omega arith);
+      reads = reads_nothing r;
+    } in
+    subst (λ (x : BlockTable). RowsCame m r x s 0) table (subst (λ (x : Reading). RowsCame m r m x 0) place here)
+rows_came m t (suc n) r s inv grey few led e =
+    let step : ℕ → Step = λ sy. repeated (split_step sy) m.across in
+    let q = passed (repeated step n (progress m r)) (step n) (progress t s) e in
+    let mid = q.value.table in
+    let g = rows_came m mid n r q.value.reading inv grey (omega arith) led q.first in
+    let grey' : AllGrey mid.blocks = subst AllGrey (sym g.rest.blocks) grey in
+    let wide = g.rest.across in
+    let high = g.rest.down in
+    let h = row_came mid t n m.across q.value.reading s g.lawful grey' (omega arith) (omega arith) g.led q.next in
+    let numbers = with_value g.numbers n h.numbers in
+    let same_rows : split_rows m.across g.numbers n ≡ split_rows m.across numbers n =
+    split_rows_same m.across g.numbers numbers n (λ y x p l. ap (λ (f : ℕ → ℕ). f x) (sym (value_there g.numbers n h.numbers y p))) in
+    let same_last : split_row (λ y. h.numbers) n m.across ≡ split_row numbers n m.across =
+    split_row_same (λ y. h.numbers) numbers n n m.across (λ k l. ap (λ (f : ℕ → ℕ). f k) (sym (value_here g.numbers n h.numbers n refl))) in
+    record {
+      lawful = h.lawful;
+      rest = blocks_join m mid t g.rest h.rest;
+      led = h.led;
+      numbers = numbers;
+      small = λ x y p l.
+          elim (cases_eq y n) [
+            | inl is ↦ subst (λ (f : ℕ → ℕ). f x < 2 ^ 39 - 1) (sym (value_here g.numbers n h.numbers y is)) (h.small x p)
+            | inr not ↦ subst (λ (f : ℕ → ℕ). f x < 2 ^ 39 - 1) (sym (value_there g.numbers n h.numbers y (omega arith))) (g.small x y p (omega arith))
+          ];
+      are = λ u w x y p l.
+          elim (cases_eq y n) [
+            | inl is ↦
+                let here = h.are u (record { each = λ a b c d. w.each a b c (omega arith) }) x p in
+                let sum : (numbers n x + predicted_split u x n) % 3 ≡ split_at u x n =
+                ap (λ (f : ℕ → ℕ). (f x + predicted_split u x n) % 3) (value_here g.numbers n h.numbers n refl) ∙ here in
+                subst (λ (j : ℕ). (numbers j x + predicted_split u x j) % 3 ≡ split_at u x j) (sym is) sum
+            | inr not ↦
+                ap (λ (f : ℕ → ℕ). (f x + predicted_split u x y) % 3) (value_there g.numbers n h.numbers y (omega arith))
+                ∙ g.are u (record { each = λ a b c d. sym (h.outside a b (omega arith) (inr (inl d))) ∙ w.each a b c (omega arith) }) x y p (omega arith)
+          ];
+      reads = subst (λ (ds : List Decision). Reads r ds s) (ap₂ (λ (a b : List Decision). a ++ b) same_rows same_last)
+          (reads_more r q.value.reading s (split_rows m.across g.numbers n) (split_row (λ y. h.numbers) n m.across) g.reads h.reads);
+    }
+
+pub read_splits_are_carried : ReadSplitsAreCarried
+read_splits_are_carried former t block inv grey h =
+    let g = rows_came former t former.down (begin block) h.0 inv grey (omega arith) (led_begin block) h.1 in
+    let across = g.rest.across in
+    let down = g.rest.down in
+    let lists : split_rows former.across g.numbers former.down ≡ split_rows t.across g.numbers t.down =
+    ap (λ (w : ℕ). split_rows w g.numbers former.down) (sym across) ∙ ap (λ (n : ℕ). split_rows t.across g.numbers n) (sym down) in
+    record {
+      lawful = g.lawful;
+      rest = g.rest;
+      numbers = g.numbers;
+      are = λ sx sy p q. g.are t (record { each = λ a b c d. refl }) sx sy (omega arith) (omega arith);
+      small = λ sx sy p q. g.small sx sy (omega arith) (omega arith);
+      carried = reads_carried block (split_rows t.across g.numbers t.down) h.0 (subst (λ (ds : List Decision). Reads (begin block) ds h.0) lists g.reads);
+    }

@@ -1,0 +1,40 @@
+-- The laws of this crate.
+use Rattle.std.specs.Prelude.{◌≡◌, ◌↔◌, ℕ, List}
+use Rattle.dirac_blocks.specs.declared.parts.Part.{Part}
+use Rattle.dirac_blocks.specs.Carried.{CarriesPart, CarriesSplits, ReadsTo}
+use Rattle.dirac_blocks.specs.Grammar.{splits_step, units_step}
+use Rattle.dirac_blocks.specs.Reached.{AllGrey}
+use Rattle.dirac_blocks.specs.Tables.{BlockTable, IsBlockTable}
+
+-- what a list tells of each unit is read from the block that carries it
+abbrev pub CarriedIsRead : Type 0
+CarriedIsRead =
+    (part : Part) (former t : BlockTable) (block : List ℕ) →
+    IsBlockTable former →
+    CarriesPart part former block t →
+    ReadsTo (units_step part) former block t
+
+-- and what is read is carried
+abbrev pub ReadIsCarried : Type 0
+ReadIsCarried =
+    (part : Part) (former t : BlockTable) (block : List ℕ) →
+    IsBlockTable former →
+    ReadsTo (units_step part) former block t →
+    CarriesPart part former block t
+
+-- splits are read from the block that carries them
+abbrev pub CarriedSplitsAreRead : Type 0
+CarriedSplitsAreRead =
+    (former t : BlockTable) (block : List ℕ) →
+    IsBlockTable former →
+    CarriesSplits former block t →
+    ReadsTo splits_step former block t
+
+-- and splits that are read into a table without blocks are carried
+abbrev pub ReadSplitsAreCarried : Type 0
+ReadSplitsAreCarried =
+    (former t : BlockTable) (block : List ℕ) →
+    IsBlockTable former →
+    AllGrey former.blocks →
+    ReadsTo splits_step former block t →
+    CarriesSplits former block t

@@ -1,0 +1,14 @@
+//! What holds of all block tables, each as the contract of a function that does nothing.
+ghost use Rattle.dirac_blocks.specs.Laws.{CarriedIsRead, CarriedSplitsAreRead, ReadIsCarried, ReadSplitsAreCarried};
+
+/// A list is read from the block that carries it.
+pub fn carried_lists_are_read()
+    ensures units { CarriedIsRead }
+    ensures splits { CarriedSplitsAreRead }
+{}
+
+/// A list that is read is carried.
+pub fn read_lists_are_carried()
+    ensures units { ReadIsCarried }
+    ensures splits { ReadSplitsAreCarried }
+{}
