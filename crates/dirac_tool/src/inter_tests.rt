@@ -1,6 +1,6 @@
 use crate::ended::Ended;
 use crate::run::run;
-use crate::tests::{STREAM, faulty, header, joined, shows};
+use crate::tests::{SMALL, STREAM, faulty, header, joined, shows};
 use crate::words::Words;
 use dirac_io::{MemSink, MemSource, OpenGate};
 use dirac_types::Cause;
@@ -140,6 +140,50 @@ fn lists_eight_references(rt: HostRuntime) -> Result<(), Fail> {
         second.as_slice(),
         Ended::Done,
         ten.as_slice(),
+        line,
+    )
+}
+
+// The unit of an intra picture of 2 by 2 samples of this number: one bit brighter than grey in luma, or grey.
+fn square(alloc: Global, number: u8, bright: bool) -> Result<Vec<u8>, Fail> {
+    let next = if bright { 33 } else { 32 };
+    let lowest: &[u8] = if bright { &[0x30, 0x2E] } else { &[0x80] };
+    joined(
+        alloc,
+        &[
+            &header(0x0C, next, 0),
+            &[0, 0, 0, number, 0x80, 0x09, 0x00],
+            lowest,
+            &[0x80; 11],
+        ],
+    )
+}
+
+#[test]
+fn delivers_by_number(rt: HostRuntime) -> Result<(), Fail> {
+    let alloc = rt.alloc();
+    let bright = [
+        0x81u8, 0x81, 0x81, 0x81, 0x80, 0x80, 0x80, 0x80, 0x80, 0x80, 0x80, 0x80,
+    ];
+    let mut start = Vec::from_slice(alloc, &SMALL[..18])?;
+    for number in [0u8, 4, 1, 2, 3] {
+        start.extend_from_slice(square(alloc, number, number == 4)?.as_slice())?;
+    }
+    let before = joined(alloc, &[&[0x80; 48], &bright])?;
+    let open = faulty(6, 179, Cause::MissingEnd);
+    let line = "pictures=5 references=5\n";
+    shows(&rt, alloc, start.as_slice(), open, before.as_slice(), line)?;
+
+    let last = square(alloc, 8, false)?;
+    let whole = joined(alloc, &[&start, &last, &header(0x10, 0, 32)])?;
+    let all = joined(alloc, &[&before, &[0x80; 12]])?;
+    let line = "pictures=6 references=6\n";
+    shows(
+        &rt,
+        alloc,
+        whole.as_slice(),
+        Ended::Done,
+        all.as_slice(),
         line,
     )
 }

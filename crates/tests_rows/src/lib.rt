@@ -6,6 +6,8 @@ mod arithmetic;
 #[cfg(test)]
 mod bits;
 #[cfg(test)]
+mod block_tables;
+#[cfg(test)]
 mod encoding;
 #[cfg(test)]
 mod geometry;
