@@ -2,7 +2,9 @@ pub mod AddLemmas
 pub mod Added
 pub mod Bounds
 pub mod Eight
+mod Examples
 pub mod FewTerms
+pub mod Flat
 pub mod Moves
 pub mod Overlaps
 pub mod Predictions

@@ -1,5 +1,5 @@
 -- What the blocks of a plane predict: overlapped block motion compensation, Dirac specification.
-use Rattle.std.specs.Prelude.{◌≡◌, ℕ, zero, suc, ℤ, pos, ◌+◌, ◌-◌, ◌*◌, ◌/◌, ◌^◌, ◌≤◌, ◌+ℤ◌, ◌*ℤ◌, if◌then◌else◌, Option, Some, None, IsSome, IsTrue, unsigned_abs}
+use Rattle.std.specs.Prelude.{◌≡◌, ℕ, zero, suc, ℤ, pos, ◌+◌, ◌-◌, ◌*◌, ◌/◌, ◌^◌, ◌<◌, ◌≤◌, ◌+ℤ◌, ◌*ℤ◌, false, if◌then◌else◌, Option, Some, None, IsSome, IsTrue, unsigned_abs}
 use Rattle.std.specs.Int.{int_div_euclid, int_shr}
 use Rattle.std.specs.Option.{ForSome}
 use Rattle.dirac_types.specs.Table.{Table}
@@ -145,3 +145,9 @@ pub record IsMotion (m : Compensation) : Type 0 where
   pub first : (m.up1.width ≡ m.width) × (m.up1.height ≡ m.height)
   pub second : ForSome m.up2 (λ u. (u.width ≡ m.width) × (u.height ≡ m.height))
   pub two : m.blocks.refs ≡ 2 → IsSome m.up2
+
+-- all blocks are DC blocks of one value
+abbrev pub IsFlat : Compensation → ℤ → Type 0
+IsFlat m v =
+    (i j : ℕ) → i < blocks_across m → j < blocks_down m
+    → ((block_at m.blocks i j).ref1 ≡ false) × ((block_at m.blocks i j).ref2 ≡ false) × (dc_of m.part (block_at m.blocks i j) ≡ v)

@@ -1,6 +1,6 @@
-ghost use Rattle.std.specs.Prelude.{◌≡◌, ℕ, ◌*◌, ◌/◌, ◌%◌, ◌<◌, ◌≤◌, IfOk, replicate};
+ghost use Rattle.std.specs.Prelude.{◌≡◌, ℕ, ℤ, ◌*◌, ◌/◌, ◌%◌, ◌<◌, ◌≤◌, IfOk, replicate};
 ghost use Rattle.dirac_obmc.specs.Weights.{IsOverlap, share, sum_below, weight_at};
-ghost use Rattle.dirac_obmc.specs.Compensation.{Compensation, IsMotion, blocks_across, blocks_down, weight_of};
+ghost use Rattle.dirac_obmc.specs.Compensation.{Compensation, IsFlat, IsMotion, blocks_across, blocks_down, predicted_at, weight_of};
 ghost use Rattle.dirac_obmc.specs.Directions.{IsWeights};
 
 use crate::direction::Direction;
@@ -117,3 +117,9 @@ pub fn weights_sum_to_eight()
 pub fn weights_sum_to_64()
     ensures { (m : Compensation) → IsMotion m → (x y : ℕ) → x < m.width → y < m.height → sum_below (λ j. sum_below (λ i. weight_of m x y j i) (blocks_across m)) (blocks_down m) ≡ 64 }
 {}
+
+/// DC blocks of one value predict that value everywhere.
+pub fn dc_blocks_predict_their_value()
+    ensures { (m : Compensation) (v : ℤ) → IsMotion m → IsFlat m v → (x y : ℕ) → x < m.width → y < m.height → predicted_at m x y ≡ v }
+{
+}

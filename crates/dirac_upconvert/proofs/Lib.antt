@@ -2,5 +2,6 @@ pub mod Doubling
 mod Examples
 pub mod Halves
 pub mod Mixing
+pub mod PartRows
 pub mod RowLemmas
 pub mod SampleRows

@@ -1,5 +1,5 @@
 -- Samples at positions counted in parts of a sample.
-use Rattle.std.specs.Prelude.{◌≡◌, ℕ, ℤ, pos, ◌-◌, ◌*◌, ◌/◌, ◌^◌, ◌≤◌, ◌==◌, ◌≤ℤ◌, ◌<ℤ◌, ◌+ℤ◌, ◌-ℤ◌, ◌*ℤ◌, if◌then◌else◌}
+use Rattle.std.specs.Prelude.{◌≡◌, ℕ, ℤ, pos, ◌-◌, ◌*◌, ◌/◌, ◌^◌, ◌<◌, ◌≤◌, ◌==◌, List, length, slice_index_or, ◌≤ℤ◌, ◌<ℤ◌, ◌+ℤ◌, ◌-ℤ◌, ◌*ℤ◌, if◌then◌else◌}
 use Rattle.std.specs.Int.{int_shr}
 use Rattle.std.specs.List.{All}
 use Rattle.dirac_types.specs.Table.{Table, clamped_at}
@@ -69,3 +69,18 @@ pub record IsWithin (count : ℕ) (sum : ℤ) : Type 0 where
 -- two values, each times the weight of its place
 abbrev pub mixed : ℕ → ℤ → ℤ → ℤ → ℤ
 mixed scale rest a b = (pos scale -ℤ rest) *ℤ a +ℤ rest *ℤ b
+
+-- the sum of four samples, two above and two below, each times its two weights
+abbrev pub four : ℕ → ℤ → ℤ → ℤ → ℤ → ℤ → ℤ → ℤ
+four scale right below v00 v10 v01 v11 =
+    (product (pos scale -ℤ right) (pos scale -ℤ below) v00 +ℤ product right (pos scale -ℤ below) v10)
+    +ℤ (product (pos scale -ℤ right) below v01 +ℤ product right below v11)
+
+-- the samples at every second place of a table's row, from a place on
+abbrev pub ArePlaces : Table → ℤ → ℤ → List ℤ → Type 0
+ArePlaces t across down out = (k : ℕ) → k < length out → slice_index_or out k (pos 0) ≡ clamped_at t (across +ℤ pos (2 * k)) down
+
+-- the samples behind every second place of a row, as far behind it as a position is
+abbrev pub AreParts : Table → ℕ → ℤ → ℤ → ℤ → ℤ → List ℤ → Type 0
+AreParts t bits across down right below out =
+    (k : ℕ) → k < length out → slice_index_or out k (pos 0) ≡ rounded (2 * bits) (bilinear t (2 ^ bits) (across +ℤ pos (2 * k)) down right below)

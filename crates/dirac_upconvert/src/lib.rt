@@ -7,6 +7,7 @@ mod half_sample;
 mod lines;
 mod parts;
 mod plane;
+mod rows;
 mod shared;
 
 pub use plane::{UpPlane, upconvert};

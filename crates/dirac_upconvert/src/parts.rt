@@ -26,7 +26,7 @@ fn wide_positions(bits: u32) -> i64
 
 /// The place at or before a position.
 #[inline(always)]
-fn place(position: i64, bits: u32) -> i64
+pub fn place(position: i64, bits: u32) -> i64
     requires bits { bits ≤ 2 }
     requires position { unsigned_abs position < 2 ^ 34 }
     ensures value { result ≡ place_at position bits }
@@ -45,7 +45,7 @@ fn remainder(position: i64, scale: i64) -> i32
 
 /// How far a position lies behind its place.
 #[inline(always)]
-fn rest(position: i64, bits: u32) -> i32
+pub fn rest(position: i64, bits: u32) -> i32
     requires { bits ≤ 2 }
     ensures value { result ≡ rest_at position bits }
     ensures within { IsRest bits result }
@@ -63,7 +63,7 @@ fn multiply_add(sum: i32, weight: i32, value: i32) -> i32
 
 /// Two values, each weighted by the nearness of its place.
 #[inline(always)]
-fn mix(bits: u32, rest: i32, a: i32, b: i32) -> i32
+pub fn mix(bits: u32, rest: i32, a: i32, b: i32) -> i32
     requires bits { bits ≤ 2 }
     requires rest { IsRest bits rest }
     requires a { IsWithin 4 a }
@@ -77,7 +77,7 @@ fn mix(bits: u32, rest: i32, a: i32, b: i32) -> i32
 
 /// A sum divided by 2 to the power `bits`, to the nearest.
 #[inline(always)]
-fn rounded_sum(sum: i32, bits: u32) -> i32
+pub fn rounded_sum(sum: i32, bits: u32) -> i32
     requires sum { unsigned_abs sum ≤ 2 ^ 20 }
     requires bits { bits ≤ 4 }
     ensures { result ≡ rounded bits sum }
@@ -87,7 +87,7 @@ fn rounded_sum(sum: i32, bits: u32) -> i32
 }
 
 #[inline(always)]
-fn to_sample(value: i32) -> i16
+pub fn to_sample(value: i32) -> i16
     requires { IsSample value }
     ensures value { result ≡ value }
     ensures sample { IsSample result }
@@ -163,7 +163,7 @@ pub fn part(table: &Plane, bits: u32, x: i64, y: i64) -> i16
 }
 
 #[inline(always)]
-fn twice(position: i64) -> i64
+pub fn twice(position: i64) -> i64
     requires { unsigned_abs position < 2 ^ 34 }
     ensures { result ≡ pos 2 *ℤ position }
 {

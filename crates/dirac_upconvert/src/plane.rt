@@ -5,7 +5,8 @@ ghost use Rattle.dirac_upconvert.specs.HalfSamples.{IsSample, half, half_at, hal
 ghost use Rattle.dirac_upconvert.specs.SubSamples.{IsUp, Up, sub_sample};
 
 use crate::lines::{double_line, half_of_rows};
-use crate::parts::{part, whole_sample};
+use crate::parts::{part, twice, whole_sample};
+use crate::rows::{parts, places};
 use dirac_types::{NoMemory, Plane};
 use std::alloc::Global;
 use std::marker::Model;
@@ -147,25 +148,10 @@ impl UpPlane {
         ensures value { (k : ℕ) → k < length out.old → slice_index_or out.new k (pos 0) ≡ sub_sample self.now precision (x +ℤ pos (2 ^ precision * k)) y }
         ensures samples { All IsSample out.new }
     {
-        for k in 0..out.len() {
-            out[k] = self.at(precision, ahead(x, precision, k), y);
+        if precision == 0 {
+            places(&self.table, twice(x), twice(y), out);
+        } else {
+            parts(&self.table, u32::from(precision) - 1, x, y, out);
         }
     }
-}
-
-/// The position so many samples behind another.
-fn ahead(x: i64, precision: u8, samples: usize) -> i64
-    requires precision { precision ≤ 3 }
-    requires x { unsigned_abs x < 2 ^ 31 }
-    requires samples { samples ≤ 4096 }
-    ensures value { result ≡ x +ℤ pos (2 ^ precision * samples) }
-    ensures small { unsigned_abs result < 2 ^ 32 }
-{
-    let parts = match precision {
-        0 => samples,
-        1 => 2 * samples,
-        2 => 4 * samples,
-        _ => 8 * samples,
-    };
-    x + parts as i64
 }

@@ -1,0 +1,6 @@
+use Rattle.std.proofs.Common.{◌≡◌, ℕ, pos, ◌*◌, ◌<◌, ◌+ℤ◌, slice_index_or}
+use Rattle.dirac_types.specs.Table.{clamped_at}
+use Rattle.dirac_upconvert.proofs.rows.clamped_places.Given as goal
+
+abbrev pub invariant-loop-k : goal.invariant-loop-k
+invariant-loop-k l = (k : ℕ) → k < l.k → slice_index_or l.out k (pos 0) ≡ clamped_at l.table (l.across +ℤ pos (2 * k)) l.down

@@ -1,0 +1,317 @@
+ghost use Rattle.std.specs.Prelude.{◌≡◌, ℕ, pos, ◌+◌, ◌-◌, ◌*◌, ◌^◌, ◌<◌, ◌≤◌, ◌+ℤ◌, ◌≤ℤ◌, IsTrue, unsigned_abs, length, slice_index_or};
+ghost use Rattle.std.specs.List.{All};
+ghost use Rattle.dirac_types.specs.Table.{clamped_at, clamped_to, table_at};
+ghost use Rattle.dirac_upconvert.specs.HalfSamples.{IsSample};
+ghost use Rattle.dirac_upconvert.specs.SubSamples.{AreParts, ArePlaces, IsRest, IsWithin, bilinear, four, mixed, place_at, rest_at, rounded};
+
+use crate::parts::{mix, place, rest, rounded_sum, to_sample};
+use dirac_types::Plane;
+
+/// The place `count` whole samples behind another one.
+#[inline(always)]
+fn ahead(place: i64, count: usize) -> i64
+    requires place { unsigned_abs place ≤ 2 ^ 34 }
+    requires count { count ≤ 4096 }
+    ensures value { result ≡ place +ℤ pos (2 * count) }
+    ensures small { unsigned_abs result ≤ 2 ^ 35 }
+{
+    place + 2 * count as i64
+}
+
+#[inline(always)]
+fn beside(place: i64) -> i64
+    requires { unsigned_abs place ≤ 2 ^ 35 }
+    ensures { result ≡ place +ℤ pos 1 }
+{
+    place + 1
+}
+
+/// Whether so many samples from a place of a row on, and the places behind them, lie inside the row.
+fn is_inside(place: i64, count: usize, width: u32) -> bool
+    requires place { unsigned_abs place ≤ 2 ^ 34 }
+    requires count { count ≤ 4096 }
+    ensures { IsTrue result → (pos 0 ≤ℤ place) × ((place +ℤ pos (2 * count)) ≤ℤ pos width) }
+{
+    0 <= place && ahead(place, count) <= i64::from(width)
+}
+
+/// The place from 0 to `size - 1` that is nearest.
+fn nearest(place: i64, size: u32) -> u32
+    requires { 1 ≤ size }
+    ensures value { result ≡ clamped_to place size }
+    ensures inside { result < size }
+{
+    let last = size - 1;
+    if place < 0 {
+        0
+    } else if place >= i64::from(last) {
+        last
+    } else {
+        place as u32
+    }
+}
+
+/// Lends the row that is nearest to place `y`.
+fn nearest_row(table: &Plane, y: i64) -> &[i16]
+    requires { All IsSample table.now.values }
+    ensures value { (x : ℕ) → x < table.now.width → slice_index_or result.now x (pos 0) ≡ table_at table.now x (clamped_to y table.now.height) }
+    ensures len { length result.now ≡ table.now.width }
+    ensures samples { All IsSample result.now }
+{
+    table.row(nearest(y, table.height()))
+}
+
+/// Two sums of two samples, one above the other, weighted by the nearness of their places, and divided.
+#[inline(always)]
+fn settle(bits: u32, below: i32, above: i32, under: i32) -> i16
+    requires bits { bits ≤ 2 }
+    requires below { IsRest bits below }
+    requires above { IsWithin (2 ^ bits * 1) above }
+    requires under { IsWithin (2 ^ bits * 1) under }
+    ensures { result ≡ rounded (2 * bits) (mixed (2 ^ bits) below above under) }
+{
+    to_sample(rounded_sum(mix(bits, below, above, under), 2 * bits))
+}
+
+/// Two samples side by side, weighted by the nearness of their places.
+#[inline(always)]
+fn beside_each_other(bits: u32, right: i32, a: i16, b: i16) -> i32
+    requires bits { bits ≤ 2 }
+    requires right { IsRest bits right }
+    requires a { IsSample a }
+    requires b { IsSample b }
+    ensures value { result ≡ mixed (2 ^ bits) right a b }
+    ensures within { IsWithin (2 ^ bits * 1) result }
+{
+    mix(bits, right, i32::from(a), i32::from(b))
+}
+
+/// The sample between four others, two above and two below.
+#[inline(always)]
+fn between_four(bits: u32, right: i32, below: i32, v00: i16, v10: i16, v01: i16, v11: i16) -> i16
+    requires bits { bits ≤ 2 }
+    requires right { IsRest bits right }
+    requires below { IsRest bits below }
+    requires v00 { IsSample v00 }
+    requires v10 { IsSample v10 }
+    requires v01 { IsSample v01 }
+    requires v11 { IsSample v11 }
+    ensures { result ≡ rounded (2 * bits) (four (2 ^ bits) right below v00 v10 v01 v11) }
+{
+    settle(
+        bits,
+        below,
+        beside_each_other(bits, right, v00, v10),
+        beside_each_other(bits, right, v01, v11),
+    )
+}
+
+/// The sample between those of two rows at places `at` and the next.
+#[inline(always)]
+fn between_rows(bits: u32, right: i32, below: i32, above: &[i16], under: &[i16], at: usize) -> i16
+    requires bits { bits ≤ 2 }
+    requires right { IsRest bits right }
+    requires below { IsRest bits below }
+    requires above { All IsSample above.now }
+    requires under { All IsSample under.now }
+    requires inside { (at + 1 < length above.now) × (at + 1 < length under.now) }
+    ensures { result ≡ rounded (2 * bits) (four (2 ^ bits) right below (slice_index_or above.now at (pos 0)) (slice_index_or above.now (at + 1) (pos 0)) (slice_index_or under.now at (pos 0)) (slice_index_or under.now (at + 1) (pos 0))) }
+{
+    between_four(
+        bits,
+        right,
+        below,
+        above[at],
+        above[at + 1],
+        under[at],
+        under[at + 1],
+    )
+}
+
+/// The samples between those of two rows at every second place, from place `at` on.
+#[inline(always)]
+fn all_between_rows(
+    bits: u32,
+    right: i32,
+    below: i32,
+    above: &[i16],
+    under: &[i16],
+    at: usize,
+    out: &mut [i16],
+)
+    requires bits { bits ≤ 2 }
+    requires right { IsRest bits right }
+    requires below { IsRest bits below }
+    requires above { All IsSample above.now }
+    requires under { All IsSample under.now }
+    requires inside { at + 2 * length out.old ≤ length above.now }
+    requires same { length under.now ≡ length above.now }
+    ensures { (k : ℕ) → k < length out.old → slice_index_or out.new k (pos 0) ≡ rounded (2 * bits) (four (2 ^ bits) right below (slice_index_or above.now (at + 2 * k) (pos 0)) (slice_index_or above.now (at + 2 * k + 1) (pos 0)) (slice_index_or under.now (at + 2 * k) (pos 0)) (slice_index_or under.now (at + 2 * k + 1) (pos 0))) }
+{
+    for k in 0..out.len() {
+        out[k] = between_rows(bits, right, below, above, under, at + 2 * k);
+    }
+}
+
+/// The samples of a row at every second place, from place `at` on.
+#[inline(always)]
+fn every_second(row: &[i16], at: usize, out: &mut [i16])
+    requires inside { at + 2 * length out.old ≤ length row.now }
+    ensures { (k : ℕ) → k < length out.old → slice_index_or out.new k (pos 0) ≡ slice_index_or row.now (at + 2 * k) (pos 0) }
+{
+    for k in 0..out.len() {
+        out[k] = row[at + 2 * k];
+    }
+}
+
+/// The samples at every second place of row `down`, from a place on that may lie outside.
+fn clamped_places(table: &Plane, across: i64, down: i64, out: &mut [i16])
+    requires across { unsigned_abs across ≤ 2 ^ 34 }
+    requires few { length out.old ≤ 4096 }
+    ensures { ArePlaces table.now across down out.new }
+{
+    for k in 0..out.len() {
+        out[k] = table.clamped(ahead(across, k), down);
+    }
+}
+
+/// The column of a place that isn't left of the table.
+#[inline(always)]
+fn column(across: i64) -> usize
+    requires { pos 0 ≤ℤ across }
+    ensures { across ≡ pos result }
+{
+    across as usize
+}
+
+/// The samples at every second place of row `down`, where all lie inside the row.
+fn inner_places(table: &Plane, across: i64, down: i64, out: &mut [i16])
+    requires samples { All IsSample table.now.values }
+    requires inside { (pos 0 ≤ℤ across) × ((across +ℤ pos (2 * length out.old)) ≤ℤ pos table.now.width) }
+    ensures { ArePlaces table.now across down out.new }
+{
+    every_second(nearest_row(table, down), column(across), out);
+}
+
+/// The samples at every second place of row `down`, from place `across` on.
+pub fn places(table: &Plane, across: i64, down: i64, out: &mut [i16])
+    requires samples { All IsSample table.now.values }
+    requires across { unsigned_abs across ≤ 2 ^ 34 }
+    requires few { length out.old ≤ 4096 }
+    ensures { ArePlaces table.now across down out.new }
+{
+    if is_inside(across, out.len(), table.width()) {
+        inner_places(table, across, down, out);
+    } else {
+        clamped_places(table, across, down, out);
+    }
+}
+
+/// The sample at a place that is clamped to the table.
+#[inline(always)]
+fn clamped(table: &Plane, x: i64, y: i64) -> i16
+    requires { All IsSample table.now.values }
+    ensures value { result ≡ clamped_at table.now x y }
+    ensures sample { IsSample result }
+{
+    table.clamped(x, y)
+}
+
+/// The sample behind a place of the table that may lie outside.
+fn clamped_part(table: &Plane, bits: u32, across: i64, down: i64, right: i32, below: i32) -> i16
+    requires samples { All IsSample table.now.values }
+    requires bits { bits ≤ 2 }
+    requires across { unsigned_abs across ≤ 2 ^ 35 }
+    requires down { unsigned_abs down ≤ 2 ^ 34 }
+    requires right { IsRest bits right }
+    requires below { IsRest bits below }
+    ensures { result ≡ rounded (2 * bits) (bilinear table.now (2 ^ bits) across down right below) }
+{
+    let next = beside(across);
+    let under = beside(down);
+    between_four(
+        bits,
+        right,
+        below,
+        clamped(table, across, down),
+        clamped(table, next, down),
+        clamped(table, across, under),
+        clamped(table, next, under),
+    )
+}
+
+/// The samples behind every second place of row `down`, from a place on that may lie outside.
+fn clamped_parts(
+    table: &Plane,
+    bits: u32,
+    across: i64,
+    down: i64,
+    right: i32,
+    below: i32,
+    out: &mut [i16],
+)
+    requires samples { All IsSample table.now.values }
+    requires bits { bits ≤ 2 }
+    requires across { unsigned_abs across ≤ 2 ^ 34 }
+    requires down { unsigned_abs down ≤ 2 ^ 34 }
+    requires right { IsRest bits right }
+    requires below { IsRest bits below }
+    requires few { length out.old ≤ 4096 }
+    ensures { AreParts table.now bits across down right below out.new }
+{
+    for k in 0..out.len() {
+        out[k] = clamped_part(table, bits, ahead(across, k), down, right, below);
+    }
+}
+
+/// The samples behind every second place of row `down`, where all lie inside the row.
+fn inner_parts(
+    table: &Plane,
+    bits: u32,
+    across: i64,
+    down: i64,
+    right: i32,
+    below: i32,
+    out: &mut [i16],
+)
+    requires samples { All IsSample table.now.values }
+    requires bits { bits ≤ 2 }
+    requires inside { (pos 0 ≤ℤ across) × ((across +ℤ pos (2 * length out.old)) ≤ℤ pos table.now.width) }
+    requires down { unsigned_abs down ≤ 2 ^ 34 }
+    requires right { IsRest bits right }
+    requires below { IsRest bits below }
+    ensures { AreParts table.now bits across down right below out.new }
+{
+    all_between_rows(
+        bits,
+        right,
+        below,
+        nearest_row(table, down),
+        nearest_row(table, beside(down)),
+        column(across),
+        out,
+    );
+}
+
+/// The samples at positions of the table that are a whole sample apart, from a position on that is counted in parts,
+/// 2 to the power `bits` to a place.
+pub fn parts(table: &Plane, bits: u32, x: i64, y: i64, out: &mut [i16])
+    requires samples { All IsSample table.now.values }
+    requires bits { bits ≤ 2 }
+    requires x { unsigned_abs x < 2 ^ 34 }
+    requires y { unsigned_abs y < 2 ^ 34 }
+    requires few { length out.old ≤ 4096 }
+    ensures { AreParts table.now bits (place_at x bits) (place_at y bits) (rest_at x bits) (rest_at y bits) out.new }
+{
+    let across = place(x, bits);
+    let down = place(y, bits);
+    let right = rest(x, bits);
+    let below = rest(y, bits);
+    if right == 0 && below == 0 {
+        places(table, across, down, out);
+    } else if is_inside(across, out.len(), table.width()) {
+        inner_parts(table, bits, across, down, right, below, out);
+    } else {
+        clamped_parts(table, bits, across, down, right, below, out);
+    }
+}
