@@ -4,3 +4,6 @@ pub mod Planes
 pub mod Counting
 pub mod Pictures
 pub mod Coding
+pub mod Cutting
+pub mod Delivering
+pub mod Showing

@@ -1,3 +1,4 @@
 pub mod Coded
 pub mod Payload
 pub mod Writable
+pub mod Stream

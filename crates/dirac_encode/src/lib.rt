@@ -2,10 +2,12 @@
 #![tactic(auto)]
 
 mod bands;
+mod laws;
 mod payload;
 mod picture;
 mod shared;
 mod spots;
 mod transform;
 
+pub use laws::streams_show_their_pictures;
 pub use picture::{Coded, code_intra};
