@@ -1,4 +1,4 @@
-mod Accepted
+pub mod Accepted
 mod Examples
 pub mod Packed
 pub mod Spelled

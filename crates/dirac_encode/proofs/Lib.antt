@@ -1,0 +1,9 @@
+pub mod Taken
+pub mod Behind
+pub mod Planes
+pub mod Counting
+pub mod Pictures
+pub mod Coding
+pub mod Cutting
+pub mod Delivering
+pub mod Showing

@@ -1,0 +1,4 @@
+pub mod Coded
+pub mod Payload
+pub mod Writable
+pub mod Stream

@@ -1,0 +1,13 @@
+//! The encoder: from raw pictures to the bytes of a stream, and the pictures that these bytes decode to.
+#![tactic(auto)]
+
+mod bands;
+mod laws;
+mod payload;
+mod picture;
+mod shared;
+mod spots;
+mod transform;
+
+pub use laws::streams_show_their_pictures;
+pub use picture::{Coded, code_intra};

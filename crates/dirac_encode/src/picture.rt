@@ -1,0 +1,132 @@
+//! A picture, coded.
+
+ghost use Rattle.std.specs.Prelude.{◌≡◌, ◌+◌, ◌≤◌, ◌<◌, ◌^◌, [], List, Ok, IfOk};
+ghost use Rattle.std.specs.List.{AllByRecursion};
+ghost use Rattle.dirac_types.specs.Bits.{bits_of};
+ghost use Rattle.dirac_bits.specs.Laws.{StartsWith};
+ghost use Rattle.dirac_coeffs.specs.Written.{up_to_byte};
+ghost use Rattle.dirac_sequence.specs.Lawful.{IsSequence};
+ghost use Rattle.dirac_types.specs.declared.formats.Kind.TheVariants.{Intra};
+ghost use Rattle.dirac_types.specs.declared.picture.Picture.{Picture as ThePicture};
+ghost use Rattle.dirac_types.specs.Settings.{IsAccepted};
+ghost use Rattle.dirac_sequence.specs.Written.{sequence_of as sequence_for};
+ghost use Rattle.dirac_picture.specs.Fits.{AreBandsOf};
+ghost use Rattle.dirac_picture.specs.Grammar.{picture, picture_read};
+ghost use Rattle.dirac_residual.specs.Residual.{clipped, residual};
+ghost use Rattle.dirac_analysis.specs.Fits.{AreSamples};
+ghost use Rattle.dirac_decode.specs.Content.{intra_picture, rebuilt};
+ghost use Rattle.dirac_encode.specs.Coded as coding;
+ghost use Rattle.dirac_encode.specs.Payload.{payload_of, with_picture};
+ghost use Rattle.dirac_encode.specs.Writable.{AreSmall, HaveNoughts, HaveSmall, IsCodable, IsWritten};
+
+use crate::payload::{intra_header, write_picture};
+use crate::transform::transform_of;
+use dirac_analysis::analyse_plane;
+use dirac_bits::BitWriter;
+use dirac_decode::{CodedPicture, CodedResidual, PlaneBands, rebuild};
+use dirac_sequence::{Sequence, sequence_of};
+use dirac_types::{NoMemory, Picture, Plane, Settings};
+use std::alloc::Global;
+
+/// A picture's payload, and the picture that a decoder shows for it.
+#[derive(Drop)]
+pub struct Coded {
+    pub payload: Vec<u8>,
+    pub shown: Picture,
+}
+
+/// The bands of a plane.
+fn code_plane(alloc: Global, plane: &Plane, settings: &Settings) -> Result<PlaneBands, NoMemory>
+    requires codable { IsCodable settings.now }
+    requires across { plane.now.width ≤ 4096 }
+    requires down { plane.now.height ≤ 4096 }
+    requires samples { AreSamples plane.now.values }
+    ensures value { IfOk result (λ b. b ≡ coding.bands_of settings.now plane.now) }
+    ensures fits { IfOk result (AreBandsOf (coding.transform_of settings.now) plane.now.width plane.now.height) }
+    ensures noughts { IfOk result HaveNoughts }
+    ensures small { IfOk result HaveSmall }
+    ensures lossless { IfOk result (λ b. settings.now.index ≡ 0 → clipped (residual settings.now.wavelet settings.now.depth Intra b plane.now.width plane.now.height) ≡ plane.now) }
+{
+    analyse_plane(
+        alloc,
+        plane,
+        settings.wavelet as u8,
+        settings.depth as u8,
+        settings.index as u8,
+    )
+}
+
+/// The transform parameters and the bands of a picture.
+fn code_planes(
+    alloc: Global,
+    source: &Picture,
+    settings: &Settings,
+) -> Result<CodedResidual, NoMemory>
+    requires codable { IsCodable settings.now }
+    requires source { coding.IsSource settings.now source.now }
+    ensures value { IfOk result (λ r. r ≡ coding.residual_of settings.now source.now) }
+    ensures written { IfOk result (IsWritten (sequence_for settings.now)) }
+    ensures small { IfOk result AreSmall }
+    ensures lossless { IfOk result (λ r. settings.now.index ≡ 0 → intra_picture (sequence_for settings.now) source.now.number r ≡ source.now) }
+{
+    let y = code_plane(alloc, &source.y, settings)?;
+    let u = code_plane(alloc, &source.u, settings)?;
+    let v = code_plane(alloc, &source.v, settings)?;
+    Ok(CodedResidual {
+        transform: transform_of(settings),
+        y,
+        u,
+        v,
+    })
+}
+
+/// The bytes of a picture of this number.
+fn payload_bytes(
+    alloc: Global,
+    sequence: &Sequence,
+    number: u32,
+    residual: &CodedResidual,
+) -> Result<Vec<u8>, NoMemory>
+    requires sequence { IsSequence sequence.now }
+    requires written { IsWritten sequence.now residual.now }
+    ensures bits { IfOk result (λ v. bits_of v.items ≡ up_to_byte (with_picture sequence.now (coding.intra_header number) residual.now [])) }
+    ensures starts { (refs : List ThePicture) → IfOk result (λ v. StartsWith (picture 0x0C sequence.now refs) (coding.coded_from number residual.now) v.items) }
+{
+    let mut w = BitWriter::new(alloc);
+    write_picture(alloc, &mut w, sequence, number, residual)?;
+    w.align()?;
+    let bytes = w.finish()?;
+    Ok(bytes)
+}
+
+/// Bytes are below 256.
+fn are_bytes(bytes: &[u8])
+    ensures { AllByRecursion (λ b. b < 2 ^ 8) bytes.now }
+{}
+
+/// Codes an intra picture: its payload, and the picture that decoders show for it.
+pub fn code_intra(alloc: Global, source: &Picture, settings: &Settings) -> Result<Coded, NoMemory>
+    requires accepted { IsAccepted settings.now }
+    requires source { coding.IsSource settings.now source.now }
+    ensures payload { IfOk result (λ c. c.payload.items ≡ payload_of settings.now source.now) }
+    // What is shown is what a decoder rebuilds from it.
+    ensures shown { IfOk result (λ c. c.shown ≡ rebuilt (sequence_for settings.now) (coding.coded_intra settings.now source.now)) }
+    // The payload is read as that coded picture, whatever was coded before.
+    ensures read { (refs : List ThePicture) → IfOk result (λ c. picture_read 0x0C (sequence_for settings.now) refs c.payload.items ≡ Ok (coding.coded_intra settings.now source.now)) }
+    // Its coefficients stay below 2^38.
+    ensures small { IfOk result (λ c. AreSmall (coding.residual_of settings.now source.now)) }
+    // At index 0 nothing is lost.
+    ensures lossless { IfOk result (λ c. settings.now.index ≡ 0 → c.shown ≡ source.now) }
+{
+    let sequence = sequence_of(settings);
+    let residual = code_planes(alloc, source, settings)?;
+    let payload = payload_bytes(alloc, &sequence, source.number, &residual)?;
+    are_bytes(payload.as_slice());
+    let coded = CodedPicture {
+        code: 0x0C,
+        header: intra_header(source.number),
+        residual: Some(residual),
+    };
+    let shown = rebuild(alloc, &coded, &sequence)?;
+    Ok(Coded { payload, shown })
+}
