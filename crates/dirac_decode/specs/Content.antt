@@ -46,12 +46,12 @@ bands_of r part.U = r.u
 bands_of r part.V = r.v
 
 -- a plane of zeros
-abbrev pub grey : ℕ → ℕ → Table
-grey width height = record { width = width; height = height; values = replicate (width * height) (pos 0) }
+abbrev pub zeros : ℕ → ℕ → Table
+zeros width height = record { width = width; height = height; values = replicate (width * height) (pos 0) }
 
 -- the residual of a plane; where none is coded it is 0
 abbrev pub residual_among : Sequence → Kind → Part → Option CodedResidual → Table
-residual_among s kind part None = grey (width_of s part) (height_of s part)
+residual_among s kind part None = zeros (width_of s part) (height_of s part)
 residual_among s kind part (Some r) =
     residual r.transform.wavelet r.transform.depth kind (bands_of r part) (width_of s part) (height_of s part)
 

@@ -34,11 +34,12 @@ outcome course spot [] end = ends_with course end
 outcome course spot (unit ∷ units) end =
     follows course spot (λ next. outcome next (after spot unit.info) units end) (moved course unit.info.code unit.payload)
 
--- the units before the first whose content is refused
+-- a unit and those behind it that are accepted; one whose content is refused ends them
 abbrev pub accepted_on : UnitText → (Course → List UnitText) → Result Moved Refusal → List UnitText
 accepted_on unit rest (Ok m) = unit ∷ rest m.course
 accepted_on unit rest (Err refusal) = []
 
+-- those among these units, from a course on
 unfoldable pub accepted : Course → List UnitText → List UnitText
 accepted course [] = []
 accepted course (unit ∷ units) = accepted_on unit (λ next. accepted next units) (moved course unit.info.code unit.payload)

@@ -32,6 +32,20 @@ impl PlaneBands {
         }
     }
 
+    /// The bands of this list.
+    pub fn from_list(list: Vec<CodedBand>) -> PlaneBands
+        ensures { result ≡ list.items }
+    {
+        PlaneBands { list }
+    }
+
+    /// Gives the list back.
+    pub fn into_list(self) -> Vec<CodedBand>
+        ensures { result.items ≡ self }
+    {
+        self.list
+    }
+
     /// Appends the next band.
     pub fn push(&mut self, band: CodedBand) -> Result<(), NoMemory>
         ensures pushed { IfOk result (λ _. self.new ≡ self.old ++ band ∷ []) }

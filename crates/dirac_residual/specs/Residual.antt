@@ -1,4 +1,4 @@
--- From the quantised subbands of a plane to its residual, and to the samples of an intra picture.
+-- From the quantised subbands of a plane to its residual, and from that and what is predicted to its samples.
 use Rattle.std.specs.Prelude.{ℕ, zero, suc, ℤ, pos, negsuc, ◌+◌, ◌*◌, ◌+ℤ◌, List, [], map, Option, None, Some, slice_get}
 use Rattle.std.specs.Int.{int_max, int_min}
 use Rattle.std.specs.Simd.Lanes.{zip2}

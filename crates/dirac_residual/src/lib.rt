@@ -1,6 +1,6 @@
 #![tactic(auto)]
 
-//! From the quantised subbands of a plane to its residual, and to the samples of an intra picture.
+//! From the quantised subbands of a plane to its residual, and from that and what is predicted to its samples.
 
 mod clip;
 mod cut;

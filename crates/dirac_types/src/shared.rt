@@ -10,7 +10,10 @@ fn are_shared() {
     is_shared::<crate::BandTable>();
     is_shared::<crate::Picture>();
     is_shared::<crate::Fault>();
+    is_shared::<crate::Refusal>();
     is_shared::<crate::Stop>();
+    is_shared::<crate::NoMemory>();
+    is_shared::<crate::BadSetting>();
     is_shared::<crate::BlockGrid>();
     is_shared::<crate::Vector>();
     is_shared::<crate::Settings>();
