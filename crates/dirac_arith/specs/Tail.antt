@@ -24,6 +24,7 @@ waiting a =
       pending = a.pending;
     }
 
+-- the bits that no byte is made of yet fit the register
 pub record IsWaiting (a : Inside) : Type 0 where
   pub room : a.pending ≤ 47
   pub fits : a.register < 2 ^ (17 + a.pending)

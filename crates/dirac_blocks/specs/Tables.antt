@@ -6,7 +6,7 @@ use Rattle.dirac_vectors.specs.Neighbours.{IsShort}
 use Rattle.dirac_vectors.specs.Predictions.{IsShortVector}
 use Rattle.dirac_blocks.specs.declared.block.Block.{Block}
 
--- superblocks across and down, references, split numbers of superblocks by rows, and blocks by rows
+-- superblocks across and down, references, splits of superblocks by rows, and blocks by rows
 pub record BlockTable : Type 0 where
   pub across : ℕ
   pub down : ℕ
@@ -22,7 +22,7 @@ no_vector = record { x = pos 0; y = pos 0 }
 abbrev pub grey : Block
 grey = record { ref1 = false; ref2 = false; v1 = no_vector; v2 = no_vector; dc_y = pos 0; dc_u = pos 0; dc_v = pos 0 }
 
--- the split number of superblock sx of row sy
+-- the split of superblock sx of row sy
 abbrev pub split_at : BlockTable → ℕ → ℕ → ℕ
 split_at t sx sy = slice_index_or t.splits (sy * t.across + sx) 0
 

@@ -6,7 +6,7 @@ use dirac_types::NoMemory;
 use std::alloc::Global;
 use std::marker::Model;
 
-/// The split numbers of a table, one for each superblock, by rows.
+/// The splits of a table, one for each superblock, by rows.
 #[derive(Debug, Drop)]
 pub struct Splits {
     list: Vec<u8>,
@@ -21,7 +21,7 @@ impl Model for Splits {
 }
 
 impl Splits {
-    /// The split numbers of this list.
+    /// The splits of this list.
     pub fn new(list: Vec<u8>) -> Splits
         ensures { result ≡ list.items }
     {
@@ -42,7 +42,7 @@ impl Splits {
         self.list.len()
     }
 
-    /// The split number at this place of the list.
+    /// The split at this place of the list.
     pub fn at(&self, place: usize) -> u8
         requires { place < length self.now }
         ensures { result ≡ slice_index_or self.now place 0 }
@@ -50,7 +50,7 @@ impl Splits {
         self.list[place]
     }
 
-    /// Writes the split number at this place of the list; all others stay.
+    /// Writes the split at this place of the list; all others stay.
     pub fn set(&mut self, place: usize, split: u8)
         requires { place < length self.old }
         ensures { self.new ≡ slice_set self.old place split }
@@ -131,7 +131,7 @@ impl Blocks {
     }
 }
 
-/// So many split numbers 0.
+/// So many splits 0.
 pub fn new_splits(alloc: Global, count: usize) -> Result<Splits, NoMemory>
     ensures { IfOk result (λ s. s ≡ replicate count 0) }
 {

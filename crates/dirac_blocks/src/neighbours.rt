@@ -223,7 +223,7 @@ pub fn predicted_dc(table: &BlockData, component: Component, i: u32, j: u32) -> 
     predict_dc(left, above, corner)
 }
 
-/// The split number to the left of superblock `sx` of row `sy`.
+/// The split to the left of superblock `sx` of row `sy`.
 fn left_split(table: &BlockData, sx: u32, sy: u32) -> Option<u8>
     requires column { sx < table.now.across }
     requires row { sy < table.now.down }
@@ -237,7 +237,7 @@ fn left_split(table: &BlockData, sx: u32, sy: u32) -> Option<u8>
     }
 }
 
-/// The split number above superblock `sx` of row `sy`.
+/// The split above superblock `sx` of row `sy`.
 fn above_split(table: &BlockData, sx: u32, sy: u32) -> Option<u8>
     requires column { sx < table.now.across }
     requires row { sy < table.now.down }
@@ -251,7 +251,7 @@ fn above_split(table: &BlockData, sx: u32, sy: u32) -> Option<u8>
     }
 }
 
-/// The split number above and to the left of superblock `sx` of row `sy`.
+/// The split above and to the left of superblock `sx` of row `sy`.
 fn corner_split(table: &BlockData, sx: u32, sy: u32) -> Option<u8>
     requires column { sx < table.now.across }
     requires row { sy < table.now.down }
@@ -267,7 +267,7 @@ fn corner_split(table: &BlockData, sx: u32, sy: u32) -> Option<u8>
     }
 }
 
-/// The split number that the neighbours of superblock `sx` of row `sy` predict.
+/// The split that the neighbours of superblock `sx` of row `sy` predict.
 pub fn predict_split_at(table: &BlockData, sx: u32, sy: u32) -> u8
     requires column { sx < table.now.across }
     requires row { sy < table.now.down }

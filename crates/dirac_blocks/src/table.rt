@@ -75,7 +75,7 @@ impl BlockData {
         self.refs
     }
 
-    /// The split number, 0 to 2, of superblock `sx` of row `sy`.
+    /// The split, 0 to 2, of superblock `sx` of row `sy`.
     pub fn split(&self, sx: u32, sy: u32) -> u8
         requires across { sx < self.now.across }
         requires down { sy < self.now.down }

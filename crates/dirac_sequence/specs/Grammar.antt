@@ -33,6 +33,7 @@ size default = custom default (do
 abbrev pub chroma_of : ℕ → Chroma
 chroma_of index = if index == 0 then C444 else if index == 1 then C422 else C420
 
+-- the chroma format, where the header has its own
 unfoldable pub own_chroma : Chroma → Syntax Chroma
 own_chroma default = custom default (do
   index ← field ChromaFormat (between 0 2)
@@ -99,6 +100,7 @@ own_range = do
   colour ← fraction
   done (record { luma = luma; colour = colour })
 
+-- the signal range, where the header has its own: by its index, or in full
 unfoldable pub signal_range : SignalRange → Syntax SignalRange
 signal_range default = custom default (do
   index ← field SignalIndex (between 0 4)

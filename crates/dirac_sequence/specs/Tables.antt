@@ -10,6 +10,7 @@ abbrev pub rates : List (ℕ × ℕ)
 rates =
     (24000, 1001) ∷ (24, 1) ∷ (25, 1) ∷ (30000, 1001) ∷ (30, 1) ∷ (50, 1) ∷ (60000, 1001) ∷ (60, 1) ∷ (15000, 1001) ∷ (25, 2) ∷ []
 
+-- the frame rate of an index
 unfoldable pub rate_of : ℕ → ℕ × ℕ
 rate_of index = slice_index_or rates (index - 1) (0, 1)
 
@@ -17,6 +18,7 @@ rate_of index = slice_index_or rates (index - 1) (0, 1)
 abbrev pub aspects : List (ℕ × ℕ)
 aspects = (1, 1) ∷ (10, 11) ∷ (12, 11) ∷ (40, 33) ∷ (16, 11) ∷ (4, 3) ∷ []
 
+-- the pixel aspect of an index
 unfoldable pub aspect_of : ℕ → ℕ × ℕ
 aspect_of index = slice_index_or aspects (index - 1) (1, 1)
 
@@ -29,6 +31,7 @@ range luma_offset luma_excursion chroma_offset chroma_excursion =
 abbrev pub ranges : List SignalRange
 ranges = range 0 255 128 255 ∷ range 16 219 128 224 ∷ range 64 876 512 896 ∷ range 256 3504 2048 3584 ∷ []
 
+-- the signal range of an index
 unfoldable pub range_of : ℕ → SignalRange
 range_of index = slice_index_or ranges (index - 1) (range 0 255 128 255)
 
@@ -73,5 +76,6 @@ presets =
     ∷ format 16 (4096, 2160) C444 false 2 1 (4096, 2160, 0, 0) 4
     ∷ []
 
+-- the base video formats by their numbers
 unfoldable pub preset : ℕ → Sequence
 preset base = slice_index_or presets base (format 0 (640, 480) C420 false 1 1 (640, 480, 0, 0) 1)

@@ -62,6 +62,7 @@ abbrev pub verdict : Option BadSetting → Result (Unit {0}) BadSetting
 verdict None = Ok tt
 verdict (Some bad) = Err bad
 
+-- a value that its row of the table allows
 abbrev pub IsInRange : Ranged → Type 0
 IsInRange r = (r.least ≤ r.value) × (r.value ≤ r.most) × (r.value % r.step ≡ 0)
 
@@ -69,6 +70,7 @@ IsInRange r = (r.least ≤ r.value) × (r.value ≤ r.most) × (r.value % r.step
 abbrev pub IsAccepted : Settings → Type 0
 IsAccepted s = AllByRecursion IsInRange (table s)
 
+-- what a base video format gives to five settings
 abbrev pub defaults : ℕ → ℕ → ℕ → ℕ → ℕ → Format
 defaults chroma width height rate signal = record { chroma = chroma; width = width; height = height; rate = rate; signal = signal }
 
@@ -94,6 +96,7 @@ formats =
     ∷ defaults 0 4096 2160 2 2
     ∷ []
 
+-- those of this base; beyond the last they are those of base 0
 unfoldable pub format_of : ℕ → Format
 format_of base = slice_index_or formats base (defaults 2 640 480 1 1)
 

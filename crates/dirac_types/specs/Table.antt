@@ -1,6 +1,7 @@
 -- A table of samples or values, as contracts see planes: by rows, from the top.
 use Rattle.std.specs.Prelude.{ℕ, ℤ, ◌+◌, ◌*◌, pos, List, length, ◌++◌, take, drop, slice_index_or, slice_range, slice_set, unsigned_abs, int_lt, ◌-◌, if◌then◌else◌}
 
+-- columns, rows, and the values row by row
 pub record Table : Type 0 where
   pub width : ℕ
   pub height : ℕ

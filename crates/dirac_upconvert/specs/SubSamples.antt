@@ -40,7 +40,7 @@ bilinear t scale across down right below =
     +ℤ (product (pos scale -ℤ right) below (clamped_at t across (down +ℤ pos 1))
     +ℤ product right below (clamped_at t (across +ℤ pos 1) (down +ℤ pos 1)))
 
--- a sum divided by 2 ^ bits, to the nearest
+-- a sum divided by 2 ^ bits, to the nearest, halves up
 abbrev pub rounded : ℕ → ℤ → ℤ
 rounded bits sum = int_shr (sum +ℤ pos (2 ^ bits / 2)) bits
 

@@ -8,7 +8,7 @@ pub record IsShortVector (v : Vector) : Type 0 where
   pub x : IsShort v.x
   pub y : IsShort v.y
 
--- the split number that left, above, and above and left predict
+-- the split that left, above, and above and left predict
 abbrev pub split_of : Option ℕ → Option ℕ → Option ℕ → ℕ
 split_of None None corner = 0
 split_of (Some left) None corner = left

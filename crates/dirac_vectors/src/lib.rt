@@ -1,6 +1,6 @@
 #![tactic(auto)]
 
-//! Predictions of block tables from their neighbours: split numbers, prediction modes, motion vectors
+//! Predictions of block tables from their neighbours: splits, prediction modes, motion vectors
 //! and DC values.
 
 mod neighbours;

@@ -6,7 +6,7 @@ ghost use Rattle.dirac_vectors.specs.Predictions.{IsShortVector, split_of, mode_
 use crate::neighbours::{half_of, majority_of, median_of, third_of};
 use dirac_types::Vector;
 
-/// The split number of a superblock, from those of its neighbours to the left, above, and above and left;
+/// The split of a superblock, from those of its neighbours to the left, above, and above and left;
 /// None is outside the picture (split prediction, Dirac specification).
 pub fn predict_split(left: Option<u8>, above: Option<u8>, corner: Option<u8>) -> u8
     requires left { ForSome left (λ s. s ≤ 2) }
