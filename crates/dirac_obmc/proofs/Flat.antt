@@ -1,12 +1,10 @@
 -- What DC blocks of one value predict.
-use Rattle.std.proofs.Common.{◌≡◌, ℕ, ℤ, pos, negsuc, zero, suc, ◌+◌, ◌*◌, ◌<◌, ◌+ℤ◌, ◌*ℤ◌, false, arith, refl, ap, sym, ◌∙◌}
+use Rattle.std.proofs.Common.{◌≡◌, ℕ, ℤ, pos, negsuc, zero, suc, ◌+◌, ◌<◌, ◌+ℤ◌, ◌*ℤ◌, arith, refl, ap, sym, ◌∙◌}
 use Rattle.std.specs.Int.{int_shr}
 use Rattle.std.proofs.Math.IntN.{zero-*ℤ}
 use Rattle.std.proofs.Math.Nat.{add-mul}
 use Rattle.std.proofs.lemmas.Int.{ints}
-use Rattle.dirac_blocks.specs.Tables.{block_at}
-use Rattle.dirac_blocks.specs.declared.block.Block.{Block}
-use Rattle.dirac_obmc.specs.Compensation.{Compensation, IsFlat, IsMotion, blended, blocks_across, blocks_down, dc_of, predicted_at, predicts, term, total, weight_of}
+use Rattle.dirac_obmc.specs.Compensation.{Compensation, IsFlat, IsMotion, blended, blocks_across, blocks_down, predicted_at, predicts, term, total, weight_of}
 use Rattle.dirac_obmc.specs.Weights.{sum_below}
 use Rattle.dirac_obmc.proofs.SixtyFour.{sixty_four}
 
@@ -39,5 +37,5 @@ pub flat : (m : Compensation) (v : ℤ) → IsMotion m → IsFlat m v → (x y :
 flat m v h f x y right below =
     divided (blended m x y) v
     (total_weighed (λ j. total (term m x y j) (blocks_across m)) (λ j. sum_below (weight_of m x y j) (blocks_across m)) v (blocks_down m)
-      (λ j k. total_weighed (term m x y j) (weight_of m x y j) v (blocks_across m) (λ i l. flat_term m v x y j i f l k))
+    (λ j k. total_weighed (term m x y j) (weight_of m x y j) v (blocks_across m) (λ i l. flat_term m v x y j i f l k))
     ∙ ap (λ w. pos w *ℤ v) (sixty_four m h x y right below))

@@ -33,29 +33,35 @@ ratio_of part.Y ratio = 1
 ratio_of part.U ratio = ratio
 ratio_of part.V ratio = ratio
 
+-- across
 abbrev pub across_ratio : Compensation → ℕ
 across_ratio m = ratio_of m.part (ratio_across m.chroma)
 
+-- down
 abbrev pub down_ratio : Compensation → ℕ
 down_ratio m = ratio_of m.part (ratio_down m.chroma)
 
--- the lengths and separations of the blocks in samples of this plane
+-- how many samples of this plane a block has across
 abbrev pub x_length : Compensation → ℕ
 x_length m = m.prediction.grid.xblen / across_ratio m
 
+-- and down
 abbrev pub y_length : Compensation → ℕ
 y_length m = m.prediction.grid.yblen / down_ratio m
 
+-- how many of them lie between the starts of two blocks that stand side by side
 abbrev pub x_separation : Compensation → ℕ
 x_separation m = m.prediction.grid.xbsep / across_ratio m
 
+-- and of two that stand one below the other
 abbrev pub y_separation : Compensation → ℕ
 y_separation m = m.prediction.grid.ybsep / down_ratio m
 
--- how many blocks stand side by side, and how many one below the other
+-- how many blocks stand side by side: a superblock has four
 abbrev pub blocks_across : Compensation → ℕ
 blocks_across m = 4 * m.blocks.across
 
+-- how many stand one below the other
 abbrev pub blocks_down : Compensation → ℕ
 blocks_down m = 4 * m.blocks.down
 

@@ -14,6 +14,4 @@ mod weights;
 pub use motion::{Motion, Part};
 pub use predict::{predict_plane, predict_rows};
 pub use predicted::Predicted;
-pub use weights::{
-    dc_blocks_predict_their_value, weight, weights_sum_to_64, weights_sum_to_eight,
-};
+pub use weights::{dc_blocks_predict_their_value, weight, weights_sum_to_64, weights_sum_to_eight};

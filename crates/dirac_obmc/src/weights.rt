@@ -121,5 +121,4 @@ pub fn weights_sum_to_64()
 /// DC blocks of one value predict that value everywhere.
 pub fn dc_blocks_predict_their_value()
     ensures { (m : Compensation) (v : ℤ) → IsMotion m → IsFlat m v → (x y : ℕ) → x < m.width → y < m.height → predicted_at m x y ≡ v }
-{
-}
+{}

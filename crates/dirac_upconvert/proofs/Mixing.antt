@@ -1,6 +1,6 @@
 -- Positions between places, and the weighted sums of the samples round them.
 use Rattle.std.proofs.Common.{◌≡◌, ℕ, ℤ, pos, negsuc, zero, suc, ◌+◌, ◌*◌, ◌/◌, ◌%◌, ◌^◌, ◌<◌, ◌≤◌, ◌+ℤ◌, ◌-ℤ◌, ◌*ℤ◌, ◌≤ℤ◌, ◌<ℤ◌, unsigned_abs, to_z, of_z, arith, refl, ap, ◌∙◌}
-use Rattle.std.specs.Int.{w32, w64, int_rem_euclid}
+use Rattle.std.specs.Int.{w32, int_rem_euclid}
 use Rattle.std.proofs.lemmas.Int.{ints, to_z-of_z, to_z_pos, fits_signed_from_abs, unsigned_abs-mul}
 use Rattle.std.proofs.lemmas.Nat.{mul-le, one_shl, pow_pos, div-add-mod', div_below, mod_below}
 use Rattle.std.proofs.Math.Nat.{div-le_self, suc-mul}
@@ -130,11 +130,6 @@ pub power_is : (m : ℕ) → m ≤ 4 → to_z w32 (1 * 2 ^ m % 2 ^ 32) ≡ pos (
 power_is m l =
     let small : 2 ^ m ≤ 2 ^ 4 = pow_mono {i = m} {j = 4} l in
     ap (to_z w32) (one_shl m 32 (omega arith)) ∙ to_z_pos w32 (2 ^ m) (omega arith)
-
-pub wide_power_is : (m : ℕ) → m ≤ 4 → to_z w64 (1 * 2 ^ m % 2 ^ 64) ≡ pos (2 ^ m)
-wide_power_is m l =
-    let small : 2 ^ m ≤ 2 ^ 4 = pow_mono {i = m} {j = 4} l in
-    ap (to_z w64) (one_shl m 64 (omega arith)) ∙ to_z_pos w64 (2 ^ m) (omega arith)
 
 -- the code's rounded sum
 pub rounded_is : (x : ℤ) (m : ℕ) → m ≤ 4 → unsigned_abs x ≤ 2 ^ 20 → to_z w32 (of_z w32 (shr_z (to_z w32 (of_z w32 (to_z w32 (of_z w32 x) +ℤ to_z w32 (of_z w32 (shr_z (to_z w32 (1 * 2 ^ m % 2 ^ 32)) 2))))) (2 ^ m))) ≡ rounded m x

@@ -16,14 +16,6 @@ fn positions(bits: u32) -> i32
     1 << bits
 }
 
-#[inline(always)]
-fn wide_positions(bits: u32) -> i64
-    requires { bits ≤ 2 }
-    ensures { result ≡ pos (2 ^ bits) }
-{
-    1 << bits
-}
-
 /// The place at or before a position.
 #[inline(always)]
 pub fn place(position: i64, bits: u32) -> i64
@@ -35,14 +27,6 @@ pub fn place(position: i64, bits: u32) -> i64
     position >> bits
 }
 
-#[inline(always)]
-fn remainder(position: i64, scale: i64) -> i32
-    requires { (pos 1 ≤ℤ scale) × (scale ≤ℤ pos 4) }
-    ensures { result ≡ int_rem_euclid position scale }
-{
-    position.rem_euclid(scale) as i32
-}
-
 /// How far a position lies behind its place.
 #[inline(always)]
 pub fn rest(position: i64, bits: u32) -> i32
@@ -50,7 +34,11 @@ pub fn rest(position: i64, bits: u32) -> i32
     ensures value { result ≡ rest_at position bits }
     ensures within { IsRest bits result }
 {
-    remainder(position, wide_positions(bits))
+    match bits {
+        0 => 0,
+        1 => position.rem_euclid(2) as i32,
+        _ => position.rem_euclid(4) as i32,
+    }
 }
 
 #[inline(always)]
