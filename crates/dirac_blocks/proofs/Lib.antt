@@ -1,6 +1,9 @@
 mod Appended
 mod BackwardLoops
 mod Backwards
+mod BreakLoops
+mod Breaks
+mod BrokenForwards
 mod Examples
 mod Filled
 mod Fills
