@@ -14,11 +14,10 @@ use Rattle.dirac_header.specs.Prediction.{is_grid}
 use Rattle.dirac_upconvert.specs.SubSamples.{Up}
 use Rattle.dirac_obmc.specs.declared.motion.Part.{Part}
 use Rattle.dirac_obmc.specs.declared.motion.Part.TheVariants as part
-use Rattle.dirac_obmc.specs.Compensation.{IsMotion as IsCompensation, ratio_of}
+use Rattle.dirac_obmc.specs.Compensation.{IsPredictable, ratio_of}
 use Rattle.dirac_picture.specs.declared.coded.CodedMotion.{CodedMotion}
-use Rattle.dirac_picture.specs.Fits.{IsMotion, IsPlaneSize}
+use Rattle.dirac_picture.specs.Fits.{IsMotion}
 use Rattle.dirac_picture.specs.Grammar.{superblocks_over}
-use Rattle.dirac_picture.proofs.Chroma.{luma_size, chroma_size}
 use Rattle.dirac_decode.specs.Content.{IsPicture, IsPlane, width_of, height_of, plane_of, up_of, compensated}
 
 -- what a grid says of separations
@@ -86,20 +85,14 @@ plane_size s picture part.Y fits = fits.y
 plane_size s picture part.U fits = fits.u
 plane_size s picture part.V fits = fits.v
 
-part_size : (s : Sequence) (p : Part) → IsSequence s → IsPlaneSize (width_of s p) (height_of s p)
-part_size s part.Y lawful = luma_size s lawful
-part_size s part.U lawful = chroma_size s lawful
-part_size s part.V lawful = chroma_size s lawful
-
 -- so each plane can be predicted from upconverted planes of its size
 is_compensation : (code : ℕ) (s : Sequence) (m : CodedMotion) (first : Up) (second : Option Up) (p : Part) → IsSequence s → IsMotion code s m
     → (first.width ≡ width_of s p) × (first.height ≡ height_of s p)
     → ForSome second (λ u. (u.width ≡ width_of s p) × (u.height ≡ height_of s p))
     → (m.blocks.refs ≡ 2 → IsSome second)
-    → IsCompensation (compensated s m first second p)
+    → IsPredictable (compensated s m first second p)
 is_compensation code s m first second p lawful fits one two there =
     let grid = fits.prediction.grid in
-    let size = part_size s p lawful in
     let across = grid_across s.chroma m.prediction.grid grid in
     let down = grid_down s.chroma m.prediction.grid grid in
     let wide : s.width ≤ m.blocks.across * (4 * m.prediction.grid.xbsep) =
@@ -109,14 +102,8 @@ is_compensation code s m first second p lawful fits one two there =
     record {
       grid = grid;
       precision = fits.prediction.precision;
-      some_bits = fits.prediction.bits.0;
-      most_bits = fits.prediction.bits.1;
-      weight1 = fits.prediction.weights.0;
-      weight2 = fits.prediction.weights.1;
-      some_across = size.across.0;
-      most_across = size.across.1;
-      some_down = size.down.0;
-      most_down = size.down.1;
+      bits = fits.prediction.bits;
+      weights = fits.prediction.weights;
       covers_across = part_across s m.prediction.grid.xbsep m.blocks.across p lawful across.1 wide;
       covers_down = part_down s m.prediction.grid.ybsep m.blocks.down p lawful down.1 high;
       first = one;
@@ -132,14 +119,14 @@ up_size s picture p u fits is =
 
 -- from one reference
 pub from_one : (code : ℕ) (s : Sequence) (m : CodedMotion) (picture : Picture) (first : Up) (p : Part) → IsSequence s → IsMotion code s m
-    → IsPicture s picture → first ≡ up_of (plane_of picture p) → (m.blocks.refs ≡ 2 → ⊥) → IsCompensation (compensated s m first None p)
+    → IsPicture s picture → first ≡ up_of (plane_of picture p) → (m.blocks.refs ≡ 2 → ⊥) → IsPredictable (compensated s m first None p)
 from_one code s m picture first p lawful fits one is alone =
     is_compensation code s m first None p lawful fits (up_size s picture p first one is) (λ u e. absurd cc) (λ two. absurd (alone two))
 
 -- and from two
 pub from_two : (code : ℕ) (s : Sequence) (m : CodedMotion) (picture other : Picture) (first second : Up) (p : Part) → IsSequence s → IsMotion code s m
     → IsPicture s picture → IsPicture s other → first ≡ up_of (plane_of picture p) → second ≡ up_of (plane_of other p)
-    → IsCompensation (compensated s m first (Some second) p)
+    → IsPredictable (compensated s m first (Some second) p)
 from_two code s m picture other first second p lawful fits one two is also =
     is_compensation code s m first (Some second) p lawful fits (up_size s picture p first one is)
     (λ u e. let same : u ≡ up_of (plane_of other p) = cc in up_size s other p u two same)

@@ -134,7 +134,19 @@ predicted_rows m first end = table_of m.width (end - first) (λ x y. predicted_a
 abbrev pub predicted_plane : Compensation → Table
 predicted_plane m = table_of m.width m.height (predicted_at m)
 
--- a plane that can be predicted: its blocks cover it, and its references are of its size
+-- a plane that can be predicted: its blocks cover it, and its references come from planes of its size
+pub record IsPredictable (m : Compensation) : Type 0 where
+  pub grid : IsTrue (is_grid m.chroma m.prediction.grid)
+  pub precision : m.prediction.precision ≤ 3
+  pub bits : (1 ≤ m.prediction.weight_bits) × (m.prediction.weight_bits ≤ 8)
+  pub weights : (unsigned_abs m.prediction.weight1 ≤ 255) × (unsigned_abs m.prediction.weight2 ≤ 255)
+  pub covers_across : m.width ≤ blocks_across m * x_separation m
+  pub covers_down : m.height ≤ blocks_down m * y_separation m
+  pub first : (m.up1.width ≡ m.width) × (m.up1.height ≡ m.height)
+  pub second : ForSome m.up2 (λ u. (u.width ≡ m.width) × (u.height ≡ m.height))
+  pub two : m.blocks.refs ≡ 2 → IsSome m.up2
+
+-- the same, with the limits of a plane's size, which every upconverted plane keeps
 pub record IsMotion (m : Compensation) : Type 0 where
   pub grid : IsTrue (is_grid m.chroma m.prediction.grid)
   pub precision : m.prediction.precision ≤ 3

@@ -2,7 +2,7 @@ ghost use Rattle.std.specs.Prelude.{◌≡◌, ℕ, ◌+◌, ◌-◌, ◌^◌, �
 ghost use Rattle.std.specs.List.{All};
 ghost use Rattle.dirac_types.specs.Table.{table_at};
 ghost use Rattle.dirac_obmc.specs.Given.{given};
-ghost use Rattle.dirac_obmc.specs.Compensation.{IsMotion, predicted_at, predicted_plane, predicted_rows};
+ghost use Rattle.dirac_obmc.specs.Compensation.{IsMotion, IsPredictable, predicted_at, predicted_plane, predicted_rows};
 ghost use Rattle.dirac_obmc.specs.Directions.{IsSound};
 
 use crate::direction::{across, down};
@@ -27,6 +27,14 @@ fn lawful(motion: &Motion<'_>)
     }
 }
 
+/// The limits of the plane's size, which its first reference has.
+fn bounded(motion: &Motion<'_>)
+    requires { IsPredictable (given motion.now) }
+    ensures { IsMotion (given motion.now) }
+{
+    let _first = motion.up1.width();
+}
+
 fn no_samples(alloc: Global, count: u32) -> Result<Vec<i16>, NoMemory>
     ensures { IfOk result (λ v. length v.items ≡ count) }
 {
@@ -39,8 +47,8 @@ fn no_values(alloc: Global, count: u32) -> Result<Vec<i32>, NoMemory>
     Ok(vec![in alloc; 0; count as usize]?)
 }
 
-/// The predictions of rows `first` to `end - 1` of a plane.
-pub fn predict_rows(
+/// The predictions of rows `first` to `end - 1` of a plane whose size has its limits.
+fn rows_between(
     alloc: Global,
     motion: &Motion<'_>,
     first: u32,
@@ -82,12 +90,31 @@ pub fn predict_rows(
     Ok(predicted)
 }
 
-/// The predictions of all samples of a plane.
+/// The predictions of rows `first` to `end - 1` of a plane (motion compensation, Dirac specification).
+pub fn predict_rows(
+    alloc: Global,
+    motion: &Motion<'_>,
+    first: u32,
+    end: u32,
+) -> Result<Predicted, NoMemory>
+    requires some { first < end }
+    requires inside { end ≤ motion.now.height }
+    requires motion { IsPredictable (given motion.now) }
+    ensures value { IfOk result (λ t. t ≡ predicted_rows (given motion.now) first end) }
+    ensures each { IfOk result (λ t. (x y : ℕ) → x < motion.now.width → y < end - first → table_at t x y ≡ predicted_at (given motion.now) x (first + y)) }
+    ensures small { IfOk result (λ t. All (λ v. unsigned_abs v ≤ 2 ^ 15) t.values) }
+{
+    bounded(motion);
+    rows_between(alloc, motion, first, end)
+}
+
+/// The predictions of all samples of a plane (motion compensation, Dirac specification).
 pub fn predict_plane(alloc: Global, motion: &Motion<'_>) -> Result<Predicted, NoMemory>
-    requires motion { IsMotion (given motion.now) }
+    requires motion { IsPredictable (given motion.now) }
     ensures value { IfOk result (λ t. t ≡ predicted_plane (given motion.now)) }
     ensures each { IfOk result (λ t. (x y : ℕ) → x < motion.now.width → y < motion.now.height → table_at t x y ≡ predicted_at (given motion.now) x y) }
     ensures small { IfOk result (λ t. All (λ v. unsigned_abs v ≤ 2 ^ 15) t.values) }
 {
-    predict_rows(alloc, motion, 0, motion.height)
+    bounded(motion);
+    rows_between(alloc, motion, 0, motion.height)
 }

@@ -55,9 +55,9 @@ half_samples t h k d inside =
     (half_at_sample t (k % (2 * t.width - 1)) (k / (2 * t.width - 1)) h)
 
 -- the upconverted plane of a table of samples
-pub is_up : (t u : Table) (w h : ℕ) → u ≡ half t → w ≡ t.width → h ≡ t.height → 1 ≤ t.width → 1 ≤ t.height → All IsSample t.values → IsUp w h u
-is_up t u w h e ew eh across down all =
-    rw (e, ew, eh) (record { some_across = across; some_down = down; across = refl; down = refl; samples = half_samples t all })
+pub is_up : (t u : Table) (w h : ℕ) → u ≡ half t → w ≡ t.width → h ≡ t.height → (1 ≤ t.width) × (t.width ≤ 4096) → (1 ≤ t.height) × (t.height ≤ 4096) → All IsSample t.values → IsUp w h u
+is_up t u w h e ew eh wide high all =
+    rw (e, ew, eh) (record { some_across = wide.0; most_across = wide.1; some_down = high.0; most_down = high.1; across = refl; down = refl; samples = half_samples t all })
 
 abbrev up : ℕ → ℕ → Table → Up
 up w h t = record { width = w; height = h; table = t }

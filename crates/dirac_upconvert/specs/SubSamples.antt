@@ -14,7 +14,9 @@ pub record Up : Type 0 where
 -- its table has one half sample between any two samples
 pub record IsUp (width height : ℕ) (table : Table) : Type 0 where
   pub some_across : 1 ≤ width
+  pub most_across : width ≤ 4096
   pub some_down : 1 ≤ height
+  pub most_down : height ≤ 4096
   pub across : table.width ≡ 2 * width - 1
   pub down : table.height ≡ 2 * height - 1
   pub samples : All IsSample table.values

@@ -23,7 +23,7 @@ pub invariant_of-result : goal.invariant_of-result
 invariant_of-result c =
     let table : c.loop-y.table ≡ half c.args.plane.now =
     rows_all _ c.loop-y.table _ _ c.loop-y.y c.loop-y.invariant.across c.loop-y.invariant.down (omega arith) (omega arith) c.loop-y.invariant.rows in
-    is_up c.args.plane.now c.loop-y.table _ _ table c.width-width.ensures.value c.height-height.ensures.value (omega arith) (omega arith) c.requires.samples
+    is_up c.args.plane.now c.loop-y.table _ _ table c.width-width.ensures.value c.height-height.ensures.value (omega arith, c.requires.across) (omega arith, c.requires.down) c.requires.samples
 
 pub returns-clause-value : goal.returns-clause-value
 returns-clause-value c =

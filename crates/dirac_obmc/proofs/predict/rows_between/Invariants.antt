@@ -2,7 +2,7 @@ use Rattle.std.proofs.Common.{◌≡◌, ◌+◌, ◌-◌, length}
 use Rattle.dirac_upconvert.proofs.RowLemmas.{RowsFilled}
 use Rattle.dirac_obmc.specs.Compensation.{predicted_at, x_length}
 use Rattle.dirac_obmc.specs.Given.{given}
-use Rattle.dirac_obmc.proofs.predict.predict_rows.Given as goal
+use Rattle.dirac_obmc.proofs.predict.rows_between.Given as goal
 
 abbrev pub invariant-loop-y : goal.invariant-loop-y
 invariant-loop-y l = record {

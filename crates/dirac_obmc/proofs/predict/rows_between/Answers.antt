@@ -5,7 +5,7 @@ use Rattle.dirac_upconvert.proofs.RowLemmas.{rows_more, rows_all}
 use Rattle.dirac_obmc.specs.Compensation.{predicted_at}
 use Rattle.dirac_obmc.specs.Given.{given}
 use Rattle.dirac_obmc.proofs.Predictions.{rows_none, rows_are_small}
-use Rattle.dirac_obmc.proofs.predict.predict_rows.Goals as goal
+use Rattle.dirac_obmc.proofs.predict.rows_between.Goals as goal
 
 pub loop-y-init : goal.loop-y-init
 loop-y-init c = record {
