@@ -1,9 +1,7 @@
 -- Lists that are read are carried, unit by unit and superblock by superblock.
-use Rattle.std.proofs.Common.{◌≡◌, ℕ, zero, suc, ◌+◌, ◌-◌, ◌*◌, ◌/◌, ◌^◌, ◌<◌, ◌≤◌, ◌⊎◌, inl, inr, List, [], ◌++◌, Result, Ok, Err, refl, sym, ap, ◌∙◌, arith, subst}
+use Rattle.std.proofs.Common.{◌≡◌, ℕ, zero, suc, ◌+◌, ◌-◌, ◌*◌, ◌^◌, ◌<◌, ◌≤◌, ◌⊎◌, inl, inr, List, [], Result, Ok, refl, sym, ap, ◌∙◌, arith, subst}
 use Rattle.std.proofs.lemmas.Bool.{cases_lt}
-use Rattle.std.proofs.lemmas.Nat.{mul-le}
 use Rattle.dirac_types.specs.declared.faults.Cause.{Cause}
-use Rattle.dirac_arith.specs.Chain.{◌>>=◌}
 use Rattle.dirac_arith.specs.Deciding.{begin}
 use Rattle.dirac_arith.specs.Interval.{Decision}
 use Rattle.dirac_arith.specs.Reading.{Reading, Reads}
@@ -11,21 +9,18 @@ use Rattle.dirac_arith.proofs.Carrieds.{IsLed}
 use Rattle.dirac_arith.proofs.Led.{led_begin, led_more, reads_nothing, reads_carried}
 use Rattle.dirac_arith.proofs.Spellings.{reads_more}
 use Rattle.dirac_blocks.specs.declared.block.Block.{Block}
-use Rattle.dirac_blocks.specs.declared.parts.Component.TheVariants as components
 use Rattle.dirac_blocks.specs.declared.parts.Part.{Part}
-use Rattle.dirac_blocks.specs.declared.parts.Part.TheVariants as parts
-use Rattle.dirac_blocks.specs.declared.parts.Reference.TheVariants as references
-use Rattle.dirac_blocks.specs.Carried.{with_part, IsWithPart, CarriesPart}
+use Rattle.dirac_blocks.specs.Carried.{with_part}
 use Rattle.dirac_blocks.specs.Decisions.{unit_row, unit_rows, superblock_part, superblock_row, superblock_rows, unit_decisions}
-use Rattle.dirac_blocks.specs.Grammar.{Progress, Step, repeated, with_unit, unit_read, unit_step, unit_row_step, unit_rows_step, superblock_step, units_step}
+use Rattle.dirac_blocks.specs.Grammar.{Progress, Step, repeated, with_unit, unit_read, unit_step, unit_row_step, unit_rows_step, superblock_step}
 use Rattle.dirac_blocks.specs.Laws.{ReadIsCarried}
 use Rattle.dirac_blocks.specs.Parts.{part_at}
 use Rattle.dirac_blocks.specs.Reached.{SameShape, IsUnit, progress}
-use Rattle.dirac_blocks.specs.Tables.{BlockTable, IsBlock, IsBlockTable, block_at, split_at, unit_size}
-use Rattle.dirac_blocks.proofs.Backwards.{passed, same_answer, UnitCame, unit_came}
-use Rattle.dirac_blocks.proofs.Filled.{square, filled_inside, InSquare, filled_or_same}
+use Rattle.dirac_blocks.specs.Tables.{BlockTable, IsBlockTable, block_at, split_at, unit_size}
+use Rattle.dirac_blocks.proofs.Backwards.{passed, same_answer, unit_came}
+use Rattle.dirac_blocks.proofs.Filled.{square, filled_inside, filled_or_same}
 use Rattle.dirac_blocks.proofs.Fills.{unit_lawful, split_few, unit_placed}
-use Rattle.dirac_blocks.proofs.ForwardLoops.{unit_of_superblock, units_fill, size_some}
+use Rattle.dirac_blocks.proofs.ForwardLoops.{unit_of_superblock, units_fill}
 use Rattle.dirac_blocks.proofs.Nearby.{Near, SameWithin}
 use Rattle.dirac_blocks.proofs.Repeating.{shape_join, shape_refl, split_same, unit_same}
 
@@ -82,10 +77,10 @@ unit_step_came part m t size i j r s inv unit led e =
     let place : mid ≡ s = ap (λ x. x.reading) one in
     let outside' : (x y : ℕ) → x < 4 * m.across → IsOutside i (i + size) j (j + size) x y → block_at new x y ≡ block_at m x y =
     λ x y p o.
-        elim (filled_or_same m size i j b inv unit x y p) [
-          | inl k ↦ absurd (apart i (i + size) j (j + size) x y k.left k.right k.top k.bottom o)
-          | inr same ↦ same
-        ] in
+    elim (filled_or_same m size i j b inv unit x y p) [
+      | inl k ↦ absurd (apart i (i + size) j (j + size) x y k.left k.right k.top k.bottom o)
+      | inr same ↦ same
+    ] in
     let here : Came part m r new mid i (i + size) j (j + size) (λ u. part_at part u i j) = record {
       lawful = unit_lawful m size i j b inv unit came.lawful;
       shape = record { across = refl; down = refl; refs = refl; splits = refl };
@@ -105,20 +100,22 @@ unit_step_came part m t size i j r s inv unit led e =
     subst (λ (x : BlockTable). Came part m r x s i (i + size) j (j + size) (λ u. part_at part u i j)) table
     (subst (λ (x : Reading). Came part m r new x i (i + size) j (j + size) (λ u. part_at part u i j)) place here)
   where
-  apart : (left right top bottom x y : ℕ) → left ≤ x → x < right → top ≤ y → y < bottom → IsOutside left right top bottom x y → ⊥
-  apart left right top bottom x y a b c d (inl (inl l)) = omega arith
-  apart left right top bottom x y a b c d (inl (inr l)) = omega arith
-  apart left right top bottom x y a b c d (inr (inl l)) = omega arith
-  apart left right top bottom x y a b c d (inr (inr l)) = omega arith
-  near_outside : (i j size x y : ℕ) → 1 ≤ size → (x < i) ⊎ (y < j) → IsOutside i (i + size) j (j + size) x y
-  near_outside i j size x y some (inl l) = inl (inl l)
-  near_outside i j size x y some (inr l) = inr (inl l)
-  near_new : (m new : BlockTable) (i j : ℕ) → i < 4 * m.across → ((x y : ℕ) → x ≤ i → (x < i) ⊎ (y < j) → block_at new x y ≡ block_at m x y) → Near m new i j
-  near_new m new i j inside same = record {
-    left = λ z. sym (same (i - 1) j (omega arith) (inl (omega arith)));
-    above = λ z. sym (same i (j - 1) (omega arith) (inr (omega arith)));
-    corner = λ z z'. sym (same (i - 1) (j - 1) (omega arith) (inl (omega arith)));
-  }
+    apart : (left right top bottom x y : ℕ) → left ≤ x → x < right → top ≤ y → y < bottom → IsOutside left right top bottom x y → ⊥
+    apart left right top bottom x y a b c d (inl (inl l)) = omega arith
+    apart left right top bottom x y a b c d (inl (inr l)) = omega arith
+    apart left right top bottom x y a b c d (inr (inl l)) = omega arith
+    apart left right top bottom x y a b c d (inr (inr l)) = omega arith
+
+    near_outside : (i j size x y : ℕ) → 1 ≤ size → (x < i) ⊎ (y < j) → IsOutside i (i + size) j (j + size) x y
+    near_outside i j size x y some (inl l) = inl (inl l)
+    near_outside i j size x y some (inr l) = inr (inl l)
+
+    near_new : (m new : BlockTable) (i j : ℕ) → i < 4 * m.across → ((x y : ℕ) → x ≤ i → (x < i) ⊎ (y < j) → block_at new x y ≡ block_at m x y) → Near m new i j
+    near_new m new i j inside same = record {
+      left = λ z. sym (same (i - 1) j (omega arith) (inl (omega arith)));
+      above = λ z. sym (same i (j - 1) (omega arith) (inr (omega arith)));
+      corner = λ z z'. sym (same (i - 1) (j - 1) (omega arith) (inl (omega arith)));
+    }
 
 -- n units of a row
 row_came : (part : Part) (m t : BlockTable) (size i j n : ℕ) (r s : Reading) → IsBlockTable m → ((k : ℕ) → k < n → IsUnit m size (i + k * size) j) → IsLed r
@@ -154,14 +151,15 @@ row_came part m t size i j (suc n) r s inv units led fits e =
           reads_more r q.value.reading s (unit_row (part_at part u) size i j n) (part_at part u (i + n * size) j) first second;
     }
   where
-  last_outside : (i a size top bottom x y b : ℕ) → b ≡ a + size → IsOutside i (i + b) top bottom x y → IsOutside (i + a) (i + a + size) top bottom x y
-  last_outside i a size top bottom x y b e (inl (inl l)) = inl (inl (omega arith))
-  last_outside i a size top bottom x y b e (inl (inr l)) = inl (inr (omega arith))
-  last_outside i a size top bottom x y b e (inr l) = inr l
-  first_outside : (i a size top bottom x y b : ℕ) → b ≡ a + size → IsOutside i (i + b) top bottom x y → IsOutside i (i + a) top bottom x y
-  first_outside i a size top bottom x y b e (inl (inl l)) = inl (inl l)
-  first_outside i a size top bottom x y b e (inl (inr l)) = inl (inr (omega arith))
-  first_outside i a size top bottom x y b e (inr l) = inr l
+    last_outside : (i a size top bottom x y b : ℕ) → b ≡ a + size → IsOutside i (i + b) top bottom x y → IsOutside (i + a) (i + a + size) top bottom x y
+    last_outside i a size top bottom x y b e (inl (inl l)) = inl (inl (omega arith))
+    last_outside i a size top bottom x y b e (inl (inr l)) = inl (inr (omega arith))
+    last_outside i a size top bottom x y b e (inr l) = inr l
+
+    first_outside : (i a size top bottom x y b : ℕ) → b ≡ a + size → IsOutside i (i + b) top bottom x y → IsOutside i (i + a) top bottom x y
+    first_outside i a size top bottom x y b e (inl (inl l)) = inl (inl l)
+    first_outside i a size top bottom x y b e (inl (inr l)) = inl (inr (omega arith))
+    first_outside i a size top bottom x y b e (inr l) = inr l
 
 -- a column of rectangles: what is outside of all is outside of each
 lower_outside : (left right j a size x y b : ℕ) → b ≡ a + size → IsOutside left right j (j + b) x y → IsOutside left right (j + a) (j + a + size) x y
@@ -263,14 +261,15 @@ superblocks_came part m t sy (suc n) r s inv few hy led e =
           (subst (λ (ds : List Decision). Reads q.value.reading ds s) same second);
     }
   where
-  last_of : (top n x y : ℕ) → IsOutside 0 (4 * suc n) top (top + 4) x y → IsOutside (4 * n) (4 * n + 4) top (top + 4) x y
-  last_of top n x y (inl (inl l)) = absurd (omega arith)
-  last_of top n x y (inl (inr l)) = inl (inr (omega arith))
-  last_of top n x y (inr l) = inr l
-  first_of' : (top n x y : ℕ) → IsOutside 0 (4 * suc n) top (top + 4) x y → IsOutside 0 (4 * n) top (top + 4) x y
-  first_of' top n x y (inl (inl l)) = inl (inl l)
-  first_of' top n x y (inl (inr l)) = inl (inr (omega arith))
-  first_of' top n x y (inr l) = inr l
+    last_of : (top n x y : ℕ) → IsOutside 0 (4 * suc n) top (top + 4) x y → IsOutside (4 * n) (4 * n + 4) top (top + 4) x y
+    last_of top n x y (inl (inl l)) = absurd (omega arith)
+    last_of top n x y (inl (inr l)) = inl (inr (omega arith))
+    last_of top n x y (inr l) = inr l
+
+    first_of' : (top n x y : ℕ) → IsOutside 0 (4 * suc n) top (top + 4) x y → IsOutside 0 (4 * n) top (top + 4) x y
+    first_of' top n x y (inl (inl l)) = inl (inl l)
+    first_of' top n x y (inl (inr l)) = inl (inr (omega arith))
+    first_of' top n x y (inr l) = inr l
 
 -- n rows of superblocks
 superblock_rows_came : (part : Part) (m t : BlockTable) (across n : ℕ) (r s : Reading) → IsBlockTable m → across ≡ m.across → n ≤ m.down → IsLed r
@@ -307,14 +306,15 @@ superblock_rows_came part m t across (suc n) r s inv all few led e =
           (subst (λ (w : ℕ). Reads q.value.reading (superblock_row (part_at part u) u n w) s) wide' second);
     }
   where
-  last_of : (right n x y : ℕ) → IsOutside 0 right 0 (4 * suc n) x y → IsOutside 0 right (4 * n) (4 * n + 4) x y
-  last_of right n x y (inl l) = inl l
-  last_of right n x y (inr (inl l)) = absurd (omega arith)
-  last_of right n x y (inr (inr l)) = inr (inr (omega arith))
-  first_of' : (right n x y : ℕ) → IsOutside 0 right 0 (4 * suc n) x y → IsOutside 0 right 0 (4 * n) x y
-  first_of' right n x y (inl l) = inl l
-  first_of' right n x y (inr (inl l)) = inr (inl l)
-  first_of' right n x y (inr (inr l)) = inr (inr (omega arith))
+    last_of : (right n x y : ℕ) → IsOutside 0 right 0 (4 * suc n) x y → IsOutside 0 right (4 * n) (4 * n + 4) x y
+    last_of right n x y (inl l) = inl l
+    last_of right n x y (inr (inl l)) = absurd (omega arith)
+    last_of right n x y (inr (inr l)) = inr (inr (omega arith))
+
+    first_of' : (right n x y : ℕ) → IsOutside 0 right 0 (4 * suc n) x y → IsOutside 0 right 0 (4 * n) x y
+    first_of' right n x y (inl l) = inl l
+    first_of' right n x y (inr (inl l)) = inr (inl l)
+    first_of' right n x y (inr (inr l)) = inr (inr (omega arith))
 
 -- a whole list
 pub read_is_carried : ReadIsCarried

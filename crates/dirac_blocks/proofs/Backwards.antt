@@ -1,13 +1,13 @@
 -- What is read is carried: each unit's part is one of the table that comes out, since later units change none before.
-use Rattle.std.proofs.Common.{◌≡◌, ℕ, ℤ, pos, negsuc, zero, suc, ◌+◌, ◌-◌, ◌*◌, ◌/◌, ◌^◌, ◌<◌, ◌≤◌, ◌+ℤ◌, ◌-ℤ◌, inl, inr, Bool, true, false, not, ◌||◌, List, [], ◌∷◌, ◌++◌, length, nat_abs, Option, Some, None, Result, Ok, Err, refl, sym, ap, ◌∙◌, arith, subst}
-use Rattle.std.specs.Prelude.{option_map, ◌≤ℤ◌, int_le, if◌then◌else◌, ◌==◌}
-use Rattle.std.proofs.lemmas.Bool.{not-true, cases_Bool, cases_eq, cases_lt, eq-eqb, ne_eqb, and_parts, both_ways}
+use Rattle.std.proofs.Common.{◌≡◌, ℕ, ℤ, pos, negsuc, ◌+ℤ◌, ◌-ℤ◌, inl, inr, Bool, true, false, not, ◌||◌, List, [], ◌∷◌, Option, Some, Result, Ok, Err, refl, sym, ap, ◌∙◌, arith, subst}
+use Rattle.std.specs.Prelude.{option_map, ◌≤ℤ◌, int_le, if◌then◌else◌}
+use Rattle.std.proofs.lemmas.Bool.{not-true, cases_Bool, cases_eq, eq-eqb, ne_eqb, and_parts, both_ways}
 use Rattle.std.proofs.lemmas.Int.{ints}
 use Rattle.dirac_types.specs.declared.faults.Cause.{Cause}
 use Rattle.dirac_types.specs.declared.faults.Cause.TheVariants as cause
 use Rattle.dirac_types.specs.declared.formats.Vector.{Vector}
 use Rattle.dirac_arith.specs.Chain.{◌>>=◌}
-use Rattle.dirac_arith.specs.Deciding.{begin, decided, signed_read, after_all}
+use Rattle.dirac_arith.specs.Deciding.{decided, signed_read}
 use Rattle.dirac_arith.specs.Interval.{Decision}
 use Rattle.dirac_arith.specs.Reading.{Reading, Reads}
 use Rattle.dirac_arith.specs.Spelling.{signed_spelling}
@@ -17,17 +17,15 @@ use Rattle.dirac_arith.proofs.Spellings.{reads_more}
 use Rattle.dirac_vectors.specs.Neighbours.{IsShort}
 use Rattle.dirac_vectors.specs.Predictions.{mode_of, vector_of, dc_of}
 use Rattle.dirac_blocks.specs.declared.block.Block.{Block}
-use Rattle.dirac_blocks.specs.declared.parts.Component.{Component}
 use Rattle.dirac_blocks.specs.declared.parts.Component.TheVariants as components
 use Rattle.dirac_blocks.specs.declared.parts.Part.{Part}
 use Rattle.dirac_blocks.specs.declared.parts.Part.TheVariants as parts
-use Rattle.dirac_blocks.specs.declared.parts.Reference.{Reference}
 use Rattle.dirac_blocks.specs.declared.parts.Reference.TheVariants as references
 use Rattle.dirac_blocks.specs.Carried.{with_part}
 use Rattle.dirac_blocks.specs.Decisions.{counted, differ, less_prediction, predicted, ref1_at, ref2_at, mode_part}
-use Rattle.dirac_blocks.specs.Grammar.{block_using, mode_read, second_use_read, is_short, value_from, value_read, component_read, read_into, unit_read, uses, is_dc, with_across, with_down, with_dc}
+use Rattle.dirac_blocks.specs.Grammar.{block_using, mode_read, second_use_read, is_short, value_from, value_read, read_into, unit_read, is_dc, with_across, with_down, with_dc}
 use Rattle.dirac_blocks.specs.Parts.{vector_at, dc_at, part_at}
-use Rattle.dirac_blocks.specs.Tables.{BlockTable, IsBlock, IsBlockTable, block_at, no_vector}
+use Rattle.dirac_blocks.specs.Tables.{BlockTable, IsBlock, IsBlockTable, block_at}
 use Rattle.dirac_blocks.proofs.Nearby.{Near, ref1_near, ref2_near, vector_near, dc_near, block_lawful}
 use Rattle.dirac_blocks.proofs.UnitValues.{across_lawful, down_lawful, dc_lawful}
 
@@ -41,26 +39,28 @@ pub passed : {A B E : Type 0} (x : Result A E) (g : A → Result B E) (y : B) �
 passed (Ok a) g y e = record { value = a; first = refl; next = e }
 passed (Err c) g y e = absurd (apart c y e)
   where
-  apart : {B E : Type 0} (c : E) (y : B) → (let x : Result B E = Err c in x ≡ Ok y) → ⊥
-  apart c y e = cc
+    apart : {B E : Type 0} (c : E) (y : B) → (let x : Result B E = Err c in x ≡ Ok y) → ⊥
+    apart c y e = cc
 
 -- one answer
 pub same_answer : {A : Type 0} (x y : A) → (let r : Result A Cause = Ok x in r ≡ Ok y) → x ≡ y
 same_answer x y e = ap (or_else x) e
   where
-  or_else : {A : Type 0} → A → Result A Cause → A
-  or_else d (Ok x) = x
-  or_else d (Err e) = d
+    or_else : {A : Type 0} → A → Result A Cause → A
+    or_else d (Ok x) = x
+    or_else d (Err e) = d
 
 pub short_from : (v : ℤ) → is_short v ≡ true → IsShort v
 short_from v e = record { least = low v e; most = high v e }
   where
-  at_least : (a b : ℤ) → int_le a b ≡ true → a ≤ℤ b
-  at_least a b e = grind (arith, ints)
-  low : (v : ℤ) → is_short v ≡ true → negsuc 32767 ≤ℤ v
-  low v e = at_least (negsuc 32767) v (and_parts (int_le (negsuc 32767) v) (int_le v (pos 32767)) e).0
-  high : (v : ℤ) → is_short v ≡ true → v ≤ℤ pos 32767
-  high v e = at_least v (pos 32767) (and_parts (int_le (negsuc 32767) v) (int_le v (pos 32767)) e).1
+    at_least : (a b : ℤ) → int_le a b ≡ true → a ≤ℤ b
+    at_least a b e = grind (arith, ints)
+
+    low : (v : ℤ) → is_short v ≡ true → negsuc 32767 ≤ℤ v
+    low v e = at_least (negsuc 32767) v (and_parts (int_le (negsuc 32767) v) (int_le v (pos 32767)) e).0
+
+    high : (v : ℤ) → is_short v ≡ true → v ≤ℤ pos 32767
+    high v e = at_least v (pos 32767) (and_parts (int_le (negsuc 32767) v) (int_le v (pos 32767)) e).1
 
 differ_back : (a b : Bool) → differ (differ a b) b ≡ a
 differ_back true true = refl
@@ -98,8 +98,8 @@ value_came c follow bits sign p v r s led e =
       | inr is ↦ let told = rw is at q.next in absurd (bad c (v, s) told)
     ]
   where
-  bad : {A : Type 0} (c : Cause) (x : A) → (let r : Result A Cause = Err c in r ≡ Ok x) → ⊥
-  bad c x e = cc
+    bad : {A : Type 0} (c : Cause) (x : A) → (let r : Result A Cause = Err c in r ≡ Ok x) → ⊥
+    bad c x e = cc
 
 -- a block with a value that is read into it
 pub record IntoCame (has : Bool) (bm b : Block) (put : Block → ℤ → Block) (follow : List ℕ) (bits sign : ℕ) (p : ℤ) (r s : Reading) : Type 0 where
@@ -139,7 +139,7 @@ pub record UnitCame (part : Part) (m : BlockTable) (i j : ℕ) (b : Block) (r s 
   pub is : with_part part (block_at m i j) b ≡ b
   pub reads : (u : BlockTable) → u.refs ≡ m.refs → Near m u i j → block_at u i j ≡ b → Reads r (part_at part u i j) s
 
-using_lawful : (refs : ℕ) (a b : Bool) → (refs ≡ 1 → b ≡ false) → IsBlock refs (block_using a b)
+pub using_lawful : (refs : ℕ) (a b : Bool) → (refs ≡ 1 → b ≡ false) → IsBlock refs (block_using a b)
 using_lawful refs a b single =
     let zero : IsShort (pos 0) = record { least = omega (arith, ints); most = omega (arith, ints) } in
     record {
@@ -202,16 +202,16 @@ modes_two_came m i j b r s led two e =
           two_modes u i j f g r s (refs ∙ two) a_is b_is both;
     }
   where
-  two_modes : (u : BlockTable) (i j : ℕ) (f g : Bool) (r s : Reading) → u.refs ≡ 2 → differ (block_at u i j).ref1 (predicted mode_of (ref1_at u) i j) ≡ f
-      → differ (block_at u i j).ref2 (predicted mode_of (ref2_at u) i j) ≡ g → (let d : Decision = (25, f) in let e : Decision = (26, g) in Reads r (d ∷ e ∷ []) s) → Reads r (mode_part u i j) s
-  two_modes u i j f g r s two a b reads =
-      let x = differ (block_at u i j).ref1 (predicted mode_of (ref1_at u) i j) in
-      let y = differ (block_at u i j).ref2 (predicted mode_of (ref2_at u) i j) in
-      let d : Decision = (25, x) in
-      let e : Decision = (26, y) in
-      let P : Bool → Type 0 = λ t. Reads r (d ∷ (if t then e ∷ [] else [])) s in
-      let Q : Bool → Bool → Type 0 = λ t w. let d : Decision = (25, t) in let e : Decision = (26, w) in Reads r (d ∷ e ∷ []) s in
-      subst P (sym (eq-eqb u.refs 2 two)) (subst (λ (t : Bool). Q t y) (sym a) (subst (λ (w : Bool). Q f w) (sym b) reads))
+    two_modes : (u : BlockTable) (i j : ℕ) (f g : Bool) (r s : Reading) → u.refs ≡ 2 → differ (block_at u i j).ref1 (predicted mode_of (ref1_at u) i j) ≡ f
+        → differ (block_at u i j).ref2 (predicted mode_of (ref2_at u) i j) ≡ g → (let d : Decision = (25, f) in let e : Decision = (26, g) in Reads r (d ∷ e ∷ []) s) → Reads r (mode_part u i j) s
+    two_modes u i j f g r s two a b reads =
+        let x = differ (block_at u i j).ref1 (predicted mode_of (ref1_at u) i j) in
+        let y = differ (block_at u i j).ref2 (predicted mode_of (ref2_at u) i j) in
+        let d : Decision = (25, x) in
+        let e : Decision = (26, y) in
+        let P : Bool → Type 0 = λ t. Reads r (d ∷ (if t then e ∷ [] else [])) s in
+        let Q : Bool → Bool → Type 0 = λ t w. let d : Decision = (25, t) in let e : Decision = (26, w) in Reads r (d ∷ e ∷ []) s in
+        subst P (sym (eq-eqb u.refs 2 two)) (subst (λ (t : Bool). Q t y) (sym a) (subst (λ (w : Bool). Q f w) (sym b) reads))
 
 modes_one_came : (m : BlockTable) (i j : ℕ) (b : Block) (r s : Reading) → IsLed r → (m.refs ≡ 2 → ⊥) → mode_read m i j r ≡ Ok (b, s) → UnitCame parts.Modes m i j b r s
 modes_one_came m i j b r s led not e =
@@ -235,15 +235,15 @@ modes_one_came m i j b r s led not e =
           one_mode u i j f r s (λ two. not (sym refs ∙ two)) a_is one;
     }
   where
-  one_mode : (u : BlockTable) (i j : ℕ) (f : Bool) (r s : Reading) → (u.refs ≡ 2 → ⊥) → differ (block_at u i j).ref1 (predicted mode_of (ref1_at u) i j) ≡ f
-      → (let d : Decision = (25, f) in Reads r (d ∷ []) s) → Reads r (mode_part u i j) s
-  one_mode u i j f r s not a reads =
-      let x = differ (block_at u i j).ref1 (predicted mode_of (ref1_at u) i j) in
-      let d : Decision = (25, x) in
-      let e : Decision = (26, differ (block_at u i j).ref2 (predicted mode_of (ref2_at u) i j)) in
-      let P : Bool → Type 0 = λ t. Reads r (d ∷ (if t then e ∷ [] else [])) s in
-      let Q : Bool → Type 0 = λ t. let d : Decision = (25, t) in Reads r (d ∷ []) s in
-      subst P (sym (ne_eqb u.refs 2 not)) (subst Q (sym a) reads)
+    one_mode : (u : BlockTable) (i j : ℕ) (f : Bool) (r s : Reading) → (u.refs ≡ 2 → ⊥) → differ (block_at u i j).ref1 (predicted mode_of (ref1_at u) i j) ≡ f
+        → (let d : Decision = (25, f) in Reads r (d ∷ []) s) → Reads r (mode_part u i j) s
+    one_mode u i j f r s not a reads =
+        let x = differ (block_at u i j).ref1 (predicted mode_of (ref1_at u) i j) in
+        let d : Decision = (25, x) in
+        let e : Decision = (26, differ (block_at u i j).ref2 (predicted mode_of (ref2_at u) i j)) in
+        let P : Bool → Type 0 = λ t. Reads r (d ∷ (if t then e ∷ [] else [])) s in
+        let Q : Bool → Type 0 = λ t. let d : Decision = (25, t) in Reads r (d ∷ []) s in
+        subst P (sym (ne_eqb u.refs 2 not)) (subst Q (sym a) reads)
 
 counted_x : (b : Bool) (v : Vector) → counted b v.x ≡ option_map (λ w. w.x) (counted b v)
 counted_x true v = refl

@@ -1,12 +1,12 @@
 -- A table with a unit filled in, block by block.
-use Rattle.std.proofs.Common.{◌≡◌, ℕ, ◌+◌, ◌-◌, ◌*◌, ◌/◌, ◌%◌, ◌^◌, ◌<◌, ◌≤◌, ◌⊎◌, inl, inr, refl, sym, ap, ◌∙◌, arith, subst, List, length, get_or, ext_get_or}
+use Rattle.std.proofs.Common.{◌≡◌, ℕ, ◌+◌, ◌-◌, ◌*◌, ◌/◌, ◌%◌, ◌<◌, ◌≤◌, ◌⊎◌, inl, inr, sym, ap, ◌∙◌, arith, subst, List, length, get_or, ext_get_or}
 use Rattle.std.proofs.lemmas.Bool.{cases_lt, cases_eq}
-use Rattle.std.proofs.lemmas.Nat.{mul-add-lt, mul-le}
+use Rattle.std.proofs.lemmas.Nat.{mul-le}
 use Rattle.dirac_blocks.specs.declared.block.Block.{Block}
-use Rattle.dirac_blocks.specs.Grammar.{rows_filled, with_unit}
+use Rattle.dirac_blocks.specs.Grammar.{with_unit}
 use Rattle.dirac_blocks.specs.Reached.{IsUnit, SameShape}
-use Rattle.dirac_blocks.specs.Tables.{BlockTable, IsBlockTable, grey, block_at, block_in, split_at, unit_size, first_of}
-use Rattle.dirac_blocks.proofs.Fills.{RowsAreFilled, rows_are_filled, unit_placed, split_few, unit_ends}
+use Rattle.dirac_blocks.specs.Tables.{BlockTable, IsBlockTable, grey, block_at, split_at, unit_size, first_of}
+use Rattle.dirac_blocks.proofs.Fills.{rows_are_filled, unit_placed, split_few, unit_ends}
 use Rattle.dirac_blocks.proofs.Units.{of_splits}
 
 -- the unit of a column
@@ -98,8 +98,8 @@ place_row w h k l =
           (pos, row, rest, parts)
     ]
   where
-  past : (w h k : ℕ) → h ≤ k / w → k % w < w → k / w * w + k % w ≡ k → k < h * w → ⊥
-  past w h k b rest parts l = let m : h * w ≤ k / w * w = mul-le h w (k / w) w b (omega arith) in omega arith
+    past : (w h k : ℕ) → h ≤ k / w → k % w < w → k / w * w + k % w ≡ k → k < h * w → ⊥
+    past w h k b rest parts l = let m : h * w ≤ k / w * w = mul-le h w (k / w) w b (omega arith) in omega arith
 
 -- tables of one shape whose blocks are the same are one
 pub one_table : (t u : BlockTable) → IsBlockTable t → IsBlockTable u → SameShape u t

@@ -1,11 +1,9 @@
 -- Lists of a table, unit by unit and superblock by superblock.
-use Rattle.std.proofs.Common.{◌≡◌, ℕ, zero, suc, ◌+◌, ◌-◌, ◌*◌, ◌/◌, ◌^◌, ◌<◌, ◌≤◌, inl, inr, List, [], ◌++◌, Result, Ok, Err, refl, sym, ap, ◌∙◌, arith, subst}
+use Rattle.std.proofs.Common.{◌≡◌, ℕ, zero, suc, ◌+◌, ◌*◌, ◌^◌, ◌<◌, ◌≤◌, inl, inr, Result, Ok, refl, sym, ap, ◌∙◌, arith, subst}
 use Rattle.std.proofs.lemmas.Bool.{cases_lt}
 use Rattle.std.proofs.lemmas.Nat.{mul-le}
 use Rattle.dirac_types.specs.declared.faults.Cause.{Cause}
-use Rattle.dirac_arith.specs.Chain.{◌>>=◌}
 use Rattle.dirac_arith.specs.Deciding.{begin, after_all}
-use Rattle.dirac_arith.specs.Interval.{Decision}
 use Rattle.dirac_arith.specs.Reading.{Reading, Reads}
 use Rattle.dirac_arith.proofs.Carrieds.{IsLed}
 use Rattle.dirac_arith.proofs.Led.{led_begin, led_more, reads_parted, carried_reads}
@@ -14,15 +12,15 @@ use Rattle.dirac_blocks.specs.declared.parts.Component.TheVariants as components
 use Rattle.dirac_blocks.specs.declared.parts.Part.{Part}
 use Rattle.dirac_blocks.specs.declared.parts.Part.TheVariants as parts
 use Rattle.dirac_blocks.specs.declared.parts.Reference.TheVariants as references
-use Rattle.dirac_blocks.specs.Carried.{with_part, IsWithPart, CarriesPart, ReadsTo}
+use Rattle.dirac_blocks.specs.Carried.{with_part}
 use Rattle.dirac_blocks.specs.Decisions.{unit_row, unit_rows, superblock_part, superblock_row, superblock_rows, unit_decisions}
-use Rattle.dirac_blocks.specs.Grammar.{Progress, Step, repeated, with_unit, unit_read, unit_step, unit_row_step, unit_rows_step, superblock_step, units_step}
+use Rattle.dirac_blocks.specs.Grammar.{Progress, Step, repeated, with_unit, unit_step, unit_row_step, unit_rows_step, superblock_step, units_step}
 use Rattle.dirac_blocks.specs.Laws.{CarriedIsRead}
 use Rattle.dirac_blocks.specs.Parts.{part_at}
 use Rattle.dirac_blocks.specs.Reached.{SameShape, IsUnit, progress}
 use Rattle.dirac_blocks.specs.Tables.{BlockTable, IsBlock, IsBlockTable, block_at, split_at, unit_size}
-use Rattle.dirac_blocks.proofs.Filled.{square, filled_inside, InSquare, filled_or_same, one_table}
-use Rattle.dirac_blocks.proofs.Fills.{unit_lawful, split_few, unit_ends, unit_placed}
+use Rattle.dirac_blocks.proofs.Filled.{square, filled_inside, filled_or_same, one_table}
+use Rattle.dirac_blocks.proofs.Fills.{unit_lawful, split_few, unit_placed}
 use Rattle.dirac_blocks.proofs.Forwards.{Meets, unit_forward}
 use Rattle.dirac_blocks.proofs.Nearby.{SameWithin, near_within, block_lawful}
 use Rattle.dirac_blocks.proofs.Repeating.{split_same, unit_same}
@@ -46,15 +44,15 @@ pub record Goes (part : Part) (u : BlockTable) (step : Step) (m : BlockTable) (r
 part_twice : (part : Part) (a b : Block) → with_part part a b ≡ b → with_part part b b ≡ b
 part_twice part a b is = subst (λ (x : Block). with_part part x b ≡ b) is (absorbs part a b ∙ is)
   where
-  absorbs : (part : Part) (a b : Block) → with_part part (with_part part a b) b ≡ with_part part a b
-  absorbs parts.Modes a b = refl
-  absorbs (parts.Across references.First) a b = refl
-  absorbs (parts.Across references.Second) a b = refl
-  absorbs (parts.Down references.First) a b = refl
-  absorbs (parts.Down references.Second) a b = refl
-  absorbs (parts.Dc components.Y) a b = refl
-  absorbs (parts.Dc components.U) a b = refl
-  absorbs (parts.Dc components.V) a b = refl
+    absorbs : (part : Part) (a b : Block) → with_part part (with_part part a b) b ≡ with_part part a b
+    absorbs parts.Modes a b = refl
+    absorbs (parts.Across references.First) a b = refl
+    absorbs (parts.Across references.Second) a b = refl
+    absorbs (parts.Down references.First) a b = refl
+    absorbs (parts.Down references.Second) a b = refl
+    absorbs (parts.Dc components.Y) a b = refl
+    absorbs (parts.Dc components.U) a b = refl
+    absorbs (parts.Dc components.V) a b = refl
 
 -- a unit
 unit_goes : (part : Part) (u m : BlockTable) (size i j : ℕ) (r s : Reading) → IsBlockTable u → Toward part m u → IsUnit u size i j

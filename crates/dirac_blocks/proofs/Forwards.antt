@@ -1,34 +1,30 @@
 -- What a block carries of a table is read to it: unit by unit, since predictions read units that were read before.
-use Rattle.std.proofs.Common.{◌≡◌, ℕ, ℤ, zero, suc, ◌+◌, ◌-◌, ◌*◌, ◌/◌, ◌^◌, ◌<◌, ◌≤◌, ◌+ℤ◌, ◌-ℤ◌, inl, inr, Bool, true, false, not, ◌||◌, List, [], ◌∷◌, ◌++◌, length, nat_abs, get_or, Option, Some, None, Result, Ok, Err, refl, sym, ap, ◌∙◌, arith, subst}
-use Rattle.std.specs.Prelude.{option_map, ◌≤ℤ◌, int_le, if◌then◌else◌, ◌==◌}
-use Rattle.std.proofs.lemmas.Bool.{not-false, cases_Bool, cases_eq, cases_lt, eq-eqb, ne_eqb, and_from}
+use Rattle.std.proofs.Common.{◌≡◌, ℕ, ℤ, ◌-◌, ◌^◌, ◌<◌, ◌+ℤ◌, ◌-ℤ◌, inl, inr, Bool, true, false, not, ◌||◌, List, [], ◌∷◌, ◌++◌, nat_abs, Option, Result, Ok, refl, sym, ap, ◌∙◌, arith, subst}
+use Rattle.std.specs.Prelude.{option_map, if◌then◌else◌}
+use Rattle.std.proofs.lemmas.Bool.{not-false, cases_eq, eq-eqb, ne_eqb}
 use Rattle.std.proofs.lemmas.Int.{ints}
 use Rattle.dirac_types.specs.declared.faults.Cause.{Cause}
 use Rattle.dirac_types.specs.declared.faults.Cause.TheVariants as cause
 use Rattle.dirac_types.specs.declared.formats.Vector.{Vector}
-use Rattle.dirac_arith.specs.Chain.{◌>>=◌}
-use Rattle.dirac_arith.specs.Deciding.{begin, decided, signed_read, after_all}
+use Rattle.dirac_arith.specs.Deciding.{decided}
 use Rattle.dirac_arith.specs.Interval.{Decision}
 use Rattle.dirac_arith.specs.Reading.{Reading, Reads}
 use Rattle.dirac_arith.specs.Spelling.{signed_spelling}
 use Rattle.dirac_arith.proofs.Carrieds.{IsLed}
-use Rattle.dirac_arith.proofs.Led.{reads_nothing, led_begin, led_more, Parted, reads_parted, carried_reads, decision_led, signed_led}
+use Rattle.dirac_arith.proofs.Led.{led_more, reads_parted, decision_led, signed_led}
 use Rattle.dirac_vectors.specs.Neighbours.{IsShort}
 use Rattle.dirac_vectors.specs.Predictions.{mode_of, vector_of, dc_of}
 use Rattle.dirac_blocks.specs.declared.block.Block.{Block}
-use Rattle.dirac_blocks.specs.declared.parts.Component.{Component}
 use Rattle.dirac_blocks.specs.declared.parts.Component.TheVariants as components
 use Rattle.dirac_blocks.specs.declared.parts.Part.{Part}
 use Rattle.dirac_blocks.specs.declared.parts.Part.TheVariants as parts
-use Rattle.dirac_blocks.specs.declared.parts.Reference.{Reference}
 use Rattle.dirac_blocks.specs.declared.parts.Reference.TheVariants as references
-use Rattle.dirac_blocks.specs.Carried.{with_part, IsWithPart, CarriesPart, ReadsTo}
-use Rattle.dirac_blocks.specs.Decisions.{UnitPart, counted, differ, less_prediction, predicted, ref1_at, ref2_at, mode_part, vector_part, dc_part, unit_row, unit_rows, superblock_part, superblock_row, superblock_rows, unit_decisions}
-use Rattle.dirac_blocks.specs.Grammar.{Progress, Step, repeated, with_unit, block_using, mode_read, second_use_read, is_short, value_read, component_read, read_into, unit_read, unit_step, unit_row_step, unit_rows_step, superblock_step, units_step, uses, is_dc, with_across, with_down, with_dc}
+use Rattle.dirac_blocks.specs.Carried.{with_part}
+use Rattle.dirac_blocks.specs.Decisions.{counted, differ, less_prediction, predicted, ref1_at, ref2_at, mode_part}
+use Rattle.dirac_blocks.specs.Grammar.{block_using, mode_read, is_short, value_read, component_read, read_into, unit_read, is_dc, with_across, with_down, with_dc}
 use Rattle.dirac_blocks.specs.Parts.{vector_at, dc_at, part_at}
-use Rattle.dirac_blocks.specs.Reached.{SameShape, IsUnit, progress}
-use Rattle.dirac_blocks.specs.Tables.{BlockTable, IsBlock, IsBlockTable, block_at, split_at, unit_size}
-use Rattle.dirac_blocks.proofs.Nearby.{Near, SameWithin, near_within, ref1_near, ref2_near, vector_near, dc_near, block_lawful, vector_short, dc_short}
+use Rattle.dirac_blocks.specs.Tables.{BlockTable, IsBlockTable, block_at}
+use Rattle.dirac_blocks.proofs.Nearby.{Near, ref1_near, ref2_near, vector_near, dc_near, block_lawful, vector_short, dc_short}
 use Rattle.dirac_blocks.proofs.UnitValues.{value_found}
 
 -- a value of 16 bits passes
@@ -137,10 +133,10 @@ first_forward m u i j r s k led reads =
     subst (λ (t : Bool). Reads r (less_prediction (27 ∷ 28 ∷ 29 ∷ 30 ∷ 31 ∷ []) 32 33 p.x (counted t bu.v1.x)) s) (sym uses_same)
     (subst (λ (o : Option ℤ). Reads r (less_prediction (27 ∷ 28 ∷ 29 ∷ 30 ∷ 31 ∷ []) 32 33 p.x o) s) (counted_x bu.ref1 bu.v1) reads) in
     let none : bm.ref1 ≡ false → bm ≡ bu = λ no.
-        let old = (block_lawful m i j k.former).no_v1 no in
-        let new = (block_lawful u i j k.lawful).no_v1 (sym uses_same ∙ no) in
-        let x : bm.v1.x ≡ bu.v1.x = ap (λ (v : Vector). v.x) (old ∙ sym new) in
-        ap (λ (w : ℤ). with_across references.First bm w) x ∙ k.is in
+    let old = (block_lawful m i j k.former).no_v1 no in
+    let new = (block_lawful u i j k.lawful).no_v1 (sym uses_same ∙ no) in
+    let x : bm.v1.x ≡ bu.v1.x = ap (λ (v : Vector). v.x) (old ∙ sym new) in
+    ap (λ (w : ℤ). with_across references.First bm w) x ∙ k.is in
     let read = into_forward bm.ref1 bm bu (with_across references.First) bu.v1.x cause.VectorRange (27 ∷ 28 ∷ 29 ∷ 30 ∷ 31 ∷ []) 32 33 p.x r s led
     (vector_short references.First u i j k.lawful).x (block_lawful u i j k.lawful).v1.x k.is none told in
     subst (λ (v : Vector). read_into bm.ref1 bm (with_across references.First) (component_read v.x) r ≡ Ok (bu, s)) (sym (vector_near references.First m u i j k.near)) read
@@ -157,10 +153,10 @@ second_forward m u i j r s k led reads =
     subst (λ (t : Bool). Reads r (less_prediction (27 ∷ 28 ∷ 29 ∷ 30 ∷ 31 ∷ []) 32 33 p.x (counted t bu.v2.x)) s) (sym uses_same)
     (subst (λ (o : Option ℤ). Reads r (less_prediction (27 ∷ 28 ∷ 29 ∷ 30 ∷ 31 ∷ []) 32 33 p.x o) s) (counted_x bu.ref2 bu.v2) reads) in
     let none : bm.ref2 ≡ false → bm ≡ bu = λ no.
-        let old = (block_lawful m i j k.former).no_v2 no in
-        let new = (block_lawful u i j k.lawful).no_v2 (sym uses_same ∙ no) in
-        let x : bm.v2.x ≡ bu.v2.x = ap (λ (v : Vector). v.x) (old ∙ sym new) in
-        ap (λ (w : ℤ). with_across references.Second bm w) x ∙ k.is in
+    let old = (block_lawful m i j k.former).no_v2 no in
+    let new = (block_lawful u i j k.lawful).no_v2 (sym uses_same ∙ no) in
+    let x : bm.v2.x ≡ bu.v2.x = ap (λ (v : Vector). v.x) (old ∙ sym new) in
+    ap (λ (w : ℤ). with_across references.Second bm w) x ∙ k.is in
     let read = into_forward bm.ref2 bm bu (with_across references.Second) bu.v2.x cause.VectorRange (27 ∷ 28 ∷ 29 ∷ 30 ∷ 31 ∷ []) 32 33 p.x r s led
     (vector_short references.Second u i j k.lawful).x (block_lawful u i j k.lawful).v2.x k.is none told in
     subst (λ (v : Vector). read_into bm.ref2 bm (with_across references.Second) (component_read v.x) r ≡ Ok (bu, s)) (sym (vector_near references.Second m u i j k.near)) read
@@ -177,10 +173,10 @@ first_down_forward m u i j r s k led reads =
     subst (λ (t : Bool). Reads r (less_prediction (27 ∷ 28 ∷ 29 ∷ 30 ∷ 31 ∷ []) 32 33 p.y (counted t bu.v1.y)) s) (sym uses_same)
     (subst (λ (o : Option ℤ). Reads r (less_prediction (27 ∷ 28 ∷ 29 ∷ 30 ∷ 31 ∷ []) 32 33 p.y o) s) (counted_y bu.ref1 bu.v1) reads) in
     let none : bm.ref1 ≡ false → bm ≡ bu = λ no.
-        let old = (block_lawful m i j k.former).no_v1 no in
-        let new = (block_lawful u i j k.lawful).no_v1 (sym uses_same ∙ no) in
-        let x : bm.v1.y ≡ bu.v1.y = ap (λ (v : Vector). v.y) (old ∙ sym new) in
-        ap (λ (w : ℤ). with_down references.First bm w) x ∙ k.is in
+    let old = (block_lawful m i j k.former).no_v1 no in
+    let new = (block_lawful u i j k.lawful).no_v1 (sym uses_same ∙ no) in
+    let x : bm.v1.y ≡ bu.v1.y = ap (λ (v : Vector). v.y) (old ∙ sym new) in
+    ap (λ (w : ℤ). with_down references.First bm w) x ∙ k.is in
     let read = into_forward bm.ref1 bm bu (with_down references.First) bu.v1.y cause.VectorRange (27 ∷ 28 ∷ 29 ∷ 30 ∷ 31 ∷ []) 32 33 p.y r s led
     (vector_short references.First u i j k.lawful).y (block_lawful u i j k.lawful).v1.y k.is none told in
     subst (λ (v : Vector). read_into bm.ref1 bm (with_down references.First) (component_read v.y) r ≡ Ok (bu, s)) (sym (vector_near references.First m u i j k.near)) read
@@ -197,10 +193,10 @@ second_down_forward m u i j r s k led reads =
     subst (λ (t : Bool). Reads r (less_prediction (27 ∷ 28 ∷ 29 ∷ 30 ∷ 31 ∷ []) 32 33 p.y (counted t bu.v2.y)) s) (sym uses_same)
     (subst (λ (o : Option ℤ). Reads r (less_prediction (27 ∷ 28 ∷ 29 ∷ 30 ∷ 31 ∷ []) 32 33 p.y o) s) (counted_y bu.ref2 bu.v2) reads) in
     let none : bm.ref2 ≡ false → bm ≡ bu = λ no.
-        let old = (block_lawful m i j k.former).no_v2 no in
-        let new = (block_lawful u i j k.lawful).no_v2 (sym uses_same ∙ no) in
-        let x : bm.v2.y ≡ bu.v2.y = ap (λ (v : Vector). v.y) (old ∙ sym new) in
-        ap (λ (w : ℤ). with_down references.Second bm w) x ∙ k.is in
+    let old = (block_lawful m i j k.former).no_v2 no in
+    let new = (block_lawful u i j k.lawful).no_v2 (sym uses_same ∙ no) in
+    let x : bm.v2.y ≡ bu.v2.y = ap (λ (v : Vector). v.y) (old ∙ sym new) in
+    ap (λ (w : ℤ). with_down references.Second bm w) x ∙ k.is in
     let read = into_forward bm.ref2 bm bu (with_down references.Second) bu.v2.y cause.VectorRange (27 ∷ 28 ∷ 29 ∷ 30 ∷ 31 ∷ []) 32 33 p.y r s led
     (vector_short references.Second u i j k.lawful).y (block_lawful u i j k.lawful).v2.y k.is none told in
     subst (λ (v : Vector). read_into bm.ref2 bm (with_down references.Second) (component_read v.y) r ≡ Ok (bu, s)) (sym (vector_near references.Second m u i j k.near)) read
@@ -215,9 +211,9 @@ dc_y_forward m u i j r s k led reads =
     let told : Reads r (less_prediction (34 ∷ 35 ∷ []) 36 37 p (counted (is_dc bm) bu.dc_y)) s =
     subst (λ (t : Bool). Reads r (less_prediction (34 ∷ 35 ∷ []) 36 37 p (counted t bu.dc_y)) s) (sym dc_same) reads in
     let none : is_dc bm ≡ false → bm ≡ bu = λ no.
-        let old = (block_lawful m i j k.former).no_dc (not-false (bm.ref1 || bm.ref2) no) in
-        let new = (block_lawful u i j k.lawful).no_dc (not-false (bu.ref1 || bu.ref2) (sym dc_same ∙ no)) in
-        ap (λ (w : ℤ). with_dc components.Y bm w) (old.0 ∙ sym new.0) ∙ k.is in
+    let old = (block_lawful m i j k.former).no_dc (not-false (bm.ref1 || bm.ref2) no) in
+    let new = (block_lawful u i j k.lawful).no_dc (not-false (bu.ref1 || bu.ref2) (sym dc_same ∙ no)) in
+    ap (λ (w : ℤ). with_dc components.Y bm w) (old.0 ∙ sym new.0) ∙ k.is in
     let read = into_forward (is_dc bm) bm bu (with_dc components.Y) bu.dc_y cause.DcRange (34 ∷ 35 ∷ []) 36 37 p r s led
     (dc_short components.Y u i j k.lawful) (block_lawful u i j k.lawful).dc_y k.is none told in
     subst (λ (v : ℤ). read_into (is_dc bm) bm (with_dc components.Y) (value_read cause.DcRange (34 ∷ 35 ∷ []) 36 37 v) r ≡ Ok (bu, s)) (sym (dc_near components.Y m u i j k.near)) read
@@ -232,9 +228,9 @@ dc_u_forward m u i j r s k led reads =
     let told : Reads r (less_prediction (34 ∷ 35 ∷ []) 36 37 p (counted (is_dc bm) bu.dc_u)) s =
     subst (λ (t : Bool). Reads r (less_prediction (34 ∷ 35 ∷ []) 36 37 p (counted t bu.dc_u)) s) (sym dc_same) reads in
     let none : is_dc bm ≡ false → bm ≡ bu = λ no.
-        let old = (block_lawful m i j k.former).no_dc (not-false (bm.ref1 || bm.ref2) no) in
-        let new = (block_lawful u i j k.lawful).no_dc (not-false (bu.ref1 || bu.ref2) (sym dc_same ∙ no)) in
-        ap (λ (w : ℤ). with_dc components.U bm w) (old.1 ∙ sym new.1) ∙ k.is in
+    let old = (block_lawful m i j k.former).no_dc (not-false (bm.ref1 || bm.ref2) no) in
+    let new = (block_lawful u i j k.lawful).no_dc (not-false (bu.ref1 || bu.ref2) (sym dc_same ∙ no)) in
+    ap (λ (w : ℤ). with_dc components.U bm w) (old.1 ∙ sym new.1) ∙ k.is in
     let read = into_forward (is_dc bm) bm bu (with_dc components.U) bu.dc_u cause.DcRange (34 ∷ 35 ∷ []) 36 37 p r s led
     (dc_short components.U u i j k.lawful) (block_lawful u i j k.lawful).dc_u k.is none told in
     subst (λ (v : ℤ). read_into (is_dc bm) bm (with_dc components.U) (value_read cause.DcRange (34 ∷ 35 ∷ []) 36 37 v) r ≡ Ok (bu, s)) (sym (dc_near components.U m u i j k.near)) read
@@ -249,9 +245,9 @@ dc_v_forward m u i j r s k led reads =
     let told : Reads r (less_prediction (34 ∷ 35 ∷ []) 36 37 p (counted (is_dc bm) bu.dc_v)) s =
     subst (λ (t : Bool). Reads r (less_prediction (34 ∷ 35 ∷ []) 36 37 p (counted t bu.dc_v)) s) (sym dc_same) reads in
     let none : is_dc bm ≡ false → bm ≡ bu = λ no.
-        let old = (block_lawful m i j k.former).no_dc (not-false (bm.ref1 || bm.ref2) no) in
-        let new = (block_lawful u i j k.lawful).no_dc (not-false (bu.ref1 || bu.ref2) (sym dc_same ∙ no)) in
-        ap (λ (w : ℤ). with_dc components.V bm w) (old.2 ∙ sym new.2) ∙ k.is in
+    let old = (block_lawful m i j k.former).no_dc (not-false (bm.ref1 || bm.ref2) no) in
+    let new = (block_lawful u i j k.lawful).no_dc (not-false (bu.ref1 || bu.ref2) (sym dc_same ∙ no)) in
+    ap (λ (w : ℤ). with_dc components.V bm w) (old.2 ∙ sym new.2) ∙ k.is in
     let read = into_forward (is_dc bm) bm bu (with_dc components.V) bu.dc_v cause.DcRange (34 ∷ 35 ∷ []) 36 37 p r s led
     (dc_short components.V u i j k.lawful) (block_lawful u i j k.lawful).dc_v k.is none told in
     subst (λ (v : ℤ). read_into (is_dc bm) bm (with_dc components.V) (value_read cause.DcRange (34 ∷ 35 ∷ []) 36 37 v) r ≡ Ok (bu, s)) (sym (dc_near components.V m u i j k.near)) read

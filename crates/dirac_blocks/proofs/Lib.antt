@@ -14,4 +14,6 @@ mod Repeating
 mod SplitBackwards
 mod SplitForwards
 mod UnitValues
+mod Spelled
+mod Stages
 mod Units

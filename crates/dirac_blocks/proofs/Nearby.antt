@@ -1,5 +1,5 @@
 -- Predictions read neighbours alone.
-use Rattle.std.proofs.Common.{◌≡◌, ℕ, ℤ, ◌+◌, ◌-◌, ◌*◌, ◌<◌, ◌≤◌, inl, inr, refl, sym, ap, ◌∙◌, arith, subst, length, All, Option, Some, None, Bool, true, false}
+use Rattle.std.proofs.Common.{◌≡◌, ℕ, ℤ, ◌+◌, ◌-◌, ◌*◌, ◌<◌, inl, inr, refl, sym, ap, arith, subst, length, Option, Some, None, Bool, true, false}
 use Rattle.std.specs.Prelude.{option_map, pos}
 use Rattle.std.proofs.lemmas.Bool.{cases_eq, cases_lt, eq-eqb, ne_eqb}
 use Rattle.std.proofs.lemmas.List.{get_or_past}
@@ -7,13 +7,13 @@ use Rattle.std.proofs.lemmas.Int.{ints}
 use Rattle.dirac_types.specs.declared.formats.Vector.{Vector}
 use Rattle.dirac_vectors.proofs.Means.{mean_of_two_short, mean_of_three_short, median_short}
 use Rattle.dirac_vectors.specs.Neighbours.{IsShort, median, mean_of_three}
-use Rattle.dirac_vectors.specs.Predictions.{IsShortVector, of_neighbours, component_of, vector_of, dc_of, mode_of}
+use Rattle.dirac_vectors.specs.Predictions.{IsShortVector, of_neighbours, vector_of, dc_of, mode_of}
 use Rattle.dirac_blocks.specs.declared.block.Block.{Block}
 use Rattle.dirac_blocks.specs.declared.parts.Component.{Component}
 use Rattle.dirac_blocks.specs.declared.parts.Component.TheVariants as components
 use Rattle.dirac_blocks.specs.declared.parts.Reference.{Reference}
 use Rattle.dirac_blocks.specs.declared.parts.Reference.TheVariants as references
-use Rattle.dirac_blocks.specs.Decisions.{left_of, above_of, corner_of, predicted, counted, ref1_at, ref2_at, v1_at, v2_at, is_dc_at, dc_y_at, dc_u_at, dc_v_at}
+use Rattle.dirac_blocks.specs.Decisions.{left_of, above_of, corner_of, predicted, counted, ref1_at, ref2_at, is_dc_at}
 use Rattle.dirac_blocks.specs.Grammar.{is_dc}
 use Rattle.dirac_blocks.specs.Parts.{vector_at, dc_at}
 use Rattle.dirac_blocks.specs.Tables.{BlockTable, IsBlock, IsBlockTable, block_at, grey, no_vector}
@@ -97,7 +97,7 @@ dc_near components.V t u i j near =
     predicted_same dc_of (dc_at components.V t) (dc_at components.V u) i j (λ p. ap f (near.left p)) (λ p. ap f (near.above p)) (λ p q. ap f (near.corner p q))
 
 -- a block outside the list is one of value 0
-grey_lawful : (refs : ℕ) → IsBlock refs grey
+pub grey_lawful : (refs : ℕ) → IsBlock refs grey
 grey_lawful refs =
     let zero : IsShort (pos 0) = record { least = omega (arith, ints); most = omega (arith, ints) } in
     let still : IsShortVector no_vector = record { x = zero; y = zero } in

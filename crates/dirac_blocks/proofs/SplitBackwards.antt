@@ -1,10 +1,8 @@
 -- Splits that are read are carried.
-use Rattle.std.proofs.Common.{◌≡◌, ℕ, zero, suc, ◌+◌, ◌-◌, ◌*◌, ◌/◌, ◌%◌, ◌^◌, ◌<◌, ◌≤◌, ◌⊎◌, inl, inr, List, [], ◌∷◌, ◌++◌, length, length-set, Result, Ok, Err, refl, sym, ap, ap₂, ◌∙◌, arith, subst}
+use Rattle.std.proofs.Common.{◌≡◌, ℕ, zero, suc, ◌+◌, ◌-◌, ◌%◌, ◌^◌, ◌<◌, ◌≤◌, ◌⊎◌, inl, inr, List, [], ◌∷◌, ◌++◌, Result, Ok, refl, sym, ap, ap₂, ◌∙◌, arith, subst}
 use Rattle.std.specs.Prelude.{if◌then◌else◌, ◌==◌}
-use Rattle.std.proofs.lemmas.Bool.{cases_lt, cases_eq, eq-eqb, ne_eqb}
-use Rattle.std.proofs.lemmas.Nat.{mul-le, mul-add-lt}
+use Rattle.std.proofs.lemmas.Bool.{cases_eq, eq-eqb, ne_eqb}
 use Rattle.dirac_types.specs.declared.faults.Cause.{Cause}
-use Rattle.dirac_arith.specs.Chain.{◌>>=◌}
 use Rattle.dirac_arith.specs.Deciding.{begin, number_read}
 use Rattle.dirac_arith.specs.Interval.{Decision}
 use Rattle.dirac_arith.specs.Reading.{Reading, Reads}
@@ -12,9 +10,8 @@ use Rattle.dirac_arith.specs.Spelling.{spelling}
 use Rattle.dirac_arith.proofs.Carrieds.{IsLed}
 use Rattle.dirac_arith.proofs.Led.{led_begin, led_more, reads_nothing, reads_carried, number_leads}
 use Rattle.dirac_arith.proofs.Spellings.{reads_more}
-use Rattle.dirac_blocks.specs.Carried.{CarriesSplits}
 use Rattle.dirac_blocks.specs.Decisions.{Numbers, predicted_split, split_row, split_rows}
-use Rattle.dirac_blocks.specs.Grammar.{Progress, Step, repeated, with_split, split_step, splits_step}
+use Rattle.dirac_blocks.specs.Grammar.{Progress, Step, repeated, with_split, split_step}
 use Rattle.dirac_blocks.specs.Laws.{ReadSplitsAreCarried}
 use Rattle.dirac_blocks.specs.Reached.{AllGrey, SameBlocks, progress}
 use Rattle.dirac_blocks.specs.Tables.{BlockTable, IsBlockTable, split_at}
@@ -133,13 +130,14 @@ row_came m t sy (suc n) r s inv grey few hy led e =
     } in
     subst (λ (x : BlockTable). RowCame m r x s sy (suc n)) table (subst (λ (x : Reading). RowCame m r new x sy (suc n)) place here)
   where
-  never : (sy n x y : ℕ) → IsBeside sy (suc n) x y → x ≡ n → y ≡ sy → ⊥
-  never sy n x y (inl l) a b = omega arith
-  never sy n x y (inr (inl l)) a b = omega arith
-  never sy n x y (inr (inr l)) a b = omega arith
-  wider : (sy n x y : ℕ) → IsBeside sy (suc n) x y → IsBeside sy n x y
-  wider sy n x y (inl l) = inl (omega arith)
-  wider sy n x y (inr l) = inr l
+    never : (sy n x y : ℕ) → IsBeside sy (suc n) x y → x ≡ n → y ≡ sy → ⊥
+    never sy n x y (inl l) a b = omega arith
+    never sy n x y (inr (inl l)) a b = omega arith
+    never sy n x y (inr (inr l)) a b = omega arith
+
+    wider : (sy n x y : ℕ) → IsBeside sy (suc n) x y → IsBeside sy n x y
+    wider sy n x y (inl l) = inl (omega arith)
+    wider sy n x y (inr l) = inr l
 
 -- the first n rows were read
 record RowsCame (m : BlockTable) (r : Reading) (t : BlockTable) (s : Reading) (n : ℕ) : Type 0 where

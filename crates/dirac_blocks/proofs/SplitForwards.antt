@@ -1,18 +1,16 @@
 -- The splits that a block carries are read.
-use Rattle.std.proofs.Common.{◌≡◌, ℕ, zero, suc, ◌+◌, ◌-◌, ◌*◌, ◌/◌, ◌%◌, ◌^◌, ◌<◌, ◌≤◌, inl, inr, List, [], ◌∷◌, ◌++◌, length, length-set, get_or, Option, Some, Result, Ok, Err, refl, sym, ap, ◌∙◌, arith, subst, ext_get_or}
+use Rattle.std.proofs.Common.{◌≡◌, ℕ, zero, suc, ◌+◌, ◌-◌, ◌*◌, ◌/◌, ◌%◌, ◌^◌, ◌<◌, ◌≤◌, inl, inr, [], ◌∷◌, length, length-set, get_or, Option, Some, Result, Ok, sym, ap, ◌∙◌, arith, subst, ext_get_or}
 use Rattle.std.proofs.lemmas.Bool.{cases_lt, cases_eq}
 use Rattle.std.proofs.lemmas.List.{get_or-set_same, get_or-set_other}
-use Rattle.std.proofs.lemmas.Nat.{mul-le, mul-add-lt, same_from_place}
+use Rattle.std.proofs.lemmas.Nat.{mul-add-lt, same_from_place}
 use Rattle.dirac_types.specs.declared.faults.Cause.{Cause}
-use Rattle.dirac_arith.specs.Chain.{◌>>=◌}
-use Rattle.dirac_arith.specs.Deciding.{begin, after_all, number_read}
+use Rattle.dirac_arith.specs.Deciding.{begin, after_all}
 use Rattle.dirac_arith.specs.Reading.{Reading, Reads}
 use Rattle.dirac_arith.specs.Spelling.{spelling}
 use Rattle.dirac_arith.proofs.Carrieds.{IsLed}
 use Rattle.dirac_arith.proofs.Led.{led_begin, led_more, reads_parted, carried_reads, number_led}
 use Rattle.dirac_vectors.specs.Predictions.{split_of}
-use Rattle.dirac_blocks.specs.Carried.{CarriesSplits, ReadsTo}
-use Rattle.dirac_blocks.specs.Decisions.{Numbers, AreSplitNumbers, predicted, predicted_split, split_row, split_rows}
+use Rattle.dirac_blocks.specs.Decisions.{Numbers, AreSplitNumbers, predicted_split, split_row, split_rows}
 use Rattle.dirac_blocks.specs.Grammar.{Progress, Step, repeated, with_split, split_step, splits_step}
 use Rattle.dirac_blocks.specs.Laws.{CarriedSplitsAreRead}
 use Rattle.dirac_blocks.specs.Reached.{SameBlocks, progress}

@@ -1,5 +1,5 @@
 -- The laws of this crate.
-use Rattle.std.specs.Prelude.{◌≡◌, ◌↔◌, ℕ, List}
+use Rattle.std.specs.Prelude.{ℕ, List}
 use Rattle.dirac_blocks.specs.declared.parts.Part.{Part}
 use Rattle.dirac_blocks.specs.Carried.{CarriesPart, CarriesSplits, ReadsTo}
 use Rattle.dirac_blocks.specs.Grammar.{splits_step, units_step}

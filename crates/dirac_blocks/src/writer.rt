@@ -1,9 +1,11 @@
-ghost use Rattle.std.specs.Prelude.{◌≡◌, [], ◌∷◌, OnOk};
+ghost use Rattle.std.specs.Prelude.{◌≡◌, ◌+◌, ◌^◌, ◌<◌, [], ◌∷◌, length, OnOk};
 ghost use Rattle.dirac_arith.specs.Written.{flush};
 ghost use Rattle.dirac_bits.specs.Writing.{IsWhole};
 ghost use Rattle.dirac_blocks.specs.Decisions.{block_decisions, least_numbers, second_lists, split_rows, unit_decisions};
+ghost use Rattle.dirac_blocks.specs.Grammar.{blocks as blocks_grammar};
 ghost use Rattle.dirac_blocks.specs.Parts.{part_at};
-ghost use Rattle.dirac_blocks.specs.Written.{with_block, with_lists};
+ghost use Rattle.dirac_blocks.specs.Tables.{IsBlockTable};
+ghost use Rattle.dirac_blocks.specs.Written.{AreShort, SpelledBehind, with_block, with_lists};
 
 use crate::list_writer::{part_block, split_block};
 use crate::parts::{Component, Part, Reference};
@@ -17,7 +19,8 @@ const BLOCK_LIMIT: u64 = (1 << 39) - 1;
 
 /// Writes a block behind its length.
 fn write_block(w: &mut BitWriter, block: &[u8]) -> Result<(), NoMemory>
-    ensures { OnOk result (w.new ≡ with_block block.now w.old) }
+    ensures exact { OnOk result (w.new ≡ with_block block.now w.old) }
+    ensures short { OnOk result (length block.now + 1 < 2 ^ 39) }
 {
     let len = block.len() as u64;
     if len >= BLOCK_LIMIT {
@@ -30,7 +33,8 @@ fn write_block(w: &mut BitWriter, block: &[u8]) -> Result<(), NoMemory>
 
 /// Writes the block of the split numbers.
 fn write_splits(alloc: Global, w: &mut BitWriter, table: &BlockData) -> Result<(), NoMemory>
-    ensures { OnOk result (w.new ≡ with_block (flush (split_rows table.now.across (least_numbers table.now) table.now.down)) w.old) }
+    ensures exact { OnOk result (w.new ≡ with_block (flush (split_rows table.now.across (least_numbers table.now) table.now.down)) w.old) }
+    ensures short { OnOk result (length (flush (split_rows table.now.across (least_numbers table.now) table.now.down)) + 1 < 2 ^ 39) }
 {
     let block = split_block(alloc, table)?;
     write_block(w, block.as_slice())
@@ -43,7 +47,8 @@ fn write_part(
     table: &BlockData,
     part: Part,
 ) -> Result<(), NoMemory>
-    ensures { OnOk result (w.new ≡ with_block (flush (unit_decisions table.now (part_at part table.now))) w.old) }
+    ensures exact { OnOk result (w.new ≡ with_block (flush (unit_decisions table.now (part_at part table.now))) w.old) }
+    ensures short { OnOk result (length (flush (unit_decisions table.now (part_at part table.now))) + 1 < 2 ^ 39) }
 {
     let block = part_block(alloc, table, part)?;
     write_block(w, block.as_slice())
@@ -56,7 +61,8 @@ fn write_vectors(
     table: &BlockData,
     reference: Reference,
 ) -> Result<(), NoMemory>
-    ensures { OnOk result (w.new ≡ with_lists (unit_decisions table.now (part_at (Part.Across reference) table.now) ∷ unit_decisions table.now (part_at (Part.Down reference) table.now) ∷ []) w.old) }
+    ensures exact { OnOk result (w.new ≡ with_lists (unit_decisions table.now (part_at (Part.Across reference) table.now) ∷ unit_decisions table.now (part_at (Part.Down reference) table.now) ∷ []) w.old) }
+    ensures short { OnOk result (AreShort (unit_decisions table.now (part_at (Part.Across reference) table.now) ∷ unit_decisions table.now (part_at (Part.Down reference) table.now) ∷ [])) }
 {
     write_part(alloc, w, table, Part::Across(reference))?;
     write_part(alloc, w, table, Part::Down(reference))
@@ -64,7 +70,9 @@ fn write_vectors(
 
 /// Writes the blocks of the second reference, where there is one.
 fn write_second(alloc: Global, w: &mut BitWriter, table: &BlockData) -> Result<(), NoMemory>
-    ensures { OnOk result (w.new ≡ with_lists (second_lists table.now) w.old) }
+    ensures exact { OnOk result (w.new ≡ with_lists (second_lists table.now) w.old) }
+    ensures short { OnOk result (AreShort (second_lists table.now)) }
+    ensures lawful { IsBlockTable table.now }
 {
     if table.refs() == 2 {
         return write_vectors(alloc, w, table, Reference::Second);
@@ -74,7 +82,8 @@ fn write_second(alloc: Global, w: &mut BitWriter, table: &BlockData) -> Result<(
 
 /// Writes the blocks of the DC values.
 fn write_dcs(alloc: Global, w: &mut BitWriter, table: &BlockData) -> Result<(), NoMemory>
-    ensures { OnOk result (w.new ≡ with_lists (unit_decisions table.now (part_at (Part.Dc Component.Y) table.now) ∷ unit_decisions table.now (part_at (Part.Dc Component.U) table.now) ∷ unit_decisions table.now (part_at (Part.Dc Component.V) table.now) ∷ []) w.old) }
+    ensures exact { OnOk result (w.new ≡ with_lists (unit_decisions table.now (part_at (Part.Dc Component.Y) table.now) ∷ unit_decisions table.now (part_at (Part.Dc Component.U) table.now) ∷ unit_decisions table.now (part_at (Part.Dc Component.V) table.now) ∷ []) w.old) }
+    ensures short { OnOk result (AreShort (unit_decisions table.now (part_at (Part.Dc Component.Y) table.now) ∷ unit_decisions table.now (part_at (Part.Dc Component.U) table.now) ∷ unit_decisions table.now (part_at (Part.Dc Component.V) table.now) ∷ [])) }
 {
     write_part(alloc, w, table, Part::Dc(Component::Y))?;
     write_part(alloc, w, table, Part::Dc(Component::U))?;
@@ -82,11 +91,12 @@ fn write_dcs(alloc: Global, w: &mut BitWriter, table: &BlockData) -> Result<(), 
 }
 
 /// Writes a block table (block data, Dirac specification): for each of its lists a length and an arithmetic block.
-/// After want of memory a part may stand.
+/// It is read as the same table. After want of memory a part may stand.
 #[tactic(auto, using(crate::proofs::Appended::lists_append))]
 pub fn write_blocks(alloc: Global, w: &mut BitWriter, blocks: &BlockData) -> Result<(), NoMemory>
     requires { IsWhole w.old }
-    ensures { OnOk result (w.new ≡ with_lists (block_decisions blocks.now (least_numbers blocks.now)) w.old) }
+    ensures exact { OnOk result (w.new ≡ with_lists (block_decisions blocks.now (least_numbers blocks.now)) w.old) }
+    ensures spelled { OnOk result (SpelledBehind (blocks_grammar blocks.now.across blocks.now.down blocks.now.refs) blocks.now w.old w.new) }
 {
     write_splits(alloc, w, blocks)?;
     write_part(alloc, w, blocks, Part::Modes)?;

@@ -1,0 +1,432 @@
+-- The bits of a block table that is written spell it, so they are read as the same table.
+use Rattle.std.proofs.Common.{◌≡◌, ℕ, zero, suc, ◌+◌, ◌-◌, ◌*◌, ◌/◌, ◌%◌, ◌^◌, ◌<◌, ◌≤◌, inl, inr, Bool, false, List, [], ◌∷◌, ◌++◌, length, map, replicate, Option, Some, None, Result, Ok, Err, OnOk, refl, sym, ap, ◌∙◌, arith, subst, lit<, mod-lt, append_assoc, append-nil, length-append, get_or, ext_get_or}
+use Rattle.std.specs.Prelude.{if◌then◌else◌}
+use Rattle.std.specs.List.{AllByRecursion}
+use Rattle.std.proofs.lemmas.Bool.{cases_eq, cases_lt, eq-eqb, ne_eqb}
+use Rattle.std.proofs.lemmas.List.{length-replicate, length-map, get_or-map, get_or-replicate, get_or_past}
+use Rattle.std.proofs.lemmas.List.Elements.{All-from_get_or}
+use Rattle.std.proofs.lemmas.Simd.{splat_is_map}
+use Rattle.dirac_types.specs.declared.faults.Cause.{Cause}
+use Rattle.dirac_types.specs.declared.formats.Vector.{Vector}
+use Rattle.dirac_types.specs.Bits.{bits_of}
+use Rattle.dirac_types.specs.Numbers.{uint}
+use Rattle.dirac_types.specs.Numbers as numbers
+use Rattle.dirac_arith.specs.Deciding.{begin}
+use Rattle.dirac_arith.specs.Interval.{Decision, interval_of}
+use Rattle.dirac_arith.specs.Written.{bytes_of, block_length, flushed, flush}
+use Rattle.dirac_arith.proofs.Encodings.{flushed_is_carried}
+use Rattle.dirac_bits.specs.Spelling.{Spells}
+use Rattle.dirac_bits.specs.Syntax.{Syntax, done, flag_then, uint_then, sint_then, literal_then, block_then, align_then, here_then, refuse, ◌>>=◌}
+use Rattle.dirac_bits.specs.Writing.{gap, IsWhole}
+use Rattle.dirac_vectors.specs.Predictions.{split_of}
+use Rattle.dirac_blocks.specs.declared.block.Block.{Block}
+use Rattle.dirac_blocks.specs.declared.parts.Component.TheVariants as components
+use Rattle.dirac_blocks.specs.declared.parts.Part.{Part}
+use Rattle.dirac_blocks.specs.declared.parts.Part.TheVariants as parts
+use Rattle.dirac_blocks.specs.declared.parts.Reference.{Reference}
+use Rattle.dirac_blocks.specs.declared.parts.Reference.TheVariants as references
+use Rattle.dirac_blocks.specs.Carried.{ReadsTo}
+use Rattle.dirac_blocks.specs.Decisions.{left_of, above_of, corner_of, predicted_split, least_numbers, split_rows, unit_decisions, second_lists, block_decisions}
+use Rattle.dirac_blocks.specs.Grammar.{Progress, Step, empty_table, listed, table_from, splits_step, units_step, vectors_listed, second_listed, dcs_listed, values_listed, lists_of, blocks}
+use Rattle.dirac_blocks.specs.Parts.{part_at}
+use Rattle.dirac_blocks.specs.Reached.{progress}
+use Rattle.dirac_blocks.specs.Tables.{BlockTable, IsBlock, IsBlockTable, IsSize, split_at, grey, no_vector}
+use Rattle.dirac_blocks.specs.Written.{with_block, with_lists, AreShort, SpelledBehind}
+use Rattle.dirac_blocks.proofs.Appended.{lists_append}
+use Rattle.dirac_blocks.proofs.InContexts.{in_split_rows}
+use Rattle.dirac_blocks.proofs.Nearby.{grey_lawful}
+use Rattle.dirac_blocks.proofs.SplitForwards.{carried_splits_are_read}
+use Rattle.dirac_blocks.proofs.Stages.{by, by_lawful, IsStage, next_stage, stage_next, stage_modes, modes_same, part_same, stage_reads}
+
+-- the parts of what is spelled, with more bits behind it
+longer : (a first rest b : List Bool) → a ≡ first ++ rest → a ++ b ≡ first ++ (rest ++ b)
+longer a first rest b e = ap (λ bits. bits ++ b) e ∙ append_assoc first rest b
+
+-- the place behind it
+behind : (k n : ℕ) (a first rest : List Bool) → a ≡ first ++ rest → length first ≡ n → k + length a ≡ k + n + length rest
+behind k n a first rest e len = omega (arith, ap length e, length-append first rest)
+
+-- fields and then others are spelled by the bits of the first and then those of the others
+pub spells_then : {A B : Type 0} (s : Syntax A) (f : A → Syntax B) (y : A) (x : B) (k : ℕ) (a b : List Bool)
+    → Spells s y k a → Spells (f y) x (k + length a) b → Spells (s >>= f) x k (a ++ b)
+spells_then (done z) f y x k a b e more =
+    let none : k + length a ≡ k = omega (arith, ap length e.1) in
+    let here = subst (λ n. Spells (f y) x n b) none more in
+    let bits : a ++ b ≡ b = ap (λ front. front ++ b) e.1 in
+    subst (λ z. Spells (f z) x k (a ++ b)) (sym e.0) (subst (λ (l : List Bool). Spells (f y) x k l) (sym bits) here)
+spells_then (flag_then g) f y x k a b e more =
+    let place = behind k 1 a (e.0 ∷ []) e.1 e.2 refl in
+    (e.0, e.1 ++ b, ap (λ bits. bits ++ b) e.2, spells_then (g e.0) f y x (k + 1) e.1 b e.3 (subst (λ n. Spells (f y) x n b) place more))
+spells_then (uint_then g) f y x k a b e more =
+    let first = numbers.uint e.0 in
+    let place = behind k (length first) a first e.1 e.3 refl in
+    (e.0, e.1 ++ b, e.2, longer a first e.1 b e.3, spells_then (g e.0) f y x (k + length first) e.1 b e.4 (subst (λ n. Spells (f y) x n b) place more))
+spells_then (sint_then g) f y x k a b e more =
+    let first = numbers.sint e.0 in
+    let place = behind k (length first) a first e.1 e.3 refl in
+    (e.0, e.1 ++ b, e.2, longer a first e.1 b e.3, spells_then (g e.0) f y x (k + length first) e.1 b e.4 (subst (λ n. Spells (f y) x n b) place more))
+spells_then (literal_then g) f y x k a b e more =
+    let first = numbers.literal e.0 in
+    let place = behind k 32 a first e.1 e.3 refl in
+    (e.0, e.1 ++ b, e.2, longer a first e.1 b e.3, spells_then (g e.0) f y x (k + 32) e.1 b e.4 (subst (λ n. Spells (f y) x n b) place more))
+spells_then (block_then len g) f y x k a b e more =
+    let first = bits_of e.0 in
+    let place = behind k (length first) a first e.1 e.3 refl in
+    (e.0, e.1 ++ b, e.2, longer a first e.1 b e.3, spells_then (g e.0) f y x (k + length first) e.1 b e.4 (subst (λ n. Spells (f y) x n b) place more))
+spells_then (align_then s) f y x k a b e more =
+    let place = behind k (length e.0) a e.0 e.1 e.3 refl in
+    (e.0, e.1 ++ b, e.2, longer a e.0 e.1 b e.3, spells_then s f y x (k + length e.0) e.1 b e.4 (subst (λ n. Spells (f y) x n b) place more))
+spells_then (here_then g) f y x k a b e more = spells_then (g (k / 8)) f y x k a b e more
+spells_then (refuse at cause) f y x k a b e more = absurd e
+
+-- fields and then others behind bits
+spelled_then : (s : Syntax BlockTable) (f : BlockTable → Syntax BlockTable) (t u : BlockTable) (old mid new : List Bool)
+    → SpelledBehind s t old mid → SpelledBehind (f t) u mid new → SpelledBehind (s >>= f) u old new
+spelled_then s f t u old mid new p q =
+    let len : length mid ≡ length old + length p.bits = ap length p.is ∙ length-append old p.bits in
+    record {
+      bits = p.bits ++ q.bits;
+      is = q.is ∙ ap (λ (l : List Bool). l ++ q.bits) p.is ∙ append_assoc old p.bits q.bits;
+      spells = spells_then s f t u (length old) p.bits q.bits p.spells (subst (λ (n : ℕ). Spells (f t) u n q.bits) len q.spells);
+    }
+
+-- a block's bytes are below 256
+in_bytes : (m n : ℕ) → AllByRecursion (λ b. b < 2 ^ 8) (bytes_of m n)
+unfolding bytes_of
+in_bytes zero n = tt
+in_bytes (suc m) n = (mod-lt (n / 2 ^ (8 * m)) {m = 256} (lit< tt), in_bytes m n)
+
+flush_bytes : (ds : List Decision) → AllByRecursion (λ b. b < 2 ^ 8) (flush ds)
+unfolding flushed
+flush_bytes [] = tt
+flush_bytes (d ∷ ds) =
+    let s = interval_of (d ∷ ds) in
+    let m = block_length s.doublings in
+    in_bytes m ((s.low + s.range) / 2 ^ (16 + s.doublings - 8 * m) - 1)
+
+-- a gap ends where a byte does
+gap_length : (bits : List Bool) (k : ℕ) → length bits ≡ k → k + length (gap bits) ≡ 8 * ((k + 7) / 8)
+gap_length bits k e = omega (arith, length-replicate {A = Bool} ((8 - length bits % 8) % 8) false)
+
+four_parts : (a b c d : List Bool) → ((a ++ b) ++ c) ++ d ≡ a ++ (b ++ (c ++ d))
+four_parts a b c d = simp append_assoc
+
+-- a list that is read from its block is spelled by the block behind its length
+list_spelled : (step : Step) (t u : BlockTable) (ds : List Decision) (old : List Bool) → ReadsTo step t (flush ds) u → length (flush ds) + 1 < 2 ^ 39
+    → SpelledBehind (listed step t) u old (with_block (flush ds) old)
+unfolding listed
+list_spelled step t u ds old read short =
+    let block = flush ds in
+    let first = uint (length block) in
+    let before = old ++ first in
+    let k1 = length old + length first in
+    let k2 = k1 + length (gap before) in
+    let k3 = k2 + length (bits_of block) in
+    let last : Spells (table_from (k2 / 8) (step (progress t (begin block)))) u k3 [] =
+    subst (λ (r : Result Progress Cause). Spells (table_from (k2 / 8) r) u k3 []) (sym read.1) (refl, refl) in
+    record {
+      bits = first ++ (gap before ++ bits_of block);
+      is = four_parts old first (gap before) (bits_of block);
+      spells = (
+        length block,
+        gap before ++ bits_of block,
+        short,
+        refl,
+        (gap before, bits_of block, gap_length before k1 (length-append old first), refl, (block, [], (refl, flush_bytes ds), sym (append-nil (bits_of block)), last)),
+      );
+    }
+
+-- predictions of splits are splits
+split_few : (l a c : Option ℕ) → ((s : ℕ) → l ≡ Some s → s ≤ 2) → ((s : ℕ) → a ≡ Some s → s ≤ 2) → ((s : ℕ) → c ≡ Some s → s ≤ 2) → split_of l a c ≤ 2
+split_few None None c p q r = omega arith
+split_few (Some l) None c p q r = p l refl
+split_few None (Some a) c p q r = q a refl
+split_few (Some l) (Some a) None p q r = omega arith
+split_few (Some l) (Some a) (Some c) p q r =
+    let h = p l refl in
+    let k = q a refl in
+    let m = r c refl in
+    omega arith
+
+some_is : (a b : ℕ) → (let o : Option ℕ = Some a in o ≡ Some b) → a ≡ b
+some_is a b e = cc
+
+none_is : (b : ℕ) → (let o : Option ℕ = None in o ≡ Some b) → ⊥
+none_is b e = cc
+
+splits_few : (t : BlockTable) (x y : ℕ) → IsBlockTable t → split_at t x y ≤ 2
+splits_few t x y inv =
+    elim (cases_lt (y * t.across + x) (length t.splits)) [
+      | inl inside ↦ inv.splits (y * t.across + x) 0 inside
+      | inr past ↦ subst (λ (n : ℕ). n ≤ 2) (sym (get_or_past t.splits (y * t.across + x) 0 past)) (omega arith)
+    ]
+
+predicted_few : (t : BlockTable) (sx sy : ℕ) → IsBlockTable t → predicted_split t sx sy ≤ 2
+predicted_few t sx sy inv =
+    let f : ℕ → ℕ → Option ℕ = λ x y. Some (split_at t x y) in
+    split_few (left_of f sx sy) (above_of f sx sy) (corner_of f sx sy)
+    (λ s e. elim (cases_eq sx 0) [
+      | inl none ↦ absurd (none_is s (rw (eq-eqb sx 0 none) at e))
+      | inr some ↦ subst (λ (n : ℕ). n ≤ 2) (some_is (split_at t (sx - 1) sy) s (rw (ne_eqb sx 0 some) at e)) (splits_few t (sx - 1) sy inv)
+    ])
+    (λ s e. elim (cases_eq sy 0) [
+      | inl none ↦ absurd (none_is s (rw (eq-eqb sy 0 none) at e))
+      | inr some ↦ subst (λ (n : ℕ). n ≤ 2) (some_is (split_at t sx (sy - 1)) s (rw (ne_eqb sy 0 some) at e)) (splits_few t sx (sy - 1) inv)
+    ])
+    (λ s e. elim (cases_eq sx 0) [
+      | inl none ↦ absurd (none_is s (rw (eq-eqb sx 0 none) at e))
+      | inr some ↦ elim (cases_eq sy 0) [
+        | inl none ↦ absurd (none_is s (rw (ne_eqb sx 0 some, eq-eqb sy 0 none) at e))
+        | inr more ↦ subst (λ (n : ℕ). n ≤ 2) (some_is (split_at t (sx - 1) (sy - 1)) s (rw (ne_eqb sx 0 some, ne_eqb sy 0 more) at e)) (splits_few t (sx - 1) (sy - 1) inv)
+      ]
+    ])
+
+least_sum : (s p : ℕ) → s ≤ 2 → p ≤ 2 → ((s + 3 - p) % 3 + p) % 3 ≡ s
+least_sum s p h k = omega arith
+
+-- a table of which nothing is read is lawful
+pub empty_lawful : (across down refs : ℕ) → IsSize across down refs → IsBlockTable (empty_table across down refs)
+empty_lawful across down refs size =
+    let t = empty_table across down refs in
+    let blocks_len = length-replicate (4 * down * (4 * across)) grey in
+    let all : (k : ℕ) → get_or t.blocks k grey ≡ grey = λ k.
+    elim (cases_lt k (4 * down * (4 * across))) [
+      | inl inside ↦ get_or-replicate (4 * down * (4 * across)) k grey grey inside
+      | inr past ↦ get_or_past t.blocks k grey (omega (arith, blocks_len))
+    ] in
+    record {
+      size = size;
+      splits_len = length-replicate (down * across) 0;
+      blocks_len = blocks_len;
+      splits = All-from_get_or (λ s. s ≤ 2) t.splits 0 (λ k l. subst (λ (n : ℕ). n ≤ 2) (sym (get_or-replicate (down * across) k 0 0 (omega (arith, length-replicate {A = ℕ} (down * across) 0)))) (omega arith));
+      blocks = All-from_get_or (IsBlock refs) t.blocks grey (λ k l. subst (IsBlock refs) (sym (all k)) (grey_lawful refs));
+      units = λ sx sy i j p q r s. all _ ∙ sym (all _);
+    }
+
+-- before any block is read
+abbrev nothing_yet : Block → Block
+nothing_yet b = grey
+
+-- the splits of a finished table are read from the block that is written for them
+splits_read : (t : BlockTable) → IsBlockTable t
+    → ReadsTo splits_step (empty_table t.across t.down t.refs) (flush (split_rows t.across (least_numbers t) t.down)) (by nothing_yet t)
+splits_read t inv =
+    let ds = split_rows t.across (least_numbers t) t.down in
+    let u = by nothing_yet t in
+    let blank : u.blocks ≡ replicate (4 * t.down * (4 * t.across)) grey = sym (splat_is_map t.blocks (4 * t.down * (4 * t.across)) grey inv.blocks_len) in
+    carried_splits_are_read (empty_table t.across t.down t.refs) u (flush ds) (empty_lawful t.across t.down t.refs inv.size)
+    (record {
+      lawful = by_lawful nothing_yet t inv (λ b h. grey_lawful t.refs);
+      rest = record { across = refl; down = refl; refs = refl; blocks = blank };
+      numbers = least_numbers t;
+      are = λ sx sy p q. least_sum (split_at t sx sy) (predicted_split t sx sy) (splits_few t sx sy inv) (predicted_few t sx sy inv);
+      small = λ sx sy p q. omega arith;
+      carried = flushed_is_carried ds (in_split_rows t.across (least_numbers t) t.down);
+    })
+
+-- what the lists before have told of each block
+abbrev stage1 : Block → Block
+stage1 b = next_stage parts.Modes nothing_yet b
+
+abbrev stage2 : Block → Block
+stage2 b = next_stage (parts.Across references.First) stage1 b
+
+abbrev stage3 : Block → Block
+stage3 b = next_stage (parts.Down references.First) stage2 b
+
+abbrev stage4 : Block → Block
+stage4 b = next_stage (parts.Across references.Second) stage3 b
+
+abbrev stage5 : Block → Block
+stage5 b = next_stage (parts.Down references.Second) stage4 b
+
+-- a list behind the modes
+next_read : (part : Part) (t : BlockTable) (f : Block → Block) → IsBlockTable t → IsStage t f → ReadsTo (units_step part) (by f t) (flush (unit_decisions t (part_at part t))) (by (next_stage part f) t)
+next_read part t f inv s = stage_reads part t f inv s.lawful (stage_next part t f s).lawful (part_same part t f s)
+
+first_stage : (t : BlockTable) → IsStage t stage1
+first_stage t = stage_modes t nothing_yet (λ b h. grey_lawful t.refs)
+
+-- the block of a list
+abbrev block_of : BlockTable → Part → List Decision
+block_of t part = unit_decisions t (part_at part t)
+
+-- the vectors of both references
+vectors_spelled : (t : BlockTable) (k : Reference) (f : Block → Block) (old : List Bool) → IsBlockTable t → IsStage t f
+    → length (flush (block_of t (parts.Across k))) + 1 < 2 ^ 39 → length (flush (block_of t (parts.Down k))) + 1 < 2 ^ 39
+    → SpelledBehind (vectors_listed k (by f t)) (by (next_stage (parts.Down k) (next_stage (parts.Across k) f)) t) old
+    (with_block (flush (block_of t (parts.Down k))) (with_block (flush (block_of t (parts.Across k))) old))
+unfolding vectors_listed
+vectors_spelled t k f old inv s short short' =
+    let g = next_stage (parts.Across k) f in
+    let one = list_spelled (units_step (parts.Across k)) (by f t) (by g t) (block_of t (parts.Across k)) old (next_read (parts.Across k) t f inv s) short in
+    let mid = with_block (flush (block_of t (parts.Across k))) old in
+    let two = list_spelled (units_step (parts.Down k)) (by g t) (by (next_stage (parts.Down k) g) t) (block_of t (parts.Down k)) mid
+    (next_read (parts.Down k) t g inv (stage_next (parts.Across k) t f s)) short' in
+    spelled_then (listed (units_step (parts.Across k)) (by f t)) (λ u. listed (units_step (parts.Down k)) u) (by g t) (by (next_stage (parts.Down k) g) t) old mid _ one two
+
+-- the DC values
+dcs_spelled : (t : BlockTable) (f : Block → Block) (old : List Bool) → IsBlockTable t → IsStage t f
+    → AreShort (block_of t (parts.Dc components.Y) ∷ block_of t (parts.Dc components.U) ∷ block_of t (parts.Dc components.V) ∷ [])
+    → SpelledBehind (dcs_listed (by f t)) (by (next_stage (parts.Dc components.V) (next_stage (parts.Dc components.U) (next_stage (parts.Dc components.Y) f))) t) old
+    (with_lists (block_of t (parts.Dc components.Y) ∷ block_of t (parts.Dc components.U) ∷ block_of t (parts.Dc components.V) ∷ []) old)
+unfolding dcs_listed
+dcs_spelled t f old inv s short =
+    let y = parts.Dc components.Y in
+    let u = parts.Dc components.U in
+    let v = parts.Dc components.V in
+    let f1 = next_stage y f in
+    let f2 = next_stage u f1 in
+    let f3 = next_stage v f2 in
+    let s1 = stage_next y t f s in
+    let s2 = stage_next u t f1 s1 in
+    let b1 = with_block (flush (block_of t y)) old in
+    let b2 = with_block (flush (block_of t u)) b1 in
+    let b3 = with_block (flush (block_of t v)) b2 in
+    let one = list_spelled (units_step y) (by f t) (by f1 t) (block_of t y) old (next_read y t f inv s) short.0 in
+    let two = list_spelled (units_step u) (by f1 t) (by f2 t) (block_of t u) b1 (next_read u t f1 inv s1) short.1.0 in
+    let three = list_spelled (units_step v) (by f2 t) (by f3 t) (block_of t v) b2 (next_read v t f2 inv s2) short.1.1.0 in
+    let rest = spelled_then (listed (units_step u) (by f1 t)) (λ w. listed (units_step v) w) (by f2 t) (by f3 t) b1 b2 b3 two three in
+    spelled_then (listed (units_step y) (by f t)) (λ w. listed (units_step u) w >>= (λ x. listed (units_step v) x)) (by f1 t) (by f3 t) old b1 b3 one rest
+
+third_stage : (t : BlockTable) → IsStage t stage3
+third_stage t = stage_next (parts.Down references.First) t stage2 (stage_next (parts.Across references.First) t stage1 (first_stage t))
+
+fifth_stage : (t : BlockTable) → IsStage t stage5
+fifth_stage t = stage_next (parts.Down references.Second) t stage4 (stage_next (parts.Across references.Second) t stage3 (third_stage t))
+
+-- the lists of the second reference
+abbrev seconds : BlockTable → List (List Decision)
+seconds t = block_of t (parts.Across references.Second) ∷ block_of t (parts.Down references.Second) ∷ []
+
+two_spelled : (t : BlockTable) (old : List Bool) → IsBlockTable t → t.refs ≡ 2 → AreShort (second_lists t)
+    → SpelledBehind (second_listed (by stage3 t)) (by stage5 t) old (with_lists (second_lists t) old)
+unfolding second_listed
+two_spelled t old inv two short =
+    let P : Bool → Type 0 = λ b. AreShort (if b then seconds t else [])
+    → SpelledBehind (if b then vectors_listed references.Second (by stage3 t) else done (by stage3 t)) (by stage5 t) old (with_lists (if b then seconds t else []) old) in
+    subst P (sym (eq-eqb t.refs 2 two)) (λ h. vectors_spelled t references.Second stage3 old inv (third_stage t) h.0 h.1.0) short
+
+one_spelled : (t : BlockTable) (old : List Bool) → (t.refs ≡ 2 → ⊥) → SpelledBehind (second_listed (by stage3 t)) (by stage3 t) old (with_lists (second_lists t) old)
+unfolding second_listed
+one_spelled t old not =
+    let P : Bool → Type 0 = λ b.
+    SpelledBehind (if b then vectors_listed references.Second (by stage3 t) else done (by stage3 t)) (by stage3 t) old (with_lists (if b then seconds t else []) old) in
+    subst P (sym (ne_eqb t.refs 2 not)) (record { bits = []; is = sym (append-nil old); spells = (refl, refl) })
+
+-- the last stage of all
+abbrev with_dcs : (Block → Block) → Block → Block
+with_dcs f b = next_stage (parts.Dc components.V) (next_stage (parts.Dc components.U) (next_stage (parts.Dc components.Y) f)) b
+
+whole_two : (b : Block) → with_dcs stage5 b ≡ b
+whole_two b = refl
+
+whole_one : (b : Block) → b.v2 ≡ no_vector → with_dcs stage3 b ≡ b
+whole_one b e = let make : Vector → Block = λ v. record b { v2 = v } in ap make (sym e)
+
+by_end : (f : Block → Block) (t : BlockTable) → IsBlockTable t → ((b : Block) → IsBlock t.refs b → f b ≡ b) → by f t ≡ t
+by_end f t inv same =
+    let len : length (map f t.blocks) ≡ length t.blocks = length-map t.blocks f in
+    ap (λ (xs : List Block). let u : BlockTable = record t { blocks = xs } in u)
+    (ext_get_or grey (map f t.blocks) t.blocks len
+    (λ k l. let inside : k < length t.blocks = omega arith in get_or-map f t.blocks k grey grey inside ∙ same (get_or t.blocks k grey) (inv.blocks k grey inside)))
+
+parts_short : (xs ys : List (List Decision)) → AreShort (xs ++ ys) → AreShort xs × AreShort ys
+parts_short [] ys h = (tt, h)
+parts_short (x ∷ xs) ys h = let rest = parts_short xs ys h.1 in ((h.0, rest.0), rest.1)
+
+abbrev dc_lists : BlockTable → List (List Decision)
+dc_lists t = block_of t (parts.Dc components.Y) ∷ block_of t (parts.Dc components.U) ∷ block_of t (parts.Dc components.V) ∷ []
+
+-- the lists behind the vectors of the first reference
+rest_spelled : (t : BlockTable) (old : List Bool) → IsBlockTable t → AreShort (second_lists t ++ dc_lists t)
+    → SpelledBehind (second_listed (by stage3 t) >>= (λ u. dcs_listed u)) t old (with_lists (second_lists t ++ dc_lists t) old)
+rest_spelled t old inv short =
+    let parts' = parts_short (second_lists t) (dc_lists t) short in
+    let mid = with_lists (second_lists t) old in
+    let new = with_lists (dc_lists t) mid in
+    let joined : with_lists (second_lists t ++ dc_lists t) old ≡ new = lists_append (second_lists t) (dc_lists t) old in
+    let P : List Bool → Type 0 = λ l. SpelledBehind (second_listed (by stage3 t) >>= (λ u. dcs_listed u)) t old l in
+    subst P (sym joined)
+    (elim (cases_eq t.refs 2) [
+      | inl two ↦
+          let end : by (with_dcs stage5) t ≡ t = by_end (with_dcs stage5) t inv (λ b h. whole_two b) in
+          subst (λ (u : BlockTable). SpelledBehind (second_listed (by stage3 t) >>= (λ u. dcs_listed u)) u old new) end
+          (spelled_then (second_listed (by stage3 t)) (λ u. dcs_listed u) (by stage5 t) (by (with_dcs stage5) t) old mid new
+          (two_spelled t old inv two parts'.0) (dcs_spelled t stage5 mid inv (fifth_stage t) parts'.1))
+      | inr not ↦
+          let single : t.refs ≡ 1 = omega (arith, inv.size.some_refs, inv.size.most_refs) in
+          let end : by (with_dcs stage3) t ≡ t = by_end (with_dcs stage3) t inv (λ b h. whole_one b (h.no_v2 (h.second single))) in
+          subst (λ (u : BlockTable). SpelledBehind (second_listed (by stage3 t) >>= (λ u. dcs_listed u)) u old new) end
+          (spelled_then (second_listed (by stage3 t)) (λ u. dcs_listed u) (by stage3 t) (by (with_dcs stage3) t) old mid new
+          (one_spelled t old not) (dcs_spelled t stage3 mid inv (third_stage t) parts'.1))
+    ])
+
+-- all lists
+lists_spelled : (t : BlockTable) (old : List Bool) → IsBlockTable t → AreShort (block_decisions t (least_numbers t))
+    → SpelledBehind (lists_of (empty_table t.across t.down t.refs)) t old (with_lists (block_decisions t (least_numbers t)) old)
+unfolding lists_of values_listed
+lists_spelled t old inv short =
+    let t0 = empty_table t.across t.down t.refs in
+    let m = parts.Modes in
+    let b1 = with_block (flush (split_rows t.across (least_numbers t) t.down)) old in
+    let b2 = with_block (flush (block_of t m)) b1 in
+    let b4 = with_block (flush (block_of t (parts.Down references.First))) (with_block (flush (block_of t (parts.Across references.First))) b2) in
+    let new = with_lists (second_lists t ++ dc_lists t) b4 in
+    let one = list_spelled splits_step t0 (by nothing_yet t) (split_rows t.across (least_numbers t) t.down) old (splits_read t inv) short.0 in
+    let two = list_spelled (units_step m) (by nothing_yet t) (by stage1 t) (block_of t m) b1
+    (stage_reads m t nothing_yet inv (λ b h. grey_lawful t.refs) (first_stage t).lawful (modes_same t nothing_yet)) short.1.0 in
+    let three = vectors_spelled t references.First stage1 b2 inv (first_stage t) short.1.1.0 short.1.1.1.0 in
+    let four = rest_spelled t b4 inv short.1.1.1.1 in
+    let rest3 : BlockTable → Syntax BlockTable = λ u. second_listed u >>= (λ v. dcs_listed v) in
+    let rest2 : BlockTable → Syntax BlockTable = λ u. vectors_listed references.First u >>= rest3 in
+    let rest1 : BlockTable → Syntax BlockTable = λ u. listed (units_step m) u >>= rest2 in
+    let behind3 = spelled_then (vectors_listed references.First (by stage1 t)) rest3 (by stage3 t) t b2 b4 new three four in
+    let behind2 = spelled_then (listed (units_step m) (by nothing_yet t)) rest2 (by stage1 t) t b1 b2 new two behind3 in
+    spelled_then (listed splits_step t0) rest1 (by nothing_yet t) t old b1 new one behind2
+
+-- a table that is written is spelled
+pub table_spelled : (t : BlockTable) (old : List Bool) → IsBlockTable t → IsWhole old → AreShort (block_decisions t (least_numbers t))
+    → SpelledBehind (blocks t.across t.down t.refs) t old (with_lists (block_decisions t (least_numbers t)) old)
+unfolding blocks
+table_spelled t old inv whole short =
+    let h = lists_spelled t old inv short in
+    let k = length old in
+    let aligned : k + 0 ≡ 8 * ((k + 7) / 8) = omega arith in
+    let stays : k + 0 ≡ k = omega arith in
+    record {
+      bits = h.bits;
+      is = h.is;
+      spells = ([], h.bits, aligned, refl, subst (λ (n : ℕ). Spells (lists_of (empty_table t.across t.down t.refs)) t n h.bits) (sym stays) h.spells);
+    }
+
+-- what follows from two facts of an answer
+pub ok_both : {T E : Type 0} (P Q R : Type 0) → (P → Q → R) → (r : Result T E) → OnOk r P → OnOk r Q → OnOk r R
+ok_both P Q R both (Ok x) p q = both p q
+ok_both P Q R both (Err e) p q = p
+
+-- short lists one after the other
+pub short_append : (xs ys : List (List Decision)) → AreShort xs → AreShort ys → AreShort (xs ++ ys)
+short_append [] ys p q = q
+short_append (x ∷ xs) ys p q = (p.0, short_append xs ys p.1 q)
+
+-- the writers of the lists, one after the other
+pub written_spelled : {T E : Type 0} (r : Result T E) (t : BlockTable) (old b1 b2 b3 b4 new : List Bool) → IsBlockTable t → IsWhole old
+    → b1 ≡ with_block (flush (split_rows t.across (least_numbers t) t.down)) old → length (flush (split_rows t.across (least_numbers t) t.down)) + 1 < 2 ^ 39
+    → b2 ≡ with_block (flush (unit_decisions t (part_at parts.Modes t))) b1 → length (flush (unit_decisions t (part_at parts.Modes t))) + 1 < 2 ^ 39
+    → (let first = unit_decisions t (part_at (parts.Across references.First) t) ∷ unit_decisions t (part_at (parts.Down references.First) t) ∷ [] in
+    (b3 ≡ with_lists first b2) × AreShort first)
+    → b4 ≡ with_lists (second_lists t) b3 → AreShort (second_lists t)
+    → (let dcs = unit_decisions t (part_at (parts.Dc components.Y) t) ∷ unit_decisions t (part_at (parts.Dc components.U) t) ∷ unit_decisions t (part_at (parts.Dc components.V) t) ∷ [] in
+    OnOk r (new ≡ with_lists dcs b4) → OnOk r (AreShort dcs) → OnOk r (SpelledBehind (blocks t.across t.down t.refs) t old new))
+written_spelled r t old b1 b2 b3 b4 new inv whole e1 s1 e2 s2 p3 e4 s4 exact short =
+    ok_both (new ≡ with_lists (dc_lists t) b4) (AreShort (dc_lists t)) (SpelledBehind (blocks t.across t.down t.refs) t old new)
+    (λ e s.
+    let lists : AreShort (block_decisions t (least_numbers t)) = (s1, (s2, (p3.1.0, (p3.1.1.0, short_append (second_lists t) (dc_lists t) s4 s)))) in
+    let first : List Bool → List Bool = λ l. with_lists (unit_decisions t (part_at (parts.Across references.First) t) ∷ unit_decisions t (part_at (parts.Down references.First) t) ∷ []) l in
+    let bits : new ≡ with_lists (block_decisions t (least_numbers t)) old =
+    e
+    ∙ ap (λ (l : List Bool). with_lists (dc_lists t) l) (e4 ∙ ap (λ (l : List Bool). with_lists (second_lists t) l) (p3.0 ∙ ap first (e2 ∙ ap (λ (l : List Bool). with_block (flush (unit_decisions t (part_at parts.Modes t))) l) e1)))
+    ∙ sym (lists_append (second_lists t) (dc_lists t) (first (with_block (flush (unit_decisions t (part_at parts.Modes t))) (with_block (flush (split_rows t.across (least_numbers t) t.down)) old)))) in
+    subst (λ (l : List Bool). SpelledBehind (blocks t.across t.down t.refs) t old l) (sym bits) (table_spelled t old inv whole lists))
+    r exact short
