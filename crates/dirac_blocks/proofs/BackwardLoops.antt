@@ -118,7 +118,7 @@ unit_step_came part m t size i j r s inv unit led e =
     }
 
 -- n units of a row
-row_came : (part : Part) (m t : BlockTable) (size i j n : ℕ) (r s : Reading) → IsBlockTable m → ((k : ℕ) → k < n → IsUnit m size (i + k * size) j) → IsLed r
+pub row_came : (part : Part) (m t : BlockTable) (size i j n : ℕ) (r s : Reading) → IsBlockTable m → ((k : ℕ) → k < n → IsUnit m size (i + k * size) j) → IsLed r
     → i + n * size ≤ 4 * m.across
     → unit_row_step part size i j n (progress m r) ≡ Ok (progress t s)
     → Came part m r t s i (i + n * size) j (j + size) (λ u. unit_row (part_at part u) size i j n)
@@ -173,7 +173,7 @@ upper_outside left right j a size x y b e (inr (inl l)) = inr (inl l)
 upper_outside left right j a size x y b e (inr (inr l)) = inr (inr (omega arith))
 
 -- n rows of units
-rows_came : (part : Part) (m t : BlockTable) (size across i j n : ℕ) (r s : Reading) → IsBlockTable m
+pub rows_came : (part : Part) (m t : BlockTable) (size across i j n : ℕ) (r s : Reading) → IsBlockTable m
     → ((k l : ℕ) → k < across → l < n → IsUnit m size (i + k * size) (j + l * size)) → IsLed r → i + across * size ≤ 4 * m.across
     → unit_rows_step part size across i j n (progress m r) ≡ Ok (progress t s)
     → Came part m r t s i (i + across * size) j (j + n * size) (λ u. unit_rows (part_at part u) size across i j n)
@@ -210,7 +210,7 @@ rows_came part m t size across i j (suc n) r s inv units led fits e =
     }
 
 -- a superblock
-superblock_came : (part : Part) (m t : BlockTable) (sx sy : ℕ) (r s : Reading) → IsBlockTable m → sx < m.across → sy < m.down → IsLed r
+pub superblock_came : (part : Part) (m t : BlockTable) (sx sy : ℕ) (r s : Reading) → IsBlockTable m → sx < m.across → sy < m.down → IsLed r
     → superblock_step part sy sx (progress m r) ≡ Ok (progress t s)
     → Came part m r t s (4 * sx) (4 * sx + 4) (4 * sy) (4 * sy + 4) (λ u. superblock_part (part_at part u) m sx sy)
 unfolding superblock_step
@@ -228,7 +228,7 @@ superblock_shape part m u v sx sy s =
     ap (λ (k : ℕ). unit_rows (part_at part v) (unit_size k) (2 ^ k) (4 * sx) (4 * sy) (2 ^ k)) (sym (split_same m u sx sy s))
 
 -- n superblocks of a row
-superblocks_came : (part : Part) (m t : BlockTable) (sy n : ℕ) (r s : Reading) → IsBlockTable m → n ≤ m.across → sy < m.down → IsLed r
+pub superblocks_came : (part : Part) (m t : BlockTable) (sy n : ℕ) (r s : Reading) → IsBlockTable m → n ≤ m.across → sy < m.down → IsLed r
     → repeated (superblock_step part sy) n (progress m r) ≡ Ok (progress t s)
     → Came part m r t s 0 (4 * n) (4 * sy) (4 * sy + 4) (λ u. superblock_row (part_at part u) u sy n)
 unfolding superblock_row repeated
@@ -272,7 +272,7 @@ superblocks_came part m t sy (suc n) r s inv few hy led e =
     first_of' top n x y (inr l) = inr l
 
 -- n rows of superblocks
-superblock_rows_came : (part : Part) (m t : BlockTable) (across n : ℕ) (r s : Reading) → IsBlockTable m → across ≡ m.across → n ≤ m.down → IsLed r
+pub superblock_rows_came : (part : Part) (m t : BlockTable) (across n : ℕ) (r s : Reading) → IsBlockTable m → across ≡ m.across → n ≤ m.down → IsLed r
     → repeated (λ sy. repeated (superblock_step part sy) across) n (progress m r) ≡ Ok (progress t s)
     → Came part m r t s 0 (4 * across) 0 (4 * n) (λ u. superblock_rows (part_at part u) u n)
 unfolding superblock_rows repeated

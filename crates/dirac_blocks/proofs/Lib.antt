@@ -1,6 +1,8 @@
 mod Appended
 mod BackwardLoops
 mod Backwards
+mod BreakLoops
+mod Breaks
 mod Examples
 mod Filled
 mod Fills

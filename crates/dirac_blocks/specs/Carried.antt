@@ -1,5 +1,6 @@
 -- What the blocks of a block table carry: the lists of a finished table.
-use Rattle.std.specs.Prelude.{◌≡◌, ℕ, ◌-◌, ◌*◌, ◌^◌, ◌<◌, List, Ok}
+use Rattle.std.specs.Prelude.{◌≡◌, ℕ, ◌-◌, ◌*◌, ◌^◌, ◌<◌, List, Ok, Err}
+use Rattle.dirac_types.specs.declared.faults.Cause.{Cause}
 use Rattle.dirac_arith.specs.Carried.{Carries}
 use Rattle.dirac_arith.specs.Deciding.{begin}
 use Rattle.dirac_arith.specs.Reading.{Reading}
@@ -48,3 +49,7 @@ pub record CarriesSplits (former : BlockTable) (block : List ℕ) (t : BlockTabl
 -- a block is read to this table by these steps
 abbrev pub ReadsTo : Step → BlockTable → List ℕ → BlockTable → Type 0
 ReadsTo step former block t = (behind : Reading) × (step (progress former (begin block)) ≡ Ok (progress t behind))
+
+-- these steps are refused
+abbrev pub IsRefused : Step → BlockTable → List ℕ → Cause → Type 0
+IsRefused step former block cause = step (progress former (begin block)) ≡ Err cause

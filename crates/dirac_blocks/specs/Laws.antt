@@ -1,9 +1,12 @@
 -- The laws of this crate.
-use Rattle.std.specs.Prelude.{ℕ, List}
+use Rattle.std.specs.Prelude.{◌≢◌, ℕ, List}
+use Rattle.dirac_types.specs.declared.faults.Cause.{Cause}
+use Rattle.dirac_arith.specs.Front.{front}
 use Rattle.dirac_blocks.specs.declared.parts.Part.{Part}
-use Rattle.dirac_blocks.specs.Carried.{CarriesPart, CarriesSplits, ReadsTo}
+use Rattle.dirac_blocks.specs.Carried.{CarriesPart, CarriesSplits, ReadsTo, IsRefused}
 use Rattle.dirac_blocks.specs.Grammar.{splits_step, units_step}
 use Rattle.dirac_blocks.specs.Reached.{AllGrey}
+use Rattle.dirac_blocks.specs.Refused.{CarriesBreak}
 use Rattle.dirac_blocks.specs.Tables.{BlockTable, IsBlockTable}
 
 -- what a list tells of each unit is read from the block that carries it
@@ -38,3 +41,12 @@ ReadSplitsAreCarried =
     AllGrey former.blocks →
     ReadsTo splits_step former block t →
     CarriesSplits former block t
+
+-- a list is refused, but for a block that begins with sixteen ones, as the block breaks off
+abbrev pub RefusedIsBroken : Type 0
+RefusedIsBroken =
+    (part : Part) (former : BlockTable) (block : List ℕ) (cause : Cause) →
+    IsBlockTable former →
+    front block 16 ≢ 65535 →
+    IsRefused (units_step part) former block cause →
+    CarriesBreak part former block cause

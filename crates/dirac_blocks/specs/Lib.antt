@@ -6,5 +6,6 @@ pub mod Laws
 pub mod Parts
 pub mod Puts
 pub mod Reached
+pub mod Refused
 pub mod Tables
 pub mod Written

@@ -1,5 +1,5 @@
 //! What holds of all block tables, each as the contract of a function that does nothing.
-ghost use Rattle.dirac_blocks.specs.Laws.{CarriedIsRead, CarriedSplitsAreRead, ReadIsCarried, ReadSplitsAreCarried};
+ghost use Rattle.dirac_blocks.specs.Laws.{CarriedIsRead, CarriedSplitsAreRead, ReadIsCarried, ReadSplitsAreCarried, RefusedIsBroken};
 
 /// A list is read from the block that carries it.
 pub fn carried_lists_are_read()
@@ -11,4 +11,9 @@ pub fn carried_lists_are_read()
 pub fn read_lists_are_carried()
     ensures units { ReadIsCarried }
     ensures splits { ReadSplitsAreCarried }
+{}
+
+/// A list is refused as its block breaks off.
+pub fn refused_lists_break_off()
+    ensures units { RefusedIsBroken }
 {}

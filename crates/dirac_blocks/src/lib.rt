@@ -22,7 +22,7 @@ mod unit_writer;
 mod writer;
 
 pub use block::Block;
-pub use laws::{carried_lists_are_read, read_lists_are_carried};
+pub use laws::{carried_lists_are_read, read_lists_are_carried, refused_lists_break_off};
 pub use lists::{Blocks, Splits};
 pub use reader::read_blocks;
 pub use table::BlockData;

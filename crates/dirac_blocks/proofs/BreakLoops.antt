@@ -1,0 +1,375 @@
+-- A list that is refused breaks off at some unit.
+use Rattle.std.proofs.Common.{◌≡◌, ◌≢◌, ℕ, zero, suc, ◌+◌, ◌-◌, ◌*◌, ◌/◌, ◌^◌, ◌<◌, ◌≤◌, ◌⊎◌, inl, inr, List, [], ◌++◌, Option, Some, None, Result, Ok, Err, refl, sym, ap, ◌∙◌, arith, subst, append_assoc, append-nil}
+use Rattle.std.proofs.lemmas.Bool.{cases_lt, cases_eq}
+use Rattle.std.proofs.lemmas.Nat.{mul-le}
+use Rattle.dirac_types.specs.declared.faults.Cause.{Cause}
+use Rattle.dirac_arith.specs.Carried.{Carries}
+use Rattle.dirac_arith.specs.Chain.{◌>>=◌}
+use Rattle.dirac_arith.specs.Deciding.{begin}
+use Rattle.dirac_arith.specs.Front.{front}
+use Rattle.dirac_arith.specs.Interval.{Decision}
+use Rattle.dirac_arith.specs.Reading.{Reading, Reads}
+use Rattle.dirac_arith.proofs.Carrieds.{IsLed}
+use Rattle.dirac_arith.proofs.Led.{led_begin, reads_carried}
+use Rattle.dirac_arith.proofs.Spellings.{reads_more}
+use Rattle.dirac_blocks.specs.declared.block.Block.{Block}
+use Rattle.dirac_blocks.specs.declared.parts.Component.TheVariants as components
+use Rattle.dirac_blocks.specs.declared.parts.Part.{Part}
+use Rattle.dirac_blocks.specs.declared.parts.Part.TheVariants as parts
+use Rattle.dirac_blocks.specs.declared.parts.Reference.TheVariants as references
+use Rattle.dirac_blocks.specs.Carried.{with_part, IsWithPart, IsRefused}
+use Rattle.dirac_blocks.specs.Decisions.{unit_row, unit_rows, superblock_row, superblock_rows}
+use Rattle.dirac_blocks.specs.Grammar.{Progress, Step, repeated, with_unit, unit_read, unit_step, unit_row_step, unit_rows_step, superblock_step, units_step}
+use Rattle.dirac_blocks.specs.Laws.{RefusedIsBroken}
+use Rattle.dirac_blocks.specs.Parts.{part_at}
+use Rattle.dirac_blocks.specs.Reached.{SameShape, IsUnit, progress}
+use Rattle.dirac_blocks.specs.Refused.{Told, value_told, Break, IsBreak, broken_part, cause_of, list_until, CarriesBreak}
+use Rattle.dirac_blocks.specs.Tables.{BlockTable, IsBlockTable, block_at, split_at, unit_size}
+use Rattle.dirac_blocks.proofs.BackwardLoops.{IsOutside, Came, row_came, rows_came, superblocks_came, superblock_rows_came}
+use Rattle.dirac_blocks.proofs.Breaks.{stopped, no_refusal, UnitBreaks, unit_breaks}
+use Rattle.dirac_blocks.proofs.Fills.{split_few}
+use Rattle.dirac_blocks.proofs.ForwardLoops.{unit_of_superblock, units_fill}
+use Rattle.dirac_blocks.proofs.Nearby.{SameWithin}
+use Rattle.dirac_blocks.proofs.Repeating.{shape_join, shape_refl, split_same, unit_same}
+
+-- the step that was refused, behind those that weren't
+record StepBreaks (step : ℕ → Step) (n : ℕ) (x : Progress) (e : Cause) : Type 0 where
+  count : ℕ
+  few : count < n
+  at : Progress
+  before : repeated step count x ≡ Ok at
+  here : step count at ≡ Err e
+
+repeated_breaks : (step : ℕ → Step) (n : ℕ) (x : Progress) (e : Cause) → repeated step n x ≡ Err e → StepBreaks step n x e
+unfolding repeated
+repeated_breaks step zero x e is = absurd (no_refusal (Ok x) x e refl is)
+repeated_breaks step (suc n) x e is =
+    elim (stopped (repeated step n x) (step n) e is) [
+      | inl bad ↦
+          let k = repeated_breaks step n x e bad in
+          record { count = k.count; few = omega (arith, k.few); at = k.at; before = k.before; here = k.here }
+      | inr q ↦ record { count = n; few = omega arith; at = q.0; before = q.1; here = q.2 }
+    ]
+
+-- parts that are told one after another
+with_twice : (part : Part) (a b c : Block) → with_part part a b ≡ b → with_part part b c ≡ c → with_part part a c ≡ c
+with_twice part a b c p q = sym (absorbs part a b c) ∙ ap (λ (x : Block). with_part part x c) p ∙ q
+  where
+  absorbs : (part : Part) (a b c : Block) → with_part part (with_part part a b) c ≡ with_part part a c
+  absorbs parts.Modes a b c = refl
+  absorbs (parts.Across references.First) a b c = refl
+  absorbs (parts.Across references.Second) a b c = refl
+  absorbs (parts.Down references.First) a b c = refl
+  absorbs (parts.Down references.Second) a b c = refl
+  absorbs (parts.Dc components.Y) a b c = refl
+  absorbs (parts.Dc components.U) a b c = refl
+  absorbs (parts.Dc components.V) a b c = refl
+
+-- a list that tells values tells nothing of a block that stays
+stays : (part : Part) (t : BlockTable) (i j : ℕ) (v : Told) → value_told part t i j ≡ Some v → (b : Block) → with_part part b b ≡ b
+stays parts.Modes t i j v is b = absurd (none is)
+  where
+  none : {v : Told} → (let o : Option Told = None in o ≡ Some v) → ⊥
+  none e = cc
+stays (parts.Across references.First) t i j v is b = refl
+stays (parts.Across references.Second) t i j v is b = refl
+stays (parts.Down references.First) t i j v is b = refl
+stays (parts.Down references.Second) t i j v is b = refl
+stays (parts.Dc components.Y) t i j v is b = refl
+stays (parts.Dc components.U) t i j v is b = refl
+stays (parts.Dc components.V) t i j v is b = refl
+
+-- what came of a table differs from it in this part alone
+rest_of : (part : Part) (m t : BlockTable) (r s : Reading) (left right top bottom : ℕ) (decisions : BlockTable → List Decision) → Came part m r t s left right top bottom decisions
+    → ((b : Block) → with_part part b b ≡ b) → (x y : ℕ) → x < 4 * m.across → with_part part (block_at m x y) (block_at t x y) ≡ block_at t x y
+rest_of part m t r s left right top bottom decisions g whole x y p =
+    elim (cases_lt x left) [
+      | inl l ↦ same (inl (inl l))
+      | inr a ↦ elim (cases_lt x right) [
+        | inr l ↦ same (inl (inr l))
+        | inl b ↦ elim (cases_lt y top) [
+          | inl l ↦ same (inr (inl l))
+          | inr c ↦ elim (cases_lt y bottom) [
+            | inr l ↦ same (inr (inr l))
+            | inl d ↦ g.inside x y a b c d
+          ]
+        ]
+      ]
+    ]
+  where
+  same : IsOutside left right top bottom x y → with_part part (block_at m x y) (block_at t x y) ≡ block_at t x y
+  same o = subst (λ (b : Block). with_part part (block_at m x y) b ≡ b) (sym (g.outside x y p o)) (whole (block_at m x y))
+
+-- a list broke off at the unit whose first block is block i of row j, in a table that nothing left of `left` or above `top` was changed in
+record BrokenAt (part : Part) (m : BlockTable) (r : Reading) (e : Cause) (left top : ℕ) (decisions : BlockTable → List Decision) (i j : ℕ) : Type 0 where
+  table : BlockTable
+  lawful : IsBlockTable table
+  shape : SameShape m table
+  outside : (x y : ℕ) → x < 4 * m.across → (x < left) ⊎ (y < top) → block_at table x y ≡ block_at m x y
+  alike : ((b : Block) → with_part part b b ≡ b) → (x y : ℕ) → x < 4 * m.across → with_part part (block_at m x y) (block_at table x y) ≡ block_at table x y
+  told : Told
+  is : value_told part table i j ≡ Some told
+  breaks : Break
+  breaks_so : IsBreak told breaks
+  cause_is : e ≡ cause_of told breaks
+  reads : (s : Reading) × Reads r (decisions table ++ broken_part told breaks) s
+
+-- steps, and behind them what broke off
+combined : (part : Part) (m t : BlockTable) (r s : Reading) (e : Cause) (l ri to bo : ℕ) (first then' : BlockTable → List Decision) (left' top' left top i j : ℕ)
+    → ri ≤ 4 * m.across → Came part m r t s l ri to bo first → BrokenAt part t s e left' top' then' i j
+    → ((x y : ℕ) → x < ri → y < bo → (x < left') ⊎ (y < top')) → ((x y : ℕ) → (x < left) ⊎ (y < top) → IsOutside l ri to bo x y × ((x < left') ⊎ (y < top')))
+    → BrokenAt part m r e left top (λ u. first u ++ then' u) i j
+combined part m t r s e l ri to bo first then' left' top' left top i j fits g b apart beside =
+    let wide : t.across ≡ m.across = g.shape.across in
+    let reads = g.reads b.table b.shape (record { each = λ x y p q. sym (b.outside x y (omega arith) (apart x y p q)) }) in
+    record {
+      table = b.table;
+      lawful = b.lawful;
+      shape = shape_join m t b.table g.shape b.shape;
+      outside = λ x y p o. let k = beside x y o in b.outside x y (omega arith) k.1 ∙ g.outside x y p k.0;
+      alike = λ whole x y p. with_twice part (block_at m x y) (block_at t x y) (block_at b.table x y) (rest_of part m t r s l ri to bo first g whole x y p) (b.alike whole x y (omega arith));
+      told = b.told;
+      is = b.is;
+      breaks = b.breaks;
+      breaks_so = b.breaks_so;
+      cause_is = b.cause_is;
+      reads = (
+        b.reads.0,
+        subst (λ (ds : List Decision). Reads r ds b.reads.0) (sym (append_assoc (first b.table) (then' b.table) (broken_part b.told b.breaks)))
+        (reads_more r s b.reads.0 (first b.table) (then' b.table ++ broken_part b.told b.breaks) reads b.reads.1),
+      );
+    }
+
+-- a unit
+unit_broken : (part : Part) (m : BlockTable) (r : Reading) (e : Cause) (size i j : ℕ) → IsBlockTable m → IsLed r → front r.block 16 ≢ 65535
+    → unit_step part size i j (progress m r) ≡ Err e → BrokenAt part m r e i j (λ t. []) i j
+unfolding unit_step
+unit_broken part m r e size i j inv led some is =
+    let refused : unit_read part m i j r ≡ Err e =
+    elim (stopped (unit_read part m i j r) (λ b. let x : Result Progress Cause = Ok (record { table = with_unit m size i j b.0; reading = b.1 }) in x) e is) [
+      | inl bad ↦ bad
+      | inr q ↦ absurd (no_refusal (Ok (progress (with_unit m size i j q.0.0) q.0.1)) (progress (with_unit m size i j q.0.0) q.0.1) e refl q.2)
+    ] in
+    let k = unit_breaks part m i j r e led some refused in
+    record {
+      table = m;
+      lawful = inv;
+      shape = shape_refl m;
+      outside = λ x y p o. refl;
+      alike = λ whole x y p. whole (block_at m x y);
+      told = k.told;
+      is = k.is;
+      breaks = k.breaks;
+      breaks_so = k.breaks_so;
+      cause_is = k.cause_is;
+      reads = k.reads;
+    }
+
+-- the same decisions with nothing behind them
+without_nothing : (part : Part) (m : BlockTable) (r : Reading) (e : Cause) (left top i j : ℕ) (d : BlockTable → List Decision)
+    → BrokenAt part m r e left top (λ u. d u ++ []) i j → BrokenAt part m r e left top d i j
+without_nothing part m r e left top i j d b =
+    record {
+      table = b.table;
+      lawful = b.lawful;
+      shape = b.shape;
+      outside = b.outside;
+      alike = b.alike;
+      told = b.told;
+      is = b.is;
+      breaks = b.breaks;
+      breaks_so = b.breaks_so;
+      cause_is = b.cause_is;
+      reads = (b.reads.0, subst (λ (ds : List Decision). Reads r (ds ++ broken_part b.told b.breaks) b.reads.0) (append-nil (d b.table)) b.reads.1);
+    }
+
+-- a reading goes on in its block
+same_block : (part : Part) (m t : BlockTable) (r s : Reading) (l ri to bo : ℕ) (d : BlockTable → List Decision) → Came part m r t s l ri to bo d → front r.block 16 ≢ 65535 → front s.block 16 ≢ 65535
+same_block part m t r s l ri to bo d g some =
+    let reads = g.reads t (shape_refl t) (record { each = λ x y p q. refl }) in
+    let same : s.block ≡ r.block = ap (λ (x : Reading). x.block) reads.moved in
+    λ ones. some (ap (λ (b : List ℕ). front b 16) (sym same) ∙ ones)
+
+-- a row of units
+row_broken : (part : Part) (m : BlockTable) (r : Reading) (e : Cause) (size i j n : ℕ) → IsBlockTable m → ((k : ℕ) → k < n → IsUnit m size (i + k * size) j) → IsLed r
+    → front r.block 16 ≢ 65535 → i + n * size ≤ 4 * m.across → unit_row_step part size i j n (progress m r) ≡ Err e
+    → (u : ℕ) × (u < n) × BrokenAt part m r e i j (λ t. unit_row (part_at part t) size i j u) (i + u * size) j
+row_broken part m r e size i j n inv units led some fits is =
+    let b = repeated_breaks (λ u. unit_step part size (i + u * size) j) n (progress m r) e is in
+    let u = b.count in
+    let t = b.at.table in
+    let s = b.at.reading in
+    let less : u * size ≤ n * size = mul-le u size n size (omega (arith, b.few)) (omega arith) in
+    let g = row_came part m t size i j u r s inv (λ k l. units k (omega (arith, b.few))) led (omega arith) b.before in
+    let h = unit_broken part t s e size (i + u * size) j g.lawful g.led (same_block part m t r s i (i + u * size) j (j + size) (λ w. unit_row (part_at part w) size i j u) g some) b.here in
+    let d : BlockTable → List Decision = λ w. unit_row (part_at part w) size i j u in
+    (u, b.few, without_nothing part m r e i j (i + u * size) j d
+    (combined part m t r s e i (i + u * size) j (j + size) d (λ w. []) (i + u * size) j i j (i + u * size) j (omega arith) g h (λ x y p q. inl p) (λ x y o. beside i (u * size) j size x y o)))
+  where
+  beside : (i a j size x y : ℕ) → (x < i) ⊎ (y < j) → IsOutside i (i + a) j (j + size) x y × ((x < i + a) ⊎ (y < j))
+  beside i a j size x y (inl l) = (inl (inl l), inl (omega arith))
+  beside i a j size x y (inr l) = (inr (inl l), inr l)
+
+-- rows of units
+rows_broken : (part : Part) (m : BlockTable) (r : Reading) (e : Cause) (size across i j n : ℕ) → IsBlockTable m
+    → ((k l : ℕ) → k < across → l < n → IsUnit m size (i + k * size) (j + l * size)) → IsLed r → front r.block 16 ≢ 65535 → i + across * size ≤ 4 * m.across
+    → unit_rows_step part size across i j n (progress m r) ≡ Err e
+    → (v : ℕ) × (v < n) × ((u : ℕ) × (u < across)
+    × BrokenAt part m r e i j (λ t. unit_rows (part_at part t) size across i j v ++ unit_row (part_at part t) size i (j + v * size) u) (i + u * size) (j + v * size))
+rows_broken part m r e size across i j n inv units led some fits is =
+    let b = repeated_breaks (λ v. unit_row_step part size i (j + v * size) across) n (progress m r) e is in
+    let v = b.count in
+    let t = b.at.table in
+    let s = b.at.reading in
+    let g = rows_came part m t size across i j v r s inv (λ k l p q. units k l p (omega (arith, b.few))) led fits b.before in
+    let wide : 4 * t.across ≡ 4 * m.across = ap (λ (k : ℕ). 4 * k) g.shape.across in
+    let d : BlockTable → List Decision = λ w. unit_rows (part_at part w) size across i j v in
+    let h = row_broken part t s e size i (j + v * size) across g.lawful (λ k l. unit_same m t size (i + k * size) (j + v * size) g.shape (units k v l b.few)) g.led
+    (same_block part m t r s i (i + across * size) j (j + v * size) d g some) (omega arith) b.here in
+    (v, b.few, (h.0, h.1,
+    combined part m t r s e i (i + across * size) j (j + v * size) d (λ w. unit_row (part_at part w) size i (j + v * size) h.0) i (j + v * size) i j (i + h.0 * size) (j + v * size) fits g h.2
+    (λ x y p q. inr q) (λ x y o. beside i (across * size) j (v * size) x y o)))
+  where
+  beside : (i a j c x y : ℕ) → (x < i) ⊎ (y < j) → IsOutside i (i + a) j (j + c) x y × ((x < i) ⊎ (y < j + c))
+  beside i a j c x y (inl l) = (inl (inl l), inl l)
+  beside i a j c x y (inr l) = (inr (inl l), inr (omega arith))
+
+-- superblocks of a row
+record SuperblockBroken (part : Part) (m : BlockTable) (r : Reading) (e : Cause) (sy n : ℕ) : Type 0 where
+  sx : ℕ
+  column : sx < n
+  v : ℕ
+  few : v < 2 ^ split_at m sx sy
+  u : ℕ
+  some : u < 2 ^ split_at m sx sy
+  at :
+    BrokenAt part m r e 0 (4 * sy)
+    (λ t. superblock_row (part_at part t) t sy sx
+    ++ (unit_rows (part_at part t) (unit_size (split_at m sx sy)) (2 ^ split_at m sx sy) (4 * sx) (4 * sy) v
+    ++ unit_row (part_at part t) (unit_size (split_at m sx sy)) (4 * sx) (4 * sy + v * unit_size (split_at m sx sy)) u))
+    (4 * sx + u * unit_size (split_at m sx sy)) (4 * sy + v * unit_size (split_at m sx sy))
+
+-- one superblock
+one_broken : (part : Part) (m : BlockTable) (r : Reading) (e : Cause) (sx sy s : ℕ) → IsBlockTable m → split_at m sx sy ≡ s → sx < m.across → sy < m.down → IsLed r → front r.block 16 ≢ 65535
+    → superblock_step part sy sx (progress m r) ≡ Err e
+    → (v : ℕ) × (v < 2 ^ s) × ((u : ℕ) × (u < 2 ^ s)
+    × BrokenAt part m r e (4 * sx) (4 * sy)
+    (λ t. unit_rows (part_at part t) (unit_size s) (2 ^ s) (4 * sx) (4 * sy) v ++ unit_row (part_at part t) (unit_size s) (4 * sx) (4 * sy + v * unit_size s) u)
+    (4 * sx + u * unit_size s) (4 * sy + v * unit_size s))
+unfolding superblock_step
+one_broken part m r e sx sy s inv split hx hy led some is =
+    let P : ℕ → Type 0 = λ n. unit_rows_step part (unit_size n) (2 ^ n) (4 * sx) (4 * sy) (2 ^ n) (progress m r) ≡ Err e in
+    let two : s ≤ 2 = subst (λ (n : ℕ). n ≤ 2) split (split_few m sx sy inv hx hy) in
+    let fill = units_fill s two in
+    let unit : (k l : ℕ) → k < 2 ^ s → l < 2 ^ s → IsUnit m (unit_size s) (4 * sx + k * unit_size s) (4 * sy + l * unit_size s) =
+    subst (λ (n : ℕ). (k l : ℕ) → k < 2 ^ n → l < 2 ^ n → IsUnit m (unit_size n) (4 * sx + k * unit_size n) (4 * sy + l * unit_size n)) split
+    (λ k l p q. unit_of_superblock m sx sy k l hx hy p q) in
+    rows_broken part m r e (unit_size s) (2 ^ s) (4 * sx) (4 * sy) (2 ^ s) inv unit led some (omega arith) (subst P split is)
+
+superblocks_broken : (part : Part) (m : BlockTable) (r : Reading) (e : Cause) (sy n : ℕ) → IsBlockTable m → n ≤ m.across → sy < m.down → IsLed r → front r.block 16 ≢ 65535
+    → repeated (superblock_step part sy) n (progress m r) ≡ Err e → SuperblockBroken part m r e sy n
+superblocks_broken part m r e sy n inv fits hy led some is =
+    let b = repeated_breaks (superblock_step part sy) n (progress m r) e is in
+    let sx = b.count in
+    let t = b.at.table in
+    let q = b.at.reading in
+    let g = superblocks_came part m t sy sx r q inv (omega (arith, b.few)) hy led b.before in
+    let d : BlockTable → List Decision = λ w. superblock_row (part_at part w) w sy sx in
+    let hx : sx < m.across = omega (arith, b.few) in
+    let s = split_at m sx sy in
+    let h = one_broken part t q e sx sy s g.lawful (split_same m t sx sy g.shape) (subst (λ (k : ℕ). sx < k) (sym g.shape.across) hx) (subst (λ (k : ℕ). sy < k) (sym g.shape.down) hy) g.led
+    (same_block part m t r q 0 (4 * sx) (4 * sy) (4 * sy + 4) d g some) b.here in
+    record {
+      sx = sx;
+      column = b.few;
+      v = h.0;
+      few = h.1;
+      u = h.2.0;
+      some = h.2.1;
+      at =
+          combined part m t r q e 0 (4 * sx) (4 * sy) (4 * sy + 4) d
+          (λ w. unit_rows (part_at part w) (unit_size s) (2 ^ s) (4 * sx) (4 * sy) h.0 ++ unit_row (part_at part w) (unit_size s) (4 * sx) (4 * sy + h.0 * unit_size s) h.2.0)
+          (4 * sx) (4 * sy) 0 (4 * sy) (4 * sx + h.2.0 * unit_size s) (4 * sy + h.0 * unit_size s) (omega arith) g h.2.2 (λ x y p o. inl p) (λ x y o. beside sx sy x y o);
+    }
+  where
+  beside : (sx sy x y : ℕ) → (x < 0) ⊎ (y < 4 * sy) → IsOutside 0 (4 * sx) (4 * sy) (4 * sy + 4) x y × ((x < 4 * sx) ⊎ (y < 4 * sy))
+  beside sx sy x y (inl l) = absurd (omega arith)
+  beside sx sy x y (inr l) = (inr (inl l), inr l)
+
+-- a whole list
+abbrev ListBroken : Part → BlockTable → Reading → Cause → ℕ → ℕ → Type 0
+ListBroken part m r e sy s =
+    (sx : ℕ) × (sx < m.across) × (s ≡ split_at m sx sy) × ((v : ℕ) × (v < 2 ^ s) × ((u : ℕ) × (u < 2 ^ s)
+    × BrokenAt part m r e 0 0
+    (λ t. superblock_rows (part_at part t) t sy ++ (superblock_row (part_at part t) t sy sx
+    ++ (unit_rows (part_at part t) (unit_size s) (2 ^ s) (4 * sx) (4 * sy) v ++ unit_row (part_at part t) (unit_size s) (4 * sx) (4 * sy + v * unit_size s) u)))
+    (4 * sx + u * unit_size s) (4 * sy + v * unit_size s)))
+
+list_broken : (part : Part) (m : BlockTable) (r : Reading) (e : Cause) → IsBlockTable m → IsLed r → front r.block 16 ≢ 65535
+    → repeated (λ sy. repeated (superblock_step part sy) m.across) m.down (progress m r) ≡ Err e
+    → (sy : ℕ) × (sy < m.down) × ((s : ℕ) × ListBroken part m r e sy s)
+
+list_broken part m r e inv led some is =
+    let a = m.across in
+    let b = repeated_breaks (λ sy. repeated (superblock_step part sy) a) m.down (progress m r) e is in
+    let sy = b.count in
+    let t = b.at.table in
+    let q = b.at.reading in
+    let g = superblock_rows_came part m t a sy r q inv refl (omega (arith, b.few)) led b.before in
+    let d : BlockTable → List Decision = λ w. superblock_rows (part_at part w) w sy in
+    let few : a ≤ t.across = omega (arith, g.shape.across) in
+    let h = superblocks_broken part t q e sy a g.lawful few (subst (λ (k : ℕ). sy < k) (sym g.shape.down) b.few) g.led
+    (same_block part m t r q 0 (4 * a) 0 (4 * sy) d g some) b.here in
+    let s = split_at t h.sx sy in
+    (sy, b.few, (s, (h.sx, h.column, split_same m t h.sx sy g.shape, (h.v, h.few, (h.u, h.some,
+    combined part m t r q e 0 (4 * a) 0 (4 * sy) d
+    (λ w. superblock_row (part_at part w) w sy h.sx
+    ++ (unit_rows (part_at part w) (unit_size s) (2 ^ s) (4 * h.sx) (4 * sy) h.v ++ unit_row (part_at part w) (unit_size s) (4 * h.sx) (4 * sy + h.v * unit_size s) h.u))
+    0 (4 * sy) 0 0 (4 * h.sx + h.u * unit_size s) (4 * sy + h.v * unit_size s) (omega arith) g h.at (λ x y p o. inr o) (λ x y o. never x y o))))))
+  where
+  never : {A : Type 0} (x y : ℕ) → (x < 0) ⊎ (y < 0) → A
+  never x y (inl l) = absurd (omega arith)
+  never x y (inr l) = absurd (omega arith)
+
+-- what broke off, with the table's own split
+with_own_split : (part : Part) (former : BlockTable) (block : List ℕ) (e : Cause) (sy s sx v u : ℕ) → sx < former.across → sy < former.down → s ≡ split_at former sx sy → v < 2 ^ s → u < 2 ^ s
+    → BrokenAt part former (begin block) e 0 0
+    (λ t. superblock_rows (part_at part t) t sy ++ (superblock_row (part_at part t) t sy sx
+    ++ (unit_rows (part_at part t) (unit_size s) (2 ^ s) (4 * sx) (4 * sy) v ++ unit_row (part_at part t) (unit_size s) (4 * sx) (4 * sy + v * unit_size s) u)))
+    (4 * sx + u * unit_size s) (4 * sy + v * unit_size s)
+    → CarriesBreak part former block e
+with_own_split part former block e sy s sx v u hx hy own few some b =
+    let t = b.table in
+    let p = part_at part t in
+    let whole = stays part t (4 * sx + u * unit_size s) (4 * sy + v * unit_size s) b.told b.is in
+    let split : s ≡ split_at t sx sy = own ∙ sym (split_same former t sx sy b.shape) in
+    let P : ℕ → Type 0 = λ n.
+        (u < 2 ^ n) × (v < 2 ^ n) × (value_told part t (4 * sx + u * unit_size n) (4 * sy + v * unit_size n) ≡ Some b.told)
+        × Carries block ((superblock_rows p t sy ++ (superblock_row p t sy sx ++ (unit_rows p (unit_size n) (2 ^ n) (4 * sx) (4 * sy) v ++ unit_row p (unit_size n) (4 * sx) (4 * sy + v * unit_size n) u))) ++ broken_part b.told b.breaks) in
+    let facts : P (split_at t sx sy) = subst P split (some, few, b.is, reads_carried block _ b.reads.0 b.reads.1) in
+    record {
+      table = t;
+      lawful = b.lawful;
+      rest = record { shape = b.shape; blocks = λ x y q l. b.alike whole x y q };
+      sx = sx;
+      sy = sy;
+      u = u;
+      v = v;
+      column = subst (λ (n : ℕ). sx < n) (sym b.shape.across) hx;
+      row = subst (λ (n : ℕ). sy < n) (sym b.shape.down) hy;
+      some = facts.0;
+      few = facts.1;
+      told = b.told;
+      is = facts.2;
+      breaks = b.breaks;
+      breaks_so = b.breaks_so;
+      cause_is = b.cause_is;
+      carried = facts.3;
+    }
+
+pub refused_is_broken : RefusedIsBroken
+
+refused_is_broken part former block e inv some is =
+    let k = list_broken part former (begin block) e inv (led_begin block) some is in
+    let l = k.2.1 in
+    with_own_split part former block e k.0 k.2.0 l.0 l.3.0 l.3.2.0 l.1 k.1 l.2 l.3.1 l.3.2.1 l.3.2.2

@@ -1,0 +1,5 @@
+use Rattle.dirac_blocks.proofs.BreakLoops.{refused_is_broken}
+use Rattle.dirac_blocks.proofs.laws.refused_lists_break_off.Goals as goal
+
+pub returns : goal.returns
+returns c = record { units = refused_is_broken }
