@@ -1,10 +1,9 @@
 -- A list that is refused breaks off at some unit.
-use Rattle.std.proofs.Common.{◌≡◌, ◌≢◌, ℕ, zero, suc, ◌+◌, ◌-◌, ◌*◌, ◌/◌, ◌^◌, ◌<◌, ◌≤◌, ◌⊎◌, inl, inr, List, [], ◌++◌, Option, Some, None, Result, Ok, Err, refl, sym, ap, ◌∙◌, arith, subst, append_assoc, append-nil}
-use Rattle.std.proofs.lemmas.Bool.{cases_lt, cases_eq}
+use Rattle.std.proofs.Common.{◌≡◌, ◌≢◌, ℕ, zero, suc, ◌+◌, ◌*◌, ◌^◌, ◌<◌, ◌≤◌, ◌⊎◌, inl, inr, List, [], ◌++◌, Option, Some, None, Result, Ok, Err, refl, sym, ap, ◌∙◌, arith, subst, append_assoc, append-nil}
+use Rattle.std.proofs.lemmas.Bool.{cases_lt}
 use Rattle.std.proofs.lemmas.Nat.{mul-le}
 use Rattle.dirac_types.specs.declared.faults.Cause.{Cause}
 use Rattle.dirac_arith.specs.Carried.{Carries}
-use Rattle.dirac_arith.specs.Chain.{◌>>=◌}
 use Rattle.dirac_arith.specs.Deciding.{begin}
 use Rattle.dirac_arith.specs.Front.{front}
 use Rattle.dirac_arith.specs.Interval.{Decision}
@@ -17,19 +16,18 @@ use Rattle.dirac_blocks.specs.declared.parts.Component.TheVariants as components
 use Rattle.dirac_blocks.specs.declared.parts.Part.{Part}
 use Rattle.dirac_blocks.specs.declared.parts.Part.TheVariants as parts
 use Rattle.dirac_blocks.specs.declared.parts.Reference.TheVariants as references
-use Rattle.dirac_blocks.specs.Carried.{with_part, IsWithPart, IsRefused}
+use Rattle.dirac_blocks.specs.Carried.{with_part}
 use Rattle.dirac_blocks.specs.Decisions.{unit_row, unit_rows, superblock_row, superblock_rows}
-use Rattle.dirac_blocks.specs.Grammar.{Progress, Step, repeated, with_unit, unit_read, unit_step, unit_row_step, unit_rows_step, superblock_step, units_step}
+use Rattle.dirac_blocks.specs.Grammar.{Progress, Step, repeated, with_unit, unit_read, unit_step, unit_row_step, unit_rows_step, superblock_step}
 use Rattle.dirac_blocks.specs.Laws.{RefusedIsBroken}
 use Rattle.dirac_blocks.specs.Parts.{part_at}
 use Rattle.dirac_blocks.specs.Reached.{SameShape, IsUnit, progress}
-use Rattle.dirac_blocks.specs.Refused.{Told, value_told, Break, IsBreak, broken_part, cause_of, list_until, CarriesBreak}
+use Rattle.dirac_blocks.specs.Refused.{Told, value_told, Break, IsBreak, broken_part, cause_of, CarriesBreak}
 use Rattle.dirac_blocks.specs.Tables.{BlockTable, IsBlockTable, block_at, split_at, unit_size}
 use Rattle.dirac_blocks.proofs.BackwardLoops.{IsOutside, Came, row_came, rows_came, superblocks_came, superblock_rows_came}
-use Rattle.dirac_blocks.proofs.Breaks.{stopped, no_refusal, UnitBreaks, unit_breaks}
+use Rattle.dirac_blocks.proofs.Breaks.{stopped, no_refusal, unit_breaks}
 use Rattle.dirac_blocks.proofs.Fills.{split_few}
 use Rattle.dirac_blocks.proofs.ForwardLoops.{unit_of_superblock, units_fill}
-use Rattle.dirac_blocks.proofs.Nearby.{SameWithin}
 use Rattle.dirac_blocks.proofs.Repeating.{shape_join, shape_refl, split_same, unit_same}
 
 -- the step that was refused, behind those that weren't
@@ -55,22 +53,22 @@ repeated_breaks step (suc n) x e is =
 with_twice : (part : Part) (a b c : Block) → with_part part a b ≡ b → with_part part b c ≡ c → with_part part a c ≡ c
 with_twice part a b c p q = sym (absorbs part a b c) ∙ ap (λ (x : Block). with_part part x c) p ∙ q
   where
-  absorbs : (part : Part) (a b c : Block) → with_part part (with_part part a b) c ≡ with_part part a c
-  absorbs parts.Modes a b c = refl
-  absorbs (parts.Across references.First) a b c = refl
-  absorbs (parts.Across references.Second) a b c = refl
-  absorbs (parts.Down references.First) a b c = refl
-  absorbs (parts.Down references.Second) a b c = refl
-  absorbs (parts.Dc components.Y) a b c = refl
-  absorbs (parts.Dc components.U) a b c = refl
-  absorbs (parts.Dc components.V) a b c = refl
+    absorbs : (part : Part) (a b c : Block) → with_part part (with_part part a b) c ≡ with_part part a c
+    absorbs parts.Modes a b c = refl
+    absorbs (parts.Across references.First) a b c = refl
+    absorbs (parts.Across references.Second) a b c = refl
+    absorbs (parts.Down references.First) a b c = refl
+    absorbs (parts.Down references.Second) a b c = refl
+    absorbs (parts.Dc components.Y) a b c = refl
+    absorbs (parts.Dc components.U) a b c = refl
+    absorbs (parts.Dc components.V) a b c = refl
 
 -- a list that tells values tells nothing of a block that stays
 stays : (part : Part) (t : BlockTable) (i j : ℕ) (v : Told) → value_told part t i j ≡ Some v → (b : Block) → with_part part b b ≡ b
 stays parts.Modes t i j v is b = absurd (none is)
   where
-  none : {v : Told} → (let o : Option Told = None in o ≡ Some v) → ⊥
-  none e = cc
+    none : {v : Told} → (let o : Option Told = None in o ≡ Some v) → ⊥
+    none e = cc
 stays (parts.Across references.First) t i j v is b = refl
 stays (parts.Across references.Second) t i j v is b = refl
 stays (parts.Down references.First) t i j v is b = refl
@@ -97,8 +95,8 @@ rest_of part m t r s left right top bottom decisions g whole x y p =
       ]
     ]
   where
-  same : IsOutside left right top bottom x y → with_part part (block_at m x y) (block_at t x y) ≡ block_at t x y
-  same o = subst (λ (b : Block). with_part part (block_at m x y) b ≡ b) (sym (g.outside x y p o)) (whole (block_at m x y))
+    same : IsOutside left right top bottom x y → with_part part (block_at m x y) (block_at t x y) ≡ block_at t x y
+    same o = subst (λ (b : Block). with_part part (block_at m x y) b ≡ b) (sym (g.outside x y p o)) (whole (block_at m x y))
 
 -- a list broke off at the unit whose first block is block i of row j, in a table that nothing left of `left` or above `top` was changed in
 record BrokenAt (part : Part) (m : BlockTable) (r : Reading) (e : Cause) (left top : ℕ) (decisions : BlockTable → List Decision) (i j : ℕ) : Type 0 where
@@ -136,7 +134,7 @@ combined part m t r s e l ri to bo first then' left' top' left top i j fits g b 
       reads = (
         b.reads.0,
         subst (λ (ds : List Decision). Reads r ds b.reads.0) (sym (append_assoc (first b.table) (then' b.table) (broken_part b.told b.breaks)))
-        (reads_more r s b.reads.0 (first b.table) (then' b.table ++ broken_part b.told b.breaks) reads b.reads.1),
+            (reads_more r s b.reads.0 (first b.table) (then' b.table ++ broken_part b.told b.breaks) reads b.reads.1),
       );
     }
 
@@ -202,13 +200,16 @@ row_broken part m r e size i j n inv units led some fits is =
     let less : u * size ≤ n * size = mul-le u size n size (omega (arith, b.few)) (omega arith) in
     let g = row_came part m t size i j u r s inv (λ k l. units k (omega (arith, b.few))) led (omega arith) b.before in
     let h = unit_broken part t s e size (i + u * size) j g.lawful g.led (same_block part m t r s i (i + u * size) j (j + size) (λ w. unit_row (part_at part w) size i j u) g some) b.here in
-    let d : BlockTable → List Decision = λ w. unit_row (part_at part w) size i j u in
-    (u, b.few, without_nothing part m r e i j (i + u * size) j d
-    (combined part m t r s e i (i + u * size) j (j + size) d (λ w. []) (i + u * size) j i j (i + u * size) j (omega arith) g h (λ x y p q. inl p) (λ x y o. beside i (u * size) j size x y o)))
+    let d : BlockTable → List Decision = λ w. unit_row (part_at part w) size i j u in (
+      u,
+      b.few,
+      without_nothing part m r e i j (i + u * size) j d
+          (combined part m t r s e i (i + u * size) j (j + size) d (λ w. []) (i + u * size) j i j (i + u * size) j (omega arith) g h (λ x y p q. inl p) (λ x y o. beside i (u * size) j size x y o)),
+    )
   where
-  beside : (i a j size x y : ℕ) → (x < i) ⊎ (y < j) → IsOutside i (i + a) j (j + size) x y × ((x < i + a) ⊎ (y < j))
-  beside i a j size x y (inl l) = (inl (inl l), inl (omega arith))
-  beside i a j size x y (inr l) = (inr (inl l), inr l)
+    beside : (i a j size x y : ℕ) → (x < i) ⊎ (y < j) → IsOutside i (i + a) j (j + size) x y × ((x < i + a) ⊎ (y < j))
+    beside i a j size x y (inl l) = (inl (inl l), inl (omega arith))
+    beside i a j size x y (inr l) = (inr (inl l), inr l)
 
 -- rows of units
 rows_broken : (part : Part) (m : BlockTable) (r : Reading) (e : Cause) (size across i j n : ℕ) → IsBlockTable m
@@ -225,14 +226,20 @@ rows_broken part m r e size across i j n inv units led some fits is =
     let wide : 4 * t.across ≡ 4 * m.across = ap (λ (k : ℕ). 4 * k) g.shape.across in
     let d : BlockTable → List Decision = λ w. unit_rows (part_at part w) size across i j v in
     let h = row_broken part t s e size i (j + v * size) across g.lawful (λ k l. unit_same m t size (i + k * size) (j + v * size) g.shape (units k v l b.few)) g.led
-    (same_block part m t r s i (i + across * size) j (j + v * size) d g some) (omega arith) b.here in
-    (v, b.few, (h.0, h.1,
-    combined part m t r s e i (i + across * size) j (j + v * size) d (λ w. unit_row (part_at part w) size i (j + v * size) h.0) i (j + v * size) i j (i + h.0 * size) (j + v * size) fits g h.2
-    (λ x y p q. inr q) (λ x y o. beside i (across * size) j (v * size) x y o)))
+    (same_block part m t r s i (i + across * size) j (j + v * size) d g some) (omega arith) b.here in (
+      v,
+      b.few,
+      (
+        h.0,
+        h.1,
+        combined part m t r s e i (i + across * size) j (j + v * size) d (λ w. unit_row (part_at part w) size i (j + v * size) h.0) i (j + v * size) i j (i + h.0 * size) (j + v * size) fits g h.2
+            (λ x y p q. inr q) (λ x y o. beside i (across * size) j (v * size) x y o),
+      ),
+    )
   where
-  beside : (i a j c x y : ℕ) → (x < i) ⊎ (y < j) → IsOutside i (i + a) j (j + c) x y × ((x < i) ⊎ (y < j + c))
-  beside i a j c x y (inl l) = (inl (inl l), inl l)
-  beside i a j c x y (inr l) = (inr (inl l), inr (omega arith))
+    beside : (i a j c x y : ℕ) → (x < i) ⊎ (y < j) → IsOutside i (i + a) j (j + c) x y × ((x < i) ⊎ (y < j + c))
+    beside i a j c x y (inl l) = (inl (inl l), inl l)
+    beside i a j c x y (inr l) = (inr (inl l), inr (omega arith))
 
 -- superblocks of a row
 record SuperblockBroken (part : Part) (m : BlockTable) (r : Reading) (e : Cause) (sy n : ℕ) : Type 0 where
@@ -243,11 +250,11 @@ record SuperblockBroken (part : Part) (m : BlockTable) (r : Reading) (e : Cause)
   u : ℕ
   some : u < 2 ^ split_at m sx sy
   at :
-    BrokenAt part m r e 0 (4 * sy)
-    (λ t. superblock_row (part_at part t) t sy sx
-    ++ (unit_rows (part_at part t) (unit_size (split_at m sx sy)) (2 ^ split_at m sx sy) (4 * sx) (4 * sy) v
-    ++ unit_row (part_at part t) (unit_size (split_at m sx sy)) (4 * sx) (4 * sy + v * unit_size (split_at m sx sy)) u))
-    (4 * sx + u * unit_size (split_at m sx sy)) (4 * sy + v * unit_size (split_at m sx sy))
+      BrokenAt part m r e 0 (4 * sy)
+      (λ t. superblock_row (part_at part t) t sy sx
+      ++ (unit_rows (part_at part t) (unit_size (split_at m sx sy)) (2 ^ split_at m sx sy) (4 * sx) (4 * sy) v
+      ++ unit_row (part_at part t) (unit_size (split_at m sx sy)) (4 * sx) (4 * sy + v * unit_size (split_at m sx sy)) u))
+      (4 * sx + u * unit_size (split_at m sx sy)) (4 * sy + v * unit_size (split_at m sx sy))
 
 -- one superblock
 one_broken : (part : Part) (m : BlockTable) (r : Reading) (e : Cause) (sx sy s : ℕ) → IsBlockTable m → split_at m sx sy ≡ s → sx < m.across → sy < m.down → IsLed r → front r.block 16 ≢ 65535
@@ -292,9 +299,9 @@ superblocks_broken part m r e sy n inv fits hy led some is =
           (4 * sx) (4 * sy) 0 (4 * sy) (4 * sx + h.2.0 * unit_size s) (4 * sy + h.0 * unit_size s) (omega arith) g h.2.2 (λ x y p o. inl p) (λ x y o. beside sx sy x y o);
     }
   where
-  beside : (sx sy x y : ℕ) → (x < 0) ⊎ (y < 4 * sy) → IsOutside 0 (4 * sx) (4 * sy) (4 * sy + 4) x y × ((x < 4 * sx) ⊎ (y < 4 * sy))
-  beside sx sy x y (inl l) = absurd (omega arith)
-  beside sx sy x y (inr l) = (inr (inl l), inr l)
+    beside : (sx sy x y : ℕ) → (x < 0) ⊎ (y < 4 * sy) → IsOutside 0 (4 * sx) (4 * sy) (4 * sy + 4) x y × ((x < 4 * sx) ⊎ (y < 4 * sy))
+    beside sx sy x y (inl l) = absurd (omega arith)
+    beside sx sy x y (inr l) = (inr (inl l), inr l)
 
 -- a whole list
 abbrev ListBroken : Part → BlockTable → Reading → Cause → ℕ → ℕ → Type 0
@@ -308,7 +315,6 @@ ListBroken part m r e sy s =
 list_broken : (part : Part) (m : BlockTable) (r : Reading) (e : Cause) → IsBlockTable m → IsLed r → front r.block 16 ≢ 65535
     → repeated (λ sy. repeated (superblock_step part sy) m.across) m.down (progress m r) ≡ Err e
     → (sy : ℕ) × (sy < m.down) × ((s : ℕ) × ListBroken part m r e sy s)
-
 list_broken part m r e inv led some is =
     let a = m.across in
     let b = repeated_breaks (λ sy. repeated (superblock_step part sy) a) m.down (progress m r) e is in
@@ -320,16 +326,34 @@ list_broken part m r e inv led some is =
     let few : a ≤ t.across = omega (arith, g.shape.across) in
     let h = superblocks_broken part t q e sy a g.lawful few (subst (λ (k : ℕ). sy < k) (sym g.shape.down) b.few) g.led
     (same_block part m t r q 0 (4 * a) 0 (4 * sy) d g some) b.here in
-    let s = split_at t h.sx sy in
-    (sy, b.few, (s, (h.sx, h.column, split_same m t h.sx sy g.shape, (h.v, h.few, (h.u, h.some,
-    combined part m t r q e 0 (4 * a) 0 (4 * sy) d
-    (λ w. superblock_row (part_at part w) w sy h.sx
-    ++ (unit_rows (part_at part w) (unit_size s) (2 ^ s) (4 * h.sx) (4 * sy) h.v ++ unit_row (part_at part w) (unit_size s) (4 * h.sx) (4 * sy + h.v * unit_size s) h.u))
-    0 (4 * sy) 0 0 (4 * h.sx + h.u * unit_size s) (4 * sy + h.v * unit_size s) (omega arith) g h.at (λ x y p o. inr o) (λ x y o. never x y o))))))
+    let s = split_at t h.sx sy in (
+      sy,
+      b.few,
+      (
+        s,
+        (
+          h.sx,
+          h.column,
+          split_same m t h.sx sy g.shape,
+          (
+            h.v,
+            h.few,
+            (
+              h.u,
+              h.some,
+              combined part m t r q e 0 (4 * a) 0 (4 * sy) d
+                  (λ w. superblock_row (part_at part w) w sy h.sx
+                  ++ (unit_rows (part_at part w) (unit_size s) (2 ^ s) (4 * h.sx) (4 * sy) h.v ++ unit_row (part_at part w) (unit_size s) (4 * h.sx) (4 * sy + h.v * unit_size s) h.u))
+                  0 (4 * sy) 0 0 (4 * h.sx + h.u * unit_size s) (4 * sy + h.v * unit_size s) (omega arith) g h.at (λ x y p o. inr o) (λ x y o. never x y o),
+            ),
+          ),
+        ),
+      ),
+    )
   where
-  never : {A : Type 0} (x y : ℕ) → (x < 0) ⊎ (y < 0) → A
-  never x y (inl l) = absurd (omega arith)
-  never x y (inr l) = absurd (omega arith)
+    never : {A : Type 0} (x y : ℕ) → (x < 0) ⊎ (y < 0) → A
+    never x y (inl l) = absurd (omega arith)
+    never x y (inr l) = absurd (omega arith)
 
 -- what broke off, with the table's own split
 with_own_split : (part : Part) (former : BlockTable) (block : List ℕ) (e : Cause) (sy s sx v u : ℕ) → sx < former.across → sy < former.down → s ≡ split_at former sx sy → v < 2 ^ s → u < 2 ^ s
@@ -344,8 +368,8 @@ with_own_split part former block e sy s sx v u hx hy own few some b =
     let whole = stays part t (4 * sx + u * unit_size s) (4 * sy + v * unit_size s) b.told b.is in
     let split : s ≡ split_at t sx sy = own ∙ sym (split_same former t sx sy b.shape) in
     let P : ℕ → Type 0 = λ n.
-        (u < 2 ^ n) × (v < 2 ^ n) × (value_told part t (4 * sx + u * unit_size n) (4 * sy + v * unit_size n) ≡ Some b.told)
-        × Carries block ((superblock_rows p t sy ++ (superblock_row p t sy sx ++ (unit_rows p (unit_size n) (2 ^ n) (4 * sx) (4 * sy) v ++ unit_row p (unit_size n) (4 * sx) (4 * sy + v * unit_size n) u))) ++ broken_part b.told b.breaks) in
+    (u < 2 ^ n) × (v < 2 ^ n) × (value_told part t (4 * sx + u * unit_size n) (4 * sy + v * unit_size n) ≡ Some b.told)
+    × Carries block ((superblock_rows p t sy ++ (superblock_row p t sy sx ++ (unit_rows p (unit_size n) (2 ^ n) (4 * sx) (4 * sy) v ++ unit_row p (unit_size n) (4 * sx) (4 * sy + v * unit_size n) u))) ++ broken_part b.told b.breaks) in
     let facts : P (split_at t sx sy) = subst P split (some, few, b.is, reads_carried block _ b.reads.0 b.reads.1) in
     record {
       table = t;
@@ -368,7 +392,6 @@ with_own_split part former block e sy s sx v u hx hy own few some b =
     }
 
 pub refused_is_broken : RefusedIsBroken
-
 refused_is_broken part former block e inv some is =
     let k = list_broken part former (begin block) e inv (led_begin block) some is in
     let l = k.2.1 in

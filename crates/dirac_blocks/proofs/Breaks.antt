@@ -1,13 +1,12 @@
 -- A unit that is refused.
-use Rattle.std.proofs.Common.{◌≡◌, ◌≢◌, ℕ, ℤ, zero, suc, ◌+◌, ◌-◌, ◌*◌, ◌/◌, ◌^◌, ◌<◌, ◌≤◌, ◌⊎◌, ◌+ℤ◌, inl, inr, Bool, true, false, List, [], ◌∷◌, ◌++◌, length, nat_abs, Option, Some, None, Result, Ok, Err, refl, sym, ap, ◌∙◌, arith, subst}
-use Rattle.std.specs.Prelude.{if◌then◌else◌, ◌==◌}
+use Rattle.std.proofs.Common.{◌≡◌, ◌≢◌, ℕ, ℤ, ◌⊎◌, ◌+ℤ◌, inl, inr, Bool, true, false, Some, None, Result, Ok, Err, refl, sym, ap, ◌∙◌, subst}
+use Rattle.std.specs.Prelude.{if◌then◌else◌}
 use Rattle.std.proofs.lemmas.Bool.{cases_Bool, cases_eq, eq-eqb, ne_eqb, both_ways}
 use Rattle.dirac_types.specs.declared.faults.Cause.{Cause}
 use Rattle.dirac_types.specs.declared.faults.Cause.TheVariants as cause
 use Rattle.dirac_arith.specs.Chain.{◌>>=◌}
 use Rattle.dirac_arith.specs.Deciding.{after, after_all, truth_of, decided, signed_read}
 use Rattle.dirac_arith.specs.Front.{front}
-use Rattle.dirac_arith.specs.Interval.{Decision}
 use Rattle.dirac_arith.specs.Reading.{Reading, Reads}
 use Rattle.dirac_arith.specs.Spelling.{spelt, signed_spelling}
 use Rattle.dirac_arith.proofs.Carrieds.{IsLed, some_signed, reads_of}
@@ -17,7 +16,7 @@ use Rattle.dirac_blocks.specs.declared.block.Block.{Block}
 use Rattle.dirac_blocks.specs.declared.parts.Part.{Part}
 use Rattle.dirac_blocks.specs.declared.parts.Part.TheVariants as parts
 use Rattle.dirac_blocks.specs.Decisions.{predicted, differ, ref1_at, ref2_at}
-use Rattle.dirac_blocks.specs.Grammar.{block_using, mode_read, second_use_read, is_short, value_from, value_read, component_read, read_into, unit_read, uses, is_dc, with_across, with_down, with_dc}
+use Rattle.dirac_blocks.specs.Grammar.{block_using, mode_read, second_use_read, is_short, value_from, value_read, read_into, unit_read, uses, is_dc, with_across, with_down, with_dc}
 use Rattle.dirac_blocks.specs.Parts.{vector_at, dc_at}
 use Rattle.dirac_blocks.specs.Refused.{Told, component_told, dc_told, value_told, Break, long, beyond, IsBreak, broken_part, cause_of}
 use Rattle.dirac_blocks.specs.Tables.{BlockTable, block_at}
@@ -87,15 +86,16 @@ value_breaks v r e led some is =
           }
     ]
   where
-  fits : (v : Told) (x : ℤ × Reading) (e : Cause) → is_short (x.0 +ℤ v.prediction) ≡ true → value_from v.range v.prediction x ≡ Err e → ⊥
-  fits v x e short is =
-      let P : Bool → Type 0 = λ b. (let r : Result (ℤ × Reading) Cause = if b then Ok (x.0 +ℤ v.prediction, x.1) else Err v.range in r ≡ Err e) in
-      no_refusal (Ok (x.0 +ℤ v.prediction, x.1)) (x.0 +ℤ v.prediction, x.1) e refl (subst P short is)
-  apart : (v : Told) (x : ℤ × Reading) (e : Cause) → is_short (x.0 +ℤ v.prediction) ≡ false → value_from v.range v.prediction x ≡ Err e → v.range ≡ e
-  apart v x e far is =
-      let P : Bool → Type 0 = λ b. (let r : Result (ℤ × Reading) Cause = if b then Ok (x.0 +ℤ v.prediction, x.1) else Err v.range in r ≡ Err e) in
-      let left : Result (ℤ × Reading) Cause = Err v.range in
-      one_refusal left v.range e refl (subst P far is)
+    fits : (v : Told) (x : ℤ × Reading) (e : Cause) → is_short (x.0 +ℤ v.prediction) ≡ true → value_from v.range v.prediction x ≡ Err e → ⊥
+    fits v x e short is =
+        let P : Bool → Type 0 = λ b. (let r : Result (ℤ × Reading) Cause = if b then Ok (x.0 +ℤ v.prediction, x.1) else Err v.range in r ≡ Err e) in
+        no_refusal (Ok (x.0 +ℤ v.prediction, x.1)) (x.0 +ℤ v.prediction, x.1) e refl (subst P short is)
+
+    apart : (v : Told) (x : ℤ × Reading) (e : Cause) → is_short (x.0 +ℤ v.prediction) ≡ false → value_from v.range v.prediction x ≡ Err e → v.range ≡ e
+    apart v x e far is =
+        let P : Bool → Type 0 = λ b. (let r : Result (ℤ × Reading) Cause = if b then Ok (x.0 +ℤ v.prediction, x.1) else Err v.range in r ≡ Err e) in
+        let left : Result (ℤ × Reading) Cause = Err v.range in
+        one_refusal left v.range e refl (subst P far is)
 
 -- a unit that has the value breaks off in it
 into_breaks : (part : Part) (m : BlockTable) (i j : ℕ) (has : Bool) (bm : Block) (put : Block → ℤ → Block) (v : Told) (r : Reading) (e : Cause) → IsLed r → front r.block 16 ≢ 0xFFFF
@@ -122,18 +122,18 @@ modes_never m i j r e some is =
       | inr q ↦ no_refusal (k q.0) (block_using (differ (truth_of 25 r) (predicted mode_of (ref1_at m) i j)) q.0.0, q.0.1) e refl q.2
     ]
   where
-  second : (m : BlockTable) (i j : ℕ) (mid : Reading) (e : Cause) → front mid.block 16 ≢ 0xFFFF → second_use_read m i j mid ≡ Err e → ⊥
-  second m i j mid e some is =
-      let g : Bool × Reading → Result (Bool × Reading) Cause = λ bit. Ok (differ bit.0 (predicted mode_of (ref2_at m) i j), bit.1) in
-      let P : Bool → Type 0 = λ b. (let r : Result (Bool × Reading) Cause = if b then (decided 26 mid >>= g) else Ok (false, mid) in r ≡ Err e) in
-      elim (cases_eq m.refs 2) [
-        | inl two ↦
-            elim (stopped (decided 26 mid) g e (subst P (eq-eqb m.refs 2 two) is)) [
-              | inl bad ↦ no_refusal (decided 26 mid) (truth_of 26 mid, after mid (26, truth_of 26 mid)) e (decided_open 26 mid some) bad
-              | inr q ↦ no_refusal (g q.0) (differ q.0.0 (predicted mode_of (ref2_at m) i j), q.0.1) e refl q.2
-            ]
-        | inr not ↦ no_refusal (Ok (false, mid)) (false, mid) e refl (subst P (ne_eqb m.refs 2 not) is)
-      ]
+    second : (m : BlockTable) (i j : ℕ) (mid : Reading) (e : Cause) → front mid.block 16 ≢ 0xFFFF → second_use_read m i j mid ≡ Err e → ⊥
+    second m i j mid e some is =
+        let g : Bool × Reading → Result (Bool × Reading) Cause = λ bit. Ok (differ bit.0 (predicted mode_of (ref2_at m) i j), bit.1) in
+        let P : Bool → Type 0 = λ b. (let r : Result (Bool × Reading) Cause = if b then (decided 26 mid >>= g) else Ok (false, mid) in r ≡ Err e) in
+        elim (cases_eq m.refs 2) [
+          | inl two ↦
+              elim (stopped (decided 26 mid) g e (subst P (eq-eqb m.refs 2 two) is)) [
+                | inl bad ↦ no_refusal (decided 26 mid) (truth_of 26 mid, after mid (26, truth_of 26 mid)) e (decided_open 26 mid some) bad
+                | inr q ↦ no_refusal (g q.0) (differ q.0.0 (predicted mode_of (ref2_at m) i j), q.0.1) e refl q.2
+              ]
+          | inr not ↦ no_refusal (Ok (false, mid)) (false, mid) e refl (subst P (ne_eqb m.refs 2 not) is)
+        ]
 
 -- a value that a unit has is told
 told_where : (has : Bool) (v : Told) → has ≡ true → (if has then Some v else None) ≡ Some v

@@ -1,5 +1,5 @@
 -- Why a list is refused, told of a table that is known up to some unit.
-use Rattle.std.specs.Prelude.{◌≡◌, ℕ, ℤ, ◌+◌, ◌-◌, ◌+ℤ◌, ◌*◌, ◌^◌, ◌<◌, Bool, true, false, if◌then◌else◌, List, [], ◌∷◌, ◌++◌, length, nat_abs, Option, Some, None}
+use Rattle.std.specs.Prelude.{◌≡◌, ℕ, ℤ, ◌+◌, ◌-◌, ◌+ℤ◌, ◌*◌, ◌^◌, ◌<◌, Bool, false, if◌then◌else◌, List, [], ◌∷◌, ◌++◌, length, nat_abs, Option, Some, None}
 use Rattle.dirac_types.specs.declared.faults.Cause.{Cause}
 use Rattle.dirac_types.specs.declared.faults.Cause.TheVariants.{NumberTooLong, VectorRange, DcRange}
 use Rattle.dirac_arith.specs.Carried.{Carries}
@@ -9,10 +9,9 @@ use Rattle.dirac_vectors.specs.Predictions.{vector_of, dc_of}
 use Rattle.dirac_blocks.specs.declared.parts.Part.{Part}
 use Rattle.dirac_blocks.specs.declared.parts.Part.TheVariants as parts
 use Rattle.dirac_blocks.specs.Carried.{IsWithPart}
-use Rattle.dirac_blocks.specs.Decisions.{Numbers, predicted, split_row, split_rows, unit_row, unit_rows, superblock_row, superblock_rows}
+use Rattle.dirac_blocks.specs.Decisions.{predicted, unit_row, unit_rows, superblock_row, superblock_rows}
 use Rattle.dirac_blocks.specs.Grammar.{is_dc, is_short, uses}
 use Rattle.dirac_blocks.specs.Parts.{vector_at, dc_at, part_at}
-use Rattle.dirac_blocks.specs.Reached.{SameBlocks}
 use Rattle.dirac_blocks.specs.Tables.{BlockTable, IsBlockTable, block_at, split_at, unit_size}
 
 -- a value that is told by its difference: the contexts of that, the prediction, and the cause where the sum hasn't 16 bits
