@@ -102,7 +102,7 @@ unit_goes part u m size i j r s inv toward unit before over led reads =
     }
 
 -- n units of a row
-row_goes : (part : Part) (u m : BlockTable) (size i j count n : ℕ) (r s : Reading) → IsBlockTable u → Toward part m u
+pub row_goes : (part : Part) (u m : BlockTable) (size i j count n : ℕ) (r s : Reading) → IsBlockTable u → Toward part m u
     → ((k : ℕ) → k < count → IsUnit u size (i + k * size) j) → i + count * size ≤ 4 * u.across → 1 ≤ size → n ≤ count
     → SameWithin m u i (j + size) → SameWithin m u (i + count * size) j → IsLed r → Reads r (unit_row (part_at part u) size i j n) s
     → Goes part u (unit_row_step part size i j n) m r s i (i + n * size) j (j + size)
@@ -146,7 +146,7 @@ row_goes part u m size i j count (suc n) r s inv toward units fits some few befo
     }
 
 -- n rows of units
-rows_go : (part : Part) (u m : BlockTable) (size across i j count n : ℕ) (r s : Reading) → IsBlockTable u → Toward part m u
+pub rows_go : (part : Part) (u m : BlockTable) (size across i j count n : ℕ) (r s : Reading) → IsBlockTable u → Toward part m u
     → ((k l : ℕ) → k < across → l < count → IsUnit u size (i + k * size) (j + l * size)) → i + across * size ≤ 4 * u.across → 1 ≤ size → n ≤ count
     → SameWithin m u i (j + count * size) → SameWithin m u (i + across * size) j → IsLed r → Reads r (unit_rows (part_at part u) size across i j n) s
     → Goes part u (unit_rows_step part size across i j n) m r s i (i + across * size) j (j + n * size)
@@ -224,7 +224,7 @@ superblock_goes part u m sx sy r s inv toward hx hy before over led reads =
     }
 
 -- n superblocks of a row
-superblocks_go : (part : Part) (u m : BlockTable) (sy n : ℕ) (r s : Reading) → IsBlockTable u → Toward part m u → n ≤ u.across → sy < u.down
+pub superblocks_go : (part : Part) (u m : BlockTable) (sy n : ℕ) (r s : Reading) → IsBlockTable u → Toward part m u → n ≤ u.across → sy < u.down
     → SameWithin m u (4 * u.across) (4 * sy) → IsLed r → Reads r (superblock_row (part_at part u) u sy n) s
     → Goes part u (λ x. repeated (superblock_step part sy) n x) m r s 0 (4 * n) (4 * sy) (4 * sy + 4)
 unfolding superblock_row repeated
@@ -262,7 +262,7 @@ superblocks_go part u m sy (suc n) r s inv toward few hy over led reads =
     }
 
 -- n rows of superblocks
-superblock_rows_go : (part : Part) (u m : BlockTable) (n : ℕ) (r s : Reading) → IsBlockTable u → Toward part m u → n ≤ u.down
+pub superblock_rows_go : (part : Part) (u m : BlockTable) (n : ℕ) (r s : Reading) → IsBlockTable u → Toward part m u → n ≤ u.down
     → IsLed r → Reads r (superblock_rows (part_at part u) u n) s
     → Goes part u (λ x. repeated (λ sy. repeated (superblock_step part sy) u.across) n x) m r s 0 (4 * u.across) 0 (4 * n)
 unfolding superblock_rows repeated

@@ -3,6 +3,7 @@ mod BackwardLoops
 mod Backwards
 mod BreakLoops
 mod Breaks
+mod BrokenForwards
 mod Examples
 mod Filled
 mod Fills

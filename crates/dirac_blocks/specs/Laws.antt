@@ -50,3 +50,11 @@ RefusedIsBroken =
     front block 16 ≢ 65535 →
     IsRefused (units_step part) former block cause →
     CarriesBreak part former block cause
+
+-- and where a block breaks off its list is refused
+abbrev pub BrokenIsRefused : Type 0
+BrokenIsRefused =
+    (part : Part) (former : BlockTable) (block : List ℕ) (cause : Cause) →
+    IsBlockTable former →
+    CarriesBreak part former block cause →
+    IsRefused (units_step part) former block cause

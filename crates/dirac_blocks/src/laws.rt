@@ -1,5 +1,5 @@
 //! What holds of all block tables, each as the contract of a function that does nothing.
-ghost use Rattle.dirac_blocks.specs.Laws.{CarriedIsRead, CarriedSplitsAreRead, ReadIsCarried, ReadSplitsAreCarried, RefusedIsBroken};
+ghost use Rattle.dirac_blocks.specs.Laws.{CarriedIsRead, CarriedSplitsAreRead, ReadIsCarried, ReadSplitsAreCarried, RefusedIsBroken, BrokenIsRefused};
 
 /// A list is read from the block that carries it.
 pub fn carried_lists_are_read()
@@ -16,4 +16,5 @@ pub fn read_lists_are_carried()
 /// A list is refused as its block breaks off.
 pub fn refused_lists_break_off()
     ensures units { RefusedIsBroken }
+    ensures refused { BrokenIsRefused }
 {}
