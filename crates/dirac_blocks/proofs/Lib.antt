@@ -12,6 +12,7 @@ mod Forwards
 mod InContexts
 mod Narrowing
 mod Nearby
+mod Ones
 mod Putting
 mod Repeating
 mod SplitBackwards
