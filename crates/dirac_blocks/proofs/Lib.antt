@@ -16,6 +16,7 @@ mod Ones
 mod Putting
 mod Repeating
 mod SplitBackwards
+mod SplitBreaks
 mod SplitForwards
 mod UnitValues
 mod Spelled

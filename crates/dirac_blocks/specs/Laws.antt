@@ -1,7 +1,7 @@
 -- The laws of this crate.
 use Rattle.std.specs.Prelude.{◌≡◌, ◌≢◌, ◌⊎◌, ℕ, List, []}
 use Rattle.dirac_types.specs.declared.faults.Cause.{Cause}
-use Rattle.dirac_types.specs.declared.faults.Cause.TheVariants.{CodeWord}
+use Rattle.dirac_types.specs.declared.faults.Cause.TheVariants.{CodeWord, NumberTooLong}
 use Rattle.dirac_arith.specs.Front.{front}
 use Rattle.dirac_blocks.specs.declared.parts.Part.{Part}
 use Rattle.dirac_blocks.specs.Carried.{CarriesPart, CarriesSplits, ReadsTo, IsRefused}
@@ -9,7 +9,7 @@ use Rattle.dirac_blocks.specs.Decisions.{unit_decisions}
 use Rattle.dirac_blocks.specs.Grammar.{splits_step, units_step}
 use Rattle.dirac_blocks.specs.Parts.{part_at}
 use Rattle.dirac_blocks.specs.Reached.{AllGrey}
-use Rattle.dirac_blocks.specs.Refused.{CarriesBreak}
+use Rattle.dirac_blocks.specs.Refused.{CarriesBreak, CarriesSplitBreak}
 use Rattle.dirac_blocks.specs.Tables.{BlockTable, IsBlockTable}
 
 -- what a list tells of each unit is read from the block that carries it
@@ -75,3 +75,13 @@ OnesAreRefused =
 abbrev pub OnesRefuseSplits : Type 0
 OnesRefuseSplits =
     (former : BlockTable) (block : List ℕ) → IsBlockTable former → front block 16 ≡ 65535 → IsRefused splits_step former block CodeWord
+
+-- splits are refused, but for ones, as one of their numbers is too long
+abbrev pub RefusedSplitsAreBroken : Type 0
+RefusedSplitsAreBroken =
+    (former : BlockTable) (block : List ℕ) (cause : Cause) →
+    IsBlockTable former →
+    AllGrey former.blocks →
+    front block 16 ≢ 65535 →
+    IsRefused splits_step former block cause →
+    (cause ≡ NumberTooLong) × CarriesSplitBreak former block

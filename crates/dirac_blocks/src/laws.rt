@@ -1,5 +1,5 @@
 //! What holds of all block tables, each as the contract of a function that does nothing.
-ghost use Rattle.dirac_blocks.specs.Laws.{CarriedIsRead, CarriedSplitsAreRead, ReadIsCarried, ReadSplitsAreCarried, RefusedIsBroken, BrokenIsRefused, OnesAreRefused, OnesRefuseSplits};
+ghost use Rattle.dirac_blocks.specs.Laws.{CarriedIsRead, CarriedSplitsAreRead, ReadIsCarried, ReadSplitsAreCarried, RefusedIsBroken, BrokenIsRefused, OnesAreRefused, OnesRefuseSplits, RefusedSplitsAreBroken};
 
 /// A list is read from the block that carries it.
 pub fn carried_lists_are_read()
@@ -18,5 +18,6 @@ pub fn refused_lists_break_off()
     ensures units { RefusedIsBroken }
     ensures refused { BrokenIsRefused }
     ensures ones { OnesAreRefused }
-    ensures splits { OnesRefuseSplits }
+    ensures ones_in_splits { OnesRefuseSplits }
+    ensures splits { RefusedSplitsAreBroken }
 {}
