@@ -1,9 +1,7 @@
 -- Splits that are refused: a number of theirs is too long.
-use Rattle.std.proofs.Common.{◌≡◌, ◌≢◌, ℕ, zero, suc, ◌+◌, ◌*◌, ◌%◌, ◌^◌, ◌<◌, ◌≤◌, ◌⊎◌, inl, inr, Bool, false, List, [], ◌∷◌, ◌++◌, length, Result, Ok, Err, refl, sym, ap, ap₂, ◌∙◌, arith, subst, append_assoc}
-use Rattle.std.proofs.lemmas.Bool.{cases_lt}
+use Rattle.std.proofs.Common.{◌≡◌, ◌≢◌, ℕ, ◌+◌, ◌-◌, ◌%◌, ◌^◌, ◌<◌, ◌≤◌, inl, inr, Bool, false, List, [], ◌∷◌, ◌++◌, length, Result, Ok, Err, refl, sym, ap, ap₂, ◌∙◌, arith, subst}
 use Rattle.dirac_types.specs.declared.faults.Cause.{Cause}
 use Rattle.dirac_types.specs.declared.faults.Cause.TheVariants as cause
-use Rattle.dirac_arith.specs.Chain.{◌>>=◌}
 use Rattle.dirac_arith.specs.Deciding.{begin, after_all, number_read}
 use Rattle.dirac_arith.specs.Front.{front}
 use Rattle.dirac_arith.specs.Interval.{Decision}
@@ -11,16 +9,16 @@ use Rattle.dirac_arith.specs.Reading.{Reading, Reads}
 use Rattle.dirac_arith.specs.Spelling.{spelt, spelling}
 use Rattle.dirac_arith.proofs.Carrieds.{IsLed, some_number, reads_of}
 use Rattle.dirac_arith.proofs.Decidings.{number_is, number_is_long}
-use Rattle.dirac_arith.proofs.Led.{led_begin, led_more, reads_parted, carried_reads, reads_carried, number_long_led}
+use Rattle.dirac_arith.proofs.Led.{led_begin, reads_carried}
 use Rattle.dirac_arith.proofs.Spellings.{reads_more}
 use Rattle.dirac_blocks.specs.Decisions.{Numbers, predicted_split, split_row, split_rows}
-use Rattle.dirac_blocks.specs.Grammar.{Progress, Step, repeated, with_split, split_step, splits_step}
+use Rattle.dirac_blocks.specs.Grammar.{Progress, repeated, with_split, split_step}
 use Rattle.dirac_blocks.specs.Laws.{RefusedSplitsAreBroken}
-use Rattle.dirac_blocks.specs.Reached.{AllGrey, SameBlocks, progress}
+use Rattle.dirac_blocks.specs.Reached.{AllGrey, progress}
 use Rattle.dirac_blocks.specs.Refused.{CarriesSplitBreak}
-use Rattle.dirac_blocks.specs.Tables.{BlockTable, IsBlockTable, split_at}
+use Rattle.dirac_blocks.specs.Tables.{BlockTable}
 use Rattle.dirac_blocks.proofs.Breaks.{stopped, no_refusal, one_refusal}
-use Rattle.dirac_blocks.proofs.BreakLoops.{StepBreaks, repeated_breaks}
+use Rattle.dirac_blocks.proofs.BreakLoops.{repeated_breaks}
 use Rattle.dirac_blocks.proofs.Repeating.{blocks_join}
 use Rattle.dirac_blocks.proofs.SplitBackwards.{RowsCame, RowCame, row_came, rows_came, split_row_same, split_rows_same, with_value, value_there, value_here}
 
