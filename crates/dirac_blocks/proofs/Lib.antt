@@ -20,5 +20,6 @@ mod SplitBreaks
 mod SplitForwards
 mod UnitValues
 mod Spelled
+mod SplitsRefused
 mod Stages
 mod Units

@@ -85,3 +85,8 @@ RefusedSplitsAreBroken =
     front block 16 ≢ 65535 →
     IsRefused splits_step former block cause →
     (cause ≡ NumberTooLong) × CarriesSplitBreak former block
+
+-- and where a number is too long the splits are refused
+abbrev pub BrokenSplitsAreRefused : Type 0
+BrokenSplitsAreRefused =
+    (former : BlockTable) (block : List ℕ) → IsBlockTable former → CarriesSplitBreak former block → IsRefused splits_step former block NumberTooLong

@@ -1,5 +1,5 @@
 //! What holds of all block tables, each as the contract of a function that does nothing.
-ghost use Rattle.dirac_blocks.specs.Laws.{CarriedIsRead, CarriedSplitsAreRead, ReadIsCarried, ReadSplitsAreCarried, RefusedIsBroken, BrokenIsRefused, OnesAreRefused, OnesRefuseSplits, RefusedSplitsAreBroken};
+ghost use Rattle.dirac_blocks.specs.Laws.{CarriedIsRead, CarriedSplitsAreRead, ReadIsCarried, ReadSplitsAreCarried, RefusedIsBroken, BrokenIsRefused, OnesAreRefused, OnesRefuseSplits, RefusedSplitsAreBroken, BrokenSplitsAreRefused};
 
 /// A list is read from the block that carries it.
 pub fn carried_lists_are_read()
@@ -20,4 +20,5 @@ pub fn refused_lists_break_off()
     ensures ones { OnesAreRefused }
     ensures ones_in_splits { OnesRefuseSplits }
     ensures splits { RefusedSplitsAreBroken }
+    ensures refused_splits { BrokenSplitsAreRefused }
 {}
