@@ -12,11 +12,14 @@ mod Forwards
 mod InContexts
 mod Narrowing
 mod Nearby
+mod Ones
 mod Putting
 mod Repeating
 mod SplitBackwards
+mod SplitBreaks
 mod SplitForwards
 mod UnitValues
 mod Spelled
+mod SplitsRefused
 mod Stages
 mod Units

@@ -22,44 +22,44 @@ use Rattle.dirac_blocks.proofs.Repeating.{blocks_join, blocks_refl}
 use Rattle.dirac_blocks.proofs.SplitForwards.{SameSplits, split_near, split_here, split_there}
 
 -- lists of numbers that are the same
-split_row_same : (f g : Numbers) (y z n : ℕ) → ((k : ℕ) → k < n → f y k ≡ g z k) → split_row f y n ≡ split_row g z n
+pub split_row_same : (f g : Numbers) (y z n : ℕ) → ((k : ℕ) → k < n → f y k ≡ g z k) → split_row f y n ≡ split_row g z n
 unfolding split_row
 split_row_same f g y z zero same = refl
 split_row_same f g y z (suc n) same =
     ap₂ (λ (a b : List Decision). a ++ b) (split_row_same f g y z n (λ k l. same k (omega arith))) (ap (λ (v : ℕ). spelling (22 ∷ 23 ∷ []) 24 v) (same n (omega arith)))
 
-split_rows_same : (across : ℕ) (f g : Numbers) (n : ℕ) → ((y x : ℕ) → y < n → x < across → f y x ≡ g y x) → split_rows across f n ≡ split_rows across g n
+pub split_rows_same : (across : ℕ) (f g : Numbers) (n : ℕ) → ((y x : ℕ) → y < n → x < across → f y x ≡ g y x) → split_rows across f n ≡ split_rows across g n
 unfolding split_rows
 split_rows_same across f g zero same = refl
 split_rows_same across f g (suc n) same =
     ap₂ (λ (a b : List Decision). a ++ b) (split_rows_same across f g n (λ y x p q. same y x (omega arith) q)) (split_row_same f g n n across (λ k l. same n k (omega arith) l))
 
 -- a choice with one more value
-abbrev with_value : {A : Type 0} → (ℕ → A) → ℕ → A → ℕ → A
+abbrev pub with_value : {A : Type 0} → (ℕ → A) → ℕ → A → ℕ → A
 with_value f n v k = if k == n then v else f k
 
-value_there : {A : Type 0} (f : ℕ → A) (n : ℕ) (v : A) (k : ℕ) → k < n → with_value f n v k ≡ f k
+pub value_there : {A : Type 0} (f : ℕ → A) (n : ℕ) (v : A) (k : ℕ) → k < n → with_value f n v k ≡ f k
 value_there f n v k l = rw (ne_eqb k n (λ e. omega arith)) refl
 
-value_here : {A : Type 0} (f : ℕ → A) (n : ℕ) (v : A) (k : ℕ) → k ≡ n → with_value f n v k ≡ v
+pub value_here : {A : Type 0} (f : ℕ → A) (n : ℕ) (v : A) (k : ℕ) → k ≡ n → with_value f n v k ≡ v
 value_here f n v k e = rw (eq-eqb k n e) refl
 
 -- places of a row that aren't among its first n, and all other rows
-abbrev IsBeside : ℕ → ℕ → ℕ → ℕ → Type 0
+abbrev pub IsBeside : ℕ → ℕ → ℕ → ℕ → Type 0
 IsBeside sy n x y = (n ≤ x) ⊎ ((y < sy) ⊎ (sy < y))
 
 -- the first n splits of row sy were read
-record RowCame (m : BlockTable) (r : Reading) (t : BlockTable) (s : Reading) (sy n : ℕ) : Type 0 where
-  lawful : IsBlockTable t
-  rest : SameBlocks m t
-  outside : (x y : ℕ) → x < m.across → IsBeside sy n x y → split_at t x y ≡ split_at m x y
-  led : IsLed s
-  numbers : ℕ → ℕ
-  small : (k : ℕ) → k < n → numbers k < 2 ^ 39 - 1
-  are : (u : BlockTable) → SameSplits t u n (sy + 1) → (k : ℕ) → k < n → (numbers k + predicted_split u k sy) % 3 ≡ split_at u k sy
-  reads : Reads r (split_row (λ y. numbers) sy n) s
+pub record RowCame (m : BlockTable) (r : Reading) (t : BlockTable) (s : Reading) (sy n : ℕ) : Type 0 where
+  pub lawful : IsBlockTable t
+  pub rest : SameBlocks m t
+  pub outside : (x y : ℕ) → x < m.across → IsBeside sy n x y → split_at t x y ≡ split_at m x y
+  pub led : IsLed s
+  pub numbers : ℕ → ℕ
+  pub small : (k : ℕ) → k < n → numbers k < 2 ^ 39 - 1
+  pub are : (u : BlockTable) → SameSplits t u n (sy + 1) → (k : ℕ) → k < n → (numbers k + predicted_split u k sy) % 3 ≡ split_at u k sy
+  pub reads : Reads r (split_row (λ y. numbers) sy n) s
 
-row_came : (m t : BlockTable) (sy n : ℕ) (r s : Reading) → IsBlockTable m → AllGrey m.blocks → n ≤ m.across → sy < m.down → IsLed r
+pub row_came : (m t : BlockTable) (sy n : ℕ) (r s : Reading) → IsBlockTable m → AllGrey m.blocks → n ≤ m.across → sy < m.down → IsLed r
     → repeated (split_step sy) n (progress m r) ≡ Ok (progress t s) → RowCame m r t s sy n
 unfolding split_row repeated split_step
 row_came m t sy zero r s inv grey few hy led e =
@@ -140,16 +140,16 @@ row_came m t sy (suc n) r s inv grey few hy led e =
     wider sy n x y (inr l) = inr l
 
 -- the first n rows were read
-record RowsCame (m : BlockTable) (r : Reading) (t : BlockTable) (s : Reading) (n : ℕ) : Type 0 where
-  lawful : IsBlockTable t
-  rest : SameBlocks m t
-  led : IsLed s
-  numbers : Numbers
-  small : (x y : ℕ) → x < m.across → y < n → numbers y x < 2 ^ 39 - 1
-  are : (u : BlockTable) → SameSplits t u m.across n → (x y : ℕ) → x < m.across → y < n → (numbers y x + predicted_split u x y) % 3 ≡ split_at u x y
-  reads : Reads r (split_rows m.across numbers n) s
+pub record RowsCame (m : BlockTable) (r : Reading) (t : BlockTable) (s : Reading) (n : ℕ) : Type 0 where
+  pub lawful : IsBlockTable t
+  pub rest : SameBlocks m t
+  pub led : IsLed s
+  pub numbers : Numbers
+  pub small : (x y : ℕ) → x < m.across → y < n → numbers y x < 2 ^ 39 - 1
+  pub are : (u : BlockTable) → SameSplits t u m.across n → (x y : ℕ) → x < m.across → y < n → (numbers y x + predicted_split u x y) % 3 ≡ split_at u x y
+  pub reads : Reads r (split_rows m.across numbers n) s
 
-rows_came : (m t : BlockTable) (n : ℕ) (r s : Reading) → IsBlockTable m → AllGrey m.blocks → n ≤ m.down → IsLed r
+pub rows_came : (m t : BlockTable) (n : ℕ) (r s : Reading) → IsBlockTable m → AllGrey m.blocks → n ≤ m.down → IsLed r
     → repeated (λ sy. repeated (split_step sy) m.across) n (progress m r) ≡ Ok (progress t s) → RowsCame m r t s n
 unfolding split_rows repeated
 rows_came m t zero r s inv grey few led e =

@@ -91,7 +91,7 @@ pub record AreNumbers (u : BlockTable) (numbers : Numbers) : Type 0 where
   pub small : (sx sy : ℕ) → sx < u.across → sy < u.down → numbers sy sx < 2 ^ 39 - 1
 
 -- n superblocks of a row
-splits_go : (u m : BlockTable) (numbers : Numbers) (sy n : ℕ) (r s : Reading) → SplitsToward m u → AreNumbers u numbers → n ≤ u.across → sy < u.down
+pub splits_go : (u m : BlockTable) (numbers : Numbers) (sy n : ℕ) (r s : Reading) → SplitsToward m u → AreNumbers u numbers → n ≤ u.across → sy < u.down
     → SameSplits m u u.across sy → IsLed r → Reads r (split_row numbers sy n) s
     → SplitsGo u (λ x. repeated (split_step sy) n x) m r s 0 n sy (sy + 1)
 unfolding split_row repeated
@@ -129,7 +129,7 @@ splits_go u m numbers sy (suc n) r s toward all few hy over led reads =
     }
 
 -- n rows of superblocks
-split_rows_go : (u m : BlockTable) (numbers : Numbers) (n : ℕ) (r s : Reading) → SplitsToward m u → AreNumbers u numbers → n ≤ u.down
+pub split_rows_go : (u m : BlockTable) (numbers : Numbers) (n : ℕ) (r s : Reading) → SplitsToward m u → AreNumbers u numbers → n ≤ u.down
     → IsLed r → Reads r (split_rows u.across numbers n) s
     → SplitsGo u (λ x. repeated (λ sy. repeated (split_step sy) u.across) n x) m r s 0 u.across 0 n
 unfolding split_rows repeated

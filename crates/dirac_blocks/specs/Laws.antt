@@ -1,12 +1,15 @@
 -- The laws of this crate.
-use Rattle.std.specs.Prelude.{◌≢◌, ℕ, List}
+use Rattle.std.specs.Prelude.{◌≡◌, ◌≢◌, ◌⊎◌, ℕ, List, []}
 use Rattle.dirac_types.specs.declared.faults.Cause.{Cause}
+use Rattle.dirac_types.specs.declared.faults.Cause.TheVariants.{CodeWord, NumberTooLong}
 use Rattle.dirac_arith.specs.Front.{front}
 use Rattle.dirac_blocks.specs.declared.parts.Part.{Part}
 use Rattle.dirac_blocks.specs.Carried.{CarriesPart, CarriesSplits, ReadsTo, IsRefused}
+use Rattle.dirac_blocks.specs.Decisions.{unit_decisions}
 use Rattle.dirac_blocks.specs.Grammar.{splits_step, units_step}
+use Rattle.dirac_blocks.specs.Parts.{part_at}
 use Rattle.dirac_blocks.specs.Reached.{AllGrey}
-use Rattle.dirac_blocks.specs.Refused.{CarriesBreak}
+use Rattle.dirac_blocks.specs.Refused.{CarriesBreak, CarriesSplitBreak}
 use Rattle.dirac_blocks.specs.Tables.{BlockTable, IsBlockTable}
 
 -- what a list tells of each unit is read from the block that carries it
@@ -58,3 +61,32 @@ BrokenIsRefused =
     IsBlockTable former →
     CarriesBreak part former block cause →
     IsRefused (units_step part) former block cause
+
+-- a block that begins with sixteen ones is refused for them exactly where its list needs a decision
+abbrev pub OnesAreRefused : Type 0
+OnesAreRefused =
+    (part : Part) (former : BlockTable) (block : List ℕ) →
+    IsBlockTable former →
+    front block 16 ≡ 65535 →
+    IsRefused (units_step part) former block CodeWord
+    ⊎ ((t : BlockTable) × ReadsTo (units_step part) former block t × (unit_decisions t (part_at part t) ≡ []))
+
+-- and splits always need one
+abbrev pub OnesRefuseSplits : Type 0
+OnesRefuseSplits =
+    (former : BlockTable) (block : List ℕ) → IsBlockTable former → front block 16 ≡ 65535 → IsRefused splits_step former block CodeWord
+
+-- splits are refused, but for ones, as one of their numbers is too long
+abbrev pub RefusedSplitsAreBroken : Type 0
+RefusedSplitsAreBroken =
+    (former : BlockTable) (block : List ℕ) (cause : Cause) →
+    IsBlockTable former →
+    AllGrey former.blocks →
+    front block 16 ≢ 65535 →
+    IsRefused splits_step former block cause →
+    (cause ≡ NumberTooLong) × CarriesSplitBreak former block
+
+-- and where a number is too long the splits are refused
+abbrev pub BrokenSplitsAreRefused : Type 0
+BrokenSplitsAreRefused =
+    (former : BlockTable) (block : List ℕ) → IsBlockTable former → CarriesSplitBreak former block → IsRefused splits_step former block NumberTooLong

@@ -1,5 +1,5 @@
 //! What holds of all block tables, each as the contract of a function that does nothing.
-ghost use Rattle.dirac_blocks.specs.Laws.{CarriedIsRead, CarriedSplitsAreRead, ReadIsCarried, ReadSplitsAreCarried, RefusedIsBroken, BrokenIsRefused};
+ghost use Rattle.dirac_blocks.specs.Laws.{CarriedIsRead, CarriedSplitsAreRead, ReadIsCarried, ReadSplitsAreCarried, RefusedIsBroken, BrokenIsRefused, OnesAreRefused, OnesRefuseSplits, RefusedSplitsAreBroken, BrokenSplitsAreRefused};
 
 /// A list is read from the block that carries it.
 pub fn carried_lists_are_read()
@@ -13,8 +13,12 @@ pub fn read_lists_are_carried()
     ensures splits { ReadSplitsAreCarried }
 {}
 
-/// A list is refused as its block breaks off.
+/// A list is refused exactly where its block breaks off, or begins with sixteen ones though a decision is needed.
 pub fn refused_lists_break_off()
     ensures units { RefusedIsBroken }
     ensures refused { BrokenIsRefused }
+    ensures ones { OnesAreRefused }
+    ensures ones_in_splits { OnesRefuseSplits }
+    ensures splits { RefusedSplitsAreBroken }
+    ensures refused_splits { BrokenSplitsAreRefused }
 {}
