@@ -31,16 +31,6 @@ use Rattle.dirac_blocks.proofs.ForwardLoops.{unit_of_superblock, units_fill}
 use Rattle.dirac_blocks.proofs.Repeating.{shape_join, shape_refl, split_same, unit_same}
 
 -- the step that was refused, behind those that weren't
-<<<<<<< HEAD
-record StepBreaks (step : ℕ → Step) (n : ℕ) (x : Progress) (e : Cause) : Type 0 where
-  count : ℕ
-  few : count < n
-  at : Progress
-  before : repeated step count x ≡ Ok at
-  here : step count at ≡ Err e
-
-repeated_breaks : (step : ℕ → Step) (n : ℕ) (x : Progress) (e : Cause) → repeated step n x ≡ Err e → StepBreaks step n x e
-=======
 pub record StepBreaks (step : ℕ → Step) (n : ℕ) (x : Progress) (e : Cause) : Type 0 where
   pub count : ℕ
   pub few : count < n
@@ -49,7 +39,6 @@ pub record StepBreaks (step : ℕ → Step) (n : ℕ) (x : Progress) (e : Cause)
   pub here : step count at ≡ Err e
 
 pub repeated_breaks : (step : ℕ → Step) (n : ℕ) (x : Progress) (e : Cause) → repeated step n x ≡ Err e → StepBreaks step n x e
->>>>>>> 03ecb7aabfa89faa539442c64152c9f9f8f6c8e3
 unfolding repeated
 repeated_breaks step zero x e is = absurd (no_refusal (Ok x) x e refl is)
 repeated_breaks step (suc n) x e is =

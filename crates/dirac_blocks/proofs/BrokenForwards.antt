@@ -1,22 +1,12 @@
 -- A list whose block breaks off at some unit is refused there.
-<<<<<<< HEAD
-use Rattle.std.proofs.Common.{◌≡◌, ◌≢◌, ℕ, ℤ, zero, suc, ◌+◌, ◌-◌, ◌*◌, ◌/◌, ◌^◌, ◌<◌, ◌≤◌, ◌+ℤ◌, inl, inr, Bool, true, false, List, [], ◌++◌, Option, Some, None, Result, Ok, Err, refl, sym, ap, ◌∙◌, arith, subst, append_assoc}
-use Rattle.std.specs.Prelude.{if◌then◌else◌}
-use Rattle.std.proofs.lemmas.Bool.{cases_lt, cases_Bool, both_ways}
-=======
 use Rattle.std.proofs.Common.{◌≡◌, ℕ, ℤ, ◌+◌, ◌*◌, ◌^◌, ◌<◌, ◌≤◌, ◌+ℤ◌, inl, inr, Bool, true, false, List, ◌++◌, Option, Some, None, Result, Ok, Err, refl, sym, ap, ◌∙◌, arith, subst, append_assoc}
 use Rattle.std.specs.Prelude.{if◌then◌else◌}
 use Rattle.std.proofs.lemmas.Bool.{cases_lt, both_ways}
->>>>>>> 03ecb7aabfa89faa539442c64152c9f9f8f6c8e3
 use Rattle.std.proofs.lemmas.Nat.{mul-le}
 use Rattle.dirac_types.specs.declared.faults.Cause.{Cause}
 use Rattle.dirac_types.specs.declared.formats.Vector.{Vector}
 use Rattle.dirac_arith.specs.Chain.{◌>>=◌}
-<<<<<<< HEAD
-use Rattle.dirac_arith.specs.Deciding.{begin, after_all, signed_read}
-=======
 use Rattle.dirac_arith.specs.Deciding.{begin, after_all}
->>>>>>> 03ecb7aabfa89faa539442c64152c9f9f8f6c8e3
 use Rattle.dirac_arith.specs.Interval.{Decision}
 use Rattle.dirac_arith.specs.Reading.{Reading, Reads}
 use Rattle.dirac_arith.proofs.Carrieds.{IsLed}
@@ -27,18 +17,6 @@ use Rattle.dirac_blocks.specs.declared.parts.Component.TheVariants as components
 use Rattle.dirac_blocks.specs.declared.parts.Part.{Part}
 use Rattle.dirac_blocks.specs.declared.parts.Part.TheVariants as parts
 use Rattle.dirac_blocks.specs.declared.parts.Reference.TheVariants as references
-<<<<<<< HEAD
-use Rattle.dirac_blocks.specs.Carried.{with_part, IsWithPart}
-use Rattle.dirac_blocks.specs.Decisions.{predicted, unit_row, unit_rows, superblock_row, superblock_rows}
-use Rattle.dirac_blocks.specs.Grammar.{Progress, Step, repeated, with_unit, is_short, value_from, value_read, read_into, unit_read, unit_step, unit_row_step, unit_rows_step, superblock_step, units_step, uses, is_dc, with_across, with_down, with_dc}
-use Rattle.dirac_blocks.specs.Laws.{BrokenIsRefused}
-use Rattle.dirac_blocks.specs.Parts.{vector_at, dc_at, part_at}
-use Rattle.dirac_blocks.specs.Reached.{IsUnit, progress}
-use Rattle.dirac_blocks.specs.Refused.{Told, component_told, dc_told, value_told, Break, long, beyond, IsBreak, broken_part, cause_of, list_until, CarriesBreak}
-use Rattle.dirac_blocks.specs.Tables.{BlockTable, IsBlockTable, block_at, split_at, unit_size}
-use Rattle.dirac_blocks.proofs.Fills.{split_few}
-use Rattle.dirac_blocks.proofs.ForwardLoops.{Toward, Goes, row_goes, rows_go, superblocks_go, superblock_rows_go, shape_back, unit_of_superblock, units_fill, size_some}
-=======
 use Rattle.dirac_blocks.specs.Carried.{with_part}
 use Rattle.dirac_blocks.specs.Decisions.{predicted, unit_row, unit_rows, superblock_row, superblock_rows}
 use Rattle.dirac_blocks.specs.Grammar.{Progress, repeated, with_unit, value_from, value_read, read_into, unit_read, unit_step, unit_row_step, unit_rows_step, superblock_step, is_dc, with_across, with_down, with_dc}
@@ -49,7 +27,6 @@ use Rattle.dirac_blocks.specs.Refused.{Told, component_told, dc_told, value_told
 use Rattle.dirac_blocks.specs.Tables.{BlockTable, IsBlockTable, block_at, split_at, unit_size}
 use Rattle.dirac_blocks.proofs.Fills.{split_few}
 use Rattle.dirac_blocks.proofs.ForwardLoops.{Toward, row_goes, rows_go, superblocks_go, superblock_rows_go, shape_back, unit_of_superblock, units_fill, size_some}
->>>>>>> 03ecb7aabfa89faa539442c64152c9f9f8f6c8e3
 use Rattle.dirac_blocks.proofs.Nearby.{Near, SameWithin, near_within, vector_near, dc_near}
 use Rattle.dirac_blocks.proofs.Repeating.{repeated_stops, split_same}
 
@@ -72,34 +49,20 @@ into_refused false bm put v k r s t led so reads = absurd (both_ways false refl 
 told_is : (has : Bool) (v w : Told) → (if has then Some v else None) ≡ Some w → (has ≡ true) × (v ≡ w)
 told_is true v w e = (refl, one e)
   where
-<<<<<<< HEAD
-  one : {v w : Told} → (let o : Option Told = Some v in o ≡ Some w) → v ≡ w
-  one e = cc
-told_is false v w e = absurd (none e)
-  where
-  none : {w : Told} → (let o : Option Told = None in o ≡ Some w) → ⊥
-  none e = cc
-=======
     one : {v w : Told} → (let o : Option Told = Some v in o ≡ Some w) → v ≡ w
     one e = cc
 told_is false v w e = absurd (none e)
   where
     none : {w : Told} → (let o : Option Told = None in o ≡ Some w) → ⊥
     none e = cc
->>>>>>> 03ecb7aabfa89faa539442c64152c9f9f8f6c8e3
 
 -- a unit whose decisions break off
 unit_refused : (part : Part) (u m : BlockTable) (i j : ℕ) (r s : Reading) (v : Told) (k : Break) → with_part part (block_at m i j) (block_at u i j) ≡ block_at u i j → Near m u i j
     → value_told part u i j ≡ Some v → IsLed r → IsBreak v k → Reads r (broken_part v k) s → unit_read part m i j r ≡ Err (cause_of v k)
 unit_refused parts.Modes u m i j r s v k rest near is led so reads = absurd (none is)
   where
-<<<<<<< HEAD
-  none : {w : Told} → (let o : Option Told = None in o ≡ Some w) → ⊥
-  none e = cc
-=======
     none : {w : Told} → (let o : Option Told = None in o ≡ Some w) → ⊥
     none e = cc
->>>>>>> 03ecb7aabfa89faa539442c64152c9f9f8f6c8e3
 unit_refused (parts.Across references.First) u m i j r s v k rest near is led so reads =
     let bm = block_at m i j in
     let bu = block_at u i j in

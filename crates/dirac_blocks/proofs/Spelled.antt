@@ -154,22 +154,14 @@ some_is a b e = cc
 none_is : (b : ℕ) → (let o : Option ℕ = None in o ≡ Some b) → ⊥
 none_is b e = cc
 
-<<<<<<< HEAD
-splits_few : (t : BlockTable) (x y : ℕ) → IsBlockTable t → split_at t x y ≤ 2
-=======
 pub splits_few : (t : BlockTable) (x y : ℕ) → IsBlockTable t → split_at t x y ≤ 2
->>>>>>> 03ecb7aabfa89faa539442c64152c9f9f8f6c8e3
 splits_few t x y inv =
     elim (cases_lt (y * t.across + x) (length t.splits)) [
       | inl inside ↦ inv.splits (y * t.across + x) 0 inside
       | inr past ↦ subst (λ (n : ℕ). n ≤ 2) (sym (get_or_past t.splits (y * t.across + x) 0 past)) (omega arith)
     ]
 
-<<<<<<< HEAD
-predicted_few : (t : BlockTable) (sx sy : ℕ) → IsBlockTable t → predicted_split t sx sy ≤ 2
-=======
 pub predicted_few : (t : BlockTable) (sx sy : ℕ) → IsBlockTable t → predicted_split t sx sy ≤ 2
->>>>>>> 03ecb7aabfa89faa539442c64152c9f9f8f6c8e3
 predicted_few t sx sy inv =
     let f : ℕ → ℕ → Option ℕ = λ x y. Some (split_at t x y) in
     split_few (left_of f sx sy) (above_of f sx sy) (corner_of f sx sy)
@@ -189,11 +181,7 @@ predicted_few t sx sy inv =
       ]
     ])
 
-<<<<<<< HEAD
-least_sum : (s p : ℕ) → s ≤ 2 → p ≤ 2 → ((s + 3 - p) % 3 + p) % 3 ≡ s
-=======
 pub least_sum : (s p : ℕ) → s ≤ 2 → p ≤ 2 → ((s + 3 - p) % 3 + p) % 3 ≡ s
->>>>>>> 03ecb7aabfa89faa539442c64152c9f9f8f6c8e3
 least_sum s p h k = omega arith
 
 -- a table of which nothing is read is lawful

@@ -1,9 +1,5 @@
 -- Why a list is refused, told of a table that is known up to some unit.
-<<<<<<< HEAD
-use Rattle.std.specs.Prelude.{◌≡◌, ℕ, ℤ, ◌+◌, ◌-◌, ◌+ℤ◌, ◌*◌, ◌^◌, ◌<◌, Bool, false, if◌then◌else◌, List, [], ◌∷◌, ◌++◌, length, nat_abs, Option, Some, None}
-=======
 use Rattle.std.specs.Prelude.{◌≡◌, ℕ, ℤ, ◌+◌, ◌-◌, ◌+ℤ◌, ◌*◌, ◌%◌, ◌^◌, ◌<◌, Bool, false, if◌then◌else◌, List, [], ◌∷◌, ◌++◌, length, nat_abs, Option, Some, None}
->>>>>>> 03ecb7aabfa89faa539442c64152c9f9f8f6c8e3
 use Rattle.dirac_types.specs.declared.faults.Cause.{Cause}
 use Rattle.dirac_types.specs.declared.faults.Cause.TheVariants.{NumberTooLong, VectorRange, DcRange}
 use Rattle.dirac_arith.specs.Carried.{Carries}
@@ -13,16 +9,10 @@ use Rattle.dirac_vectors.specs.Predictions.{vector_of, dc_of}
 use Rattle.dirac_blocks.specs.declared.parts.Part.{Part}
 use Rattle.dirac_blocks.specs.declared.parts.Part.TheVariants as parts
 use Rattle.dirac_blocks.specs.Carried.{IsWithPart}
-<<<<<<< HEAD
-use Rattle.dirac_blocks.specs.Decisions.{predicted, unit_row, unit_rows, superblock_row, superblock_rows}
-use Rattle.dirac_blocks.specs.Grammar.{is_dc, is_short, uses}
-use Rattle.dirac_blocks.specs.Parts.{vector_at, dc_at, part_at}
-=======
 use Rattle.dirac_blocks.specs.Decisions.{Numbers, predicted, predicted_split, split_row, split_rows, unit_row, unit_rows, superblock_row, superblock_rows}
 use Rattle.dirac_blocks.specs.Grammar.{is_dc, is_short, uses}
 use Rattle.dirac_blocks.specs.Parts.{vector_at, dc_at, part_at}
 use Rattle.dirac_blocks.specs.Reached.{SameBlocks}
->>>>>>> 03ecb7aabfa89faa539442c64152c9f9f8f6c8e3
 use Rattle.dirac_blocks.specs.Tables.{BlockTable, IsBlockTable, block_at, split_at, unit_size}
 
 -- a value that is told by its difference: the contexts of that, the prediction, and the cause where the sum hasn't 16 bits
@@ -93,8 +83,6 @@ pub record CarriesBreak (part : Part) (former : BlockTable) (block : List ℕ) (
   pub breaks_so : IsBreak told breaks
   pub cause_is : cause ≡ cause_of told breaks
   pub carried : Carries block (list_until part table sx sy u v ++ broken_part told breaks)
-<<<<<<< HEAD
-=======
 
 -- the block carries the splits of a table up to superblock sx of row sy, whose number is too long
 pub record CarriesSplitBreak (former : BlockTable) (block : List ℕ) : Type 0 where
@@ -113,4 +101,3 @@ pub record CarriesSplitBreak (former : BlockTable) (block : List ℕ) : Type 0 w
   pub digits : List Bool
   pub long : length digits ≡ 38
   pub carried : Carries block ((split_rows table.across numbers sy ++ split_row numbers sy sx) ++ spelt (22 ∷ 23 ∷ []) 24 digits false)
->>>>>>> 03ecb7aabfa89faa539442c64152c9f9f8f6c8e3

@@ -1,11 +1,5 @@
 use Rattle.dirac_blocks.proofs.BreakLoops.{refused_is_broken}
 use Rattle.dirac_blocks.proofs.BrokenForwards.{broken_is_refused}
-<<<<<<< HEAD
-use Rattle.dirac_blocks.proofs.laws.refused_lists_break_off.Goals as goal
-
-pub returns : goal.returns
-returns c = record { units = refused_is_broken; refused = broken_is_refused }
-=======
 use Rattle.dirac_blocks.proofs.Ones.{ones_are_refused, ones_refuse_splits}
 use Rattle.dirac_blocks.proofs.SplitBreaks.{refused_splits_are_broken}
 use Rattle.dirac_blocks.proofs.SplitsRefused.{broken_splits_are_refused}
@@ -20,4 +14,3 @@ returns c = record {
   splits = refused_splits_are_broken;
   refused_splits = broken_splits_are_refused;
 }
->>>>>>> 03ecb7aabfa89faa539442c64152c9f9f8f6c8e3
