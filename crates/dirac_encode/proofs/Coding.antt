@@ -121,7 +121,7 @@ picture_again t p r source same y u v =
     ∙ ap (λ x. made p.y x c) (plane_again tr t (chroma_width s) (chroma_height s) p.u r.u same source.u u)
     ∙ ap (λ x. made p.y p.u x) (plane_again tr t (chroma_width s) (chroma_height s) p.v r.v same source.v v)
 
-sequence_lawful : (t : Settings) → IsWritable t → IsSequence (sequence_of t)
+pub sequence_lawful : (t : Settings) → IsWritable t → IsSequence (sequence_of t)
 unfolding sequence_of
 sequence_lawful t is = record { size = is.size; whole_across = is.whole_across; whole_down = is.whole_down }
 
