@@ -21,8 +21,8 @@ use Rattle.dirac_picture.specs.declared.coded.CodedResidual.{CodedResidual}
 use Rattle.dirac_picture.specs.Grammar.{chroma_height, chroma_width}
 use Rattle.dirac_picture.proofs.Chroma.{chroma_size}
 use Rattle.dirac_residual.specs.Residual.{residual}
-use Rattle.dirac_decode.specs.Content.{intra_picture, plane_samples}
-use Rattle.dirac_encode.specs.Coded.{transform_of, IsPlane, IsSource}
+use Rattle.dirac_decode.specs.Content.{rebuilt}
+use Rattle.dirac_encode.specs.Coded.{coded_from, transform_of, IsPlane, IsSource}
 use Rattle.dirac_encode.specs.Writable.{HaveNoughts, HaveSmall, IsCodable, IsWritten}
 use Rattle.dirac_encode.proofs.Counting.{counts_fit, transform_lawful, transform_written}
 
@@ -102,25 +102,26 @@ is_written t p r codable source same y u v ny nu nv =
 
 -- a plane that is rebuilt
 plane_again : (tr : Transform) (t : Settings) (width height : ℕ) (table : Table) (bands : List CodedBand) → tr ≡ transform_of t → IsPlane width height table
-    → clipped (residual t.wavelet t.depth Intra bands table.width table.height) ≡ table → plane_samples tr bands width height ≡ table
+    → clipped (residual t.wavelet t.depth Intra bands table.width table.height) ≡ table → clipped (residual tr.wavelet tr.depth Intra bands width height) ≡ table
 plane_again tr t width height table bands same is e =
-    ap (λ (x : Transform). plane_samples x bands width height) same
+    ap (λ (x : Transform). clipped (residual x.wavelet x.depth Intra bands width height)) same
     ∙ ap₂ (λ (w h : ℕ). clipped (residual t.wavelet t.depth Intra bands w h)) (sym is.across) (sym is.down) ∙ e
 
 pub picture_again : (t : Settings) (p : Picture) (r : CodedResidual) → IsSource t p → r.transform ≡ transform_of t
     → clipped (residual t.wavelet t.depth Intra r.y p.y.width p.y.height) ≡ p.y → clipped (residual t.wavelet t.depth Intra r.u p.u.width p.u.height) ≡ p.u → clipped (residual t.wavelet t.depth Intra r.v p.v.width p.v.height) ≡ p.v
-    → intra_picture (sequence_of t) p.number r ≡ p
+    → rebuilt (sequence_of t) [] (coded_from p.number r) ≡ p
 unfolding sequence_of
 picture_again t p r source same y u v =
     let s = sequence_of t in
     let made : Table → Table → Table → Picture = λ a b c. record { number = p.number; y = a; u = b; v = c } in
-    let b = plane_samples r.transform r.u (chroma_width s) (chroma_height s) in
-    let c = plane_samples r.transform r.v (chroma_width s) (chroma_height s) in
-    ap (λ x. made x b c) (plane_again r.transform t t.width t.height p.y r.y same source.y y)
-    ∙ ap (λ x. made p.y x c) (plane_again r.transform t (chroma_width s) (chroma_height s) p.u r.u same source.u u)
-    ∙ ap (λ x. made p.y p.u x) (plane_again r.transform t (chroma_width s) (chroma_height s) p.v r.v same source.v v)
+    let tr = r.transform in
+    let b = clipped (residual tr.wavelet tr.depth Intra r.u (chroma_width s) (chroma_height s)) in
+    let c = clipped (residual tr.wavelet tr.depth Intra r.v (chroma_width s) (chroma_height s)) in
+    ap (λ x. made x b c) (plane_again tr t t.width t.height p.y r.y same source.y y)
+    ∙ ap (λ x. made p.y x c) (plane_again tr t (chroma_width s) (chroma_height s) p.u r.u same source.u u)
+    ∙ ap (λ x. made p.y p.u x) (plane_again tr t (chroma_width s) (chroma_height s) p.v r.v same source.v v)
 
-sequence_lawful : (t : Settings) → IsWritable t → IsSequence (sequence_of t)
+pub sequence_lawful : (t : Settings) → IsWritable t → IsSequence (sequence_of t)
 unfolding sequence_of
 sequence_lawful t is = record { size = is.size; whole_across = is.whole_across; whole_down = is.whole_down }
 

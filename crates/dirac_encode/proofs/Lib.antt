@@ -7,3 +7,4 @@ pub mod Coding
 pub mod Cutting
 pub mod Delivering
 pub mod Showing
+pub mod Raws

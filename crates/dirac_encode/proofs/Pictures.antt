@@ -1,5 +1,5 @@
 -- An intra picture's fields, spelled one after another.
-use Rattle.std.proofs.Common.{◌≡◌, ℕ, ◌++◌, if◌then◌else◌, Bool, List, Some, subst, ◌/◌}
+use Rattle.std.proofs.Common.{◌≡◌, ℕ, ◌++◌, if◌then◌else◌, Bool, List, Some, Option, None, subst, ◌/◌}
 use Rattle.dirac_types.specs.declared.faults.Cause.TheVariants.{MissingReference}
 use Rattle.dirac_types.specs.declared.picture.Picture.{Picture}
 use Rattle.dirac_bits.specs.Syntax.{Syntax, done, align, refuse, ◌>>=◌}
@@ -12,7 +12,7 @@ use Rattle.dirac_header.specs.Written.{SpelledBehind}
 use Rattle.dirac_coeffs.specs.declared.spot.CodedBand.{CodedBand}
 use Rattle.dirac_picture.specs.declared.coded.CodedPicture.{CodedPicture}
 use Rattle.dirac_picture.specs.declared.coded.CodedResidual.{CodedResidual}
-use Rattle.dirac_picture.specs.Grammar.{are_listed, body, chroma_height, chroma_width, picture, plane_bands, planes, residual}
+use Rattle.dirac_picture.specs.Grammar.{are_listed, body, motion, zero_residual, residual_unless, chroma_height, chroma_width, picture, plane_bands, planes, residual}
 use Rattle.dirac_encode.specs.Coded.{coded_from, intra_header}
 use Rattle.dirac_encode.proofs.Behind.{behind_then, behind_done, behind_gap}
 
@@ -36,15 +36,18 @@ residual_spelled s r old mid new a b = behind_then (transform s.width s.height) 
 
 pub picture_spelled : (s : Sequence) (refs : List Picture) (number : ℕ) (r : CodedResidual) (old head aligned new : List Bool) → SpelledBehind (header 0x0C) (intra_header number) old head
     → aligned ≡ head ++ gap head → SpelledBehind (residual s) r aligned new → SpelledBehind (picture 0x0C s refs) (coded_from number r) old new
-unfolding picture body
+unfolding picture body motion zero_residual residual_unless
 picture_spelled s refs number r old head aligned new first gapped rest =
     let h = intra_header number in
-    let make : CodedResidual → Syntax CodedPicture = λ coded. done (record { code = 0x0C; header = h; residual = Some coded }) in
-    let after_gap : Unit {0} → Syntax CodedPicture = λ none. residual s >>= make in
-    let behind_head : SpelledBehind (body 0x0C s h) (coded_from number r) head new =
-    behind_then align after_gap tt (coded_from number r) head aligned new (behind_gap head aligned gapped)
-    (behind_then (residual s) make r (coded_from number r) aligned new new rest (behind_done (coded_from number r) new)) in
-    behind_then (header 0x0C) (λ x. if are_listed refs x then body 0x0C s x else refuse 0 MissingReference) h (coded_from number r) old head new first behind_head
+    let coded = coded_from number r in
+    let make : Option CodedResidual → Syntax CodedPicture = λ all. done (record { code = 0x0C; header = h; motion = None; residual = all }) in
+    let some : CodedResidual → Syntax (Option CodedResidual) = λ one. done (Some one) in
+    let after_gap : Unit {0} → Syntax CodedPicture = λ none. residual s >>= some >>= make in
+    let all : SpelledBehind (residual s >>= some) (Some r) aligned new = behind_then (residual s) some r (Some r) aligned new new rest (behind_done (Some r) new) in
+    let behind_head : SpelledBehind (body 0x0C s h) coded head new =
+    behind_then align after_gap tt coded head aligned new (behind_gap head aligned gapped)
+    (behind_then (residual s >>= some) make (Some r) coded aligned new new all (behind_done coded new)) in
+    behind_then (header 0x0C) (λ x. if are_listed refs x then body 0x0C s x else refuse 0 MissingReference) h coded old head new first behind_head
 
 -- a chroma plane by its sizes
 pub chroma_spelled : (s : Sequence) (r : CodedResidual) (bands : List CodedBand) (old new : List Bool) (a d : ℕ) → a ≡ ratio_across s.chroma → d ≡ ratio_down s.chroma

@@ -41,7 +41,7 @@ intra_header number = record { number = number; ref1 = None; ref2 = None; retire
 
 -- a coded intra picture to which others may refer
 abbrev pub coded_from : ℕ → CodedResidual → CodedPicture
-coded_from number residual = record { code = 0x0C; header = intra_header number; residual = Some residual }
+coded_from number residual = record { code = 0x0C; header = intra_header number; motion = None; residual = Some residual }
 
 -- the coded picture of a source with these settings
 abbrev pub coded_intra : Settings → Picture → CodedPicture

@@ -2,3 +2,4 @@ pub mod Coded
 pub mod Payload
 pub mod Writable
 pub mod Stream
+pub mod Raw

@@ -45,9 +45,9 @@ abbrev pub stream_of : Settings → List Picture → List ℕ
 stream_of t [] = unit 0x00 0 (sequence_payload t) ++ end_unit (header_length t)
 stream_of t (p ∷ pictures) = pictures_from t 0 (p ∷ pictures)
 
--- the picture that decoders show for a source, and those for sources
+-- the picture that decoders show for a source, which is predicted from none; and those for sources
 abbrev pub shown_of : Settings → Picture → Picture
-shown_of t p = rebuilt (sequence_of t) (coded_intra t p)
+shown_of t p = rebuilt (sequence_of t) [] (coded_intra t p)
 
 abbrev pub reconstructions : Settings → List Picture → List Picture
 reconstructions t pictures = map (shown_of t) pictures

@@ -5,9 +5,11 @@ mod bands;
 mod laws;
 mod payload;
 mod picture;
+mod raw;
 mod shared;
 mod spots;
 mod transform;
 
 pub use laws::streams_show_their_pictures;
 pub use picture::{Coded, code_intra};
+pub use raw::picture_of;

@@ -14,7 +14,7 @@ ghost use Rattle.dirac_picture.specs.Fits.{AreBandsOf};
 ghost use Rattle.dirac_picture.specs.Grammar.{picture, picture_read};
 ghost use Rattle.dirac_residual.specs.Residual.{clipped, residual};
 ghost use Rattle.dirac_analysis.specs.Fits.{AreSamples};
-ghost use Rattle.dirac_decode.specs.Content.{intra_picture, rebuilt};
+ghost use Rattle.dirac_decode.specs.Content.{rebuilt};
 ghost use Rattle.dirac_encode.specs.Coded as coding;
 ghost use Rattle.dirac_encode.specs.Payload.{payload_of, with_picture};
 ghost use Rattle.dirac_encode.specs.Writable.{AreSmall, HaveNoughts, HaveSmall, IsCodable, IsWritten};
@@ -24,6 +24,7 @@ use crate::transform::transform_of;
 use dirac_analysis::analyse_plane;
 use dirac_bits::BitWriter;
 use dirac_decode::{CodedPicture, CodedResidual, PlaneBands, rebuild};
+use dirac_refs::RefBuffer;
 use dirac_sequence::{Sequence, sequence_of};
 use dirac_types::{NoMemory, Picture, Plane, Settings};
 use std::alloc::Global;
@@ -67,7 +68,7 @@ fn code_planes(
     ensures value { IfOk result (λ r. r ≡ coding.residual_of settings.now source.now) }
     ensures written { IfOk result (IsWritten (sequence_for settings.now)) }
     ensures small { IfOk result AreSmall }
-    ensures lossless { IfOk result (λ r. settings.now.index ≡ 0 → intra_picture (sequence_for settings.now) source.now.number r ≡ source.now) }
+    ensures lossless { IfOk result (λ r. settings.now.index ≡ 0 → rebuilt (sequence_for settings.now) [] (coding.coded_from source.now.number r) ≡ source.now) }
 {
     let y = code_plane(alloc, &source.y, settings)?;
     let u = code_plane(alloc, &source.u, settings)?;
@@ -110,7 +111,7 @@ pub fn code_intra(alloc: Global, source: &Picture, settings: &Settings) -> Resul
     requires source { coding.IsSource settings.now source.now }
     ensures payload { IfOk result (λ c. c.payload.items ≡ payload_of settings.now source.now) }
     // What is shown is what a decoder rebuilds from it.
-    ensures shown { IfOk result (λ c. c.shown ≡ rebuilt (sequence_for settings.now) (coding.coded_intra settings.now source.now)) }
+    ensures shown { IfOk result (λ c. c.shown ≡ rebuilt (sequence_for settings.now) [] (coding.coded_intra settings.now source.now)) }
     // The payload is read as that coded picture, whatever was coded before.
     ensures read { (refs : List ThePicture) → IfOk result (λ c. picture_read 0x0C (sequence_for settings.now) refs c.payload.items ≡ Ok (coding.coded_intra settings.now source.now)) }
     // Its coefficients stay below 2^38.
@@ -125,8 +126,9 @@ pub fn code_intra(alloc: Global, source: &Picture, settings: &Settings) -> Resul
     let coded = CodedPicture {
         code: 0x0C,
         header: intra_header(source.number),
+        motion: None,
         residual: Some(residual),
     };
-    let shown = rebuild(alloc, &coded, &sequence)?;
+    let shown = rebuild(alloc, &coded, &sequence, &RefBuffer::new())?;
     Ok(Coded { payload, shown })
 }

@@ -1,0 +1,92 @@
+//! Raw pictures, read.
+
+ghost use Rattle.std.specs.Prelude.{◌≡◌, ◌+◌, ◌*◌, ◌≤◌, ◌<◌, length, map, IfOk, ℕ, slice_index_or, pos};
+ghost use Rattle.dirac_residual.specs.Residual.{clip};
+ghost use Rattle.dirac_analysis.specs.Fits.{AreSamples};
+ghost use Rattle.dirac_types.specs.Settings.{IsAccepted};
+ghost use Rattle.dirac_sequence.specs.Lawful.{IsSequence};
+ghost use Rattle.dirac_picture.specs.Fits.{IsPlaneSize};
+ghost use Rattle.dirac_picture.specs.Grammar.{chroma_height, chroma_width};
+ghost use Rattle.dirac_encode.specs.Coded.{IsSource};
+ghost use Rattle.dirac_encode.specs.Raw.{picture_from, picture_in, plane_from, raw_length, sample_of};
+
+use dirac_sequence::{Sequence, ratio_across, ratio_down, sequence_of};
+use dirac_types::{NoMemory, Picture, Plane, Settings};
+use std::alloc::Global;
+
+/// The sample of a byte.
+#[inline(always)]
+fn sample(byte: u8) -> i16
+    ensures value { result ≡ sample_of byte }
+    ensures fits { clip result ≡ result }
+{
+    i16::from(byte) - 128
+}
+
+/// Writes the sample of each byte.
+fn fill_samples(bytes: &[u8], samples: &mut [i16])
+    requires { length samples.old ≡ length bytes.now }
+    ensures value { samples.new ≡ map sample_of bytes.now }
+    ensures fits { AreSamples samples.new }
+{
+    for i in 0..bytes.len() {
+        samples[i] = sample(bytes[i]);
+    }
+}
+
+/// A plane of `width` by `height` samples from its bytes, by rows.
+fn plane_of(alloc: Global, width: u32, height: u32, bytes: &[u8]) -> Result<Plane, NoMemory>
+    requires across { (1 ≤ width) × (width ≤ 4096) }
+    requires down { (1 ≤ height) × (height ≤ 4096) }
+    requires bytes { length bytes.now ≡ width * height }
+    ensures value { IfOk result (λ t. t ≡ plane_from width height bytes.now) }
+    ensures fits { IfOk result (λ t. AreSamples t.values) }
+{
+    let mut plane = Plane::try_new(alloc, width, height, 0)?;
+    fill_samples(bytes, plane.values_mut());
+    Ok(plane)
+}
+
+/// The picture of this number from its bytes: the rows of Y, then of U, then of V, a byte a sample.
+pub fn picture_of(
+    alloc: Global,
+    settings: &Settings,
+    number: u32,
+    bytes: &[u8],
+) -> Result<Picture, NoMemory>
+    requires accepted { IsAccepted settings.now }
+    requires bytes { length bytes.now ≡ raw_length settings.now }
+    ensures value { IfOk result (λ p. p ≡ picture_from settings.now number bytes.now) }
+    ensures fits { IfOk result (IsSource settings.now) }
+{
+    let sequence = sequence_of(settings);
+    planes_of(alloc, settings, &sequence, number, bytes)
+}
+
+fn planes_of(
+    alloc: Global,
+    settings: &Settings,
+    sequence: &Sequence,
+    number: u32,
+    bytes: &[u8],
+) -> Result<Picture, NoMemory>
+    requires sequence { IsSequence sequence.now }
+    requires luma { IsPlaneSize settings.now.width settings.now.height }
+    requires chroma { IsPlaneSize (chroma_width sequence.now) (chroma_height sequence.now) }
+    requires bytes { length bytes.now ≡ settings.now.width * settings.now.height + chroma_width sequence.now * chroma_height sequence.now + chroma_width sequence.now * chroma_height sequence.now }
+    ensures value { IfOk result (λ p. p ≡ picture_in settings.now.width settings.now.height (chroma_width sequence.now) (chroma_height sequence.now) number bytes.now) }
+    ensures y { IfOk result (λ p. AreSamples p.y.values) }
+    ensures u { IfOk result (λ p. AreSamples p.u.values) }
+    ensures v { IfOk result (λ p. AreSamples p.v.values) }
+{
+    let width = sequence.width / ratio_across(sequence.chroma);
+    let height = sequence.height / ratio_down(sequence.chroma);
+    let luma = settings.width as usize * settings.height as usize;
+    let chroma = width as usize * height as usize;
+    Ok(Picture {
+        number,
+        y: plane_of(alloc, settings.width, settings.height, &bytes[..luma])?,
+        u: plane_of(alloc, width, height, &bytes[luma..luma + chroma])?,
+        v: plane_of(alloc, width, height, &bytes[luma + chroma..])?,
+    })
+}
