@@ -12,4 +12,4 @@ mod transform;
 
 pub use laws::streams_show_their_pictures;
 pub use picture::{Coded, code_intra};
-pub use raw::picture_of;
+pub use raw::{picture_of, raw_length};

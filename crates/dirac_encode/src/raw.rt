@@ -8,7 +8,7 @@ ghost use Rattle.dirac_sequence.specs.Lawful.{IsSequence};
 ghost use Rattle.dirac_picture.specs.Fits.{IsPlaneSize};
 ghost use Rattle.dirac_picture.specs.Grammar.{chroma_height, chroma_width};
 ghost use Rattle.dirac_encode.specs.Coded.{IsSource};
-ghost use Rattle.dirac_encode.specs.Raw.{picture_from, picture_in, plane_from, raw_length, sample_of};
+ghost use Rattle.dirac_encode.specs.Raw.{picture_from, picture_in, plane_from, raw_length as length_of, sample_of};
 
 use dirac_sequence::{Sequence, ratio_across, ratio_down, sequence_of};
 use dirac_types::{NoMemory, Picture, Plane, Settings};
@@ -47,6 +47,27 @@ fn plane_of(alloc: Global, width: u32, height: u32, bytes: &[u8]) -> Result<Plan
     Ok(plane)
 }
 
+/// How many bytes a raw picture has with these settings: one for each sample.
+pub fn raw_length(settings: &Settings) -> usize
+    requires { IsAccepted settings.now }
+    ensures { result ≡ length_of settings.now }
+{
+    let sequence = sequence_of(settings);
+    length_in(settings, &sequence)
+}
+
+fn length_in(settings: &Settings, sequence: &Sequence) -> usize
+    requires luma { IsPlaneSize settings.now.width settings.now.height }
+    requires chroma { IsPlaneSize (chroma_width sequence.now) (chroma_height sequence.now) }
+    ensures { result ≡ settings.now.width * settings.now.height + chroma_width sequence.now * chroma_height sequence.now + chroma_width sequence.now * chroma_height sequence.now }
+{
+    let width = sequence.width / ratio_across(sequence.chroma);
+    let height = sequence.height / ratio_down(sequence.chroma);
+    let luma = settings.width as usize * settings.height as usize;
+    let chroma = width as usize * height as usize;
+    luma + chroma + chroma
+}
+
 /// The picture of this number from its bytes: the rows of Y, then of U, then of V, a byte a sample.
 pub fn picture_of(
     alloc: Global,
@@ -55,7 +76,7 @@ pub fn picture_of(
     bytes: &[u8],
 ) -> Result<Picture, NoMemory>
     requires accepted { IsAccepted settings.now }
-    requires bytes { length bytes.now ≡ raw_length settings.now }
+    requires bytes { length bytes.now ≡ length_of settings.now }
     ensures value { IfOk result (λ p. p ≡ picture_from settings.now number bytes.now) }
     ensures fits { IfOk result (IsSource settings.now) }
 {

@@ -16,6 +16,8 @@ mod half_samples;
 #[cfg(test)]
 mod headers;
 #[cfg(test)]
+mod intra_coding;
+#[cfg(test)]
 mod lifting;
 #[cfg(test)]
 mod lists;

@@ -1,0 +1,99 @@
+use dirac_encode::{Coded, code_intra, picture_of, raw_length};
+use dirac_sequence::write_sequence;
+use dirac_types::{NoMemory, Settings};
+use std::alloc::Global;
+use std::process::Abort;
+
+/// Settings of this luma size at depth 1.
+fn settings_of(width: u32, height: u32) -> Settings {
+    let mut settings = Settings::of_base(0);
+    settings.width = width;
+    settings.height = height;
+    settings.depth = 1;
+    settings
+}
+
+/// A raw picture, coded.
+fn coded<R: Abort>(
+    rt: &R,
+    alloc: Global,
+    settings: &Settings,
+    raw: &[u8],
+) -> Result<Coded, NoMemory> {
+    assert!(rt; settings.check().is_ok());
+    assert_eq!(rt; raw.len(), raw_length(settings));
+    let source = picture_of(alloc, settings, 0, raw)?;
+    let coded = code_intra(alloc, &source, settings)?;
+    if settings.index == 0 {
+        assert!(rt; coded.shown.y.values() == source.y.values());
+        assert!(rt; coded.shown.u.values() == source.u.values());
+        assert!(rt; coded.shown.v.values() == source.v.values());
+    }
+    Ok(coded)
+}
+
+/// The sequence header's payload.
+fn header<R: Abort>(rt: &R, alloc: Global, settings: &Settings) -> Result<Vec<u8>, NoMemory> {
+    assert!(rt; settings.check().is_ok());
+    write_sequence(alloc, settings)
+}
+
+#[test]
+fn grey_of_eight(rt: HostRuntime) -> Result<(), NoMemory> {
+    let alloc = rt.alloc();
+    let settings = settings_of(8, 8);
+    let written = header(&rt, alloc, &settings)?;
+    assert!(rt; written.as_slice() == [0x6Fu8, 0xC1, 0x83, 0x08, 0x30, 0x79].as_slice());
+    let base = header(&rt, alloc, &Settings::of_base(8))?;
+    assert!(rt; base.as_slice() == [0x6Fu8, 0x06, 0x05, 0xA0].as_slice());
+    let grey = [0x80u8; 96];
+    let wanted = [
+        0u8, 0, 0, 0, 0x80, 0x90, 0x80, 0x80, 0x80, 0x80, 0x80, 0x80, 0x80, 0x80, 0x80, 0x80, 0x80,
+        0x80,
+    ];
+    assert!(rt; coded(&rt, alloc, &settings, grey.as_slice())?.payload.as_slice() == wanted.as_slice());
+    Ok(())
+}
+
+#[test]
+fn haar_of_two(rt: HostRuntime) -> Result<(), NoMemory> {
+    let alloc = rt.alloc();
+    let mut settings = settings_of(2, 2);
+    settings.chroma = 0;
+    settings.wavelet = 3;
+    settings.index = 0;
+    let written = header(&rt, alloc, &settings)?;
+    assert!(rt; written.as_slice() == [0x6Fu8, 0xDB, 0xC5, 0xBC, 0x80].as_slice());
+    let raw = [
+        0x81u8, 0x81, 0x81, 0x81, 0x80, 0x80, 0x80, 0x80, 0x80, 0x80, 0x80, 0x80,
+    ];
+    let wanted = [
+        0u8, 0, 0, 0, 0x80, 0x09, 0x00, 0x30, 0x2E, 0x80, 0x80, 0x80, 0x80, 0x80, 0x80, 0x80, 0x80,
+        0x80, 0x80, 0x80,
+    ];
+    assert!(rt; coded(&rt, alloc, &settings, raw.as_slice())?.payload.as_slice() == wanted.as_slice());
+    Ok(())
+}
+
+#[test]
+fn slopes_come_back(rt: HostRuntime) -> Result<(), NoMemory> {
+    let alloc = rt.alloc();
+    for wavelet in 0..7u32 {
+        for chroma in 0..3u32 {
+            let mut settings = settings_of(10, 6);
+            settings.chroma = chroma;
+            settings.wavelet = wavelet;
+            settings.depth = 1 + wavelet % 4;
+            settings.codeblocks = 1 + chroma;
+            settings.index = 0;
+            assert!(rt; settings.check().is_ok());
+            let mut raw = Vec::new(alloc);
+            for n in 0..raw_length(&settings) as u64 {
+                raw.push((n * n * 7 % 251) as u8)?;
+            }
+            let picture = coded(&rt, alloc, &settings, raw.as_slice())?;
+            assert!(rt; picture.payload.len() > 40);
+        }
+    }
+    Ok(())
+}
