@@ -3,7 +3,7 @@ use Rattle.dirac_obmc.proofs.predict.bounded.Goals as goal
 
 pub returns : goal.returns
 returns c =
-    let up = c.width-_first.ensures.lawful in
+    let up = c.width-first.ensures.lawful in
     record {
       grid = c.requires.grid;
       precision = c.requires.precision;
