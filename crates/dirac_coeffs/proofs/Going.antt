@@ -1,5 +1,5 @@
 -- Where a block doesn't begin with ones its reading goes on to the end of the band, or breaks off in a number that is too long.
-use Rattle.std.proofs.Common.{◌≡◌, ◌≢◌, ℕ, zero, suc, ℤ, pos, ◌+◌, ◌-◌, ◌*◌, ◌^◌, ◌<◌, ◌≤◌, ◌⊎◌, inl, inr, Bool, true, false, List, [], ◌∷◌, ◌++◌, length, set, replicate, unsigned_abs, Ok, Err, refl, sym, ap, ◌∙◌, subst, arith, length-set}
+use Rattle.std.proofs.Common.{◌≡◌, ◌≢◌, ℕ, zero, suc, ℤ, pos, ◌+◌, ◌-◌, ◌*◌, ◌^◌, ◌<◌, ◌≤◌, ◌⊎◌, inl, inr, Bool, true, false, List, [], ◌∷◌, length, set, replicate, unsigned_abs, Ok, Err, refl, sym, ◌∙◌, subst, arith}
 use Rattle.std.proofs.lemmas.Bool.{cases_Bool, cases_eq}
 use Rattle.std.proofs.lemmas.List.{length-replicate}
 use Rattle.std.proofs.lemmas.List.Elements.{All-set}
@@ -8,7 +8,7 @@ use Rattle.dirac_types.specs.declared.faults.Cause.TheVariants.{CodeWord, Number
 use Rattle.dirac_arith.specs.Carried.{Lies}
 use Rattle.dirac_arith.specs.Deciding.{begin, lies_in, after}
 use Rattle.dirac_arith.specs.Front.{front}
-use Rattle.dirac_arith.specs.Interval.{Decision, narrowed, narrowed_by, whole}
+use Rattle.dirac_arith.specs.Interval.{Decision, narrowed, narrowed_by}
 use Rattle.dirac_arith.specs.Reading.{Reading, Reads}
 use Rattle.dirac_arith.specs.Spelling.{spelt, signed_spelling}
 use Rattle.dirac_arith.proofs.Carrieds.{some_signed, start_lies}
@@ -16,15 +16,15 @@ use Rattle.dirac_arith.proofs.Decidings.{some_truth}
 use Rattle.dirac_bands.specs.Geometry.{edge_of}
 use Rattle.dirac_coeffs.specs.declared.spot.BandSpot.{BandSpot}
 use Rattle.dirac_coeffs.specs.BandRead.{band_read}
-use Rattle.dirac_coeffs.specs.Carried.{AreSmall, SkippedIsZero, CarriesBand, CarriesLong, long_part}
-use Rattle.dirac_coeffs.specs.Contexts.{left_of, above_of, corner_of, parent_of, follow_among, bits_context, sign_of, sign_neighbour, value_spelling}
+use Rattle.dirac_coeffs.specs.Carried.{AreSmall, SkippedIsZero, CarriesLong, long_part}
+use Rattle.dirac_coeffs.specs.Contexts.{left_of, above_of, corner_of, parent_of, follow_among, bits_context, sign_of, sign_neighbour}
 use Rattle.dirac_coeffs.specs.Decisions.{Frame, Mark, frame_of, value_part, row_part, rows_part, flagged_part, block_part, blocks_part, bands_part}
 use Rattle.dirac_coeffs.specs.Laws.{LongIsRefused}
 use Rattle.dirac_coeffs.specs.Places.{KeptOutside, ZeroFrom}
 use Rattle.dirac_coeffs.specs.Reached.{BlocksRead, BandRead, RowBroken, RowsBroken, BlockBroken, BlocksBroken, BandBroken}
 use Rattle.dirac_coeffs.specs.Spots.{IsSpot, span_of, is_flagged}
 use Rattle.dirac_coeffs.proofs.AgreementOfBlocks.{columns_inside, rows_inside}
-use Rattle.dirac_coeffs.proofs.Edges.{edge_rises, edge_most, edge_first, edge_last, span_end}
+use Rattle.dirac_coeffs.proofs.Edges.{edge_rises, edge_last, span_end}
 use Rattle.dirac_coeffs.proofs.Filling.{row_more, row_breaks, rows_more, rows_break, value_stored}
 use Rattle.dirac_coeffs.proofs.FillingOfBlocks.{blocks_more, blocks_break, bands_more, bands_break, plain_breaks, flagged_breaks}
 use Rattle.dirac_coeffs.proofs.Found.{band_found, ones_read, long_read}
@@ -102,7 +102,7 @@ row_goes f old xs x count y h (suc n) wide low len few lies =
       | inl read ↦
           let one = value_goes f before.new before.ys (x + n) y (omega arith) (inside_place w h (x + n) y (length before.ys) (omega arith) low (before.kept.len ∙ len)) read.1 in
           let kept = kept_join w x (x + suc n) y (y + 1) x (x + n) y (y + 1) (x + n) (x + n + 1) y (y + 1) xs before.ys one.ys
-              (omega arith, omega arith, omega arith, omega arith) (omega arith, omega arith, omega arith, omega arith) before.kept one.kept in
+          (omega arith, omega arith, omega arith, omega arith) (omega arith, omega arith, omega arith, omega arith) before.kept one.kept in
           let small : AreSmall xs → AreSmall one.ys = λ all. one.small (before.small all) in
           elim one.came [
             | inl more ↦
@@ -142,7 +142,7 @@ rows_go f old xs x count y rows h (suc n) wide low len few lies =
       | inl read ↦
           let one = row_goes f before.new before.ys x count (y + n) h count wide (omega arith) (before.kept.len ∙ len) (omega arith) read.1 in
           let kept = kept_join w x (x + count) y (y + suc n) x (x + count) y (y + n) x (x + count) (y + n) (y + n + 1) xs before.ys one.ys
-              (omega arith, omega arith, omega arith, omega arith) (omega arith, omega arith, omega arith, omega arith) before.kept one.kept in
+          (omega arith, omega arith, omega arith, omega arith) (omega arith, omega arith, omega arith, omega arith) before.kept one.kept in
           let small : AreSmall xs → AreSmall one.ys = λ all. one.small (before.small all) in
           elim one.came [
             | inl more ↦
@@ -306,7 +306,7 @@ blocks_go spot parent old xs cy (suc n) is low few len zeros lies =
           let clear = zero_right w 0 left top bottom 0 xs before.ys (omega arith) before.kept zeros in
           let one = block_goes spot parent before.new before.ys cy n is low (omega arith) (before.kept.len ∙ len) clear read.1 in
           let kept = kept_join w 0 right top bottom 0 left top bottom left right top bottom xs before.ys one.ys
-              (omega arith, rises, omega arith, omega arith) (omega arith, omega arith, omega arith, omega arith) before.kept one.kept in
+          (omega arith, rises, omega arith, omega arith) (omega arith, omega arith, omega arith, omega arith) before.kept one.kept in
           let small : AreSmall xs → AreSmall one.ys = λ all. one.small (before.small all) in
           elim one.came [
             | inl more ↦
@@ -366,7 +366,7 @@ bands_go spot parent old xs (suc n) is few len zeros lies =
           let row = blocks_go spot parent before.new before.ys n spot.across is (omega arith) (omega arith) (before.kept.len ∙ len) clear read.1 in
           let changed : KeptOutside w 0 w top bottom before.ys row.ys = subst (λ r. KeptOutside w 0 r top bottom before.ys row.ys) last row.kept in
           let kept = kept_join w 0 w 0 bottom 0 w 0 top 0 w top bottom xs before.ys row.ys
-              (omega arith, omega arith, omega arith, rises) (omega arith, omega arith, omega arith, omega arith) before.kept changed in
+          (omega arith, omega arith, omega arith, rises) (omega arith, omega arith, omega arith, omega arith) before.kept changed in
           let small : AreSmall xs → AreSmall row.ys = λ all. row.small (before.small all) in
           elim row.came [
             | inl more ↦

@@ -1,5 +1,5 @@
 -- The blocks of an inter picture cover each of its planes.
-use Rattle.std.proofs.Common.{◌≡◌, ℕ, ◌+◌, ◌-◌, ◌*◌, ◌/◌, ◌%◌, ◌<◌, ◌≤◌, Bool, true, ◌&&◌, IsTrue, IsSome, Option, None, Some, option_map, arith, rules, refl, ap, subst, sym, ◌∙◌}
+use Rattle.std.proofs.Common.{◌≡◌, ℕ, ◌+◌, ◌-◌, ◌*◌, ◌/◌, ◌%◌, ◌<◌, ◌≤◌, IsTrue, IsSome, Option, None, Some, arith, rules, ap, subst, ◌∙◌}
 use Rattle.std.specs.Option.{ForSome}
 use Rattle.std.proofs.Math.Nat.{lt-div-mul-add}
 use Rattle.std.proofs.lemmas.Bool.Decides.{nat_tests}

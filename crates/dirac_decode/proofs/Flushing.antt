@@ -1,7 +1,5 @@
 -- A stream shows the pictures of its sequences in the order of delivery.
-use Rattle.std.proofs.Common.{◌≡◌, ◌≢◌, ◌∙◌, ℕ, ◌==◌, Bool, true, false, not, ◌&&◌, if◌then◌else◌, List, [], ◌∷◌, ◌++◌, length, Option, None, Some, Result, Ok, Err, refl, sym, ap, subst, arith, append-nil, append_assoc, eq-eqb, ne_eqb, inl, inr}
-use Rattle.std.specs.List.{All}
-use Rattle.std.proofs.lemmas.Bool.{cases_eq}
+use Rattle.std.proofs.Common.{◌≡◌, ◌≢◌, ◌∙◌, ℕ, ◌==◌, Bool, true, false, not, ◌&&◌, if◌then◌else◌, List, [], ◌∷◌, ◌++◌, Option, None, Some, Result, Ok, Err, refl, sym, ap, subst, arith, append-nil, append_assoc, ne_eqb}
 use Rattle.std.proofs.lemmas.List.Elements.{All-get_or, All-drop}
 use Rattle.dirac_types.specs.declared.faults.Fault.{Fault}
 use Rattle.dirac_types.specs.declared.faults.Refusal.{Refusal}
@@ -18,9 +16,9 @@ use Rattle.dirac_picture.specs.declared.coded.CodedPicture.{CodedPicture}
 use Rattle.dirac_picture.specs.Grammar.{picture_read}
 use Rattle.dirac_decode.specs.declared.opened.Opened.{Opened}
 use Rattle.dirac_decode.specs.Content.{rebuilt}
-use Rattle.dirac_decode.specs.Course.{Course, Moved, content, ended, header_moves, made, moved, opening, passed, picture_moves, shows, staying, is_same}
-use Rattle.dirac_decode.specs.Sequences.{AreOfOneSequence, EachIsFlushed, IsBetween, LastIsFlushed, ShowsBehind, flushed_behind, pushed, pushed_by, pushed_in, pushed_of, pushed_on}
-use Rattle.dirac_decode.specs.Shown.{Outcome, accepted, accepted_on, ends_with, follows, outcome, with_front}
+use Rattle.dirac_decode.specs.Course.{Course, Moved, ended, header_moves, made, moved, opening, picture_moves, shows, staying, is_same}
+use Rattle.dirac_decode.specs.Sequences.{AreOfOneSequence, EachIsFlushed, LastIsFlushed, ShowsBehind, flushed_behind, pushed, pushed_by, pushed_in, pushed_of, pushed_on}
+use Rattle.dirac_decode.specs.Shown.{accepted, accepted_on, follows, outcome}
 
 -- what a unit's content left behind
 abbrev left_by : Moved → Leaving
@@ -36,7 +34,7 @@ pushed_append waiting (x ∷ xs) ys =
     let gone = ap (λ (l : Leaving). now.gone ++ l.gone) rest in
     let waits = ap (λ (l : Leaving). l.waiting) rest in
     let joined : now.gone ++ ((pushed_all now.waiting xs).gone ++ (pushed_all (pushed_all now.waiting xs).waiting ys).gone)
-        ≡ (now.gone ++ (pushed_all now.waiting xs).gone) ++ (pushed_all (pushed_all now.waiting xs).waiting ys).gone = sym (append_assoc now.gone (pushed_all now.waiting xs).gone (pushed_all (pushed_all now.waiting xs).waiting ys).gone) in
+    ≡ (now.gone ++ (pushed_all now.waiting xs).gone) ++ (pushed_all (pushed_all now.waiting xs).waiting ys).gone = sym (append_assoc now.gone (pushed_all now.waiting xs).gone (pushed_all (pushed_all now.waiting xs).waiting ys).gone) in
     ap (λ (w : List Waiting). let l : Leaving = record { waiting = w; gone = now.gone ++ (pushed_all now.waiting (xs ++ ys)).gone } in l) waits
     ∙ ap (λ (g : List Picture). let l : Leaving = record { waiting = (pushed_all (pushed_all now.waiting xs).waiting ys).waiting; gone = g } in l) (gone ∙ joined)
 
@@ -134,7 +132,7 @@ each_step course spot unit units rest last end (Ok m) other is all later =
     let front = flushed_behind m.course.waiting (pushed m.course units) in
     let rest_shown = (outcome behind.course behind.spot rest end).shown in
     let same : m.gone ++ front ≡ flushed_behind course.waiting (pushed_by course unit ++ pushed m.course units) =
-        sym (behind_step course.waiting (pushed_by course unit) (pushed m.course units) (left_by m) (unit_leaves course unit m other is)) in
+    sym (behind_step course.waiting (pushed_by course unit) (pushed m.course units) (left_by m) (unit_leaves course unit m other is)) in
     record {
       course = behind.course;
       spot = behind.spot;

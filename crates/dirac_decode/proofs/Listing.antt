@@ -1,7 +1,7 @@
 -- The listed pictures are pictures of the open sequence.
-use Rattle.std.proofs.Common.{◌≡◌, ℕ, ◌≤◌, Bool, true, false, not, ◌&&◌, nat_le, if◌then◌else◌, List, [], ◌∷◌, ◌++◌, length, drop, Option, None, Some, refl, subst, sym, IsTrue, arith}
-use Rattle.std.specs.Prelude.{◌==◌, is_some}
-use Rattle.std.specs.List.{All, filter}
+use Rattle.std.proofs.Common.{◌≡◌, ℕ, Bool, true, false, not, nat_le, if◌then◌else◌, List, [], ◌∷◌, length, drop, Option, None, Some, subst, IsTrue, arith}
+use Rattle.std.specs.Prelude.{◌==◌}
+use Rattle.std.specs.List.{All}
 use Rattle.std.specs.Option.{ForSome}
 use Rattle.std.proofs.lemmas.List.Elements.{All-filter, All-drop, All-append, All-cons, All-nil, All-get_or}
 use Rattle.dirac_types.specs.declared.picture.Picture.{Picture}
@@ -9,7 +9,7 @@ use Rattle.dirac_sequence.specs.declared.sequence.Sequence.{Sequence}
 use Rattle.dirac_header.specs.Codes.{is_reference}
 use Rattle.dirac_header.specs.declared.header.PictureHeader.{PictureHeader}
 use Rattle.dirac_refs.specs.References.{listed, without, retire, append, appended, committed}
-use Rattle.dirac_picture.specs.Grammar.{is_listed, are_listed}
+use Rattle.dirac_picture.specs.Grammar.{are_listed}
 use Rattle.dirac_decode.specs.declared.opened.Opened.{Opened}
 use Rattle.dirac_decode.specs.Content.{named, IsPicture, AreReferences}
 use Rattle.dirac_decode.specs.Course.{as_reference}

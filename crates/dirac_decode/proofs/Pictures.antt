@@ -1,10 +1,9 @@
 -- Rebuilt pictures are pictures of their sequence.
-use Rattle.std.proofs.Common.{◌≡◌, ℤ, pos, negsuc, ◌≤ℤ◌, List, map, get_or, Option, None, Some, arith, refl}
+use Rattle.std.proofs.Common.{ℤ, pos, negsuc, List, map, get_or, Option, None, Some, arith, refl}
 use Rattle.std.specs.List.{All}
 use Rattle.std.specs.Int.{int_min}
 use Rattle.std.proofs.lemmas.Int.{ints, int_max_is, int_min_is}
 use Rattle.std.proofs.lemmas.List.Elements.{All-map}
-use Rattle.dirac_types.specs.Table.{Table}
 use Rattle.dirac_types.specs.declared.picture.Picture.{Picture}
 use Rattle.dirac_sequence.specs.declared.sequence.Sequence.{Sequence}
 use Rattle.dirac_header.specs.declared.header.PictureHeader.{PictureHeader}
@@ -13,7 +12,7 @@ use Rattle.dirac_obmc.specs.declared.motion.Part.{Part}
 use Rattle.dirac_picture.specs.declared.coded.CodedMotion.{CodedMotion}
 use Rattle.dirac_picture.specs.declared.coded.CodedPicture.{CodedPicture}
 use Rattle.dirac_picture.specs.declared.coded.CodedResidual.{CodedResidual}
-use Rattle.dirac_residual.specs.Residual.{clip, clipped}
+use Rattle.dirac_residual.specs.Residual.{clip}
 use Rattle.dirac_decode.specs.Content.{IsPlane, width_of, height_of, samples_from, plane_samples}
 
 -- a clipped value is a sample

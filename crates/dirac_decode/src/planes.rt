@@ -87,7 +87,12 @@ fn coded_residual(
 }
 
 /// A residual of zeros.
-fn zero_residual(alloc: Global, sequence: &Sequence, kind: Kind, part: Part) -> Result<Wide, NoMemory>
+fn zero_residual(
+    alloc: Global,
+    sequence: &Sequence,
+    kind: Kind,
+    part: Part,
+) -> Result<Wide, NoMemory>
     requires sequence { IsSequence sequence.now }
     ensures value { IfOk result (λ t. t ≡ content.residual_among sequence.now kind part None) }
     ensures bound { IfOk result (λ t. All (λ v. unsigned_abs v ≤ 2 ^ 108) t.values) }

@@ -40,7 +40,11 @@ fn block(seed: u32, refs: u8) -> Block
         ref1,
         ref2,
         v1: if ref1 { short_vector(seed) } else { nowhere },
-        v2: if ref2 { short_vector(seed ^ 5) } else { nowhere },
+        v2: if ref2 {
+            short_vector(seed ^ 5)
+        } else {
+            nowhere
+        },
         dc_y: if dc { short(seed) } else { 0 },
         dc_u: if dc { short(seed ^ 3) } else { 0 },
         dc_v: if dc { short(seed ^ 9) } else { 0 },

@@ -51,7 +51,12 @@ fn grey_of_eight(rt: HostRuntime) -> Result<(), NoMemory> {
         0u8, 0, 0, 0, 0x80, 0x90, 0x80, 0x80, 0x80, 0x80, 0x80, 0x80, 0x80, 0x80, 0x80, 0x80, 0x80,
         0x80,
     ];
-    assert!(rt; coded(&rt, alloc, &settings, grey.as_slice())?.payload.as_slice() == wanted.as_slice());
+    assert!(rt;
+        coded(&rt, alloc, &settings, grey.as_slice())?
+            .payload
+            .as_slice()
+            == wanted.as_slice()
+    );
     Ok(())
 }
 
@@ -71,7 +76,12 @@ fn haar_of_two(rt: HostRuntime) -> Result<(), NoMemory> {
         0u8, 0, 0, 0, 0x80, 0x09, 0x00, 0x30, 0x2E, 0x80, 0x80, 0x80, 0x80, 0x80, 0x80, 0x80, 0x80,
         0x80, 0x80, 0x80,
     ];
-    assert!(rt; coded(&rt, alloc, &settings, raw.as_slice())?.payload.as_slice() == wanted.as_slice());
+    assert!(rt;
+        coded(&rt, alloc, &settings, raw.as_slice())?
+            .payload
+            .as_slice()
+            == wanted.as_slice()
+    );
     Ok(())
 }
 

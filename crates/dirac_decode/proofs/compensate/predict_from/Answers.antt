@@ -1,4 +1,4 @@
-use Rattle.std.proofs.Common.{◌≡◌, ap, arith, false, true, Option, Some, None, IsSome, subst}
+use Rattle.std.proofs.Common.{◌≡◌, ap, false, true, IsSome, subst}
 use Rattle.std.specs.Option.{option_copied}
 use Rattle.dirac_decode.proofs.Covering.{from_one, from_two}
 use Rattle.dirac_decode.proofs.compensate.predict_from.Goals as goal

@@ -1,7 +1,4 @@
-use Rattle.std.proofs.Common.{sym, subst}
-use Rattle.dirac_types.specs.Table.{Table}
 use Rattle.dirac_obmc.specs.declared.motion.Part.TheVariants as part
-use Rattle.dirac_decode.specs.Content.{IsPlane, width_of, height_of}
 use Rattle.dirac_decode.proofs.Pictures.{plane_fits}
 use Rattle.dirac_decode.proofs.picture.rebuild.Goals as goal
 

@@ -1,5 +1,4 @@
-use Rattle.std.proofs.Common.{◌≡◌, Option, ap, arith, subst, sym}
-use Rattle.dirac_decode.specs.declared.opened.Opened.{Opened}
+use Rattle.std.proofs.Common.{◌≡◌, ap, arith, subst, sym}
 use Rattle.dirac_decode.specs.Course.{Course}
 use Rattle.dirac_decode.specs.Taking.{IsOfOpen}
 use Rattle.dirac_decode.proofs.Listing.{open_still}
@@ -8,8 +7,7 @@ use Rattle.dirac_decode.proofs.state.State.show.Goals as goal
 pub invariant_of-self : goal.invariant_of-self
 invariant_of-self c =
     let opened : c.self.inside.opened ≡ c.args.self.now.opened = ap (λ (x : Course). x.opened) c.self.view_is in
-    let one : IsOfOpen c.self.inside.opened c.args.made.picture = subst (λ o. IsOfOpen o c.args.made.picture) (sym opened) c.requires.fits in
-    (
+    let one : IsOfOpen c.self.inside.opened c.args.made.picture = subst (λ o. IsOfOpen o c.args.made.picture) (sym opened) c.requires.fits in (
       rw (c.commit.ensures.list, c.requires.reference)
           (open_still c.self.inside.opened c.self.inside.refs c.args.made.coded.header.retire c.args.made.coded.code c.args.made.picture c.self.invariant.0 one),
       omega (arith, c.max-self-inside.ensures, c.count.ensures.few, c.self.invariant.1),
@@ -18,8 +16,7 @@ invariant_of-self c =
 pub invariant_of-self-2 : goal.invariant_of-self-2
 invariant_of-self-2 c =
     let opened : c.self.inside.opened ≡ c.args.self.now.opened = ap (λ (x : Course). x.opened) c.self.view_is in
-    let one : IsOfOpen c.self.inside.opened c.args.made.picture = subst (λ o. IsOfOpen o c.args.made.picture) (sym opened) c.requires.fits in
-    (
+    let one : IsOfOpen c.self.inside.opened c.args.made.picture = subst (λ o. IsOfOpen o c.args.made.picture) (sym opened) c.requires.fits in (
       rw (c.commit.ensures.list, c.requires.reference)
           (open_still c.self.inside.opened c.self.inside.refs c.args.made.coded.header.retire c.args.made.coded.code c.args.made.picture c.self.invariant.0 one),
       omega (arith, c.max-self-inside.ensures, c.count.ensures.few, c.self.invariant.1),
