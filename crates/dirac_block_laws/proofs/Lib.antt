@@ -1,0 +1,5 @@
+mod Empty
+mod Reading
+mod Stepping
+mod Told
+mod Whole
