@@ -1,5 +1,5 @@
 -- Fields one after another are read one after another.
-use Rattle.std.proofs.Common.{◌≡◌, ℕ, List, ◌∷◌, length, Result, Ok, Err, refl, ap, ◌∙◌}
+use Rattle.std.proofs.Common.{◌≡◌, ℕ, List, [], ◌∷◌, length, Result, Ok, Err, refl, ap, ◌∙◌}
 use Rattle.dirac_types.specs.declared.faults.Cause.{Cause}
 use Rattle.dirac_types.specs.declared.faults.Refusal.{Refusal}
 use Rattle.dirac_arith.specs.Deciding.{begin}
@@ -127,3 +127,25 @@ one_more block blocks c e d one rest =
     let n = length blocks in
     read_then one_block (λ first. some_blocks n >>= (λ more. done (first ∷ more))) c e d block (block ∷ blocks) one
     (read_then (some_blocks n) (λ more. done (block ∷ more)) e d d blocks (block ∷ blocks) rest refl)
+
+-- the first of several blocks
+pub first_stands : (block : List ℕ) (blocks : List (List ℕ)) (c d : Cursor) → read (some_blocks (length (block ∷ blocks))) c ≡ Ok (block ∷ blocks, d)
+    → (e : Cursor) × (read one_block c ≡ Ok (block, e)) × (read (some_blocks (length blocks)) e ≡ Ok (blocks, d))
+unfolding some_blocks
+first_stands block blocks c d h =
+    let n = length blocks in
+    let p = then_read one_block (λ first. some_blocks n >>= (λ more. done (first ∷ more))) c d (block ∷ blocks) h in
+    let q = then_read (some_blocks n) (λ more. done (p.0 ∷ more)) p.1 d (block ∷ blocks) p.3 in
+    let same = answer_same (p.0 ∷ q.0, q.1) (block ∷ blocks, d) q.3 in (
+      p.1,
+      p.2 ∙ ap (λ (l : List (List ℕ) × Cursor). Ok (head_of l.0, p.1)) same,
+      q.2 ∙ ap (λ (l : List (List ℕ) × Cursor). Ok (tail_of l.0, l.1)) same,
+    )
+  where
+    head_of : List (List ℕ) → List ℕ
+    head_of [] = []
+    head_of (b ∷ bs) = b
+
+    tail_of : List (List ℕ) → List (List ℕ)
+    tail_of [] = []
+    tail_of (b ∷ bs) = bs

@@ -183,17 +183,22 @@ unfolding superblock_rows
 rows_there p t ys zero = refl
 rows_there p t ys (suc n) = ap₂ (λ (ds es : List Decision). ds ++ es) (rows_there p t ys n) (row_there p t ys n t.across)
 
+-- lists are told alike of tables that the modes and they tell the same of
+pub lists_same : (part : Part) (t : BlockTable) (ys : List Block) → ToldSame part t (with_blocks t ys) → unit_decisions t (part_at part t) ≡ unit_decisions (with_blocks t ys) (part_at part (with_blocks t ys))
+lists_same part t ys same =
+    let u = with_blocks t ys in
+    ap (λ (p : UnitPart). unit_decisions t p) (places_same (part_at part t) (part_at part u) (part_same part t u refl same)) ∙ rows_there (part_at part u) t ys t.down
+
 -- a later list leaves a list's decisions as they are
 kept_there : (first part : Part) (t : BlockTable) (ys : List Block) → length t.blocks ≡ 4 * t.down * (4 * t.across) → length ys ≡ length t.blocks
     → ((x y : ℕ) → x < 4 * t.across → y < 4 * t.down → with_part part (block_at t x y) (block_at (with_blocks t ys) x y) ≡ block_at (with_blocks t ys) x y)
     → Keeps first part → unit_decisions t (part_at first t) ≡ unit_decisions (with_blocks t ys) (part_at first (with_blocks t ys))
 kept_there first part t ys len len' inside keeps =
-    let u = with_blocks t ys in
     let every = everywhere part t ys len len' inside in
-    let same : ToldSame first t u = λ x y.
+    let same : ToldSame first t (with_blocks t ys) = λ x y.
     let k = y * (4 * t.across) + x in
     sym (keeps (get_or t.blocks k grey) (get_or ys k grey)) ∙ ap (λ (b : Block). told first b) (every k) in
-    ap (λ (p : UnitPart). unit_decisions t p) (places_same (part_at first t) (part_at first u) (part_same first t u refl same)) ∙ rows_there (part_at first u) t ys t.down
+    lists_same first t ys same
 
 -- tables of one shape are one table with other blocks
 pub shaped : (t u : BlockTable) → SameShape t u → with_blocks t u.blocks ≡ u

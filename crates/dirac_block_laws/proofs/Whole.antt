@@ -85,11 +85,15 @@ splits_stay : (block : List ℕ) (numbers : Numbers) (m t : BlockTable) → Same
 splits_stay block numbers m t shape h = subst (λ (u : BlockTable). SplitsIn block numbers u) (shaped m t shape) h
 
 -- as many blocks as lists
-each_length : (blocks : List (List ℕ)) (lists : List (List Decision)) → EachCarries blocks lists → length blocks ≡ length lists
+pub each_length : (blocks : List (List ℕ)) (lists : List (List Decision)) → EachCarries blocks lists → length blocks ≡ length lists
 each_length [] [] h = refl
 each_length [] (l ∷ ls) h = absurd h
 each_length (b ∷ bs) [] h = absurd h
 each_length (b ∷ bs) (l ∷ ls) h = ap suc (each_length bs ls h.1)
+
+-- blocks are as many as lists
+pub as_many : (n m : ℕ) (a d : Cursor) (blocks : List (List ℕ)) → n ≡ m → read (some_blocks n) a ≡ Ok (blocks, d) → read (some_blocks m) a ≡ Ok (blocks, d)
+as_many n m a d blocks e h = subst (λ (k : ℕ). read (some_blocks k) a ≡ Ok (blocks, d)) e h
 
 -- a whole table that is read is carried
 pub whole_is_carried : lists.ReadIsCarried → lists.ReadSplitsAreCarried → ReadIsCarried
@@ -115,7 +119,7 @@ whole_is_carried units splits across down refs c d t size h =
         are = in_end.0;
         small = in_end.1;
         blocks = s.0 ∷ w.blocks;
-        stand = subst (λ (n : ℕ). read (some_blocks n) a ≡ Ok (s.0 ∷ w.blocks, d)) (each_length (s.0 ∷ w.blocks) (block_decisions t k.numbers) carry) stand;
+        stand = as_many (length (s.0 ∷ w.blocks)) (length (block_decisions t k.numbers)) a d (s.0 ∷ w.blocks) (each_length (s.0 ∷ w.blocks) (block_decisions t k.numbers) carry) stand;
         carry = carry;
       },
       end.shape.across ∙ k.rest.across,

@@ -13,3 +13,10 @@ ReadIsCarried =
     IsSize across down refs →
     read (blocks across down refs) c ≡ Ok (t, d) →
     StandFor t c d × (t.across ≡ across) × (t.down ≡ down) × (t.refs ≡ refs)
+
+-- and a table whose lists are carried by the blocks that stand there is read from them
+abbrev pub CarriedIsRead : Type 0
+CarriedIsRead =
+    (t : BlockTable) (c d : Cursor) →
+    StandFor t c d →
+    read (blocks t.across t.down t.refs) c ≡ Ok (t, d)

@@ -3,4 +3,4 @@
 
 mod laws;
 
-pub use laws::tables_that_are_read_are_carried;
+pub use laws::{carried_tables_are_read, read_tables_are_carried};
