@@ -1,0 +1,224 @@
+-- A finished table as it was when some of its lists were read.
+use Rattle.std.proofs.Common.{◌≡◌, ℕ, ℤ, ◌+◌, ◌*◌, ◌<◌, ◌≤◌, inl, inr, Bool, true, false, List, length, map, replicate, get_or, ext_get_or, refl, sym, ap, ap₂, ◌∙◌, arith, subst}
+use Rattle.std.specs.Prelude.{pos}
+use Rattle.std.proofs.lemmas.Bool.{cases_eq, cases_lt}
+use Rattle.std.proofs.lemmas.Int.{ints}
+use Rattle.std.proofs.lemmas.List.{get_or_past, get_or-map, get_or-replicate, length-map, length-replicate}
+use Rattle.std.proofs.lemmas.List.Elements.{All-map}
+use Rattle.std.proofs.lemmas.Nat.{mul-add-lt}
+use Rattle.dirac_types.specs.declared.formats.Vector.{Vector}
+use Rattle.dirac_arith.specs.Carried.{Carries}
+use Rattle.dirac_arith.specs.Interval.{Decision}
+use Rattle.dirac_vectors.specs.Neighbours.{IsShort}
+use Rattle.dirac_blocks.specs.declared.block.Block.{Block}
+use Rattle.dirac_blocks.specs.declared.parts.Component.TheVariants as components
+use Rattle.dirac_blocks.specs.declared.parts.Part.{Part}
+use Rattle.dirac_blocks.specs.declared.parts.Part.TheVariants as parts
+use Rattle.dirac_blocks.specs.declared.parts.Reference.TheVariants as references
+use Rattle.dirac_blocks.specs.Carried.{with_part, ReadsTo}
+use Rattle.dirac_blocks.specs.Grammar.{empty_table, units_step}
+use Rattle.dirac_blocks.specs.Laws.{CarriedIsRead}
+use Rattle.dirac_blocks.specs.Tables.{BlockTable, IsBlock, IsBlockTable, block_at, grey, no_vector, split_at, first_of}
+use Rattle.dirac_block_laws.proofs.Stepping.{list_of}
+use Rattle.dirac_block_laws.proofs.Told.{told, ToldSame, lists_same}
+
+-- the table with each block changed
+abbrev pub by : (Block → Block) → BlockTable → BlockTable
+by f t = record t { blocks = map f t.blocks }
+
+-- a change that keeps blocks lawful
+abbrev pub KeepsLaws : ℕ → (Block → Block) → Type 0
+KeepsLaws refs f = (b : Block) → IsBlock refs b → IsBlock refs (f b)
+
+place_inside : (t : BlockTable) (x y : ℕ) → IsBlockTable t → x < 4 * t.across → y < 4 * t.down → y * (4 * t.across) + x < length t.blocks
+place_inside t x y inv p q = let h = mul-add-lt y (4 * t.across) x (4 * t.down) q p in omega (arith, inv.blocks_len)
+
+by_at : (f : Block → Block) (t : BlockTable) (x y : ℕ) → IsBlockTable t → x < 4 * t.across → y < 4 * t.down → block_at (by f t) x y ≡ f (block_at t x y)
+by_at f t x y inv p q = get_or-map f t.blocks (y * (4 * t.across) + x) grey grey (place_inside t x y inv p q)
+
+-- the first of a unit's columns is in the superblock
+first_below : (split i : ℕ) → split ≤ 2 → i < 4 → first_of split i < 4
+first_below split i h l =
+    elim (cases_eq split 0) [
+      | inl e ↦ subst (λ (s : ℕ). first_of s i < 4) (sym e) (omega arith)
+      | inr a ↦ elim (cases_eq split 1) [
+        | inl e ↦ subst (λ (s : ℕ). first_of s i < 4) (sym e) (omega arith)
+        | inr b ↦ let e : split ≡ 2 = omega arith in subst (λ (s : ℕ). first_of s i < 4) (sym e) (omega arith)
+      ]
+    ]
+
+split_few : (t : BlockTable) (sx sy : ℕ) → IsBlockTable t → sx < t.across → sy < t.down → split_at t sx sy ≤ 2
+split_few t sx sy inv p q =
+    let h = mul-add-lt sy t.across sx t.down q p in
+    let inside : sy * t.across + sx < length t.splits = omega (arith, inv.splits_len) in
+    inv.splits (sy * t.across + sx) 0 inside
+
+pub by_lawful : (f : Block → Block) (t : BlockTable) → IsBlockTable t → KeepsLaws t.refs f → IsBlockTable (by f t)
+by_lawful f t inv lawful =
+    record {
+      size = inv.size;
+      splits_len = inv.splits_len;
+      blocks_len = length-map t.blocks f ∙ inv.blocks_len;
+      splits = inv.splits;
+      blocks = All-map (IsBlock t.refs) f t.blocks (λ i d l. lawful (get_or t.blocks i d) (inv.blocks i d l));
+      units = λ sx sy i j hx hy p q.
+          let s = split_at t sx sy in
+          let two = split_few t sx sy inv hx hy in
+          let p' = first_below s i two p in
+          let q' = first_below s j two q in
+          by_at f t (4 * sx + i) (4 * sy + j) inv (omega arith) (omega arith)
+          ∙ ap f (inv.units sx sy i j hx hy p q)
+          ∙ sym (by_at f t (4 * sx + first_of s i) (4 * sy + first_of s j) inv (omega arith) (omega arith));
+    }
+
+-- a change of blocks that leaves what the modes and a list tell
+told_by : (part : Part) (f : Block → Block) (t : BlockTable) → ((b : Block) → told part (f b) ≡ told part b) → ToldSame part t (by f t)
+told_by part f t same x y =
+    let place = y * (4 * t.across) + x in
+    elim (cases_lt place (length t.blocks)) [
+      | inl inside ↦ sym (same (block_at t x y)) ∙ ap (λ (b : Block). told part b) (sym (get_or-map f t.blocks place grey grey inside))
+      | inr past ↦
+          let lens : length (map f t.blocks) ≡ length t.blocks = length-map t.blocks f in
+          ap (λ (b : Block). told part b) (get_or_past t.blocks place grey past ∙ sym (get_or_past (map f t.blocks) place grey (omega arith)))
+    ]
+
+-- what a list tells twice it tells once
+absorbs : (part : Part) (b c : Block) → with_part part b (with_part part b c) ≡ with_part part b c
+absorbs parts.Modes b c = refl
+absorbs (parts.Across references.First) b c = refl
+absorbs (parts.Across references.Second) b c = refl
+absorbs (parts.Down references.First) b c = refl
+absorbs (parts.Down references.Second) b c = refl
+absorbs (parts.Dc components.Y) b c = refl
+absorbs (parts.Dc components.U) b c = refl
+absorbs (parts.Dc components.V) b c = refl
+
+-- a block that carries a list of the finished table leads from the table before it to the one behind it
+pub leads_on : CarriedIsRead → (part : Part) (t : BlockTable) (f g : Block → Block) (block : List ℕ) → IsBlockTable t → KeepsLaws t.refs f → KeepsLaws t.refs g
+    → ((b : Block) → with_part part (f b) b ≡ g b) → ((b : Block) → told part (g b) ≡ told part b) → Carries block (list_of t part)
+    → ReadsTo (units_step part) (by f t) block (by g t)
+leads_on law part t f g block inv before after is same carry =
+    law part (by f t) (by g t) block (by_lawful f t inv before)
+    (record {
+      lawful = by_lawful g t inv after;
+      rest = record {
+        shape = record { across = refl; down = refl; refs = refl; splits = refl };
+        blocks = λ i j p q.
+            let b = block_at t i j in
+            let at = by_at g t i j inv p q in
+            ap₂ (λ (x y : Block). with_part part x y) (by_at f t i j inv p q) (at ∙ sym (is b)) ∙ absorbs part (f b) b ∙ is b ∙ sym at;
+      };
+      carried = subst (λ (ds : List Decision). Carries block ds) (lists_same part t (map g t.blocks) (told_by part g t same)) carry;
+    })
+
+-- which lists have been read
+pub record Known : Type 0 where
+  pub across1 : Bool
+  pub down1 : Bool
+  pub across2 : Bool
+  pub down2 : Bool
+  pub dc_y : Bool
+  pub dc_u : Bool
+  pub dc_v : Bool
+
+-- none but the modes
+abbrev pub no_values : Known
+no_values = record { across1 = false; down1 = false; across2 = false; down2 = false; dc_y = false; dc_u = false; dc_v = false }
+
+-- one list more
+abbrev pub next : Part → Known → Known
+next parts.Modes k = no_values
+next (parts.Across references.First) k = record k { across1 = true }
+next (parts.Across references.Second) k = record k { across2 = true }
+next (parts.Down references.First) k = record k { down1 = true }
+next (parts.Down references.Second) k = record k { down2 = true }
+next (parts.Dc components.Y) k = record k { dc_y = true }
+next (parts.Dc components.U) k = record k { dc_u = true }
+next (parts.Dc components.V) k = record k { dc_v = true }
+
+-- a value, once it is read
+abbrev said : Bool → ℤ → ℤ
+said true v = v
+said false v = pos 0
+
+-- a block, as far as it is read
+abbrev pub shown : Known → Block → Block
+shown k b = record {
+  ref1 = b.ref1;
+  ref2 = b.ref2;
+  v1 = record { x = said k.across1 b.v1.x; y = said k.down1 b.v1.y };
+  v2 = record { x = said k.across2 b.v2.x; y = said k.down2 b.v2.y };
+  dc_y = said k.dc_y b.dc_y;
+  dc_u = said k.dc_u b.dc_u;
+  dc_v = said k.dc_v b.dc_v;
+}
+
+said_short : (a : Bool) (v : ℤ) → IsShort v → IsShort (said a v)
+said_short true v h = h
+said_short false v h = record { least = omega (arith, ints); most = omega (arith, ints) }
+
+said_none : (a : Bool) (v : ℤ) → v ≡ pos 0 → said a v ≡ pos 0
+said_none true v e = e
+said_none false v e = refl
+
+vector_none : (a b : Bool) (v : Vector) → v ≡ no_vector → (let w : Vector = record { x = said a v.x; y = said b v.y } in w ≡ no_vector)
+vector_none a b v e =
+    ap₂ (λ (x y : ℤ). let w : Vector = record { x = x; y = y } in w)
+    (said_none a v.x (ap (λ (w : Vector). let n : ℤ = w.x in n) e)) (said_none b v.y (ap (λ (w : Vector). let n : ℤ = w.y in n) e))
+
+pub shown_lawful : (k : Known) (refs : ℕ) → KeepsLaws refs (shown k)
+shown_lawful k refs b h =
+    record {
+      second = h.second;
+      v1 = record { x = said_short k.across1 b.v1.x h.v1.x; y = said_short k.down1 b.v1.y h.v1.y };
+      v2 = record { x = said_short k.across2 b.v2.x h.v2.x; y = said_short k.down2 b.v2.y h.v2.y };
+      dc_y = said_short k.dc_y b.dc_y h.dc_y;
+      dc_u = said_short k.dc_u b.dc_u h.dc_u;
+      dc_v = said_short k.dc_v b.dc_v h.dc_v;
+      no_v1 = λ e. vector_none k.across1 k.down1 b.v1 (h.no_v1 e);
+      no_v2 = λ e. vector_none k.across2 k.down2 b.v2 (h.no_v2 e);
+      no_dc = λ e. (said_none k.dc_y b.dc_y (h.no_dc e).0, said_none k.dc_u b.dc_u (h.no_dc e).1, said_none k.dc_v b.dc_v (h.no_dc e).2);
+    }
+
+pub shown_next : (part : Part) (k : Known) (b : Block) → with_part part (shown k b) b ≡ shown (next part k) b
+shown_next parts.Modes k b = refl
+shown_next (parts.Across references.First) k b = refl
+shown_next (parts.Across references.Second) k b = refl
+shown_next (parts.Down references.First) k b = refl
+shown_next (parts.Down references.Second) k b = refl
+shown_next (parts.Dc components.Y) k b = refl
+shown_next (parts.Dc components.U) k b = refl
+shown_next (parts.Dc components.V) k b = refl
+
+pub shown_told : (part : Part) (k : Known) (b : Block) → told part (shown (next part k) b) ≡ told part b
+shown_told parts.Modes k b = refl
+shown_told (parts.Across references.First) k b = refl
+shown_told (parts.Across references.Second) k b = refl
+shown_told (parts.Down references.First) k b = refl
+shown_told (parts.Down references.Second) k b = refl
+shown_told (parts.Dc components.Y) k b = refl
+shown_told (parts.Dc components.U) k b = refl
+shown_told (parts.Dc components.V) k b = refl
+
+-- a table all of whose blocks are finished
+pub by_end : (f : Block → Block) (t : BlockTable) → IsBlockTable t → ((b : Block) → IsBlock t.refs b → f b ≡ b) → by f t ≡ t
+by_end f t inv same =
+    let len : length (map f t.blocks) ≡ length t.blocks = length-map t.blocks f in
+    ap (λ (xs : List Block). let u : BlockTable = record t { blocks = xs } in u)
+    (ext_get_or grey (map f t.blocks) t.blocks len
+    (λ k l. let inside : k < length t.blocks = omega arith in get_or-map f t.blocks k grey grey inside ∙ same (get_or t.blocks k grey) (inv.blocks k grey inside)))
+
+-- before any block is read
+abbrev pub nothing_yet : Block → Block
+nothing_yet b = grey
+
+pub by_nothing : (t : BlockTable) → IsBlockTable t → map nothing_yet t.blocks ≡ (empty_table t.across t.down t.refs).blocks
+by_nothing t inv =
+    let n = 4 * t.down * (4 * t.across) in
+    let len : length (map nothing_yet t.blocks) ≡ length t.blocks = length-map t.blocks nothing_yet in
+    let len' : length (replicate n grey) ≡ n = length-replicate n grey in
+    ext_get_or grey (map nothing_yet t.blocks) (replicate n grey) (len ∙ inv.blocks_len ∙ sym len')
+    (λ k l.
+    let inside : k < length t.blocks = omega arith in
+    let below : k < n = omega (arith, inv.blocks_len) in
+    get_or-map nothing_yet t.blocks k grey grey inside ∙ sym (get_or-replicate n k grey grey below))
