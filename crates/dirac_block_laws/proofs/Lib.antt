@@ -1,4 +1,5 @@
 mod Empty
+mod Examples
 mod Leading
 mod Reading
 mod Shown

@@ -1,5 +1,5 @@
 -- A whole table is read from the blocks that carry its lists.
-use Rattle.std.proofs.Common.{◌≡◌, ℕ, ◌-◌, ◌^◌, ◌<◌, inl, inr, Bool, true, false, List, [], ◌∷◌, length, map, Ok, refl, sym, ap, arith, subst}
+use Rattle.std.proofs.Common.{◌≡◌, ℕ, ◌-◌, ◌^◌, ◌<◌, inl, inr, Bool, true, false, List, [], ◌∷◌, length, map, Ok, refl, sym, ap, ◌∙◌, arith, subst}
 use Rattle.std.specs.Prelude.{◌==◌}
 use Rattle.std.proofs.lemmas.Bool.{cases_eq, eq-eqb, ne_eqb}
 use Rattle.dirac_types.specs.declared.formats.Vector.{Vector}
@@ -14,11 +14,11 @@ use Rattle.dirac_blocks.specs.Decisions.{Numbers, AreSplitNumbers, split_rows, b
 use Rattle.dirac_blocks.specs.Grammar.{empty_table, listed, splits_step, units_step, values_listed, lists_of, blocks}
 use Rattle.dirac_blocks.specs.Laws as lists
 use Rattle.dirac_blocks.specs.Tables.{BlockTable, IsBlockTable, no_vector}
-use Rattle.dirac_block_laws.specs.Laws.{CarriedIsRead}
+use Rattle.dirac_block_laws.specs.Laws.{CarriedIsRead, OneIsCarried}
 use Rattle.dirac_block_laws.specs.Standing.{some_blocks, EachCarries}
 use Rattle.dirac_block_laws.proofs.Empty.{empty_lawful, grey_lawful}
 use Rattle.dirac_block_laws.proofs.Leading.{Leads, after, leads_from, value_lists, values_read}
-use Rattle.dirac_block_laws.proofs.Reading.{read_then, read_list, first_stands}
+use Rattle.dirac_block_laws.proofs.Reading.{answer_same, read_then, read_list, first_stands}
 use Rattle.dirac_block_laws.proofs.Shown.{no_values, shown, by, by_lawful, by_end, by_nothing, nothing_yet, shown_lawful, shown_told, leads_on}
 use Rattle.dirac_block_laws.proofs.Stepping.{list_of}
 use Rattle.dirac_block_laws.proofs.Whole.{lists_behind, decisions_are, each_length, as_many}
@@ -83,3 +83,11 @@ whole_is_read units splits t c d s =
     lists_read units splits t s.numbers s.blocks (aligned c) d s.lawful s.are s.small
     (as_many (length (block_decisions t s.numbers)) (length s.blocks) (aligned c) d s.blocks (sym lens) s.stand)
     (subst (λ (ls : List (List Decision)). EachCarries s.blocks ls) is s.carry)
+
+-- a table that is read is the only one
+pub one_is_carried : CarriedIsRead → OneIsCarried
+one_is_carried law t u c d e s r across down refs =
+    let sizes : read (blocks t.across t.down t.refs) c ≡ read (blocks u.across u.down u.refs) c =
+    ap (λ (n : ℕ). read (blocks n t.down t.refs) c) across ∙ ap (λ (n : ℕ). read (blocks u.across n t.refs) c) down ∙ ap (λ (n : ℕ). read (blocks u.across u.down n) c) refs in
+    let same = answer_same (t, d) (u, e) (sym (law t c d s) ∙ sizes ∙ law u c e r) in
+    (ap (λ (p : BlockTable × Cursor). p.0) same, ap (λ (p : BlockTable × Cursor). p.1) same)

@@ -20,3 +20,14 @@ CarriedIsRead =
     (t : BlockTable) (c d : Cursor) →
     StandFor t c d →
     read (blocks t.across t.down t.refs) c ≡ Ok (t, d)
+
+-- so from a place on no more than one table of these sizes is carried, up to one place
+abbrev pub OneIsCarried : Type 0
+OneIsCarried =
+    (t u : BlockTable) (c d e : Cursor) →
+    StandFor t c d →
+    StandFor u c e →
+    t.across ≡ u.across →
+    t.down ≡ u.down →
+    t.refs ≡ u.refs →
+    (t ≡ u) × (d ≡ e)

@@ -1,18 +1,19 @@
 //! What holds of all whole block tables, each as the contract of a function that does nothing.
-ghost use Rattle.dirac_block_laws.specs.Laws.{CarriedIsRead, ReadIsCarried};
+ghost use Rattle.dirac_block_laws.specs.Laws.{CarriedIsRead, OneIsCarried, ReadIsCarried};
 
 use dirac_blocks::{carried_lists_are_read, read_lists_are_carried};
 
 /// The blocks that a table is read from carry its lists.
 pub fn read_tables_are_carried()
-    ensures { ReadIsCarried }
+    ensures carried { ReadIsCarried }
 {
     read_lists_are_carried();
 }
 
-/// A table is read from the blocks that carry its lists: from these blocks no other one is.
+/// A table is read from the blocks that carry its lists, so these carry no other one.
 pub fn carried_tables_are_read()
-    ensures { CarriedIsRead }
+    ensures read { CarriedIsRead }
+    ensures one { OneIsCarried }
 {
     carried_lists_are_read();
 }
