@@ -1,9 +1,3 @@
-ghost use Rattle.std.specs.Prelude.{◌≡◌, ◌≤◌, ◌^◌, length, IfOk};
-ghost use Rattle.std.specs.List.{All};
-ghost use Rattle.dirac_vectors.specs.Neighbours.{IsShort};
-ghost use Rattle.dirac_vectors.specs.Predictions.{IsShortVector};
-ghost use Rattle.dirac_blocks.specs.Tables.{IsBlock, IsSize};
-
 use dirac_bits::{BitReader, BitWriter};
 use dirac_blocks::{Block, BlockData, read_blocks, write_blocks};
 use dirac_obmc::weight;
@@ -11,78 +5,42 @@ use dirac_types::{NoMemory, Vector};
 use std::alloc::Global;
 use std::process::Abort;
 
-/// A number of 16 bits, small or large in turn.
-fn short(seed: u32) -> i32
-    ensures { IsShort result }
-{
-    let mixed = (seed.wrapping_mul(0x9E37_79B1) >> 16) as i32;
-    (mixed >> (seed % 16)) - (32768 >> (seed % 16))
-}
-
-fn short_vector(seed: u32) -> Vector
-    ensures { IsShortVector result }
-{
-    Vector {
-        x: short(seed),
-        y: short(seed.wrapping_add(17)),
-    }
-}
-
-/// A block with two references, with one, or without, in turn.
-fn block(seed: u32, refs: u8) -> Block
-    ensures { IsBlock refs result }
-{
-    let nowhere = Vector { x: 0, y: 0 };
-    let ref1 = seed % 3 == 1;
-    let ref2 = seed % 4 == 1 && refs != 1;
-    let dc = !(ref1 || ref2);
-    Block {
-        ref1,
-        ref2,
-        v1: if ref1 { short_vector(seed) } else { nowhere },
-        v2: if ref2 {
-            short_vector(seed ^ 5)
-        } else {
-            nowhere
-        },
-        dc_y: if dc { short(seed) } else { 0 },
-        dc_u: if dc { short(seed ^ 3) } else { 0 },
-        dc_v: if dc { short(seed ^ 9) } else { 0 },
-    }
-}
-
-/// The units of a superblock.
-fn units(alloc: Global, seed: u32, split: u8, refs: u8) -> Result<Vec<Block>, NoMemory>
-    requires { split ≤ 2 }
-    ensures count { IfOk result (λ v. length v.items ≡ 4 ^ split) }
-    ensures units { IfOk result (λ v. All (IsBlock refs) v.items) }
-{
-    let count: u32 = match split {
-        0 => 1,
-        1 => 4,
-        _ => 16,
-    };
-    let mut list = Vec::new(alloc);
-    'units: for n in 0..count {
-        list.push(block(seed.wrapping_add(n * 7), refs))?;
-    }
-    Ok(list)
-}
-
-/// A table of all splits and all kinds of blocks.
-fn table(alloc: Global, across: u32, down: u32, refs: u8) -> Result<BlockData, NoMemory>
-    requires { IsSize across down refs }
-{
-    let mut table = BlockData::try_new(alloc, across, down, refs)?;
-    let mut seed: u32 = 1;
-    'rows: for sy in 0..down {
-        'superblocks: for sx in 0..across {
+/// A table of all splits, read from random bytes: each list is a block of 255 of them.
+fn table<R: Abort>(
+    rt: &R,
+    alloc: Global,
+    across: u32,
+    down: u32,
+    refs: u8,
+) -> Result<BlockData, NoMemory> {
+    assert!(rt; 1 <= across && across <= 8 && 1 <= down && down <= 8 && 1 <= refs && refs <= 2);
+    let mut bytes = Vec::new(alloc);
+    let mut seed = across;
+    for _list in 0..9 {
+        // the length, 255
+        bytes.push(0u8)?;
+        bytes.push(0)?;
+        bytes.push(0x80)?;
+        for _byte in 0..255 {
             seed = seed.wrapping_mul(1_664_525).wrapping_add(1_013_904_223);
-            let split = ((seed >> 24) % 3) as u8;
-            let units = units(alloc, seed >> 8, split, refs)?;
-            table.put(sx, sy, split, units.as_slice());
+            bytes.push((seed >> 24) as u8)?;
         }
     }
+    let mut reader = BitReader::new(bytes.as_slice());
+    let Ok(table) = read_blocks(alloc, &mut reader, across, down, refs) else {
+        panic!(rt; "random bytes that carry no table");
+    };
+    let (mut whole, mut quarters, mut sixteenths) = (false, false, false);
+    for sy in 0..down {
+        for sx in 0..across {
+            match table.split(sx, sy) {
+                0 => whole = true,
+                1 => quarters = true,
+                _ => sixteenths = true,
+            }
+        }
+    }
+    assert!(rt; whole && quarters && sixteenths);
     Ok(table)
 }
 
@@ -114,9 +72,8 @@ fn comes_back<R: Abort>(rt: &R, alloc: Global, written: &BlockData) -> Result<()
 #[test]
 fn tables_written_are_read(rt: HostRuntime) -> Result<(), NoMemory> {
     let alloc = rt.alloc();
-    comes_back(&rt, alloc, &table(alloc, 1, 1, 1)?)?;
-    comes_back(&rt, alloc, &table(alloc, 5, 4, 1)?)?;
-    comes_back(&rt, alloc, &table(alloc, 4, 7, 2)?)
+    comes_back(&rt, alloc, &table(&rt, alloc, 5, 4, 1)?)?;
+    comes_back(&rt, alloc, &table(&rt, alloc, 4, 7, 2)?)
 }
 
 // One superblock that isn't split, all of it from reference 1 with the vector 0.

@@ -99,7 +99,7 @@ fn slopes_come_back(rt: HostRuntime) -> Result<(), NoMemory> {
             assert!(rt; settings.check().is_ok());
             let mut raw = Vec::new(alloc);
             for n in 0..raw_length(&settings) as u64 {
-                raw.push((n * n * 7 % 251) as u8)?;
+                raw.push((n.wrapping_mul(n).wrapping_mul(7) % 251) as u8)?;
             }
             let picture = coded(&rt, alloc, &settings, raw.as_slice())?;
             assert!(rt; picture.payload.len() > 40);
