@@ -33,14 +33,13 @@ fn intra(alloc: Global, number: u8) -> Result<Vec<u8>, Fail> {
     )
 }
 
-// The unit of a picture with one reference all of whose blocks are taken from there; `offsets` has the reference
-// and what it retires, as numbers that differ from its own.
-fn inter(alloc: Global, number: u8, offsets: &[u8]) -> Result<Vec<u8>, Fail> {
-    let length = 31 + offsets.len() as u32;
+// The unit, of `next` bytes, of a picture with one reference all of whose blocks are taken from there; `offsets` has
+// the reference and what it retires, as numbers that differ from its own.
+fn inter(alloc: Global, next: u32, number: u8, offsets: &[u8]) -> Result<Vec<u8>, Fail> {
     joined(
         alloc,
         &[
-            &header(0x0D, length, 0),
+            &header(0x0D, next, 0),
             &[0, 0, 0, number],
             offsets,
             &STREAM[68..82],
@@ -102,8 +101,9 @@ fn refuses_each_field_of_an_inter_picture(rt: HostRuntime) -> Result<(), Fail> {
 fn looks_references_up_before_anything_changes(rt: HostRuntime) -> Result<(), Fail> {
     let alloc = rt.alloc();
     // a picture that retires what it refers to decodes; the next can't refer to that
-    let start = joined(alloc, &[&STREAM[..50], &inter(alloc, 1, &[0x33])?])?;
-    let bytes = joined(alloc, &[&start, &inter(alloc, 2, &[0x78])?])?;
+    let first = inter(alloc, 32, 1, &[0x33])?;
+    let second = inter(alloc, 32, 2, &[0x78])?;
+    let bytes = joined(alloc, &[&STREAM[..50], &first, &second])?;
     let missing = faulty(3, 95, Cause::MissingReference);
     let two = grey_pictures(alloc, 2)?;
     let line = "pictures=2 references=1\n";
@@ -115,23 +115,19 @@ fn lists_eight_references(rt: HostRuntime) -> Result<(), Fail> {
     let alloc = rt.alloc();
     let mut start = Vec::from_slice(alloc, &STREAM[..19])?;
     for number in 0..9 {
-        start.extend_from_slice(intra(alloc, number)?.as_slice())?;
+        let picture = intra(alloc, number)?;
+        start.extend_from_slice(picture.as_slice())?;
     }
     // picture 0 has left the list, and picture 1 not yet
-    let first = joined(alloc, &[&start, &inter(alloc, 9, &[0x13, 0x80])?])?;
+    let last = inter(alloc, 33, 9, &[0x13, 0x80])?;
+    let first = joined(alloc, &[&start, &last])?;
     let missing = faulty(10, 311, Cause::MissingReference);
     let nine = grey_pictures(alloc, 9)?;
     let line = "pictures=9 references=8\n";
     shows(&rt, alloc, first.as_slice(), missing, nine.as_slice(), line)?;
 
-    let second = joined(
-        alloc,
-        &[
-            &start,
-            &inter(alloc, 9, &[0x07, 0x80])?,
-            &header(0x10, 0, 33),
-        ],
-    )?;
+    let last = inter(alloc, 33, 9, &[0x07, 0x80])?;
+    let second = joined(alloc, &[&start, &last, &header(0x10, 0, 33)])?;
     let ten = grey_pictures(alloc, 10)?;
     let line = "pictures=10 references=8\n";
     shows(
@@ -146,17 +142,18 @@ fn lists_eight_references(rt: HostRuntime) -> Result<(), Fail> {
 
 // The unit of an intra picture of 2 by 2 samples of this number: one bit brighter than grey in luma, or grey.
 fn square(alloc: Global, number: u8, bright: bool) -> Result<Vec<u8>, Fail> {
-    let next = if bright { 33 } else { 32 };
-    let lowest: &[u8] = if bright { &[0x30, 0x2E] } else { &[0x80] };
-    joined(
-        alloc,
-        &[
-            &header(0x0C, next, 0),
-            &[0, 0, 0, number, 0x80, 0x09, 0x00],
-            lowest,
-            &[0x80; 11],
-        ],
-    )
+    let fields = [0, 0, 0, number, 0x80, 0x09, 0x00];
+    if bright {
+        joined(
+            alloc,
+            &[&header(0x0C, 33, 0), &fields, &[0x30, 0x2E], &[0x80; 11]],
+        )
+    } else {
+        joined(
+            alloc,
+            &[&header(0x0C, 32, 0), &fields, &[0x80], &[0x80; 11]],
+        )
+    }
 }
 
 #[test]
@@ -167,7 +164,8 @@ fn delivers_by_number(rt: HostRuntime) -> Result<(), Fail> {
     ];
     let mut start = Vec::from_slice(alloc, &SMALL[..18])?;
     for number in [0u8, 4, 1, 2, 3] {
-        start.extend_from_slice(square(alloc, number, number == 4)?.as_slice())?;
+        let picture = square(alloc, number, number == 4)?;
+        start.extend_from_slice(picture.as_slice())?;
     }
     let before = joined(alloc, &[&[0x80; 48], &bright])?;
     let open = faulty(6, 179, Cause::MissingEnd);
