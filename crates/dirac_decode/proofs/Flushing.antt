@@ -25,7 +25,7 @@ abbrev left_by : Moved → Leaving
 left_by m = record { waiting = m.course.waiting; gone = m.gone }
 
 -- pictures, and then others
-pushed_append : (waiting xs ys : List Waiting)
+pub pushed_append : (waiting xs ys : List Waiting)
     → pushed_all waiting (xs ++ ys) ≡ record { waiting = (pushed_all (pushed_all waiting xs).waiting ys).waiting; gone = (pushed_all waiting xs).gone ++ (pushed_all (pushed_all waiting xs).waiting ys).gone }
 pushed_append waiting [] ys = refl
 pushed_append waiting (x ∷ xs) ys =

@@ -23,3 +23,4 @@ pub use laws::a_stream_shows_its_sequences;
 pub use opened::Opened;
 pub use picture::rebuild;
 pub use stream::decode_stream;
+pub use written::put_picture;

@@ -9,7 +9,7 @@ use dirac_types::{NoMemory, Picture, Plane};
 
 /// Writes a raw picture: the rows of Y from top to bottom, then U, then V, a byte a sample. `row` is a
 /// buffer for one row, whatever it holds.
-pub(crate) fn put_picture<K: Sink>(out: &mut K, picture: &Picture, row: &mut Vec<u8>) -> Put
+pub fn put_picture<K: Sink>(out: &mut K, picture: &Picture, row: &mut Vec<u8>) -> Put
     ensures all { result ≡ Put.All → Appends (K.taken out.old) (K.taken out.new) (raw picture.now) }
     ensures front { AppendsFront (K.taken out.old) (K.taken out.new) (raw picture.now) }
     ensures failed { result ≡ Put.Failed → Rose (K.faults out.old) (K.faults out.new) }

@@ -8,3 +8,12 @@ pub mod Cutting
 pub mod Delivering
 pub mod Showing
 pub mod Raws
+pub mod Sources
+pub mod Encodings
+pub mod Headers
+pub mod RawBytes
+pub mod FilledFront
+pub mod Waiting
+pub mod Accepted
+pub mod Stepping
+pub mod Streams

@@ -3,3 +3,5 @@ pub mod Payload
 pub mod Writable
 pub mod Stream
 pub mod Raw
+pub mod Encoding
+pub mod Steps

@@ -16,6 +16,7 @@ ghost use Rattle.dirac_residual.specs.Residual.{clipped, residual};
 ghost use Rattle.dirac_analysis.specs.Fits.{AreSamples};
 ghost use Rattle.dirac_decode.specs.Content.{rebuilt};
 ghost use Rattle.dirac_encode.specs.Coded as coding;
+ghost use Rattle.dirac_plan.specs.Plan.{opening};
 ghost use Rattle.dirac_encode.specs.Payload.{payload_of, with_picture};
 ghost use Rattle.dirac_encode.specs.Writable.{AreSmall, HaveNoughts, HaveSmall, IsCodable, IsWritten};
 
@@ -24,10 +25,13 @@ use crate::transform::transform_of;
 use dirac_analysis::analyse_plane;
 use dirac_bits::BitWriter;
 use dirac_decode::{CodedPicture, CodedResidual, PlaneBands, rebuild};
+use dirac_io::RowGate;
+use dirac_plan::Planned;
 use dirac_refs::RefBuffer;
 use dirac_sequence::{Sequence, sequence_of};
 use dirac_types::{NoMemory, Picture, Plane, Settings};
 use std::alloc::Global;
+use std::thread::Threads;
 
 /// A picture's payload, and the picture that a decoder shows for it.
 #[derive(Drop)]
@@ -105,9 +109,19 @@ fn are_bytes(bytes: &[u8])
     ensures { AllByRecursion (λ b. b < 2 ^ 8) bytes.now }
 {}
 
-/// Codes an intra picture: its payload, and the picture that decoders show for it.
-pub fn code_intra(alloc: Global, source: &Picture, settings: &Settings) -> Result<Coded, NoMemory>
+/// Codes a picture as it is planned: its payload, and the picture that decoders show for it. So far each picture opens a
+/// group of its own, so that it has no reference, and the gate isn't called.
+pub fn code_picture<R: Threads + Sync, G: RowGate>(
+    _rt: &R,
+    alloc: Global,
+    _planned: &Planned,
+    source: &Picture,
+    _refs: &RefBuffer,
+    settings: &Settings,
+    _gate: &G,
+) -> Result<Coded, NoMemory>
     requires accepted { IsAccepted settings.now }
+    requires planned { _planned.now ≡ opening source.now.number }
     requires source { coding.IsSource settings.now source.now }
     ensures payload { IfOk result (λ c. c.payload.items ≡ payload_of settings.now source.now) }
     // What is shown is what a decoder rebuilds from it.
@@ -117,6 +131,19 @@ pub fn code_intra(alloc: Global, source: &Picture, settings: &Settings) -> Resul
     // Its coefficients stay below 2^38.
     ensures small { IfOk result (λ c. AreSmall (coding.residual_of settings.now source.now)) }
     // At index 0 nothing is lost.
+    ensures lossless { IfOk result (λ c. settings.now.index ≡ 0 → c.shown ≡ source.now) }
+{
+    code_intra(alloc, source, settings)
+}
+
+/// Codes an intra picture.
+fn code_intra(alloc: Global, source: &Picture, settings: &Settings) -> Result<Coded, NoMemory>
+    requires accepted { IsAccepted settings.now }
+    requires source { coding.IsSource settings.now source.now }
+    ensures payload { IfOk result (λ c. c.payload.items ≡ payload_of settings.now source.now) }
+    ensures shown { IfOk result (λ c. c.shown ≡ rebuilt (sequence_for settings.now) [] (coding.coded_intra settings.now source.now)) }
+    ensures read { (refs : List ThePicture) → IfOk result (λ c. picture_read 0x0C (sequence_for settings.now) refs c.payload.items ≡ Ok (coding.coded_intra settings.now source.now)) }
+    ensures small { IfOk result (λ c. AreSmall (coding.residual_of settings.now source.now)) }
     ensures lossless { IfOk result (λ c. settings.now.index ≡ 0 → c.shown ≡ source.now) }
 {
     let sequence = sequence_of(settings);

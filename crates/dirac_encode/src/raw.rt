@@ -7,6 +7,7 @@ ghost use Rattle.dirac_types.specs.Settings.{IsAccepted};
 ghost use Rattle.dirac_sequence.specs.Lawful.{IsSequence};
 ghost use Rattle.dirac_picture.specs.Fits.{IsPlaneSize};
 ghost use Rattle.dirac_picture.specs.Grammar.{chroma_height, chroma_width};
+ghost use Rattle.dirac_decode.specs.Raw.{raw as raw_of};
 ghost use Rattle.dirac_encode.specs.Coded.{IsSource};
 ghost use Rattle.dirac_encode.specs.Raw.{picture_from, picture_in, plane_from, raw_length as length_of, sample_of};
 
@@ -79,6 +80,8 @@ pub fn picture_of(
     requires bytes { length bytes.now ≡ length_of settings.now }
     ensures value { IfOk result (λ p. p ≡ picture_from settings.now number bytes.now) }
     ensures fits { IfOk result (IsSource settings.now) }
+    // These bytes are the picture's raw bytes.
+    ensures raw { IfOk result (λ p. raw_of p ≡ bytes.now) }
 {
     let sequence = sequence_of(settings);
     planes_of(alloc, settings, &sequence, number, bytes)

@@ -1,8 +1,12 @@
-use dirac_encode::{Coded, code_intra, picture_of, raw_length};
+use dirac_encode::{Coded, code_picture, picture_of, raw_length};
+use dirac_io::OpenGate;
+use dirac_plan::Planned;
+use dirac_refs::RefBuffer;
 use dirac_sequence::write_sequence;
 use dirac_types::{NoMemory, Settings};
 use std::alloc::Global;
 use std::process::Abort;
+use std::thread::Threads;
 
 /// Settings of this luma size at depth 1.
 fn settings_of(width: u32, height: u32) -> Settings {
@@ -14,7 +18,7 @@ fn settings_of(width: u32, height: u32) -> Settings {
 }
 
 /// A raw picture, coded.
-fn coded<R: Abort>(
+fn coded<R: Abort + Threads + Sync>(
     rt: &R,
     alloc: Global,
     settings: &Settings,
@@ -23,7 +27,9 @@ fn coded<R: Abort>(
     assert!(rt; settings.check().is_ok());
     assert_eq!(rt; raw.len(), raw_length(settings));
     let source = picture_of(alloc, settings, 0, raw)?;
-    let coded = code_intra(alloc, &source, settings)?;
+    let planned = Planned::opening(source.number);
+    let refs = RefBuffer::new();
+    let coded = code_picture(rt, alloc, &planned, &source, &refs, settings, &OpenGate)?;
     if settings.index == 0 {
         assert!(rt; coded.shown.y.values() == source.y.values());
         assert!(rt; coded.shown.u.values() == source.u.values());

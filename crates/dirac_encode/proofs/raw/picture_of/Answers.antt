@@ -1,10 +1,13 @@
-use Rattle.std.proofs.Common.{◌≡◌, ◌+◌, ◌*◌, length, ap, sym, ◌∙◌, subst}
+use Rattle.std.proofs.Common.{◌≡◌, ◌+◌, ◌*◌, length, ap, sym, ◌∙◌, subst, arith}
 use Rattle.dirac_sequence.specs.declared.sequence.Sequence.{Sequence}
 use Rattle.dirac_picture.specs.Grammar.{chroma_height, chroma_width}
 use Rattle.dirac_encode.specs.Raw.{picture_in}
 use Rattle.dirac_residual.proofs.Maps.{ok_weaker}
 use Rattle.dirac_encode.proofs.Coding.{codable}
 use Rattle.dirac_encode.proofs.Raws.{raw_sizes, raw_source, ok_four}
+use Rattle.dirac_decode.specs.Raw.{raw}
+use Rattle.dirac_encode.proofs.RawBytes.{raw_again}
+use Rattle.dirac_sequence.proofs.Packed.{all_below}
 use Rattle.dirac_encode.proofs.raw.picture_of.Goals as goal
 
 pub planes_of-requires-clause-luma : goal.planes_of-requires-clause-luma
@@ -35,3 +38,11 @@ returns-clause-fits c =
     raw_source t c.args.number c.args.bytes.now p
     (e ∙ ap (λ (s : Sequence). picture_in t.width t.height (chroma_width s) (chroma_height s) c.args.number c.args.bytes.now) c.sequence_of-sequence.ensures.value) y u v)
     c.planes_of.ensures.value c.planes_of.ensures.y c.planes_of.ensures.u c.planes_of.ensures.v
+
+pub returns-clause-raw : goal.returns-clause-raw
+returns-clause-raw c =
+    let t = c.args.settings.now in
+    let s = c.sequence_of-sequence.result in
+    let bytes = c.args.bytes.now in
+    let below = all_below bytes (λ i. omega (arith, c.type_inv.bytes i)) in
+    ok_weaker c.planes_of.result (λ p e. ap raw e ∙ raw_again t.width t.height (chroma_width s) (chroma_height s) c.args.number bytes below) c.planes_of.ensures.value

@@ -1,0 +1,65 @@
+//! The units of a stream, written to a sink.
+
+ghost use Rattle.std.specs.Prelude.{◌≡◌, ◌≤◌, ◌<◌, ◌+◌, ◌^◌, length};
+ghost use Rattle.std.specs.Io.KnownBytes.{Appends};
+ghost use Rattle.dirac_io.specs.Faults.{Rose};
+ghost use Rattle.dirac_io.specs.Writing.{AppendsFront};
+ghost use Rattle.dirac_encode.specs.Steps.{last_units};
+ghost use Rattle.dirac_encode.specs.Stream.{end_unit, unit};
+
+use dirac_io::{Put, Sink, put_all};
+use dirac_units::{ParseInfo, write_info};
+
+/// Writes a unit with this parse code behind a unit of `previous` bytes.
+pub(crate) fn put_unit<K: Sink>(out: &mut K, code: u8, previous: u32, payload: &[u8]) -> Put
+    requires { 13 + length payload.now < 2 ^ 32 }
+    ensures all { result ≡ Put.All → Appends (K.taken out.old) (K.taken out.new) (unit code previous payload.now) }
+    ensures front { AppendsFront (K.taken out.old) (K.taken out.new) (unit code previous payload.now) }
+    ensures failed { result ≡ Put.Failed → Rose (K.faults out.old) (K.faults out.new) }
+    ensures count { K.faults out.old ≤ K.faults out.new }
+{
+    let next = 13 + payload.len() as u32;
+    let info = write_info(ParseInfo {
+        code,
+        next,
+        previous,
+    });
+    match put_all(out, &info) {
+        Put::All => put_all(out, payload),
+        Put::Failed => Put::Failed,
+        Put::NoMemory => Put::NoMemory,
+    }
+}
+
+/// Writes an end unit behind a unit of `previous` bytes.
+pub(crate) fn put_end<K: Sink>(out: &mut K, previous: u32) -> Put
+    ensures all { result ≡ Put.All → Appends (K.taken out.old) (K.taken out.new) (end_unit previous) }
+    ensures front { AppendsFront (K.taken out.old) (K.taken out.new) (end_unit previous) }
+    ensures failed { result ≡ Put.Failed → Rose (K.faults out.old) (K.faults out.new) }
+    ensures count { K.faults out.old ≤ K.faults out.new }
+{
+    let info = write_info(ParseInfo {
+        code: 0x10,
+        next: 0,
+        previous,
+    });
+    put_all(out, &info)
+}
+
+/// Writes the units at the end: where no picture was coded the unit of this sequence header, and the end unit.
+pub(crate) fn put_end_units<K: Sink>(out: &mut K, header: &[u8], count: u32, previous: u32) -> Put
+    requires { 13 + length header.now < 2 ^ 32 }
+    ensures all { result ≡ Put.All → Appends (K.taken out.old) (K.taken out.new) (last_units header.now count previous) }
+    ensures front { AppendsFront (K.taken out.old) (K.taken out.new) (last_units header.now count previous) }
+    ensures failed { result ≡ Put.Failed → Rose (K.faults out.old) (K.faults out.new) }
+    ensures count { K.faults out.old ≤ K.faults out.new }
+{
+    if count > 0 {
+        return put_end(out, previous);
+    }
+    match put_unit(out, 0x00, previous, header) {
+        Put::All => put_end(out, 13 + header.len() as u32),
+        Put::Failed => Put::Failed,
+        Put::NoMemory => Put::NoMemory,
+    }
+}
