@@ -3,3 +3,4 @@ pub mod Payload
 pub mod Writable
 pub mod Stream
 pub mod Raw
+pub mod Encoding

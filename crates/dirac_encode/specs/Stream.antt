@@ -40,6 +40,16 @@ pictures_from t previous [] = end_unit previous
 pictures_from t previous (p ∷ pictures) =
     unit 0x00 previous (sequence_payload t) ++ (unit 0x0C (header_length t) (payload_of t p) ++ pictures_from t (picture_length t p) pictures)
 
+-- the units of pictures without the end unit, and the length of the last of them
+unfoldable pub units_of : Settings → ℕ → List Picture → List ℕ
+units_of t previous [] = []
+units_of t previous (p ∷ pictures) =
+    unit 0x00 previous (sequence_payload t) ++ (unit 0x0C (header_length t) (payload_of t p) ++ units_of t (picture_length t p) pictures)
+
+abbrev pub last_length : Settings → ℕ → List Picture → ℕ
+last_length t previous [] = previous
+last_length t previous (p ∷ pictures) = last_length t (picture_length t p) pictures
+
 -- the stream of these pictures; where there is none, a sequence header and the end unit
 abbrev pub stream_of : Settings → List Picture → List ℕ
 stream_of t [] = unit 0x00 0 (sequence_payload t) ++ end_unit (header_length t)

@@ -1,0 +1,96 @@
+-- What the encoding of raw pictures writes and answers.
+use Rattle.std.specs.Prelude.{◌≡◌, ℕ, ◌==◌, nat_le, if◌then◌else◌, Bool, List, [], ◌∷◌, ◌++◌, length, map, take, ◌*◌, Option, None, Some, ⊤}
+use Rattle.std.specs.Io.KnownBytes.{Appends}
+use Rattle.dirac_io.specs.Writing.{AppendsFront}
+use Rattle.dirac_types.specs.declared.picture.Picture.{Picture}
+use Rattle.dirac_types.specs.declared.settings.Settings.{Settings}
+use Rattle.dirac_sequence.specs.Written.{sequence_payload}
+use Rattle.dirac_refs.specs.declared.waiting.Waiting.{Waiting}
+use Rattle.dirac_refs.specs.Delivery.{deliver, key_of}
+use Rattle.dirac_decode.specs.Raw.{raws}
+use Rattle.dirac_decode.specs.Shown.{Outcome, IsShown}
+use Rattle.dirac_encode.specs.declared.answers.Encoded.{Encoded}
+use Rattle.dirac_encode.specs.declared.answers.Encoded.TheVariants as encoded
+use Rattle.dirac_encode.specs.Raw.{left_over, raw_length, sources, whole_pictures}
+use Rattle.dirac_encode.specs.Stream.{last_length, picture_length, reconstructions, shown_of, stream_of, unit, units_of}
+
+-- the unit of a picture is no longer than the settings allow
+abbrev pub is_short : Settings → Picture → Bool
+is_short t p = nat_le (picture_length t p) t.unit_bytes
+
+-- the first picture whose unit is too long, and the pictures before it
+abbrev pub first_long : Settings → List Picture → Option Picture
+first_long t [] = None
+first_long t (p ∷ pictures) = if is_short t p then first_long t pictures else Some p
+
+abbrev pub before_long : Settings → List Picture → List Picture
+before_long t [] = []
+before_long t (p ∷ pictures) = if is_short t p then p ∷ before_long t pictures else []
+
+-- the units before a picture whose unit is too long: its own sequence header is the last of them
+abbrev pub stream_before : Settings → List Picture → List ℕ
+stream_before t pictures = units_of t 0 pictures ++ unit 0x00 (last_length t 0 pictures) (sequence_payload t)
+
+-- a reconstruction with its key, as it is pushed for delivery: the first picture of the sequence has number 0
+abbrev pub waiting_of : Settings → Picture → Waiting
+waiting_of t p = record { key = key_of 0 p.number; picture = shown_of t p }
+
+abbrev pub pushed : Settings → List Picture → List Waiting
+pushed t pictures = map (waiting_of t) pictures
+
+-- what is answered, written as the stream, and delivered beside it
+pub record Encoding : Type 0 where
+  pub answer : Encoded
+  pub stream : List ℕ
+  pub shown : List Picture
+
+-- the answer where no unit is too long: too many pictures are whole, or bytes are left over, or neither
+abbrev pub ending : Settings → List ℕ → Encoded
+ending t bytes =
+    if nat_le (whole_pictures t bytes) t.pictures then (if left_over t bytes == 0 then encoded.Done else encoded.PartialPicture (left_over t bytes))
+    else encoded.TooManyPictures
+
+-- the encoding by the first picture whose unit is too long, if there is one: it stops before that unit, and what waits for delivery is lost
+abbrev pub encoding_by : Settings → List ℕ → Option Picture → Encoding
+encoding_by t bytes None = record {
+  answer = ending t bytes;
+  stream = stream_of t (sources t bytes);
+  shown = reconstructions t (sources t bytes);
+}
+encoding_by t bytes (Some p) = record {
+  answer = encoded.UnitTooLong p.number;
+  stream = stream_before t (before_long t (sources t bytes));
+  shown = deliver (pushed t (before_long t (sources t bytes)));
+}
+
+-- the encoding of raw pictures with these settings
+unfoldable pub encoding : Settings → List ℕ → Encoding
+encoding t bytes = encoding_by t bytes (first_long t (sources t bytes))
+
+-- what both sinks took: all of the stream, and all raw pictures delivered beside it; or a front of each
+abbrev pub WritesAll : Encoding → Option (List ℕ) → Option (List ℕ) → Option (List ℕ) → Option (List ℕ) → Type 0
+WritesAll e out out' side side' = Appends out out' e.stream × Appends side side' (raws e.shown)
+
+abbrev pub WritesFront : Encoding → Option (List ℕ) → Option (List ℕ) → Option (List ℕ) → Option (List ℕ) → Type 0
+WritesFront e out out' side side' = AppendsFront out out' e.stream × AppendsFront side side' (raws e.shown)
+
+-- what an answer says of the encoding, and of what both sinks took
+abbrev pub AnswersEncode : Encoded → Encoding → Option (List ℕ) → Option (List ℕ) → Option (List ℕ) → Option (List ℕ) → Type 0
+AnswersEncode encoded.ReadFault e out out' side side' = WritesFront e out out' side side'
+AnswersEncode encoded.WriteFault e out out' side side' = WritesFront e out out' side side'
+AnswersEncode encoded.SideFault e out out' side side' = WritesFront e out out' side side'
+AnswersEncode encoded.NoMemory e out out' side side' = WritesFront e out out' side side'
+AnswersEncode answer e out out' side side' = (answer ≡ e.answer) × WritesAll e out out' side side'
+
+-- an answer behind a whole stream
+abbrev pub EndsStream : Encoded → Type 0
+EndsStream encoded.Done = ⊤
+EndsStream (encoded.PartialPicture n) = ⊤
+EndsStream encoded.TooManyPictures = ⊤
+EndsStream answer = ⊥
+
+-- the stream of these bytes' pictures has no fault and shows their reconstructions; with quantiser index 0 these are the pictures themselves, and their raw bytes are those that were read
+pub record IsRecovered (t : Settings) (bytes : List ℕ) : Type 0 where
+  pub shows : (o : Outcome) × IsShown (stream_of t (sources t bytes)) o × (o.shown ≡ reconstructions t (sources t bytes)) × (o.end ≡ None)
+  pub lossless : t.index ≡ 0 → reconstructions t (sources t bytes) ≡ sources t bytes
+  pub raw : raws (sources t bytes) ≡ take (length (sources t bytes) * raw_length t) bytes

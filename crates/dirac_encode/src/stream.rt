@@ -1,0 +1,43 @@
+//! A stream, encoded.
+
+ghost use Rattle.std.specs.Prelude.{◌≡◌, ◌≤◌, IfSome};
+ghost use Rattle.std.specs.Io.KnownBytes.{IsAtEnd};
+ghost use Rattle.dirac_io.specs.Faults.{Rose};
+ghost use Rattle.dirac_types.specs.Settings.{IsAccepted};
+ghost use Rattle.dirac_encode.specs.Encoding.{AnswersEncode, EndsStream, IsRecovered, encoding};
+
+use crate::answers::Encoded;
+use dirac_io::{RowGate, Sink, Source};
+use dirac_types::Settings;
+use std::alloc::Global;
+use std::thread::Threads;
+
+/// Encodes raw pictures until the source ends: the stream goes to `out`, and the pictures that decoders show for it, in
+/// order of display, as raw pictures to `side`. The gate changes no answer and no byte.
+pub fn encode_stream<R: Threads + Sync, S: Source, K: Sink, N: Sink, G: RowGate>(
+    _rt: &R,
+    alloc: Global,
+    source: &mut S,
+    out: &mut K,
+    side: &mut N,
+    settings: &Settings,
+    _gate: &G,
+) -> Encoded
+    requires { IsAccepted settings.now }
+    // The answer, and what both sinks took, are those of the encoding; a fault or want of memory leaves a front of each.
+    ensures encoded { IfSome (S.held source.old) (λ bytes. AnswersEncode result (encoding settings.now bytes)
+        (K.taken out.old) (K.taken out.new) (N.taken side.old) (N.taken side.new)) }
+    // A whole stream is decoded to what the side got, and at index 0 to the input.
+    ensures recovered { IfSome (S.held source.old) (λ bytes. EndsStream result → IsRecovered settings.now bytes) }
+    ensures whole { result ≡ Encoded.Done → IsAtEnd (S.held source.new) }
+
+    // A fault of the outside comes only where its count rose in this call.
+    ensures read { result ≡ Encoded.ReadFault → Rose (S.faults source.old) (S.faults source.new) }
+    ensures write { result ≡ Encoded.WriteFault → Rose (K.faults out.old) (K.faults out.new) }
+    ensures side { result ≡ Encoded.SideFault → Rose (N.faults side.old) (N.faults side.new) }
+    ensures reads { S.faults source.old ≤ S.faults source.new }
+    ensures writes { K.faults out.old ≤ K.faults out.new }
+    ensures sides { N.faults side.old ≤ N.faults side.new }
+{
+    Encoded::NoMemory
+}
