@@ -50,22 +50,18 @@ ending t bytes =
     if nat_le (whole_pictures t bytes) t.pictures then (if left_over t bytes == 0 then encoded.Done else encoded.PartialPicture (left_over t bytes))
     else encoded.TooManyPictures
 
--- the encoding by the first picture whose unit is too long, if there is one: it stops before that unit, and what waits for delivery is lost
-abbrev pub encoding_by : Settings → List ℕ → Option Picture → Encoding
-encoding_by t bytes None = record {
-  answer = ending t bytes;
-  stream = stream_of t (sources t bytes);
-  shown = reconstructions t (sources t bytes);
-}
-encoding_by t bytes (Some p) = record {
+-- the encoding of these pictures, where this is the answer behind a whole stream: before the first picture whose unit is too long, if there is one, it stops, and what waits for delivery is lost
+abbrev pub encoding_by : Settings → Encoded → List Picture → Option Picture → Encoding
+encoding_by t answer pictures None = record { answer = answer; stream = stream_of t pictures; shown = reconstructions t pictures }
+encoding_by t answer pictures (Some p) = record {
   answer = encoded.UnitTooLong p.number;
-  stream = stream_before t (before_long t (sources t bytes));
-  shown = deliver (pushed t (before_long t (sources t bytes)));
+  stream = stream_before t (before_long t pictures);
+  shown = deliver (pushed t (before_long t pictures));
 }
 
 -- the encoding of raw pictures with these settings
 unfoldable pub encoding : Settings → List ℕ → Encoding
-encoding t bytes = encoding_by t bytes (first_long t (sources t bytes))
+encoding t bytes = encoding_by t (ending t bytes) (sources t bytes) (first_long t (sources t bytes))
 
 -- what both sinks took: all of the stream, and all raw pictures delivered beside it; or a front of each
 abbrev pub WritesAll : Encoding → Option (List ℕ) → Option (List ℕ) → Option (List ℕ) → Option (List ℕ) → Type 0
