@@ -1,2 +1,8 @@
+pub mod Behind
 pub mod Decoded
+mod Examples
 pub mod Listed
+pub mod Loans
+pub mod Numbers
+pub mod Room
+pub mod Unfit

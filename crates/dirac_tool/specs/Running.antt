@@ -1,6 +1,9 @@
 -- What a run answers, reads and writes, command by command.
-use Rattle.std.specs.Prelude.{◌≡◌, ℕ, List, Option, IfSome, Result, Ok, Err}
+use Rattle.std.specs.Prelude.{◌≡◌, ℕ, List, Option, None, Some, IfSome, Result, Ok, Err}
 use Rattle.std.specs.Io.KnownBytes.{IsAtEnd}
+use Rattle.dirac_types.specs.declared.settings.BadSetting.{BadSetting}
+use Rattle.dirac_types.specs.declared.settings.Settings.{Settings}
+use Rattle.dirac_types.specs.Settings.{first_bad, table}
 use Rattle.dirac_tool.specs.declared.ended.Ended.{Ended}
 use Rattle.dirac_tool.specs.declared.ended.Ended.TheVariants as ended
 use Rattle.dirac_tool.specs.declared.words.Command.{Command}
@@ -8,6 +11,7 @@ use Rattle.dirac_tool.specs.declared.words.Command.TheVariants as command
 use Rattle.dirac_tool.specs.declared.words.WordsStop.{WordsStop}
 use Rattle.dirac_tool.specs.declared.words.WordsStop.TheVariants.{Usage}
 use Rattle.dirac_tool.specs.Decoding.{IsDecoded, IsDecodeAnswer}
+use Rattle.dirac_tool.specs.Encoding.{IsEncoded, IsEncodeAnswer}
 use Rattle.dirac_tool.specs.Listing.{IsListed, IsListAnswer}
 
 -- the bytes that the source holds and that the two sinks took, where they tell them
@@ -29,8 +33,25 @@ pub record Decodes (old new : Told) (answer : Ended) : Type 0 where
   pub decoded : IfSome old.held (λ bytes. IsDecoded bytes answer old.out new.out old.side new.side)
   pub whole : answer ≡ ended.Done → IsAtEnd new.held
 
+-- `encode` with accepted settings: the stream of the raw pictures that the bytes held are, and their reconstructions
+pub record Encodes (t : Settings) (old new : Told) (answer : Ended) : Type 0 where
+  pub answers : IsEncodeAnswer answer
+  pub encoded : IfSome old.held (λ bytes. IsEncoded t bytes answer old.out new.out old.side new.side)
+  pub whole : answer ≡ ended.Done → IsAtEnd new.held
+
+-- `encode`: the first setting that is out of its range is answered and nothing is read or written, or there is none
+abbrev pub EncodesUnless : Option BadSetting → Settings → Told → Told → Ended → Type 0
+EncodesUnless (Some bad) t old new answer = (answer ≡ ended.BadSettings bad) × (new ≡ old)
+EncodesUnless None t old new answer = Encodes t old new answer
+
 -- what the words ask for
 abbrev pub RunsTo : Result Command WordsStop → Told → Told → Ended → Type 0
 RunsTo (Err (Usage n)) old new answer = (answer ≡ ended.Usage n) × (new ≡ old)
 RunsTo (Ok command.List) old new answer = Lists old new answer
 RunsTo (Ok command.Decode) old new answer = Decodes old new answer
+RunsTo (Ok (command.Encode t)) old new answer = EncodesUnless (first_bad (table t)) t old new answer
+
+-- the first setting that is out of its range, where the words fit a command with settings
+abbrev pub bad_setting : Result Command WordsStop → Option BadSetting
+bad_setting (Ok (command.Encode t)) = first_bad (table t)
+bad_setting _ = None

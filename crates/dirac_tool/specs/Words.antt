@@ -1,14 +1,26 @@
 -- What the words of a command line say.
-use Rattle.std.specs.Prelude.{ℕ, List, [], ◌∷◌, codes, bytes_eq, if◌then◌else◌, Result, Ok, Err}
+use Rattle.std.specs.Prelude.{ℕ, List, [], ◌∷◌, drop, codes, bytes_eq, if◌then◌else◌, Option, None, Some, Result, Ok, Err}
+use Rattle.dirac_types.specs.declared.settings.BadSetting.{BadSetting}
+use Rattle.dirac_types.specs.Settings.{first_bad, table}
 use Rattle.dirac_tool.specs.declared.words.Command.{Command}
 use Rattle.dirac_tool.specs.declared.words.Command.TheVariants as command
 use Rattle.dirac_tool.specs.declared.words.WordsStop.{WordsStop}
 use Rattle.dirac_tool.specs.declared.words.WordsStop.TheVariants.{Usage}
+use Rattle.dirac_tool.specs.Options.{first_unfit, path_given, settings_given}
 
 -- a command that takes no further word
 abbrev pub alone : Command → List (List ℕ) → Result Command WordsStop
 alone c [] = Ok c
 alone c (word ∷ words) = Err (Usage 1)
+
+-- a command, where no word doesn't fit
+abbrev pub where_all_fit : Command → Option ℕ → Result Command WordsStop
+where_all_fit c None = Ok c
+where_all_fit c (Some n) = Err (Usage n)
+
+-- `encode` with the settings that these words say
+unfoldable pub encode_read : List (List ℕ) → Result Command WordsStop
+encode_read words = where_all_fit (command.Encode (settings_given words)) (first_unfit [] words)
 
 -- the command, or the number of the first word that doesn't fit
 abbrev pub command_read : List (List ℕ) → Result Command WordsStop
@@ -16,4 +28,19 @@ command_read [] = Err (Usage 0)
 command_read (word ∷ words) =
     if bytes_eq word (codes "list") then alone command.List words
     else if bytes_eq word (codes "decode") then alone command.Decode words
+    else if bytes_eq word (codes "encode") then encode_read words
     else Err (Usage 0)
+
+-- the path that these words give, where all settings are in their ranges
+abbrev pub path_accepted : Option BadSetting → List (List ℕ) → Option (List ℕ)
+path_accepted None words = path_given words
+path_accepted (Some bad) words = None
+
+-- the path behind a command: only `encode` has one
+abbrev pub path_behind : Result Command WordsStop → List (List ℕ) → Option (List ℕ)
+path_behind (Ok (command.Encode s)) words = path_accepted (first_bad (table s)) words
+path_behind _ words = None
+
+-- the path of the reconstructions, where the words fit `encode`, give one, and the settings are accepted
+unfoldable pub path_read : List (List ℕ) → Option (List ℕ)
+path_read words = path_behind (command_read words) (drop 1 words)

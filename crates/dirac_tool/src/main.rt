@@ -3,11 +3,15 @@
 #![tactic(auto)]
 
 mod decode;
+mod encode;
+#[cfg(test)]
+mod encode_tests;
 mod ended;
 #[cfg(test)]
 mod inter_tests;
 mod line;
 mod list;
+mod options;
 mod run;
 #[cfg(test)]
 mod tests;
@@ -15,40 +19,87 @@ mod words;
 
 use crate::ended::{Ended, after_flushes, ended_text, status};
 use crate::run::run;
-use crate::words::Words;
-use dirac_io::{OpenGate, ReaderSource, WriterSink};
+use crate::words::{Command, Words, read_words, recon_path};
+use dirac_io::{NullSink, OpenGate, ReaderSource, Sink, WriterSink};
 use dirac_types::NoMemory;
 use std::alloc::Global;
 use std::env;
 use std::env::Env;
-use std::io::{ErrorKind, Write};
+use std::fs::File;
+use std::io::{ErrorKind, Read, Write};
 use std::process::ExitCode;
+use std::thread::Threads;
+
+// The status where the file of the reconstructions can't be made.
+const NO_FILE: u8 = 12;
 
 fn main(rt: HostRuntime) -> ExitCode {
     let alloc = rt.alloc();
     let Ok(words) = fetched_words(&rt, alloc) else {
         return ExitCode::from(status(&Ended::NoMemory));
     };
-    let mut source = ReaderSource::new(rt.stdin());
-    let mut out = WriterSink::new(rt.stdout());
-    let mut side = WriterSink::new(rt.stderr());
-    let ended = run(
-        &rt,
-        alloc,
-        &words,
-        &mut source,
-        &mut out,
-        &mut side,
-        &OpenGate,
-    );
-    let ended = after_flushes(ended, out.flush(), side.flush());
+    let (input, output) = (rt.stdin(), rt.stdout());
+    let ended = match recon_path(&words) {
+        Some(path) => {
+            let Ok(file) = File::create(&rt, path) else {
+                // A text that can't be written is lost; the status tells the same.
+                let _ = writeln!(rt.stderr(), "cannot make recon file");
+                return ExitCode::from(NO_FILE);
+            };
+            run_beside(&rt, alloc, &words, input, output, file)
+        }
+        None if is_encode(&words) => run_on(&rt, alloc, &words, input, output, &mut NullSink),
+        None => run_beside(&rt, alloc, &words, input, output, rt.stderr()),
+    };
     if let Ok(text) = ended_text(alloc, &ended) {
         if !text.is_empty() {
-            // A text that can't be written is lost; the status tells the same.
             let _ = writeln!(rt.stderr(), "{text}");
         }
     }
     ExitCode::from(status(&ended))
+}
+
+// Whether the words fit `encode`.
+fn is_encode(words: &Words) -> bool {
+    matches!(read_words(words), Ok(Command::Encode(_)))
+}
+
+// Runs the words on an input and an output, and flushes what came out.
+fn run_on<R: Threads + Sync, I: Read, O: Write, N: Sink>(
+    rt: &R,
+    alloc: Global,
+    words: &Words,
+    input: I,
+    output: O,
+    side: &mut N,
+) -> Ended
+where
+    I: Drop,
+    O: Drop,
+{
+    let mut source = ReaderSource::new(input);
+    let mut out = WriterSink::new(output);
+    let ended = run(rt, alloc, words, &mut source, &mut out, side, &OpenGate);
+    after_flushes(ended, out.flush(), true)
+}
+
+// Runs the words beside a writer, which is flushed behind what came out.
+fn run_beside<R: Threads + Sync, I: Read, O: Write, W: Write>(
+    rt: &R,
+    alloc: Global,
+    words: &Words,
+    input: I,
+    output: O,
+    writer: W,
+) -> Ended
+where
+    I: Drop,
+    O: Drop,
+    W: Drop,
+{
+    let mut side = WriterSink::new(writer);
+    let ended = run_on(rt, alloc, words, input, output, &mut side);
+    after_flushes(ended, true, side.flush())
 }
 
 // The words behind the program's name. Where they can't be fetched there is none.

@@ -1,10 +1,12 @@
-ghost use Rattle.std.specs.Prelude.{◌≡◌, ℕ, ◌≤◌, ◌↔◌, Ok, Err};
+ghost use Rattle.std.specs.Prelude.{◌≡◌, ℕ, ◌≤◌, ◌↔◌, Some, Ok, Err};
 ghost use Rattle.std.specs.Io.KnownBytes.{IsAtEnd};
 ghost use Rattle.dirac_io.specs.Faults.{Rose};
+ghost use Rattle.dirac_types.specs.declared.settings.BadSetting.{BadSetting};
 ghost use Rattle.dirac_tool.specs.Words.{command_read};
-ghost use Rattle.dirac_tool.specs.Running.{RunsTo};
+ghost use Rattle.dirac_tool.specs.Running.{RunsTo, bad_setting};
 
 use crate::decode::decode;
+use crate::encode::encode;
 use crate::ended::Ended;
 use crate::list::list;
 use crate::words::{Command, Words, WordsStop, read_words};
@@ -15,13 +17,13 @@ use std::thread::Threads;
 /// Runs the command that the words say, from a source to two sinks: what comes out, and what is said
 /// beside it. The gate changes no answer and no byte.
 pub fn run<R: Threads + Sync, S: Source, K: Sink, N: Sink, G: RowGate>(
-    _rt: &R,
+    rt: &R,
     alloc: Global,
     words: &Words,
     source: &mut S,
     out: &mut K,
     side: &mut N,
-    _gate: &G,
+    gate: &G,
 ) -> Ended
     // What comes out and which answer comes, command by command.
     ensures runs { RunsTo (command_read words.now)
@@ -32,6 +34,12 @@ pub fn run<R: Threads + Sync, S: Source, K: Sink, N: Sink, G: RowGate>(
     ensures usage { (n : ℕ) → (result ≡ Ended.Usage n) ↔ (command_read words.now ≡ Err (WordsStop.Usage n)) }
     ensures untouched { (n : ℕ) → result ≡ Ended.Usage n
         → (source.new ≡ source.old) × (out.new ≡ out.old) × (side.new ≡ side.old) }
+
+    // A setting out of its range is refused, the first one, before anything is read or written.
+    ensures bad_settings { (bad : BadSetting) → (result ≡ Ended.BadSettings bad) ↔ (bad_setting (command_read words.now) ≡ Some bad) }
+    ensures unread { (bad : BadSetting) → result ≡ Ended.BadSettings bad
+        → (source.new ≡ source.old) × (out.new ≡ out.old) × (side.new ≡ side.old) }
+
     ensures list_side { command_read words.now ≡ Ok Command.List → side.new ≡ side.old }
 
     // A fault of the outside comes only where its count rose in this call.
@@ -46,5 +54,9 @@ pub fn run<R: Threads + Sync, S: Source, K: Sink, N: Sink, G: RowGate>(
         Err(WordsStop::Usage(n)) => Ended::Usage(n),
         Ok(Command::List) => list(alloc, source, out),
         Ok(Command::Decode) => decode(alloc, source, out, side),
+        Ok(Command::Encode(settings)) => match settings.check() {
+            Ok(()) => encode(rt, alloc, source, out, side, &settings, gate),
+            Err(bad) => Ended::BadSettings(bad),
+        },
     }
 }

@@ -1,7 +1,9 @@
-ghost use Rattle.std.specs.Prelude.{◌≡◌, ◌++◌, [], ◌∷◌, OnOk, OnErr, length, option_map};
-ghost use Rattle.dirac_tool.specs.Words.{command_read};
+ghost use Rattle.std.specs.Prelude.{◌≡◌, ◌++◌, [], ◌∷◌, OnOk, OnErr, map, string_bytes, option_copied, slice_range, length};
+ghost use Rattle.dirac_types.specs.Settings.{first_bad, table};
+ghost use Rattle.dirac_tool.specs.Words.{command_read, path_read, path_accepted, encode_read, alone as command_alone};
 
-use dirac_types::NoMemory;
+use crate::options::{first_unfit, path_given, settings_given};
+use dirac_types::{NoMemory, Settings};
 use std::alloc::Global;
 use std::marker::Model;
 
@@ -48,6 +50,8 @@ pub enum Command {
     List,
     /// Decodes a stream to raw pictures.
     Decode,
+    /// Encodes raw pictures to a stream.
+    Encode(Settings),
 }
 
 /// Why words aren't run.
@@ -57,23 +61,66 @@ pub enum WordsStop {
     Usage(u32),
 }
 
-/// Reads the words: the first is the command. A command that isn't built doesn't fit, and `list` and `decode`
-/// take no further word.
+/// Reads the words: the first is the command. A command that isn't built doesn't fit. `list` and `decode` take
+/// no further word, `encode` its settings and the path of its reconstructions, in any order.
 pub fn read_words(words: &Words) -> Result<Command, WordsStop>
     ensures { result ≡ command_read words.now }
 {
-    let Some(first) = words.list.first() else {
+    let Some((first, others)) = words.list.split_first() else {
         return Err(WordsStop::Usage(0));
     };
-    let command = if first.as_str() == "list" {
-        Command::List
+    if first.as_str() == "list" {
+        alone(Command::List, others)
     } else if first.as_str() == "decode" {
-        Command::Decode
+        alone(Command::Decode, others)
+    } else if first.as_str() == "encode" {
+        encode(others)
     } else {
-        return Err(WordsStop::Usage(0));
-    };
-    if words.list.len() > 1 {
-        return Err(WordsStop::Usage(1));
+        Err(WordsStop::Usage(0))
     }
-    Ok(command)
+}
+
+// A command that takes no further word.
+fn alone(command: Command, others: &[String]) -> Result<Command, WordsStop>
+    ensures { result ≡ command_alone command (map string_bytes others.now) }
+{
+    if others.is_empty() {
+        Ok(command)
+    } else {
+        Err(WordsStop::Usage(1))
+    }
+}
+
+// `encode` with the settings that these words say.
+fn encode(others: &[String]) -> Result<Command, WordsStop>
+    ensures { result ≡ encode_read (map string_bytes others.now) }
+{
+    match first_unfit(others) {
+        None => Ok(Command::Encode(settings_given(others))),
+        Some(number) => Err(WordsStop::Usage(number)),
+    }
+}
+
+/// The path of the reconstructions, where the words fit `encode`, give one, and the settings are accepted.
+#[tactic(auto, unfolding(crate::specs::Words::path_read))]
+pub fn recon_path(words: &Words) -> Option<&str>
+    ensures { option_copied result ≡ path_read words.now }
+{
+    let (_, others) = words.list.split_first()?;
+    match read_words(words) {
+        Ok(Command::Encode(settings)) => accepted_path(&settings, others),
+        Ok(Command::List) => None,
+        Ok(Command::Decode) => None,
+        Err(_) => None,
+    }
+}
+
+// The path that these words give, where all settings are in their ranges.
+fn accepted_path<'a>(settings: &Settings, others: &'a [String]) -> Option<&'a str>
+    ensures { option_copied result ≡ path_accepted (first_bad (table settings.now)) (map string_bytes others.now) }
+{
+    match settings.check() {
+        Ok(()) => path_given(others),
+        Err(_) => None,
+    }
 }

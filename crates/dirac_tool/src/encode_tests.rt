@@ -1,0 +1,362 @@
+use crate::ended::Ended;
+use crate::run::run;
+use crate::tests::{SMALL, STREAM, header, joined, shows};
+use crate::words::Words;
+use dirac_io::{MemSink, MemSource, OpenGate};
+use dirac_types::{BadSetting, Name};
+use std::alloc::Global;
+use std::process::Abort;
+use std::test::Fail;
+use std::thread::Threads;
+
+// Two pictures of 8 by 8 samples, 4:2:0, of which all samples are grey, as bytes.
+const GREY: [u8; 192] = [0x80; 192];
+
+// The settings of these pictures.
+const SIZES: [&str; 3] = ["--width=8", "--height=8", "--depth=1"];
+
+// A setting at its default.
+const PLAIN: &str = "--index=12";
+
+// The words `encode`, these, and these.
+fn encode_words(alloc: Global, first: &[&str], more: &[&str]) -> Result<Words, Fail> {
+    let mut words = Words::new(alloc);
+    words.push("encode")?;
+    for word in first {
+        words.push(word)?;
+    }
+    for word in more {
+        words.push(word)?;
+    }
+    Ok(words)
+}
+
+// Encodes raw pictures in pieces, and compares the answer, the stream, and what was said beside it.
+fn encodes<R: Abort + Threads + Sync>(
+    rt: &R,
+    alloc: Global,
+    words: &Words,
+    raw: &[u8],
+    answer: Ended,
+    stream: &[u8],
+    shown: &[u8],
+) -> Result<(), Fail> {
+    for most in [1, 7, 4096] {
+        let mut source = MemSource::new(Vec::from_slice(alloc, raw)?, most, Vec::new(alloc));
+        let mut out = MemSink::new(alloc, most, Vec::new(alloc));
+        let mut side = MemSink::new(alloc, most, Vec::new(alloc));
+        let ended = run(
+            rt,
+            alloc,
+            words,
+            &mut source,
+            &mut out,
+            &mut side,
+            &OpenGate,
+        );
+        assert_eq!(rt; ended, answer, "pieces of {most}");
+        assert_eq!(rt; out.taken(), stream, "pieces of {most}");
+        assert_eq!(rt; side.taken(), shown, "pieces of {most}");
+    }
+    Ok(())
+}
+
+#[test]
+fn encodes_grey_pictures(rt: HostRuntime) -> Result<(), Fail> {
+    let alloc = rt.alloc();
+    let end = header(0x10, 0, 31);
+    let one = joined(alloc, &[&STREAM[..50], &end])?;
+    let next = header(0x00, 19, 31);
+    let number = [0, 0, 0, 1];
+    let two = joined(
+        alloc,
+        &[
+            &STREAM[..50],
+            &next,
+            &STREAM[13..32],
+            &number,
+            &STREAM[36..50],
+            &end,
+        ],
+    )?;
+    let none = joined(alloc, &[&STREAM[..19], &header(0x10, 0, 19)])?;
+    for (more, raw, answer, stream, shown) in [
+        (PLAIN, 0, Ended::Done, none.as_slice(), 0),
+        (PLAIN, 1, Ended::PartialPicture(1), none.as_slice(), 0),
+        (PLAIN, 95, Ended::PartialPicture(95), none.as_slice(), 0),
+        (PLAIN, 96, Ended::Done, one.as_slice(), 96),
+        (PLAIN, 100, Ended::PartialPicture(4), one.as_slice(), 96),
+        (PLAIN, 192, Ended::Done, two.as_slice(), 192),
+        ("--pictures=2", 192, Ended::Done, two.as_slice(), 192),
+        (
+            "--pictures=1",
+            100,
+            Ended::PartialPicture(4),
+            one.as_slice(),
+            96,
+        ),
+        (
+            "--pictures=1",
+            192,
+            Ended::TooManyPictures,
+            one.as_slice(),
+            96,
+        ),
+        ("--unit_bytes=31", 96, Ended::Done, one.as_slice(), 96),
+        (
+            "--unit_bytes=30",
+            192,
+            Ended::UnitTooLong(0),
+            &STREAM[..19],
+            0,
+        ),
+        (
+            "--unit_bytes=30",
+            95,
+            Ended::PartialPicture(95),
+            none.as_slice(),
+            0,
+        ),
+    ] {
+        let words = encode_words(alloc, &SIZES, &[more])?;
+        encodes(
+            &rt,
+            alloc,
+            &words,
+            &GREY[..raw],
+            answer,
+            stream,
+            &GREY[..shown],
+        )?;
+    }
+    let words = encode_words(alloc, &["--width=8", "--height=8"], &[])?;
+    encodes(&rt, alloc, &words, &[], Ended::Done, &none, &[])
+}
+
+#[test]
+fn encodes_a_small_picture(rt: HostRuntime) -> Result<(), Fail> {
+    let alloc = rt.alloc();
+    let raw = [
+        0x81u8, 0x81, 0x81, 0x81, 0x80, 0x80, 0x80, 0x80, 0x80, 0x80, 0x80, 0x80,
+    ];
+    let first = ["--width=2", "--height=2", "--chroma=0"];
+    let more = ["--wavelet=3", "--depth=1", "--index=0"];
+    let words = encode_words(alloc, &first, &more)?;
+    encodes(&rt, alloc, &words, &raw, Ended::Done, &SMALL, &raw)
+}
+
+#[test]
+fn refuses_settings(rt: HostRuntime) -> Result<(), Fail> {
+    let alloc = rt.alloc();
+    for (more, name, value) in [
+        (["--gop=2", "--height=8"], Name::Gop, 2),
+        (["--width=7", "--height=8"], Name::Width, 7),
+        (["--height=7", "--width=8"], Name::Height, 7),
+        (["--depth=5", "--index=100"], Name::Depth, 5),
+        (["--width=0", "--base=17"], Name::Base, 17),
+        (["--base=99", "--workers=2"], Name::Base, 99),
+        (["--workers=2", "--recon=made"], Name::Workers, 2),
+        (["--unit_bytes=13", "--pictures=1"], Name::UnitBytes, 13),
+    ] {
+        let words = encode_words(alloc, &[], &more)?;
+        let bad = Ended::BadSettings(BadSetting { name, value });
+        encodes(&rt, alloc, &words, &GREY, bad, &[], &[])?;
+    }
+    Ok(())
+}
+
+#[test]
+fn refuses_words_of_encode(rt: HostRuntime) -> Result<(), Fail> {
+    let alloc = rt.alloc();
+    for (first, second, number) in [
+        ("--width=8", "--width=8", 2),
+        ("--recon=a", "--recon=a", 2),
+        ("--width", "8", 1),
+        ("--count=3", "--width=8", 1),
+        ("--recon=", "--width=8", 1),
+        ("--width=", "--width=8", 1),
+        ("--width=+8", "--width=8", 1),
+        ("--width=00000000008", "--width=8", 1),
+        ("--width=4294967296", "--width=8", 1),
+        ("--width=8x", "--width=8", 1),
+        ("-width=8", "--width=8", 1),
+        ("--Width=8", "--width=8", 1),
+        ("--width=8", "--", 2),
+        ("--width=8", "", 2),
+        ("--width=8", "encode", 2),
+    ] {
+        let words = encode_words(alloc, &[first, second], &["--width=x"])?;
+        encodes(&rt, alloc, &words, &GREY, Ended::Usage(number), &[], &[])?;
+    }
+    Ok(())
+}
+
+// Encodes a grey picture by reads of 10 bytes and writes of 4096, of which one fails.
+fn fails_to_encode<R: Abort + Threads + Sync>(
+    rt: &R,
+    alloc: Global,
+    reads: &[u64],
+    writes: &[u64],
+    sides: &[u64],
+) -> Result<Ended, Fail> {
+    let words = encode_words(alloc, &SIZES, &[])?;
+    let end = header(0x10, 0, 31);
+    let stream = joined(alloc, &[&STREAM[..50], &end])?;
+    let raw = Vec::from_slice(alloc, &GREY[..96])?;
+    let mut source = MemSource::new(raw, 10, Vec::from_slice(alloc, reads)?);
+    let mut out = MemSink::new(alloc, 4096, Vec::from_slice(alloc, writes)?);
+    let mut side = MemSink::new(alloc, 4096, Vec::from_slice(alloc, sides)?);
+    let ended = run(
+        rt,
+        alloc,
+        &words,
+        &mut source,
+        &mut out,
+        &mut side,
+        &OpenGate,
+    );
+    assert!(rt; stream.as_slice().starts_with(out.taken()));
+    assert!(rt; GREY[..96].starts_with(side.taken()));
+    assert_eq!(rt; source.count(), u64::from(ended == Ended::ReadFault));
+    assert_eq!(rt; out.count(), u64::from(ended == Ended::WriteFault));
+    assert_eq!(rt; side.count(), u64::from(ended == Ended::SideFault));
+    if ended == Ended::Done {
+        assert_eq!(rt; out.taken(), stream.as_slice());
+        assert_eq!(rt; side.taken(), &GREY[..96]);
+    }
+    Ok(ended)
+}
+
+#[test]
+fn encodes_until_a_call_fails(rt: HostRuntime) -> Result<(), Fail> {
+    let alloc = rt.alloc();
+    // ten reads of bytes, and one of the end
+    for call in 0..11 {
+        let ended = fails_to_encode(&rt, alloc, &[call], &[], &[])?;
+        assert_eq!(rt; ended, Ended::ReadFault);
+    }
+    let ended = fails_to_encode(&rt, alloc, &[], &[0], &[])?;
+    assert_eq!(rt; ended, Ended::WriteFault);
+    let ended = fails_to_encode(&rt, alloc, &[], &[], &[0])?;
+    assert_eq!(rt; ended, Ended::SideFault);
+    let ended = fails_to_encode(&rt, alloc, &[99], &[99], &[99])?;
+    assert_eq!(rt; ended, Ended::Done);
+    Ok(())
+}
+
+// A size with a chroma format, and how many bytes its raw picture has.
+#[derive(Clone, Copy)]
+struct Shape {
+    words: [&'static str; 3],
+    bytes: usize,
+}
+
+const SHAPES: [Shape; 9] = [
+    Shape {
+        words: ["--width=1", "--height=1", "--chroma=0"],
+        bytes: 3,
+    },
+    Shape {
+        words: ["--width=5", "--height=3", "--chroma=0"],
+        bytes: 45,
+    },
+    Shape {
+        words: ["--width=12", "--height=10", "--chroma=0"],
+        bytes: 360,
+    },
+    Shape {
+        words: ["--width=2", "--height=1", "--chroma=1"],
+        bytes: 4,
+    },
+    Shape {
+        words: ["--width=6", "--height=7", "--chroma=1"],
+        bytes: 84,
+    },
+    Shape {
+        words: ["--width=12", "--height=10", "--chroma=1"],
+        bytes: 240,
+    },
+    Shape {
+        words: ["--width=2", "--height=2", "--chroma=2"],
+        bytes: 6,
+    },
+    Shape {
+        words: ["--width=4", "--height=6", "--chroma=2"],
+        bytes: 36,
+    },
+    Shape {
+        words: ["--width=12", "--height=10", "--chroma=2"],
+        bytes: 180,
+    },
+];
+
+// Bytes without order.
+fn noise(alloc: Global, count: usize) -> Result<Vec<u8>, Fail> {
+    let mut bytes = Vec::new(alloc);
+    let mut state = 2463534242u32;
+    for _ in 0..count {
+        state = state.wrapping_mul(1664525).wrapping_add(1013904223);
+        let [first, _, _, _] = state.to_be_bytes();
+        bytes.push(first)?;
+    }
+    Ok(bytes)
+}
+
+// Encodes two pictures of a shape, decodes the stream, and compares what both gave; at index 0 with the input.
+fn round_trip<R: Abort + Threads + Sync>(
+    rt: &R,
+    alloc: Global,
+    shape: &Shape,
+    more: &[&str],
+    lossless: bool,
+) -> Result<(), Fail> {
+    let words = encode_words(alloc, &shape.words, more)?;
+    let raw = noise(alloc, shape.bytes.wrapping_mul(2))?;
+    let mut source = MemSource::new(Vec::from_slice(alloc, &raw)?, 4096, Vec::new(alloc));
+    let mut out = MemSink::new(alloc, 4096, Vec::new(alloc));
+    let mut side = MemSink::new(alloc, 4096, Vec::new(alloc));
+    let ended = run(
+        rt,
+        alloc,
+        &words,
+        &mut source,
+        &mut out,
+        &mut side,
+        &OpenGate,
+    );
+    assert_eq!(rt; ended, Ended::Done);
+    assert_eq!(rt; side.taken().len(), raw.len());
+    if lossless {
+        assert_eq!(rt; side.taken(), raw.as_slice());
+    }
+    shows(
+        rt,
+        alloc,
+        out.taken(),
+        Ended::Done,
+        side.taken(),
+        "pictures=2 references=2\n",
+    )
+}
+
+#[test]
+fn decodes_what_it_encodes(rt: HostRuntime) -> Result<(), Fail> {
+    let alloc = rt.alloc();
+    for shape in &SHAPES {
+        for wavelet in 0..7 {
+            for depth in 1..5 {
+                let wavelet = format!(in alloc; "--wavelet={wavelet}")?;
+                let depth = format!(in alloc; "--depth={depth}")?;
+                for (index, codeblocks, lossless) in [
+                    ("--index=0", "--codeblocks=3", true),
+                    ("--index=12", "--codeblocks=1", false),
+                    ("--index=99", "--codeblocks=8", false),
+                ] {
+                    let more = [wavelet.as_str(), depth.as_str(), index, codeblocks];
+                    round_trip(&rt, alloc, shape, &more, lossless)?;
+                }
+            }
+        }
+    }
+    Ok(())
+}
