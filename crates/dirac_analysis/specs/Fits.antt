@@ -2,9 +2,9 @@
 use Rattle.std.specs.Prelude.{◌≡◌, ℕ, ℤ, zero, suc, ◌+◌, ◌-◌, ◌*◌, ◌/◌, ◌^◌, ◌<◌, ◌≤◌, List, length, true, Some, slice_get, unsigned_abs}
 use Rattle.std.specs.List.{All}
 use Rattle.dirac_types.specs.Table.{Table}
+use Rattle.dirac_types.specs.Samples.{clip}
 use Rattle.dirac_coeffs.specs.declared.spot.CodedBand.{CodedBand}
 use Rattle.dirac_coeffs.specs.Written.{is_zero_band}
-use Rattle.dirac_residual.specs.Residual.{clip}
 
 -- samples are from -128 to 127: clipping keeps them
 abbrev pub AreSamples : List ℤ → Type 0

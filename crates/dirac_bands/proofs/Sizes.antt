@@ -13,7 +13,7 @@ lowest_band_bound n depth h one =
     omega (arith, quotient_half n (2 ^ depth) (pow_mono {i = 1} {j = depth} one))
 
 -- a multiple of m that k times m limits before it is rounded up
-rounded_up_bound : (n m k : ℕ) → 0 < m → n ≤ k * m → (n + m - 1) / m * m ≤ k * m
+pub rounded_up_bound : (n m k : ℕ) → 0 < m → n ≤ k * m → (n + m - 1) / m * m ≤ k * m
 rounded_up_bound n m k h l =
     let quotient : (n + m - 1) / m < k + 1 = div_below (n + m - 1) m (k + 1) h (omega arith) in
     mul-le ((n + m - 1) / m) m k m (omega arith) (omega arith)

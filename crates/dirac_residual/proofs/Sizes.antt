@@ -3,6 +3,7 @@ use Rattle.std.proofs.Common.{◌≡◌, ℕ, zero, suc, ◌+◌, ◌-◌, ◌*�
 use Rattle.std.proofs.lemmas.Bool.{ne_eqb}
 use Rattle.std.proofs.lemmas.Nat.{pow-add, pow_pos, shl-shr, mul-le, div-add-mod', div_below, mod_below}
 use Rattle.std.proofs.Math.Pow.{pow_mono}
+use Rattle.dirac_bands.proofs.Sizes.{rounded_up_bound}
 use Rattle.dirac_residual.specs.Fits.{length_of_band}
 
 -- how often 2 ^ depth goes into the padded size: the size of the LL band of level 0
@@ -30,12 +31,6 @@ level_length size depth n band l low high =
     let some : n + 1 ≡ 0 → ⊥ = λ e. omega (arith, e) in
     let shift : depth - (n + 1) + 1 ≡ depth - n = omega (arith, l) in
     rw (level, ne_eqb (n + 1) 0 some, shift) (padded_parts (quotient size depth) n depth (omega (arith, l)))
-
--- a multiple of m that k times m limits before it is rounded up
-rounded_up_bound : (n m k : ℕ) → 0 < m → n ≤ k * m → (n + m - 1) / m * m ≤ k * m
-rounded_up_bound n m k h l =
-    let below : (n + m - 1) / m < k + 1 = div_below (n + m - 1) m (k + 1) h (omega arith) in
-    mul-le ((n + m - 1) / m) m k m (omega arith) (omega arith)
 
 padded_bound : (size depth : ℕ) → size ≤ 8192 → depth ≤ 5 → quotient size depth * 2 ^ depth ≤ 8192
 padded_bound size depth small five =

@@ -1,3 +1,6 @@
+pub mod Bounds
 pub mod Digits
 mod Examples
 pub mod InRange
+pub mod Rows
+pub mod Shifts

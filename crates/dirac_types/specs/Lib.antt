@@ -4,5 +4,6 @@ pub mod Causes
 pub mod Lending
 pub mod Names
 pub mod Numbers
+pub mod Samples
 pub mod Settings
 pub mod Table

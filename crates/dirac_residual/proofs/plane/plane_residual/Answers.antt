@@ -1,7 +1,8 @@
 use Rattle.std.proofs.Common.{◌≡◌, ◌+◌, ◌*◌, ◌^◌, slice_get, Some, arith, ap, sym, ◌∙◌}
 use Rattle.dirac_types.specs.Table.{Table}
+use Rattle.dirac_types.proofs.Bounds.{all_weaker}
 use Rattle.dirac_residual.specs.Fits.{IsBandOf}
-use Rattle.dirac_residual.proofs.Bounds.{all_weaker, cut_bound}
+use Rattle.dirac_residual.proofs.Bounds.{cut_bound}
 use Rattle.dirac_residual.proofs.Levels.{first_level, more_levels, summed_width, summed_height}
 use Rattle.dirac_residual.proofs.Maps.{got_band, ok_weaker}
 use Rattle.dirac_residual.proofs.Sizes.{quotient, lowest_length, level_length, quotient_bound, size_within, next_length, entry_bound, end_bound, bound_more, bound_least}
