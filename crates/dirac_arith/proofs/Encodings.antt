@@ -2,7 +2,8 @@
 use lib.Signed.{lt_z}
 use mir.Val.{of_z}
 use mir.Syntax.{w64}
-use Rattle.std.proofs.Common.{◌≡◌, ℕ, ℤ, pos, negsuc, nat_abs, zero, suc, ◌+◌, ◌-◌, ◌*◌, ◌/◌, ◌%◌, ◌^◌, ◌<◌, ◌≤◌, ◌==◌, Bool, true, false, List, [], ◌∷◌, ◌++◌, length, slice_index, refl, sym, ap, ◌∙◌, arith, subst, mul-le-mul_right, add-zero}
+use Rattle.std.proofs.Common.{◌≡◌, ℕ, ℤ, pos, negsuc, nat_abs, zero, suc, ◌+◌, ◌-◌, ◌*◌, ◌/◌, ◌%◌, ◌^◌, ◌<◌, ◌≤◌, ◌==◌, Bool, true, false, List, [], ◌∷◌, ◌++◌, length, slice_index, refl, sym, ap, ◌∙◌, arith, subst, mul-le-mul_right, add-zero, mod-lt, lit<}
+use Rattle.std.specs.List.{AllByRecursion}
 use Rattle.std.proofs.Math.Nat.{pow-le-pow_right}
 use Rattle.std.proofs.lemmas.Bool.{le-ltb}
 use Rattle.std.proofs.lemmas.List.{get_or-replicate}
@@ -303,3 +304,17 @@ part_some (suc part) k n wide is = omega arith
 pub bytes_none : (d n : ℕ) → d ≡ 0 → bytes_of (d / 8) n ≡ []
 unfolding bytes_of
 bytes_none d n none = let P : ℕ → Type 0 = λ x. bytes_of (x / 8) n ≡ [] in subst P (sym none) refl
+
+-- a block's bytes are below 256
+in_bytes : (m n : ℕ) → AllByRecursion (λ b. b < 2 ^ 8) (bytes_of m n)
+unfolding bytes_of
+in_bytes zero n = tt
+in_bytes (suc m) n = (mod-lt (n / 2 ^ (8 * m)) {m = 256} (lit< tt), in_bytes m n)
+
+pub flush_bytes : (ds : List Decision) → AllByRecursion (λ b. b < 2 ^ 8) (flush ds)
+unfolding flushed
+flush_bytes [] = tt
+flush_bytes (d ∷ ds) =
+    let s = interval_of (d ∷ ds) in
+    let m = block_length s.doublings in
+    in_bytes m ((s.low + s.range) / 2 ^ (16 + s.doublings - 8 * m) - 1)

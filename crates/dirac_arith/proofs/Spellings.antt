@@ -61,6 +61,11 @@ pub narrowed_by-append : (s : Interval) (ds es : List Decision) → narrowed_by 
 narrowed_by-append s [] es = refl
 narrowed_by-append s (d ∷ ds) es = narrowed_by-append (narrowed s d) ds es
 
+-- decisions and then others
+pub narrowed_more : (old mid new : Interval) (ds es all : List Decision) → mid ≡ narrowed_by old ds → new ≡ narrowed_by mid es → all ≡ ds ++ es → new ≡ narrowed_by old all
+narrowed_more old mid new ds es all p q e =
+    q ∙ ap (λ (s : Interval). narrowed_by s es) p ∙ sym (narrowed_by-append old ds es) ∙ ap (λ (l : List Decision). narrowed_by old l) (sym e)
+
 -- digits from number i on, one more follow decision, and more
 unfoldable pub spelt_from : List ℕ → ℕ → ℕ → List Bool → Bool → List Decision → List Decision
 spelt_from follow bits i [] last more = (follow_at follow i, last) ∷ more
@@ -83,6 +88,10 @@ spelt_is follow bits digits last more =
     let e : 0 + length digits ≡ length digits = omega arith in
     ap (λ j. let d : Decision = (follow_at follow j, last) in (opening follow bits 0 digits ++ d ∷ []) ++ more) (sym e)
     ∙ spelt_is_from follow bits 0 digits last more
+
+-- with nothing behind
+pub spelt_alone : (follow : List ℕ) (bits : ℕ) (digits : List Bool) (last : Bool) → spelt follow bits digits last ≡ spelt_from follow bits 0 digits last []
+spelt_alone follow bits digits last = sym (append-nil (spelt follow bits digits last)) ∙ spelt_is follow bits digits last []
 
 -- two spellings that a front allows are one: a last follow decision is false only where no digit has room
 pub one_spelt_from : (block : List ℕ) (s : Interval) (follow : List ℕ) (bits i room : ℕ) (ds es : List Bool) (t u : Bool) (x y : List Decision) → IsTame s

@@ -4,7 +4,7 @@ use Rattle.dirac_types.specs.declared.faults.Cause.{Cause}
 use Rattle.dirac_types.specs.declared.faults.Cause.TheVariants.{NumberTooLong}
 use Rattle.dirac_types.specs.declared.faults.Refusal.{Refusal}
 use Rattle.dirac_types.specs.Bits.{bit_value, number_from}
-use Rattle.dirac_bits.specs.Chain.{◌>>=◌}
+use Rattle.dirac_types.specs.Chain.{◌>>=◌}
 use Rattle.dirac_bits.specs.Cursor.{Cursor, place, bit_next}
 
 -- a number, its digits so far making `value`, where so many more may follow: a follow bit 1 ends it

@@ -6,7 +6,7 @@ use Rattle.std.proofs.lemmas.Int.{ints}
 use Rattle.dirac_types.specs.declared.faults.Cause.{Cause}
 use Rattle.dirac_types.specs.declared.faults.Cause.TheVariants as cause
 use Rattle.dirac_types.specs.declared.formats.Vector.{Vector}
-use Rattle.dirac_arith.specs.Chain.{◌>>=◌}
+use Rattle.dirac_types.specs.Chain.{◌>>=◌}
 use Rattle.dirac_arith.specs.Deciding.{decided, signed_read}
 use Rattle.dirac_arith.specs.Interval.{Decision}
 use Rattle.dirac_arith.specs.Reading.{Reading, Reads}

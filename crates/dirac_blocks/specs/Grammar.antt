@@ -3,7 +3,7 @@
 use Rattle.std.specs.Prelude.{ℕ, zero, suc, ℤ, pos, negsuc, ◌+◌, ◌+ℤ◌, ◌*◌, ◌%◌, ◌^◌, ◌==◌, int_le, if◌then◌else◌, Bool, true, false, not, ◌||◌, ◌&&◌, List, [], ◌∷◌, replicate, slice_set, Result, Ok, Err}
 use Rattle.dirac_types.specs.declared.faults.Cause.{Cause}
 use Rattle.dirac_types.specs.declared.faults.Cause.TheVariants.{VectorRange, DcRange}
-use Rattle.dirac_arith.specs.Chain.{◌>>=◌ as ◌>>◌}
+use Rattle.dirac_types.specs.Chain.{◌>>=◌ as ◌>>◌}
 use Rattle.dirac_arith.specs.Deciding.{begin, decided, number_read, signed_read}
 use Rattle.dirac_arith.specs.Reading.{Reading}
 use Rattle.dirac_bits.specs.Syntax.{Syntax, done, refuse, block_then, uint, align, here, ◌>>=◌}

@@ -6,12 +6,12 @@ use Rattle.std.proofs.lemmas.Bool.Decides.{Decides-and, Decides-below_and, Decid
 use Rattle.std.proofs.lemmas.List.Elements.{recursion_from_All}
 use Rattle.dirac_types.specs.declared.faults.Cause.{Cause}
 use Rattle.dirac_types.specs.declared.faults.Cause.TheVariants.{CodeWord, NumberTooLong}
-use Rattle.dirac_arith.specs.Carried.{Lies, Carries}
+use Rattle.dirac_arith.specs.Carried.{Lies, Carries, lies_in}
 use Rattle.dirac_arith.specs.Front.{front}
 use Rattle.dirac_arith.specs.Interval.{Decision, Interval, interval_of}
 use Rattle.dirac_bands.specs.Geometry.{edge_of}
 use Rattle.dirac_coeffs.specs.declared.spot.BandSpot.{BandSpot}
-use Rattle.dirac_coeffs.specs.BandRead.{lies_in, is_carried, all_below, is_zero_block, implied, flags_hold, Marked, carries_marked, numbers_below, lists_of, put_at, choices_of, flag_of, rows_of_marks, all_marks, all_bands, values_found, band_read}
+use Rattle.dirac_coeffs.specs.BandRead.{is_carried, all_below, is_zero_block, implied, flags_hold, Marked, carries_marked, numbers_below, lists_of, put_at, choices_of, flag_of, rows_of_marks, all_marks, all_bands, values_found, band_read}
 use Rattle.dirac_coeffs.specs.Carried.{IsZeroBlock, SkippedIsZero, CarriesBand, CarriesLong}
 use Rattle.dirac_coeffs.specs.Contexts.{value_at, is_zero}
 use Rattle.dirac_coeffs.specs.Decisions.{Mark, Marks, band_decisions}

@@ -4,8 +4,8 @@ use Rattle.std.specs.List.{AllByRecursion}
 use Rattle.dirac_types.specs.declared.formats.Chroma.{Chroma}
 use Rattle.dirac_types.specs.Numbers as numbers
 use Rattle.dirac_bits.specs.Syntax.{Syntax}
-use Rattle.dirac_bits.specs.Spelling.{Spells}
 use Rattle.dirac_bits.specs.Writing.{gap}
+pub use Rattle.dirac_bits.specs.Spelling.{SpelledBehind}
 use Rattle.dirac_header.specs.declared.header.PictureHeader.{PictureHeader}
 use Rattle.dirac_header.specs.declared.prediction.Prediction.{Prediction}
 use Rattle.dirac_header.specs.declared.prediction.Weights.{Weights}
@@ -13,12 +13,6 @@ use Rattle.dirac_header.specs.declared.transform.Transform.{Transform}
 use Rattle.dirac_header.specs.Codes.{is_reference, references_of}
 use Rattle.dirac_header.specs.Prediction.{grid_of, weighted, prediction}
 use Rattle.dirac_header.specs.Transform.{band_length, transform}
-
--- behind the first bits, the second have these of a spelling of this value
-pub record SpelledBehind {A : Type 0} (s : Syntax A) (x : A) (old new : List Bool) : Type 0 where
-  pub bits : List Bool
-  pub is : new ≡ old ++ bits
-  pub spells : Spells s x (length old) bits
 
 -- a number modulo 2 ^ 32, as one from - 2 ^ 31 to 2 ^ 31 - 1
 abbrev pub centred : ℕ → ℤ

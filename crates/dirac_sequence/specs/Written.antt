@@ -5,7 +5,7 @@ use Rattle.dirac_types.specs.declared.formats.Chroma.TheVariants.{C444, C422, C4
 use Rattle.dirac_types.specs.declared.settings.Settings.{Settings}
 use Rattle.dirac_types.specs.Bytes.{bytes_of}
 use Rattle.dirac_types.specs.Numbers as numbers
-use Rattle.dirac_bits.specs.Writing.{gap}
+use Rattle.dirac_bits.specs.Writing.{up_to_byte}
 use Rattle.dirac_sequence.specs.declared.sequence.Sequence.{Sequence}
 use Rattle.dirac_sequence.specs.Grammar.{chroma_of}
 use Rattle.dirac_sequence.specs.Lawful.{IsSize}
@@ -94,10 +94,6 @@ samples_bits t =
 -- the header: behind its values no colours of its own, and picture coding mode 0
 abbrev pub sequence_bits : Settings → List Bool
 sequence_bits t = base_bits t ++ frames_bits t ++ samples_bits t ++ (false ∷ []) ++ numbers.uint 0
-
--- these bits, and 0 up to the next byte
-abbrev pub up_to_byte : List Bool → List Bool
-up_to_byte bits = bits ++ gap bits
 
 -- the header's bytes, its last byte filled up with bits 0
 unfoldable pub sequence_payload : Settings → List ℕ

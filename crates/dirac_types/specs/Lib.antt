@@ -1,6 +1,7 @@
 pub mod Bits
 pub mod Bytes
 pub mod Causes
+pub mod Chain
 pub mod Lending
 pub mod Names
 pub mod Numbers
