@@ -10,6 +10,10 @@ abbrev pub size_of_band : ℕ → ℕ → ℕ → ℕ
 size_of_band padded depth level =
     if level == 0 then padded / 2 ^ depth else padded / 2 ^ (depth - level + 1)
 
+-- the level of band n of a plane: LL is band 0, and HL, LH and HH of level n + 1 are bands 3n + 1, 3n + 2 and 3n + 3
+abbrev pub level_of : ℕ → ℕ
+level_of n = (n + 2) / 3
+
 -- where codeblock c of a band's `count` codeblocks begins, and codeblock c - 1 ends
 abbrev pub edge_of : ℕ → ℕ → ℕ → ℕ
 edge_of size count c = size * c / count

@@ -1,10 +1,9 @@
 -- How a subband is written: the marks of its codeblocks, its block, and its bits.
-use Rattle.std.specs.Prelude.{◌≡◌, ℕ, ℤ, Bool, List, ◌++◌, length, if◌then◌else◌}
+use Rattle.std.specs.Prelude.{ℕ, ℤ, Bool, List, ◌++◌, length, if◌then◌else◌}
 use Rattle.std.specs.List.{list_all}
 use Rattle.dirac_types.specs.Bits.{bits_of}
 use Rattle.dirac_types.specs.Numbers.{uint}
 use Rattle.dirac_arith.specs.Written.{flush}
-use Rattle.dirac_bits.specs.Syntax.{Syntax}
 pub use Rattle.dirac_bits.specs.Spelling.{SpelledBehind}
 pub use Rattle.dirac_bits.specs.Writing.{up_to_byte}
 use Rattle.dirac_coeffs.specs.declared.spot.BandSpot.{BandSpot}
@@ -21,6 +20,7 @@ marks_of spot xs cy cx = flag_of (is_zero_block spot xs cy cx)
 abbrev pub block_of : BandSpot → List ℤ → List ℤ → List ℕ
 block_of spot parent xs = flush (band_decisions spot parent xs (marks_of spot xs))
 
+-- whether a band has zeros alone
 abbrev pub is_zero_band : List ℤ → Bool
 is_zero_band xs = list_all is_zero xs
 

@@ -2,12 +2,8 @@
 use Rattle.std.specs.Prelude.{◌≡◌, ℕ, ◌+◌, ◌-◌, ◌*◌, ◌/◌, ◌^◌, ◌<◌, ◌≤◌, List, length, Some, slice_get, unsigned_abs}
 use Rattle.std.specs.List.{All}
 use Rattle.dirac_types.specs.Table.{Table}
-use Rattle.dirac_bands.specs.Geometry.{padded_size, size_of_band}
+use Rattle.dirac_bands.specs.Geometry.{padded_size, size_of_band, level_of}
 use Rattle.dirac_coeffs.specs.declared.spot.CodedBand.{CodedBand}
-
--- the level of band n of a plane
-abbrev pub level_of : ℕ → ℕ
-level_of n = (n + 2) / 3
 
 -- the size across or down of band n, in a plane of this size
 abbrev pub length_of_band : ℕ → ℕ → ℕ → ℕ
