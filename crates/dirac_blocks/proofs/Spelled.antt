@@ -1,7 +1,6 @@
 -- The bits of a block table that is written spell it, so they are read as the same table.
-use Rattle.std.proofs.Common.{◌≡◌, ℕ, zero, suc, ◌+◌, ◌-◌, ◌*◌, ◌/◌, ◌%◌, ◌^◌, ◌<◌, ◌≤◌, inl, inr, Bool, false, List, [], ◌∷◌, ◌++◌, length, map, replicate, Option, Some, None, Result, Ok, Err, OnOk, refl, sym, ap, ◌∙◌, arith, subst, lit<, mod-lt, append_assoc, append-nil, length-append, get_or, ext_get_or}
+use Rattle.std.proofs.Common.{◌≡◌, ℕ, ◌+◌, ◌-◌, ◌*◌, ◌/◌, ◌%◌, ◌^◌, ◌<◌, ◌≤◌, inl, inr, Bool, List, [], ◌∷◌, ◌++◌, length, map, replicate, Option, Some, None, Result, OnOk, refl, sym, ap, ◌∙◌, arith, subst, append_assoc, append-nil, length-append, get_or, ext_get_or}
 use Rattle.std.specs.Prelude.{if◌then◌else◌}
-use Rattle.std.specs.List.{AllByRecursion}
 use Rattle.std.proofs.lemmas.Bool.{cases_eq, cases_lt, eq-eqb, ne_eqb}
 use Rattle.std.proofs.lemmas.List.{length-replicate, length-map, get_or-map, get_or-replicate, get_or_past}
 use Rattle.std.proofs.lemmas.List.Elements.{All-from_get_or}
@@ -10,14 +9,13 @@ use Rattle.dirac_types.specs.declared.faults.Cause.{Cause}
 use Rattle.dirac_types.specs.declared.formats.Vector.{Vector}
 use Rattle.dirac_types.specs.Bits.{bits_of}
 use Rattle.dirac_types.specs.Numbers.{uint}
-use Rattle.dirac_types.specs.Numbers as numbers
 use Rattle.dirac_types.proofs.Answers.{ok_both}
 use Rattle.dirac_arith.specs.Deciding.{begin}
-use Rattle.dirac_arith.specs.Interval.{Decision, interval_of}
-use Rattle.dirac_arith.specs.Written.{bytes_of, block_length, flushed, flush}
+use Rattle.dirac_arith.specs.Interval.{Decision}
+use Rattle.dirac_arith.specs.Written.{flush}
 use Rattle.dirac_arith.proofs.Encodings.{flushed_is_carried, flush_bytes}
 use Rattle.dirac_bits.specs.Spelling.{Spells, SpelledBehind}
-use Rattle.dirac_bits.specs.Syntax.{Syntax, done, flag_then, uint_then, sint_then, literal_then, block_then, align_then, here_then, refuse, ◌>>=◌}
+use Rattle.dirac_bits.specs.Syntax.{Syntax, done, ◌>>=◌}
 use Rattle.dirac_bits.specs.Writing.{gap, IsWhole}
 use Rattle.dirac_bits.proofs.Fields.{behind_then, gap_length-at}
 use Rattle.dirac_vectors.specs.Predictions.{split_of}
@@ -136,7 +134,7 @@ empty_lawful across down refs size =
     }
 
 -- before any block is read
-abbrev nothing_yet : Block → Block
+abbrev pub nothing_yet : Block → Block
 nothing_yet b = grey
 
 -- the splits of a finished table are read from the block that is written for them

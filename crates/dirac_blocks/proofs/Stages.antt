@@ -32,10 +32,10 @@ use Rattle.dirac_blocks.proofs.Units.{first_below}
 abbrev pub by : (Block → Block) → BlockTable → BlockTable
 by f t = record t { blocks = map f t.blocks }
 
-by_at : (f : Block → Block) (t : BlockTable) (x y : ℕ) → y * (4 * t.across) + x < length t.blocks → block_at (by f t) x y ≡ f (block_at t x y)
+pub by_at : (f : Block → Block) (t : BlockTable) (x y : ℕ) → y * (4 * t.across) + x < length t.blocks → block_at (by f t) x y ≡ f (block_at t x y)
 by_at f t x y inside = get_or-map f t.blocks (y * (4 * t.across) + x) grey grey inside
 
-place_inside : (t : BlockTable) (x y : ℕ) → IsBlockTable t → x < 4 * t.across → y < 4 * t.down → y * (4 * t.across) + x < length t.blocks
+pub place_inside : (t : BlockTable) (x y : ℕ) → IsBlockTable t → x < 4 * t.across → y < 4 * t.down → y * (4 * t.across) + x < length t.blocks
 place_inside t x y inv p q = let h = mul-add-lt y (4 * t.across) x (4 * t.down) q p in omega (arith, inv.blocks_len)
 
 -- what each block tells is what it told before, outside of the table too
@@ -222,7 +222,7 @@ corner_map h f i j =
       ]
     ]
 
-component_is : (h : Vector → ℤ) (f : ℕ → ℕ → Option Vector) (i j : ℕ)
+pub component_is : (h : Vector → ℤ) (f : ℕ → ℕ → Option Vector) (i j : ℕ)
     → component_of (option_map h (left_of f i j)) (option_map h (above_of f i j)) (option_map h (corner_of f i j)) ≡ predicted component_of (λ x y. option_map h (f x y)) i j
 component_is h f i j =
     ap (λ (o : Option ℤ). component_of o (option_map h (above_of f i j)) (option_map h (corner_of f i j))) (left_map h f i j)
@@ -243,7 +243,7 @@ dcs_same f g same i j =
     ap₂ (λ (p : ℤ) (o : Option ℤ). less_prediction (34 ∷ 35 ∷ []) 36 37 p o)
     (predicted_same dc_of f g i j (λ p. same (i - 1) j) (λ p. same i (j - 1)) (λ p q. same (i - 1) (j - 1))) (same i j)
 
-counted_map : (h : Vector → ℤ) (b : Bool) (v : Vector) → option_map h (counted b v) ≡ counted b (h v)
+pub counted_map : (h : Vector → ℤ) (b : Bool) (v : Vector) → option_map h (counted b v) ≡ counted b (h v)
 counted_map h true v = refl
 counted_map h false v = refl
 

@@ -5,6 +5,7 @@ use Rattle.dirac_types.specs.declared.formats.Chroma.{Chroma}
 use Rattle.dirac_types.specs.Numbers as numbers
 use Rattle.dirac_bits.specs.Syntax.{Syntax}
 use Rattle.dirac_bits.specs.Writing.{gap}
+use Rattle.dirac_bands.specs.Geometry.{band_length}
 pub use Rattle.dirac_bits.specs.Spelling.{SpelledBehind}
 use Rattle.dirac_header.specs.declared.header.PictureHeader.{PictureHeader}
 use Rattle.dirac_header.specs.declared.prediction.Prediction.{Prediction}
@@ -12,7 +13,7 @@ use Rattle.dirac_header.specs.declared.prediction.Weights.{Weights}
 use Rattle.dirac_header.specs.declared.transform.Transform.{Transform}
 use Rattle.dirac_header.specs.Codes.{is_reference, references_of}
 use Rattle.dirac_header.specs.Prediction.{grid_of, weighted, prediction}
-use Rattle.dirac_header.specs.Transform.{band_length, transform}
+use Rattle.dirac_header.specs.Transform.{transform}
 
 -- a number modulo 2 ^ 32, as one from - 2 ^ 31 to 2 ^ 31 - 1
 abbrev pub centred : ℕ → ℤ

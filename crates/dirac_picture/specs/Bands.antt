@@ -3,9 +3,8 @@ use Rattle.std.specs.Prelude.{◌≡◌, ◌≤◌, ℕ, ℤ, ◌+◌, ◌-◌, 
 use Rattle.dirac_types.specs.declared.formats.Band.{Band}
 use Rattle.dirac_types.specs.declared.formats.Band.TheVariants.{LL, HL, LH, HH}
 use Rattle.dirac_types.specs.Table.{Table}
-use Rattle.dirac_bands.specs.Geometry.{level_of}
+use Rattle.dirac_bands.specs.Geometry.{level_of, band_length}
 use Rattle.dirac_header.specs.declared.transform.Transform.{Transform}
-use Rattle.dirac_header.specs.Transform.{band_length}
 use Rattle.dirac_coeffs.specs.declared.spot.BandSpot.{BandSpot}
 use Rattle.dirac_coeffs.specs.declared.spot.CodedBand.{CodedBand}
 
