@@ -5,10 +5,11 @@ use Rattle.dirac_types.specs.declared.faults.Cause.{Cause}
 use Rattle.dirac_types.specs.declared.faults.Cause.TheVariants.{CodeWord, NumberTooLong}
 use Rattle.dirac_types.specs.Bits.{bit_value}
 use Rattle.dirac_types.specs.Chain.{◌>>=◌}
+use Rattle.dirac_types.specs.Numbers.{signed_value}
 use Rattle.dirac_arith.specs.Front.{front}
 use Rattle.dirac_arith.specs.Interval.{Decision, narrowed, narrowed_by, whole}
 use Rattle.dirac_arith.specs.Reading.{Reading}
-use Rattle.dirac_arith.specs.Spelling.{follow_at, signed_value}
+use Rattle.dirac_arith.specs.Spelling.{follow_at}
 use Rattle.dirac_arith.specs.Carried.{lies_in}
 
 -- the start of a block

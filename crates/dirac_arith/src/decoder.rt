@@ -9,9 +9,8 @@ ghost use Rattle.dirac_arith.specs.Spelling.{AreContexts, signed_spelling, spell
 
 use crate::chances::adapt;
 use crate::follow::follow_context;
-use crate::magnitude::with_sign;
 use crate::registers::{Registers, begin, decide, fill, is_past};
-use dirac_types::Cause;
+use dirac_types::{Cause, with_sign};
 use std::marker::Model;
 
 /// Reads the decisions of a block, each under the number of its context (arithmetic decoding, Dirac specification).

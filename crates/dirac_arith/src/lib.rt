@@ -6,7 +6,6 @@ mod decoder;
 mod encoder;
 mod follow;
 mod laws;
-mod magnitude;
 mod registers;
 mod tables;
 mod tail;

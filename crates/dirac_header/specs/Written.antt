@@ -3,7 +3,6 @@ use Rattle.std.specs.Prelude.{◌≡◌, ℕ, ℤ, pos, ◌+◌, ◌-◌, ◌-�
 use Rattle.std.specs.List.{AllByRecursion}
 use Rattle.dirac_types.specs.declared.formats.Chroma.{Chroma}
 use Rattle.dirac_types.specs.Numbers as numbers
-use Rattle.dirac_bits.specs.Syntax.{Syntax}
 use Rattle.dirac_bits.specs.Writing.{gap}
 use Rattle.dirac_bands.specs.Geometry.{band_length}
 pub use Rattle.dirac_bits.specs.Spelling.{SpelledBehind}
