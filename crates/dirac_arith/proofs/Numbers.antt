@@ -100,13 +100,13 @@ reads_none a follow bits =
     let P : List Bool → Type 0 = λ digits. Reads a (opening follow bits 0 digits) a in
     subst P (sym digits_none) (record { moved = refl; lies = λ some. absurd (omega arith) })
 
--- a decoder's chances are tame
+-- a decoder's probabilities are tame
 pub sound_tame : (a : Inside) → length a.contexts ≡ 38 → IsSound a → IsTame (reading a).at
 sound_tame a all sound = record {
   most = λ i.
       let P : ℕ → Type 0 = λ x. x ≤ 65281 in
       elim (cases_lt i 38) [
-        | inl inside ↦ (sound.chances i inside).1
+        | inl inside ↦ (sound.probabilities i inside).1
         | inr past ↦ subst P (sym (get_or_past a.contexts i 0 (omega arith))) (omega arith)
       ];
 }

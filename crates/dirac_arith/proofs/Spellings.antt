@@ -13,22 +13,22 @@ use Rattle.dirac_arith.specs.Laws.{CarriesOneTruth, CarriesOneNumber, CarriesOne
 use Rattle.dirac_arith.proofs.Intervals.{one_truth, lies_kept}
 use Rattle.dirac_arith.proofs.Steps.{adapted_most}
 
--- no chance is above its bound
+-- no probability is above its bound
 pub record IsTame (s : Interval) : Type 0 where
   pub most : (i : ℕ) → slice_index s.contexts i ≤ 65281
 
-tame_contexts : (contexts : List ℕ) (context chance : ℕ) → chance ≤ 65281 → ((i : ℕ) → slice_index contexts i ≤ 65281) → (i : ℕ) → slice_index (slice_set contexts context chance) i ≤ 65281
-tame_contexts contexts context chance fits most i =
+tame_contexts : (contexts : List ℕ) (context probability : ℕ) → probability ≤ 65281 → ((i : ℕ) → slice_index contexts i ≤ 65281) → (i : ℕ) → slice_index (slice_set contexts context probability) i ≤ 65281
+tame_contexts contexts context probability fits most i =
     let P : ℕ → Type 0 = λ x. x ≤ 65281 in
     elim (cases_eq i context) [
       | inl same ↦
           elim (cases_lt context (length contexts)) [
             | inl inside ↦
-                let e : get_or (set contexts context chance) i 0 ≡ chance = ap (λ j. get_or (set contexts context chance) j 0) same ∙ get_or-set_same contexts context chance 0 inside in
+                let e : get_or (set contexts context probability) i 0 ≡ probability = ap (λ j. get_or (set contexts context probability) j 0) same ∙ get_or-set_same contexts context probability 0 inside in
                 subst P (sym e) fits
-            | inr past ↦ subst P (sym (ap (λ cs. get_or cs i 0) (set_past contexts context chance past))) (most i)
+            | inr past ↦ subst P (sym (ap (λ cs. get_or cs i 0) (set_past contexts context probability past))) (most i)
           ]
-      | inr other ↦ subst P (sym (get_or-set_other contexts context i chance 0 other)) (most i)
+      | inr other ↦ subst P (sym (get_or-set_other contexts context i probability 0 other)) (most i)
     ]
 
 pub tame_narrowed : (s : Interval) (context : ℕ) (t : Bool) → IsTame s → IsTame (narrowed s (context, t))
@@ -156,7 +156,7 @@ whole_tame = record {
 }
 
 -- the same behind decisions that come first
-carried_behind : (block : List ℕ) (common ds : List Decision) → 0 < length ds → Carries block (common ++ ds) → Lies block (narrowed_by (narrowed_by whole common) ds)
+pub carried_behind : (block : List ℕ) (common ds : List Decision) → 0 < length ds → Carries block (common ++ ds) → Lies block (narrowed_by (narrowed_by whole common) ds)
 carried_behind block common ds some carries =
     let P : Interval → Type 0 = λ s. Lies block s in
     subst P (narrowed_by-append whole common ds) (carried_lies block (common ++ ds) (omega (arith, length-append common ds)) carries)
