@@ -1,7 +1,11 @@
 -- How large padded sizes and the sizes of subbands are.
 use Rattle.std.proofs.Common.{◌≡◌, ℕ, ◌+◌, ◌-◌, ◌*◌, ◌/◌, ◌%◌, ◌^◌, ◌≤◌, ◌<◌, arith}
 use Rattle.std.proofs.Math.Pow.{pow_mono}
-use Rattle.std.proofs.lemmas.Nat.{one_shl, pow-add, pow_pos, div-add-mod', mul-le, div_below}
+use Rattle.std.proofs.lemmas.Nat.{le-div, one_shl, pow-add, pow_pos, div-add-mod', mul-le, div_below}
+
+-- a quotient rises with its dividend
+pub div_mono : (a b m : ℕ) → 0 < m → a ≤ b → a / m ≤ b / m
+div_mono a b m some l = le-div (a / m) b m some (omega (arith, l, div-add-mod' a m))
 
 -- a quotient by two or more is at most a half
 pub quotient_half : (n m : ℕ) → 2 ≤ m → 2 * (n / m) ≤ n

@@ -1,11 +1,9 @@
 -- A finished table as it was when some of its lists were read.
-use Rattle.std.proofs.Common.{◌≡◌, ℕ, ℤ, ◌+◌, ◌*◌, ◌<◌, ◌≤◌, inl, inr, Bool, true, false, List, length, map, replicate, get_or, ext_get_or, refl, sym, ap, ap₂, ◌∙◌, arith, subst}
+use Rattle.std.proofs.Common.{◌≡◌, ℕ, ℤ, ◌+◌, ◌*◌, ◌<◌, inl, inr, Bool, true, false, List, length, map, replicate, ext_get_or, refl, sym, ap, ap₂, ◌∙◌, arith, subst}
 use Rattle.std.specs.Prelude.{pos}
-use Rattle.std.proofs.lemmas.Bool.{cases_eq, cases_lt}
+use Rattle.std.proofs.lemmas.Bool.{cases_lt}
 use Rattle.std.proofs.lemmas.Int.{ints}
 use Rattle.std.proofs.lemmas.List.{get_or_past, get_or-map, get_or-replicate, length-map, length-replicate}
-use Rattle.std.proofs.lemmas.List.Elements.{All-map}
-use Rattle.std.proofs.lemmas.Nat.{mul-add-lt}
 use Rattle.dirac_types.specs.declared.formats.Vector.{Vector}
 use Rattle.dirac_arith.specs.Carried.{Carries}
 use Rattle.dirac_arith.specs.Interval.{Decision}
@@ -18,7 +16,7 @@ use Rattle.dirac_blocks.specs.declared.parts.Reference.TheVariants as references
 use Rattle.dirac_blocks.specs.Carried.{with_part, ReadsTo}
 use Rattle.dirac_blocks.specs.Grammar.{empty_table, units_step}
 use Rattle.dirac_blocks.specs.Laws.{CarriedIsRead}
-use Rattle.dirac_blocks.specs.Tables.{BlockTable, IsBlock, IsBlockTable, block_at, grey, no_vector, split_at, first_of}
+use Rattle.dirac_blocks.specs.Tables.{BlockTable, IsBlock, IsBlockTable, block_at, grey, no_vector}
 use Rattle.dirac_blocks.proofs.Stages.{by, by_at, by_lawful, place_inside}
 use Rattle.dirac_blocks.proofs.Spelled.{nothing_yet}
 use Rattle.dirac_block_laws.proofs.Stepping.{list_of}
@@ -156,14 +154,6 @@ shown_told (parts.Down references.Second) k b = refl
 shown_told (parts.Dc components.Y) k b = refl
 shown_told (parts.Dc components.U) k b = refl
 shown_told (parts.Dc components.V) k b = refl
-
--- a table all of whose blocks are finished
-pub by_end : (f : Block → Block) (t : BlockTable) → IsBlockTable t → ((b : Block) → IsBlock t.refs b → f b ≡ b) → by f t ≡ t
-by_end f t inv same =
-    let len : length (map f t.blocks) ≡ length t.blocks = length-map t.blocks f in
-    ap (λ (xs : List Block). let u : BlockTable = record t { blocks = xs } in u)
-    (ext_get_or grey (map f t.blocks) t.blocks len
-    (λ k l. let inside : k < length t.blocks = omega arith in get_or-map f t.blocks k grey grey inside ∙ same (get_or t.blocks k grey) (inv.blocks k grey inside)))
 
 pub by_nothing : (t : BlockTable) → IsBlockTable t → map nothing_yet t.blocks ≡ (empty_table t.across t.down t.refs).blocks
 by_nothing t inv =

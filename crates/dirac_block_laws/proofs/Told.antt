@@ -1,12 +1,11 @@
 -- A later list changes nothing that the lists before it tell, so they are told by the same decisions of the finished table.
-use Rattle.std.proofs.Common.{◌≡◌, ℕ, zero, suc, ℤ, ◌+◌, ◌*◌, ◌/◌, ◌%◌, ◌<◌, ◌≤◌, inl, inr, Bool, true, false, List, [], ◌∷◌, ◌++◌, length, get_or, Option, Some, refl, sym, ap, ap₂, ◌∙◌, arith, subst}
+use Rattle.std.proofs.Common.{◌≡◌, ℕ, zero, suc, ℤ, ◌+◌, ◌*◌, ◌/◌, ◌%◌, ◌<◌, inl, inr, Bool, List, [], ◌∷◌, ◌++◌, length, get_or, Option, Some, refl, sym, ap, ap₂, ◌∙◌, arith, subst}
 use Rattle.std.specs.Prelude.{option_map, if◌then◌else◌, ◌==◌}
-use Rattle.std.proofs.lemmas.Bool.{cases_eq, cases_lt, eq-eqb, ne_eqb}
+use Rattle.std.proofs.lemmas.Bool.{cases_lt}
 use Rattle.std.proofs.lemmas.List.{get_or_past}
-use Rattle.std.proofs.lemmas.Nat.{mul-le}
 use Rattle.dirac_types.specs.declared.formats.Vector.{Vector}
 use Rattle.dirac_arith.specs.Interval.{Decision}
-use Rattle.dirac_vectors.specs.Predictions.{component_of, dc_of, mode_of}
+use Rattle.dirac_vectors.specs.Predictions.{dc_of, mode_of}
 use Rattle.dirac_blocks.specs.declared.block.Block.{Block}
 use Rattle.dirac_blocks.specs.declared.parts.Component.{Component}
 use Rattle.dirac_blocks.specs.declared.parts.Component.TheVariants as components
@@ -14,12 +13,12 @@ use Rattle.dirac_blocks.specs.declared.parts.Part.{Part}
 use Rattle.dirac_blocks.specs.declared.parts.Part.TheVariants as parts
 use Rattle.dirac_blocks.specs.declared.parts.Reference.TheVariants as references
 use Rattle.dirac_blocks.specs.Carried.{with_part, IsWithPart}
-use Rattle.dirac_blocks.specs.Decisions.{UnitPart, left_of, above_of, corner_of, predicted, counted, differ, less_prediction, ref1_at, ref2_at, superblock_part, superblock_row, superblock_rows, unit_decisions}
+use Rattle.dirac_blocks.specs.Decisions.{UnitPart, predicted, counted, differ, less_prediction, ref1_at, ref2_at, superblock_part, superblock_row, superblock_rows, unit_decisions}
 use Rattle.dirac_blocks.specs.Grammar.{block_using, is_dc}
 use Rattle.dirac_blocks.specs.Parts.{vector_at, dc_at, part_at}
 use Rattle.dirac_blocks.specs.Reached.{SameShape}
 use Rattle.dirac_blocks.specs.Tables.{BlockTable, IsBlockTable, block_at, grey}
-use Rattle.dirac_blocks.proofs.Stages.{component_is, counted_map}
+use Rattle.dirac_blocks.proofs.Stages.{counted_map, components_same}
 use Rattle.dirac_blocks.proofs.Filled.{same_table, place_row}
 
 -- what the modes and one list tell of a block
@@ -28,16 +27,6 @@ told part b = with_part part (block_using b.ref1 b.ref2) b
 
 pub places_same : {A : Type 0} (f g : ℕ → ℕ → A) → ((x y : ℕ) → f x y ≡ g x y) → f ≡ g
 places_same f g same = λ i x y. same x y i
-
--- two tables whose vectors have the same components are told by the same decisions
-components_same : (h : Vector → ℤ) (f g : ℕ → ℕ → Option Vector) → ((x y : ℕ) → option_map h (f x y) ≡ option_map h (g x y)) → (i j : ℕ)
-    → less_prediction (27 ∷ 28 ∷ 29 ∷ 30 ∷ 31 ∷ []) 32 33 (component_of (option_map h (left_of f i j)) (option_map h (above_of f i j)) (option_map h (corner_of f i j))) (option_map h (f i j))
-    ≡ less_prediction (27 ∷ 28 ∷ 29 ∷ 30 ∷ 31 ∷ []) 32 33 (component_of (option_map h (left_of g i j)) (option_map h (above_of g i j)) (option_map h (corner_of g i j))) (option_map h (g i j))
-components_same h f g same i j =
-    let prediction = component_is h f i j
-    ∙ ap (λ (k : ℕ → ℕ → Option ℤ). predicted component_of k i j) (places_same (λ x y. option_map h (f x y)) (λ x y. option_map h (g x y)) same)
-    ∙ sym (component_is h g i j) in
-    ap₂ (λ (p : ℤ) (o : Option ℤ). less_prediction (27 ∷ 28 ∷ 29 ∷ 30 ∷ 31 ∷ []) 32 33 p o) prediction (same i j)
 
 -- two tables that the modes and one list tell the same of
 abbrev pub ToldSame : Part → BlockTable → BlockTable → Type 0

@@ -254,7 +254,7 @@ whole_two b = refl
 whole_one : (b : Block) → b.v2 ≡ no_vector → with_dcs stage3 b ≡ b
 whole_one b e = let make : Vector → Block = λ v. record b { v2 = v } in ap make (sym e)
 
-by_end : (f : Block → Block) (t : BlockTable) → IsBlockTable t → ((b : Block) → IsBlock t.refs b → f b ≡ b) → by f t ≡ t
+pub by_end : (f : Block → Block) (t : BlockTable) → IsBlockTable t → ((b : Block) → IsBlock t.refs b → f b ≡ b) → by f t ≡ t
 by_end f t inv same =
     let len : length (map f t.blocks) ≡ length t.blocks = length-map t.blocks f in
     ap (λ (xs : List Block). let u : BlockTable = record t { blocks = xs } in u)

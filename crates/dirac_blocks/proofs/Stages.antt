@@ -222,7 +222,7 @@ corner_map h f i j =
       ]
     ]
 
-pub component_is : (h : Vector → ℤ) (f : ℕ → ℕ → Option Vector) (i j : ℕ)
+component_is : (h : Vector → ℤ) (f : ℕ → ℕ → Option Vector) (i j : ℕ)
     → component_of (option_map h (left_of f i j)) (option_map h (above_of f i j)) (option_map h (corner_of f i j)) ≡ predicted component_of (λ x y. option_map h (f x y)) i j
 component_is h f i j =
     ap (λ (o : Option ℤ). component_of o (option_map h (above_of f i j)) (option_map h (corner_of f i j))) (left_map h f i j)
@@ -230,7 +230,7 @@ component_is h f i j =
     ∙ ap (λ (o : Option ℤ). component_of (left_of (λ x y. option_map h (f x y)) i j) (above_of (λ x y. option_map h (f x y)) i j) o) (corner_map h f i j)
 
 -- two tables whose vectors have the same components are told by the same decisions
-components_same : (h : Vector → ℤ) (f g : ℕ → ℕ → Option Vector) → ((x y : ℕ) → option_map h (f x y) ≡ option_map h (g x y)) → (i j : ℕ)
+pub components_same : (h : Vector → ℤ) (f g : ℕ → ℕ → Option Vector) → ((x y : ℕ) → option_map h (f x y) ≡ option_map h (g x y)) → (i j : ℕ)
     → less_prediction (27 ∷ 28 ∷ 29 ∷ 30 ∷ 31 ∷ []) 32 33 (component_of (option_map h (left_of f i j)) (option_map h (above_of f i j)) (option_map h (corner_of f i j))) (option_map h (f i j))
     ≡ less_prediction (27 ∷ 28 ∷ 29 ∷ 30 ∷ 31 ∷ []) 32 33 (component_of (option_map h (left_of g i j)) (option_map h (above_of g i j)) (option_map h (corner_of g i j))) (option_map h (g i j))
 components_same h f g same i j =

@@ -1,7 +1,7 @@
 -- The bits of a band that is written spell it, so they are read as the same band.
 use Rattle.std.proofs.Common.{◌≡◌, ◌≢◌, ℕ, ℤ, pos, ◌+◌, ◌-◌, ◌*◌, ◌/◌, ◌%◌, ◌^◌, ◌<◌, ◌==◌, if◌then◌else◌, nat_le, Bool, true, false, List, [], ◌∷◌, ◌++◌, length, replicate, Ok, Err, refl, sym, ap, ap₂, ◌∙◌, subst, arith, inl, inr, lit<, append_assoc, append-nil, length-append, ne_eqb, le-leb}
 use Rattle.std.specs.List.{AllByRecursion}
-use Rattle.std.proofs.lemmas.Bool.{cases_Bool}
+use Rattle.std.proofs.lemmas.Bool.{cases_Bool, and_from}
 use Rattle.std.proofs.lemmas.List.{length-replicate}
 use Rattle.dirac_types.specs.declared.faults.Cause.TheVariants.{QuantIndex, CodeWord}
 use Rattle.dirac_types.specs.Bits.{bits_of}
@@ -19,7 +19,7 @@ use Rattle.dirac_coeffs.specs.Decisions.{band_decisions}
 use Rattle.dirac_coeffs.specs.Grammar.{band, coded_band, band_from, band_table, zero_band, IsCodedBand}
 use Rattle.dirac_coeffs.specs.Spots.{IsSpot}
 use Rattle.dirac_coeffs.specs.Written.{marks_of, block_of, is_zero_band, with_block, with_band}
-use Rattle.dirac_coeffs.proofs.Found.{ones_read, both_and}
+use Rattle.dirac_coeffs.proofs.Found.{ones_read}
 use Rattle.dirac_coeffs.proofs.Writing.{written_read}
 use Rattle.dirac_coeffs.proofs.ZeroTests.{all_zeros}
 
@@ -64,7 +64,7 @@ coded_spelled spot parent b block k before is len bytes read =
     let k2 = k1 + length (gap before) in
     let k3 = k2 + length (bits_of block) in
     let rest : ℕ → Syntax CodedBand = λ index. align >>= λ g. (here >>= λ place. block_then (length block) (λ bytes. band_from spot index place (band_read spot parent bytes))) in
-    let allowed : between 0 99 b.index ≡ true = both_and (nat_le 0 b.index) (nat_le b.index 99) (le-leb 0 b.index (omega arith)) (le-leb b.index 99 is.index) in
+    let allowed : between 0 99 b.index ≡ true = and_from (nat_le 0 b.index) (nat_le b.index 99) (le-leb 0 b.index (omega arith)) (le-leb b.index 99 is.index) in
     let last : Spells (band_from spot b.index (k2 / 8) (band_read spot parent block)) b k3 [] =
     subst (λ r. Spells (band_from spot b.index (k2 / 8) r) b k3 []) (sym read) (sym (coded_is spot b is), refl) in
     let tail : Spells (rest b.index) b k1 (gap before ++ bits_of block) =

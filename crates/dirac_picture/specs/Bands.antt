@@ -1,5 +1,5 @@
 -- The subbands of a plane, in the order in which they are coded: LL, then HL, LH and HH of level 1, of level 2 and so on.
-use Rattle.std.specs.Prelude.{◌≡◌, ◌≤◌, ℕ, ℤ, ◌+◌, ◌-◌, ◌*◌, ◌/◌, ◌%◌, ◌==◌, nat_le, if◌then◌else◌, List, [], length, slice_get, Option, None, Some}
+use Rattle.std.specs.Prelude.{◌≡◌, ◌≤◌, ℕ, ℤ, ◌+◌, ◌-◌, ◌*◌, ◌%◌, ◌==◌, nat_le, if◌then◌else◌, List, [], length, slice_get, Option, None, Some}
 use Rattle.dirac_types.specs.declared.formats.Band.{Band}
 use Rattle.dirac_types.specs.declared.formats.Band.TheVariants.{LL, HL, LH, HH}
 use Rattle.dirac_types.specs.Table.{Table}
