@@ -5,16 +5,14 @@ use Rattle.std.specs.List.{All}
 use Rattle.std.proofs.lemmas.Bool.{cases_lt}
 use Rattle.std.proofs.lemmas.Int.{ints}
 use Rattle.std.proofs.lemmas.Option.{slice_get_within}
-use Rattle.std.proofs.lemmas.List.FromFn.{get_or-map-range_with_len, length-map-range_with_len}
 use Rattle.dirac_types.specs.Table.{Table, table_at}
-use Rattle.dirac_bands.specs.Interleaving.{band_of, filled}
-use Rattle.dirac_bands.proofs.Predictions.{values_bound}
+use Rattle.dirac_types.specs.Samples.{clip}
+use Rattle.dirac_types.proofs.Bounds.{all_weaker, told_bound, values_bound}
+use Rattle.dirac_bands.specs.Interleaving.{band_of}
 use Rattle.dirac_coeffs.specs.declared.spot.CodedBand.{CodedBand}
-use Rattle.dirac_residual.proofs.Bounds.{all_weaker}
 use Rattle.dirac_analysis.specs.Fits.{AreCoded, AreSamples, IsCoded, IsDivisible, grown}
 use Rattle.dirac_analysis.specs.Analysis.{padded}
 use Rattle.dirac_bands.specs.Geometry.{padded_size}
-use Rattle.dirac_residual.specs.Residual.{clip}
 use Rattle.dirac_analysis.proofs.Undone.{front_get}
 
 power_next : (n : ℕ) → 2 ^ suc n ≡ 2 * 2 ^ n
@@ -74,13 +72,6 @@ grown_more depth xs some few all =
 
 pub all_under : (a b : ℕ) (xs : List ℤ) → a < b → All (λ v. unsigned_abs v ≤ a) xs → All (λ v. unsigned_abs v < b) xs
 all_under a b xs l all k d i = omega (arith, l, all k d i)
-
--- a bound on what tells a table bounds its values
-told_bound : (b w h : ℕ) (f : ℕ → ℕ → ℤ) → ((x y : ℕ) → unsigned_abs (f x y) ≤ b) → All (λ v. unsigned_abs v ≤ b) (filled w h f)
-unfolding filled
-told_bound b w h f each k d l =
-    let inside : k < w * h = omega (arith, l, length-map-range_with_len (λ p. f (p % w) (p / w)) 0 (w * h)) in
-    rw (get_or-map-range_with_len (λ p. f (p % w) (p / w)) 0 (w * h) k k d inside (omega arith)) (each (k % w) (k / w))
 
 -- the values of a band are among those of the plane
 pub band_bound : (b right below : ℕ) (t : Table) → All (λ v. unsigned_abs v ≤ b) t.values → All (λ v. unsigned_abs v ≤ b) (band_of t right below).values

@@ -5,11 +5,12 @@ use Rattle.std.proofs.Math.IntN.{+ℤ-neg_ℤ_cancel}
 use Rattle.std.proofs.lemmas.Bool.{ne_eqb}
 use Rattle.dirac_types.specs.declared.formats.Kind.TheVariants.{Intra}
 use Rattle.dirac_types.specs.Table.{Table, table_at}
+use Rattle.dirac_types.proofs.Rows.{filled_at}
 use Rattle.dirac_quant.specs.Quantiser.{factor_of, reduced, restored, restored_magnitude}
 use Rattle.dirac_bands.specs.DcSum.{dc_sum, prediction, IsDcSum}
 use Rattle.dirac_bands.specs.Interleaving.{band_of, joined}
 use Rattle.dirac_bands.proofs.Predictions.{is_sums, sums_determined}
-use Rattle.dirac_bands.proofs.Undoing.{table_is, told_at}
+use Rattle.dirac_bands.proofs.Undoing.{table_is}
 use Rattle.dirac_bands.specs.Geometry.{padded_size}
 use Rattle.dirac_residual.proofs.Sizes.{size_within}
 use Rattle.dirac_coeffs.specs.declared.spot.CodedBand.{CodedBand}
@@ -156,7 +157,7 @@ cut_again depth t some len =
     sym (table_is (table_at (padded depth t)) t t.width t.height refl refl some len (λ x y p q.
     let column : min x (t.width - 1) ≡ x = omega arith in
     let row : min y (t.height - 1) ≡ y = omega arith in
-    let here : table_at (padded depth t) x y ≡ f x y = told_at f (padded_size t.width depth) (padded_size t.height depth) x y (omega (arith, size_within t.width depth)) (omega (arith, size_within t.height depth)) in
+    let here : table_at (padded depth t) x y ≡ f x y = filled_at f (padded_size t.width depth) (padded_size t.height depth) x y (omega (arith, size_within t.width depth)) (omega (arith, size_within t.height depth)) in
     sym (here ∙ ap (λ a. table_at t a (min y (t.height - 1))) column ∙ ap (table_at t x) row)))
 
 pub plane_again : (wavelet depth : ℕ) (bands : List CodedBand) (t : Table) → 1 ≤ t.width → length t.values ≡ t.width * t.height → after_levels wavelet Intra bands depth ≡ padded depth t

@@ -1,10 +1,10 @@
 -- From the samples of an intra picture's plane to its quantised subbands.
 use Rattle.std.specs.Prelude.{ℕ, ℤ, zero, suc, ◌-◌, ◌-ℤ◌, List, [], ◌∷◌, ◌++◌, map, min, if◌then◌else◌}
-use Rattle.dirac_types.specs.Table.{Table, table_at}
+use Rattle.dirac_types.specs.Table.{Table, table_at, table_of}
 use Rattle.dirac_quant.specs.Quantiser.{reduced}
 use Rattle.dirac_bands.specs.DcSum.{prediction}
 use Rattle.dirac_bands.specs.Geometry.{padded_size}
-use Rattle.dirac_bands.specs.Interleaving.{band_of, table_of}
+use Rattle.dirac_bands.specs.Interleaving.{band_of}
 use Rattle.dirac_coeffs.specs.declared.spot.CodedBand.{CodedBand}
 use Rattle.dirac_coeffs.specs.Written.{is_zero_band}
 use Rattle.dirac_lift.specs.Level.{analysed}

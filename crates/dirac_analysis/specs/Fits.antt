@@ -2,9 +2,10 @@
 use Rattle.std.specs.Prelude.{◌≡◌, ℕ, ℤ, zero, suc, ◌+◌, ◌-◌, ◌*◌, ◌/◌, ◌^◌, ◌<◌, ◌≤◌, List, length, true, Some, slice_get, unsigned_abs}
 use Rattle.std.specs.List.{All}
 use Rattle.dirac_types.specs.Table.{Table}
+use Rattle.dirac_types.specs.Samples.{clip}
+pub use Rattle.dirac_bands.specs.Geometry.{lowest_size}
 use Rattle.dirac_coeffs.specs.declared.spot.CodedBand.{CodedBand}
 use Rattle.dirac_coeffs.specs.Written.{is_zero_band}
-use Rattle.dirac_residual.specs.Residual.{clip}
 
 -- samples are from -128 to 127: clipping keeps them
 abbrev pub AreSamples : List ℤ → Type 0
@@ -35,7 +36,3 @@ pub record IsCoded (width height : ℕ) (b : CodedBand) : Type 0 where
 pub record AreCoded (across down depth : ℕ) (bands : List CodedBand) : Type 0 where
   pub count : length bands ≡ 3 * depth + 1
   pub each : (n : ℕ) (b : CodedBand) → slice_get bands n ≡ Some b → IsCoded (across * 2 ^ ((n - 1) / 3)) (down * 2 ^ ((n - 1) / 3)) b
-
--- how often 2 ^ depth goes into the padded size: the columns or rows of the LL band
-abbrev pub lowest_size : ℕ → ℕ → ℕ
-lowest_size size depth = (size + 2 ^ depth - 1) / 2 ^ depth

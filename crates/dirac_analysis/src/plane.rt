@@ -1,8 +1,9 @@
 ghost use Rattle.std.specs.Prelude.{◌≡◌, ◌-◌, ◌+◌, ◌*◌, ◌≤◌, ◌<◌, ◌^◌, unsigned_abs, IfOk};
 ghost use Rattle.dirac_types.specs.declared.formats.Kind.TheVariants.{Intra};
+ghost use Rattle.dirac_bands.specs.Geometry.{lowest_size};
 ghost use Rattle.dirac_residual.specs.Residual.{residual};
 ghost use Rattle.dirac_analysis.specs.Analysis.{plane_bands};
-ghost use Rattle.dirac_analysis.specs.Fits.{AreCoded, AreSamples, lowest_size};
+ghost use Rattle.dirac_analysis.specs.Fits.{AreCoded, AreSamples};
 
 use crate::levels::code_levels;
 use crate::padding::pad;

@@ -1,14 +1,14 @@
 -- Behind decisions that a block carries it carries more; and what is read is what it carries.
-use Rattle.std.proofs.Common.{◌≡◌, ◌≢◌, ℕ, ℤ, pos, negsuc, zero, suc, ◌+◌, ◌-◌, ◌*◌, ◌^◌, ◌<◌, ◌≤◌, ◌⊎◌, inl, inr, ◌↔◌, Bool, true, false, List, [], ◌∷◌, ◌++◌, length, nat_abs, Result, Ok, Err, IfOk, IfErr, OnErr, refl, sym, ap, ◌∙◌, arith, subst, append-nil, length-append, true≢false}
+use Rattle.std.proofs.Common.{◌≡◌, ◌≢◌, ℕ, ℤ, pos, negsuc, zero, suc, ◌+◌, ◌-◌, ◌*◌, ◌^◌, ◌<◌, ◌≤◌, ◌⊎◌, inl, inr, ◌↔◌, Bool, true, false, List, [], ◌∷◌, ◌++◌, length, nat_abs, Result, Ok, Err, IfOk, IfErr, OnErr, refl, sym, ap, ◌∙◌, arith, subst, length-append, true≢false}
 use Rattle.std.proofs.lemmas.Bool.{cases_Bool, cases_eq, eq-eqb, ne_eqb}
 use Rattle.std.proofs.Math.Pow.{pow_mono}
 use Rattle.dirac_types.specs.Bits.{bit_value, number_from}
 use Rattle.dirac_types.specs.declared.faults.Cause.{Cause}
 use Rattle.dirac_types.specs.declared.faults.Cause.TheVariants as cause
 use Rattle.dirac_types.proofs.Digits.{digits_are, number_from-below, number_from-some}
-use Rattle.dirac_arith.specs.Chain.{◌>>=◌}
-use Rattle.dirac_arith.specs.Carried.{Lies, Carries}
-use Rattle.dirac_arith.specs.Deciding.{begin, lies_in, after, after_all, truth_of, decided, number_from_digit, number_read, sign_read, signed_read, Gives}
+use Rattle.dirac_types.specs.Chain.{◌>>=◌}
+use Rattle.dirac_arith.specs.Carried.{Lies, Carries, lies_in}
+use Rattle.dirac_arith.specs.Deciding.{begin, after, after_all, truth_of, decided, number_from_digit, number_read, sign_read, signed_read, Gives}
 use Rattle.dirac_arith.specs.Front.{front}
 use Rattle.dirac_arith.specs.Interval.{Interval, Decision, narrowed, narrowed_by, whole}
 use Rattle.dirac_arith.specs.Laws.{CarriesSomeTruth, CarriesSomeNumber, CarriesSomeSigned, DecisionIsRead, NumberIsRead, LongNumberIsRefused, SignedIsRead, LongSignedIsRefused, OnesReadToNothing}
@@ -17,7 +17,7 @@ use Rattle.dirac_arith.specs.Spelling.{follow_at, spelt, spelling, signed_spelli
 use Rattle.dirac_arith.proofs.Decidings.{some_truth, decided_open, decided_shut, decided_is, number_is, number_is_long, number_is_shut, signed_is_read, signed_is_long, signed_is_shut}
 use Rattle.dirac_arith.proofs.Fronts.{front_below}
 use Rattle.dirac_arith.proofs.Numbers.{spelt_some}
-use Rattle.dirac_arith.proofs.Spellings.{IsTame, tame_by, whole_tame, lies_first, narrowed_by-append, spelt_from, spelt_is, spelling_some, signed_some, lies_carried}
+use Rattle.dirac_arith.proofs.Spellings.{IsTame, tame_by, whole_tame, lies_first, narrowed_by-append, spelt_from, spelling_some, signed_some, lies_carried, spelt_alone}
 
 -- digits and a last follow decision that the front allows: a false one only where no digit has room
 pub record SomeSpelt (block : List ℕ) (s : Interval) (follow : List ℕ) (bits i left : ℕ) : Type 0 where
@@ -85,9 +85,6 @@ abbrev pub SomeNumber : List ℕ → Interval → List ℕ → ℕ → Type 0
 SomeNumber block s follow bits =
     ((v : ℕ) × (v < 2 ^ 39 - 1) × Lies block (narrowed_by s (spelling follow bits v)))
     ⊎ ((digits : List Bool) × (length digits ≡ 38) × Lies block (narrowed_by s (spelt follow bits digits false)))
-
-spelt_alone : (follow : List ℕ) (bits : ℕ) (digits : List Bool) (last : Bool) → spelt follow bits digits last ≡ spelt_from follow bits 0 digits last []
-spelt_alone follow bits digits last = sym (append-nil (spelt follow bits digits last)) ∙ spelt_is follow bits digits last []
 
 value_fits : (digits : List Bool) → length digits ≤ 38 → number_from 1 digits - 1 < 2 ^ 39 - 1
 value_fits digits few =

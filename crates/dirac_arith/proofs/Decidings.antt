@@ -1,20 +1,20 @@
 -- What a block reads to, and the decisions that it carries.
-use Rattle.std.proofs.Common.{◌≡◌, ◌≢◌, ℕ, ℤ, pos, negsuc, zero, suc, ◌+◌, ◌-◌, ◌*◌, ◌^◌, ◌<◌, ◌≤◌, ◌⊎◌, inl, inr, Bool, true, false, List, [], ◌∷◌, length, nat_abs, Result, Ok, Err, refl, sym, ap, ◌∙◌, arith, subst, append-nil, true≢false}
+use Rattle.std.proofs.Common.{◌≡◌, ◌≢◌, ℕ, ℤ, pos, negsuc, zero, suc, ◌+◌, ◌-◌, ◌*◌, ◌^◌, ◌<◌, ◌≤◌, ◌⊎◌, inl, inr, Bool, true, false, List, [], ◌∷◌, length, nat_abs, Result, Ok, Err, refl, sym, ap, ◌∙◌, arith, subst, true≢false}
 use Rattle.std.proofs.lemmas.Bool.{cases_lt, cases_Bool, and_from, and_parts, le-leb, lt-ltb, leb-true, ltb-true, eq-eqb, ne_eqb}
 use Rattle.dirac_types.specs.Bits.{bit_value, number_from}
 use Rattle.dirac_types.specs.Numbers.{digits_of}
 use Rattle.dirac_types.specs.declared.faults.Cause.{Cause}
 use Rattle.dirac_types.specs.declared.faults.Cause.TheVariants as cause
 use Rattle.dirac_types.proofs.Digits.{digits_value, digits_few}
-use Rattle.dirac_arith.specs.Carried.{Lies}
-use Rattle.dirac_arith.specs.Deciding.{lies_in, after, after_all, truth_of, decided, number_from_digit, number_read, sign_read, signed_read}
+use Rattle.dirac_arith.specs.Carried.{Lies, lies_in}
+use Rattle.dirac_arith.specs.Deciding.{after, after_all, truth_of, decided, number_from_digit, number_read, sign_read, signed_read}
 use Rattle.dirac_arith.specs.Front.{front}
 use Rattle.dirac_arith.specs.Interval.{Interval, Decision, doublings_for, split_at, kept, widened, narrowed, narrowed_by}
 use Rattle.dirac_arith.specs.Reading.{Reading}
 use Rattle.dirac_arith.specs.Spelling.{follow_at, spelt, spelling, signed_spelling}
 use Rattle.dirac_arith.proofs.Fronts.{front_longer, rest_below}
 use Rattle.dirac_arith.proofs.Intervals.{one_truth}
-use Rattle.dirac_arith.proofs.Spellings.{IsTame, tame_narrowed, tame_by, lies_first, narrowed_by-append, spelt_from, spelt_is}
+use Rattle.dirac_arith.proofs.Spellings.{IsTame, tame_narrowed, tame_by, lies_first, narrowed_by-append, spelt_from, spelt_alone}
 use Rattle.std.proofs.Math.Nat.{mul-le-mul_right}
 
 pub lies_in_is : (block : List ℕ) (s : Interval) → Lies block s → lies_in block s ≡ true
@@ -132,10 +132,6 @@ number_shut : (follow : List ℕ) (bits i left value : ℕ) (r : Reading) → fr
 unfolding number_from_digit
 number_shut follow bits i zero value r ones = rw (decided_shut (follow_at follow i) r ones) refl
 number_shut follow bits i (suc left) value r ones = rw (decided_shut (follow_at follow i) r ones) refl
-
--- with nothing behind
-spelt_alone : (follow : List ℕ) (bits : ℕ) (digits : List Bool) (last : Bool) → spelt follow bits digits last ≡ spelt_from follow bits 0 digits last []
-spelt_alone follow bits digits last = sym (append-nil (spelt follow bits digits last)) ∙ spelt_is follow bits digits last []
 
 -- where the front lies after decisions it lies at first, so a block whose front lies doesn't begin with ones
 pub number_is : (follow : List ℕ) (bits v : ℕ) (r : Reading) → IsTame r.at → front r.block 16 ≢ 0xFFFF → v < 2 ^ 39 - 1

@@ -7,14 +7,14 @@ use Rattle.dirac_arith.specs.declared.registers.Registers.{Registers}
 use Rattle.dirac_arith.specs.Interval.{Interval, doublings_for, split_at, narrowed, contexts_after}
 use Rattle.dirac_arith.specs.Carried.{Lies}
 use Rattle.dirac_arith.specs.Reading.{Reading}
-use Rattle.dirac_arith.specs.Registers.{Stands, low_of, doublings_of, part_of, lift_of, AreChances}
+use Rattle.dirac_arith.specs.Registers.{Stands, low_of, doublings_of, part_of, lift_of, AreProbabilities}
 use Rattle.dirac_arith.specs.Decoding.{reading}
 use Rattle.dirac_arith.proofs.Intervals.{low_is, doublings_is, stands_self, narrowed_is}
 use Rattle.dirac_arith.proofs.Windows.{lies_from_window}
 
--- a chance within its bounds keeps all within them
-pub chances_set : (contexts : List ℕ) (context chance : ℕ) → 254 ≤ chance → chance ≤ 65281 → AreChances contexts → AreChances (slice_set contexts context chance)
-chances_set contexts context chance some most all i below =
+-- a probability within its bounds keeps all within them
+pub probabilities_set : (contexts : List ℕ) (context probability : ℕ) → 254 ≤ probability → probability ≤ 65281 → AreProbabilities contexts → AreProbabilities (slice_set contexts context probability)
+probabilities_set contexts context probability some most all i below =
     elim (cases_eq i context) [
       | inl same ↦
           let there : context < length contexts =
@@ -23,12 +23,12 @@ chances_set contexts context chance some most all i below =
             | inr past ↦ let none = get_or_past contexts i 0 (omega arith) in absurd (omega (arith, (all i below).0))
           ] in
           let P : ℕ → Type 0 = λ x. (254 ≤ x) × (x ≤ 65281) in
-          let e : get_or (set contexts context chance) i 0 ≡ chance =
-          ap (λ j. get_or (set contexts context chance) j 0) same ∙ get_or-set_same contexts context chance 0 there in
+          let e : get_or (set contexts context probability) i 0 ≡ probability =
+          ap (λ j. get_or (set contexts context probability) j 0) same ∙ get_or-set_same contexts context probability 0 there in
           subst P (sym e) (some, most)
       | inr other ↦
           let P : ℕ → Type 0 = λ x. (254 ≤ x) × (x ≤ 65281) in
-          subst P (sym (get_or-set_other contexts context i chance 0 other)) (all i below)
+          subst P (sym (get_or-set_other contexts context i probability 0 other)) (all i below)
     ]
 
 -- the view of a decoder after a decision

@@ -94,11 +94,11 @@ widens range some narrow =
     rw found.exact found
 
 -- both parts of a range are above 32
-pub split_bounds : (range chance : ℕ) → 0x4000 < range → range ≤ 0xFFFF → 254 ≤ chance → chance ≤ 65281
-    → (32 < range * chance / 65536) × (range * chance / 65536 + 32 < range)
-split_bounds range chance wide narrow low high =
-    let least = mul-le 16385 254 range chance (omega arith) low in
+pub split_bounds : (range probability : ℕ) → 0x4000 < range → range ≤ 0xFFFF → 254 ≤ probability → probability ≤ 65281
+    → (32 < range * probability / 65536) × (range * probability / 65536 + 32 < range)
+split_bounds range probability wide narrow low high =
+    let least = mul-le 16385 254 range probability (omega arith) low in
     let most = mul-le-mul_left range high in (
-      le-div 33 (range * chance) 65536 (omega arith) (omega arith),
-      let below = div_below (range * chance) 65536 (range - 32) (omega arith) (omega arith) in omega arith,
+      le-div 33 (range * probability) 65536 (omega arith) (omega arith),
+      let below = div_below (range * probability) 65536 (range - 32) (omega arith) (omega arith) in omega arith,
     )

@@ -2,23 +2,24 @@
 use lib.Signed.{lt_z}
 use mir.Val.{of_z}
 use mir.Syntax.{w64}
-use Rattle.std.proofs.Common.{◌≡◌, ℕ, ℤ, pos, negsuc, nat_abs, zero, suc, ◌+◌, ◌-◌, ◌*◌, ◌/◌, ◌%◌, ◌^◌, ◌<◌, ◌≤◌, ◌==◌, Bool, true, false, List, [], ◌∷◌, ◌++◌, length, slice_index, refl, sym, ap, ◌∙◌, arith, subst, mul-le-mul_right, add-zero}
+use Rattle.std.proofs.Common.{◌≡◌, ℕ, ℤ, pos, negsuc, nat_abs, zero, suc, ◌+◌, ◌-◌, ◌*◌, ◌/◌, ◌%◌, ◌^◌, ◌<◌, ◌≤◌, ◌==◌, Bool, true, false, List, [], ◌∷◌, ◌++◌, length, slice_index, refl, sym, ap, ◌∙◌, arith, subst, mul-le-mul_right, add-zero, mod-lt, lit<}
+use Rattle.std.specs.List.{AllByRecursion}
 use Rattle.std.proofs.Math.Nat.{pow-le-pow_right}
 use Rattle.std.proofs.lemmas.Bool.{le-ltb}
 use Rattle.std.proofs.lemmas.List.{get_or-replicate}
 use Rattle.std.proofs.lemmas.Nat.{pow_pos, pow-add, shr_split, shr_below, shr-shr, shl-shr, shr_high, mod_below, le-div, div_below}
 use Rattle.dirac_types.specs.Bits.{bit_value}
 use Rattle.dirac_types.specs.Numbers.{digits_of}
-use Rattle.dirac_types.proofs.Digits.{digits_push}
+use Rattle.dirac_types.proofs.Digits.{digits_push, bit_value-of_rest}
 use Rattle.dirac_arith.specs.Carried.{Lies}
 use Rattle.dirac_arith.specs.Front.{front}
 use Rattle.dirac_arith.specs.Interval.{Interval, Decision, InContexts, doublings_for, narrowed, narrowed_by, whole, interval_of, split_at, adapted}
 use Rattle.dirac_arith.specs.Laws.{FlushedIsCarried}
-use Rattle.dirac_arith.specs.Registers.{AreChances}
+use Rattle.dirac_arith.specs.Registers.{AreProbabilities}
 use Rattle.dirac_arith.specs.Spelling.{follow_at, opening, spelt, spelling, signed_spelling}
 use Rattle.dirac_arith.specs.Written.{bytes_of, block_length, flushed, flush}
 use Rattle.dirac_arith.proofs.Bytes.{front_of_bytes, length-bytes_of, rest_past}
-use Rattle.dirac_arith.proofs.Decisions.{chances_set}
+use Rattle.dirac_arith.proofs.Decisions.{probabilities_set}
 use Rattle.dirac_arith.proofs.Doublings.{widens, split_bounds}
 use Rattle.dirac_arith.proofs.Fronts.{front_longer, rest_of}
 use Rattle.dirac_arith.proofs.Numbers.{opening_push}
@@ -47,33 +48,33 @@ pub record IsGood (s : Interval) : Type 0 where
   pub wide : 0x4000 < s.range
   pub narrow : s.range ≤ 0xFFFF
   pub within : s.low + s.range ≤ 0xFFFF * 2 ^ s.doublings
-  pub chances : AreChances s.contexts
+  pub probabilities : AreProbabilities s.contexts
 
 pub good_narrowed : (s : Interval) (context : ℕ) (t : Bool) → context < 38 → IsGood s → IsGood (narrowed s (context, t))
 good_narrowed s context true there good =
-    let chance = slice_index s.contexts context in
-    let bounds = split_bounds s.range chance good.wide good.narrow (good.chances context there).0 (good.chances context there).1 in
+    let probability = slice_index s.contexts context in
+    let bounds = split_bounds s.range probability good.wide good.narrow (good.probabilities context there).0 (good.probabilities context there).1 in
     let part = s.range - split_at s context in
     let moved = widens part (omega arith) (omega (arith, good.narrow)) in
-    let kept = adapts chance true (good.chances context there).0 (good.chances context there).1 in
+    let kept = adapts probability true (good.probabilities context there).0 (good.probabilities context there).1 in
     record {
       wide = moved.wide;
       narrow = moved.narrow;
       within = kept_within s.low s.range s.doublings (split_at s context) part (doublings_for part) (omega arith) good.within;
-      chances = chances_set s.contexts context (adapted chance true) kept.some kept.most good.chances;
+      probabilities = probabilities_set s.contexts context (adapted probability true) kept.some kept.most good.probabilities;
     }
 good_narrowed s context false there good =
-    let chance = slice_index s.contexts context in
-    let bounds = split_bounds s.range chance good.wide good.narrow (good.chances context there).0 (good.chances context there).1 in
+    let probability = slice_index s.contexts context in
+    let bounds = split_bounds s.range probability good.wide good.narrow (good.probabilities context there).0 (good.probabilities context there).1 in
     let part = split_at s context in
     let moved = widens part (omega arith) (omega (arith, good.narrow)) in
-    let kept = adapts chance false (good.chances context there).0 (good.chances context there).1 in
+    let kept = adapts probability false (good.probabilities context there).0 (good.probabilities context there).1 in
     let here = kept_within s.low s.range s.doublings 0 part (doublings_for part) (omega arith) good.within in
     record {
       wide = moved.wide;
       narrow = moved.narrow;
       within = rw (add-zero s.low) at here;
-      chances = chances_set s.contexts context (adapted chance false) kept.some kept.most good.chances;
+      probabilities = probabilities_set s.contexts context (adapted probability false) kept.some kept.most good.probabilities;
     }
 
 pub good_by : (s : Interval) (ds : List Decision) → InContexts ds → IsGood s → IsGood (narrowed_by s ds)
@@ -86,7 +87,7 @@ whole_good =
       wide = omega arith;
       narrow = omega arith;
       within = omega arith;
-      chances = λ i below.
+      probabilities = λ i below.
           let P : ℕ → Type 0 = λ x. (254 ≤ x) × (x ≤ 65281) in
           subst P (sym (get_or-replicate 38 i 0x8000 0 below)) (omega arith, omega arith);
     }
@@ -97,16 +98,16 @@ Begun s = s.doublings ≡ 0 → s.range < 0xFFFF
 
 begun_narrowed : (s : Interval) (context : ℕ) (t : Bool) → context < 38 → IsGood s → Begun (narrowed s (context, t))
 begun_narrowed s context true there good none =
-    let chance = slice_index s.contexts context in
-    let bounds = split_bounds s.range chance good.wide good.narrow (good.chances context there).0 (good.chances context there).1 in
+    let probability = slice_index s.contexts context in
+    let bounds = split_bounds s.range probability good.wide good.narrow (good.probabilities context there).0 (good.probabilities context there).1 in
     let part = s.range - split_at s context in
     let still : doublings_for part ≡ 0 = omega arith in
     let P : ℕ → Type 0 = λ j. part * 2 ^ j < 0xFFFF in
     let below : part * 1 < 0xFFFF = omega (arith, good.narrow) in
     subst P (sym still) below
 begun_narrowed s context false there good none =
-    let chance = slice_index s.contexts context in
-    let bounds = split_bounds s.range chance good.wide good.narrow (good.chances context there).0 (good.chances context there).1 in
+    let probability = slice_index s.contexts context in
+    let bounds = split_bounds s.range probability good.wide good.narrow (good.probabilities context there).0 (good.probabilities context there).1 in
     let part = split_at s context in
     let still : doublings_for part ≡ 0 = omega arith in
     let P : ℕ → Type 0 = λ j. part * 2 ^ j < 0xFFFF in
@@ -209,13 +210,6 @@ prefix_first wide count above below =
     let two = div_below wide (2 ^ count) 2 (pow_pos count) below in
     rw e (omega arith)
 
-bit_of_rest : (n : ℕ) → bit_value (n % 2 == 1) ≡ n % 2
-bit_of_rest n = rest (n % 2) (omega arith) where
-  rest : (r : ℕ) → r < 2 → bit_value (r == 1) ≡ r
-  rest zero h = refl
-  rest (suc zero) h = refl
-  rest (suc (suc r)) h = absurd (omega arith)
-
 -- one digit more of a number
 pub prefix_next : (wide count i : ℕ) → i < count → count ≤ 38 → 2 ^ count ≤ wide → wide < 2 * 2 ^ count
     → digits_of (wide / 2 ^ (count - (i + 1)) - 1) ≡ digits_of (wide / 2 ^ (count - i) - 1) ++ (wide / 2 ^ (count - 1 - i) % 2 == 1) ∷ []
@@ -227,7 +221,7 @@ prefix_next wide count i more most above below =
     let upper : j + 1 ≡ count - i = omega arith in
     let halved = shr-shr wide j 1 in
     let half : q / 2 ≡ p = rw upper at halved in
-    let bit = bit_of_rest q in
+    let bit = bit_value-of_rest q in
     let low = pow-le-pow_right {n = 2} (omega arith) {i = count - i} {j = count} (omega arith) in
     let one = le-div 1 wide (2 ^ (count - i)) (pow_pos (count - i)) (omega arith) in
     let high = pow-le-pow_right {n = 2} (omega arith) {i = 1 + count} {j = 38 + (count - i)} (omega arith) in
@@ -303,3 +297,17 @@ part_some (suc part) k n wide is = omega arith
 pub bytes_none : (d n : ℕ) → d ≡ 0 → bytes_of (d / 8) n ≡ []
 unfolding bytes_of
 bytes_none d n none = let P : ℕ → Type 0 = λ x. bytes_of (x / 8) n ≡ [] in subst P (sym none) refl
+
+-- a block's bytes are below 256
+in_bytes : (m n : ℕ) → AllByRecursion (λ b. b < 2 ^ 8) (bytes_of m n)
+unfolding bytes_of
+in_bytes zero n = tt
+in_bytes (suc m) n = (mod-lt (n / 2 ^ (8 * m)) {m = 256} (lit< tt), in_bytes m n)
+
+pub flush_bytes : (ds : List Decision) → AllByRecursion (λ b. b < 2 ^ 8) (flush ds)
+unfolding flushed
+flush_bytes [] = tt
+flush_bytes (d ∷ ds) =
+    let s = interval_of (d ∷ ds) in
+    let m = block_length s.doublings in
+    in_bytes m ((s.low + s.range) / 2 ^ (16 + s.doublings - 8 * m) - 1)

@@ -1,15 +1,15 @@
 -- Readings that decisions led to, and what is read of them.
-use Rattle.std.proofs.Common.{◌≡◌, ◌≢◌, ℕ, ℤ, ◌+◌, ◌-◌, ◌^◌, ◌<◌, Bool, false, List, [], ◌∷◌, ◌++◌, length, nat_abs, inl, inr, Result, Ok, Err, refl, sym, ap, ◌∙◌, arith, subst, append-nil, length-append}
+use Rattle.std.proofs.Common.{◌≡◌, ℕ, ℤ, ◌-◌, ◌^◌, ◌<◌, Bool, false, List, [], ◌∷◌, ◌++◌, length, nat_abs, inl, inr, Result, Ok, Err, refl, sym, ap, ◌∙◌, arith, subst, length-append}
 use Rattle.std.proofs.lemmas.Bool.{cases_eq}
 use Rattle.dirac_types.specs.declared.faults.Cause.{Cause}
 use Rattle.dirac_types.specs.declared.faults.Cause.TheVariants as cause
 use Rattle.dirac_arith.specs.Carried.{Lies, Carries}
 use Rattle.dirac_arith.specs.Deciding.{begin, after, after_all, truth_of, decided, number_read, signed_read}
 use Rattle.dirac_arith.specs.Front.{front}
-use Rattle.dirac_arith.specs.Interval.{Interval, Decision, narrowed, narrowed_by, whole}
+use Rattle.dirac_arith.specs.Interval.{Interval, Decision}
 use Rattle.dirac_arith.specs.Reading.{Reading, Reads}
 use Rattle.dirac_arith.specs.Spelling.{spelt, spelling, signed_spelling}
-use Rattle.dirac_arith.proofs.Carrieds.{IsLed, is_led, not_shut, number_reads, number_breaks, signed_reads, signed_breaks, signed_more, no_answer, one_answer, reads_of}
+use Rattle.dirac_arith.proofs.Carrieds.{IsLed, is_led, not_shut, number_reads, signed_reads, signed_more, no_answer, one_answer, reads_of}
 use Rattle.dirac_arith.proofs.Decidings.{some_truth, decided_open, decided_shut, decided_is, number_is, number_is_long, number_is_shut, signed_is_read, signed_is_long, signed_is_shut}
 use Rattle.dirac_arith.proofs.Numbers.{spelt_some}
 use Rattle.dirac_arith.proofs.Spellings.{tame_by, lies_first, narrowed_by-append, spelling_some, carried_lies, lies_carried}

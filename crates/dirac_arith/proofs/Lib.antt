@@ -7,6 +7,7 @@ pub mod Doublings
 pub mod Encodings
 pub mod Examples
 pub mod Fronts
+pub mod InContexts
 pub mod Intervals
 pub mod Led
 pub mod Numbers

@@ -4,7 +4,7 @@ use Rattle.std.proofs.Common.{◌≡◌, ℕ, ℤ, pos, zero, suc, ◌+◌, ◌-
 use Rattle.std.proofs.lemmas.Bool.{cases_lt, cases_Bool, false≢true}
 use Rattle.std.proofs.lemmas.List.{append-nil, get_or_past}
 use Rattle.dirac_types.specs.Bits.{bit_value}
-use Rattle.dirac_types.specs.Numbers.{digits_of}
+use Rattle.dirac_types.specs.Numbers.{digits_of, signed_value}
 use Rattle.dirac_types.specs.declared.faults.Cause.{Cause}
 use Rattle.dirac_types.specs.declared.faults.Cause.TheVariants as cause
 use Rattle.dirac_types.proofs.Digits.{digits_push, digits_are, digits_few}
@@ -12,7 +12,7 @@ use Rattle.dirac_arith.specs.declared.decoder.Decoder.TheInside.{Inside}
 use Rattle.dirac_arith.specs.Carried.{Lies}
 use Rattle.dirac_arith.specs.Front.{front}
 use Rattle.dirac_arith.specs.Interval.{Interval, Decision, narrowed, narrowed_by}
-use Rattle.dirac_arith.specs.Spelling.{follow_at, opening, spelt, spelling, signed_spelling, signed_value}
+use Rattle.dirac_arith.specs.Spelling.{follow_at, opening, spelt, spelling, signed_spelling}
 use Rattle.dirac_arith.specs.Reading.{Reading, Reads}
 use Rattle.dirac_arith.specs.Decoding.{reading, IsSound}
 use Rattle.dirac_arith.proofs.Spellings.{IsTame, reads_more, spelt_is, one_spelt_from, one_number, one_signed, lies_first, spelling_some, signed_some, sign_before, signed_is}
@@ -100,13 +100,13 @@ reads_none a follow bits =
     let P : List Bool → Type 0 = λ digits. Reads a (opening follow bits 0 digits) a in
     subst P (sym digits_none) (record { moved = refl; lies = λ some. absurd (omega arith) })
 
--- a decoder's chances are tame
+-- a decoder's probabilities are tame
 pub sound_tame : (a : Inside) → length a.contexts ≡ 38 → IsSound a → IsTame (reading a).at
 sound_tame a all sound = record {
   most = λ i.
       let P : ℕ → Type 0 = λ x. x ≤ 65281 in
       elim (cases_lt i 38) [
-        | inl inside ↦ (sound.chances i inside).1
+        | inl inside ↦ (sound.probabilities i inside).1
         | inr past ↦ subst P (sym (get_or_past a.contexts i 0 (omega arith))) (omega arith)
       ];
 }

@@ -13,22 +13,22 @@ use Rattle.dirac_arith.specs.Laws.{CarriesOneTruth, CarriesOneNumber, CarriesOne
 use Rattle.dirac_arith.proofs.Intervals.{one_truth, lies_kept}
 use Rattle.dirac_arith.proofs.Steps.{adapted_most}
 
--- no chance is above its bound
+-- no probability is above its bound
 pub record IsTame (s : Interval) : Type 0 where
   pub most : (i : ℕ) → slice_index s.contexts i ≤ 65281
 
-tame_contexts : (contexts : List ℕ) (context chance : ℕ) → chance ≤ 65281 → ((i : ℕ) → slice_index contexts i ≤ 65281) → (i : ℕ) → slice_index (slice_set contexts context chance) i ≤ 65281
-tame_contexts contexts context chance fits most i =
+tame_contexts : (contexts : List ℕ) (context probability : ℕ) → probability ≤ 65281 → ((i : ℕ) → slice_index contexts i ≤ 65281) → (i : ℕ) → slice_index (slice_set contexts context probability) i ≤ 65281
+tame_contexts contexts context probability fits most i =
     let P : ℕ → Type 0 = λ x. x ≤ 65281 in
     elim (cases_eq i context) [
       | inl same ↦
           elim (cases_lt context (length contexts)) [
             | inl inside ↦
-                let e : get_or (set contexts context chance) i 0 ≡ chance = ap (λ j. get_or (set contexts context chance) j 0) same ∙ get_or-set_same contexts context chance 0 inside in
+                let e : get_or (set contexts context probability) i 0 ≡ probability = ap (λ j. get_or (set contexts context probability) j 0) same ∙ get_or-set_same contexts context probability 0 inside in
                 subst P (sym e) fits
-            | inr past ↦ subst P (sym (ap (λ cs. get_or cs i 0) (set_past contexts context chance past))) (most i)
+            | inr past ↦ subst P (sym (ap (λ cs. get_or cs i 0) (set_past contexts context probability past))) (most i)
           ]
-      | inr other ↦ subst P (sym (get_or-set_other contexts context i chance 0 other)) (most i)
+      | inr other ↦ subst P (sym (get_or-set_other contexts context i probability 0 other)) (most i)
     ]
 
 pub tame_narrowed : (s : Interval) (context : ℕ) (t : Bool) → IsTame s → IsTame (narrowed s (context, t))
@@ -61,6 +61,11 @@ pub narrowed_by-append : (s : Interval) (ds es : List Decision) → narrowed_by 
 narrowed_by-append s [] es = refl
 narrowed_by-append s (d ∷ ds) es = narrowed_by-append (narrowed s d) ds es
 
+-- decisions and then others
+pub narrowed_more : (old mid new : Interval) (ds es all : List Decision) → mid ≡ narrowed_by old ds → new ≡ narrowed_by mid es → all ≡ ds ++ es → new ≡ narrowed_by old all
+narrowed_more old mid new ds es all p q e =
+    q ∙ ap (λ (s : Interval). narrowed_by s es) p ∙ sym (narrowed_by-append old ds es) ∙ ap (λ (l : List Decision). narrowed_by old l) (sym e)
+
 -- digits from number i on, one more follow decision, and more
 unfoldable pub spelt_from : List ℕ → ℕ → ℕ → List Bool → Bool → List Decision → List Decision
 spelt_from follow bits i [] last more = (follow_at follow i, last) ∷ more
@@ -83,6 +88,10 @@ spelt_is follow bits digits last more =
     let e : 0 + length digits ≡ length digits = omega arith in
     ap (λ j. let d : Decision = (follow_at follow j, last) in (opening follow bits 0 digits ++ d ∷ []) ++ more) (sym e)
     ∙ spelt_is_from follow bits 0 digits last more
+
+-- with nothing behind
+pub spelt_alone : (follow : List ℕ) (bits : ℕ) (digits : List Bool) (last : Bool) → spelt follow bits digits last ≡ spelt_from follow bits 0 digits last []
+spelt_alone follow bits digits last = sym (append-nil (spelt follow bits digits last)) ∙ spelt_is follow bits digits last []
 
 -- two spellings that a front allows are one: a last follow decision is false only where no digit has room
 pub one_spelt_from : (block : List ℕ) (s : Interval) (follow : List ℕ) (bits i room : ℕ) (ds es : List Bool) (t u : Bool) (x y : List Decision) → IsTame s
@@ -147,7 +156,7 @@ whole_tame = record {
 }
 
 -- the same behind decisions that come first
-carried_behind : (block : List ℕ) (common ds : List Decision) → 0 < length ds → Carries block (common ++ ds) → Lies block (narrowed_by (narrowed_by whole common) ds)
+pub carried_behind : (block : List ℕ) (common ds : List Decision) → 0 < length ds → Carries block (common ++ ds) → Lies block (narrowed_by (narrowed_by whole common) ds)
 carried_behind block common ds some carries =
     let P : Interval → Type 0 = λ s. Lies block s in
     subst P (narrowed_by-append whole common ds) (carried_lies block (common ++ ds) (omega (arith, length-append common ds)) carries)

@@ -1,4 +1,4 @@
--- The table keeps every chance within its bounds.
+-- The table keeps every probability within its bounds.
 use Rattle.std.proofs.Common.{◌≡◌, ℕ, ◌+◌, ◌-◌, ◌*◌, ◌/◌, ◌≤◌, Bool, true, false, nat_le, arith, refl, ap, ◌∙◌, inl, inr}
 use Rattle.std.proofs.lemmas.Bool.{leb-true, cases_lt}
 use Rattle.dirac_arith.specs.StepTable.{step_table, step_of}
@@ -24,43 +24,43 @@ step_none : step_of 0 ≡ 0
 unfolding step_of step_table
 step_none = refl
 
--- a chance within its bounds stays there
-pub record Adapts (chance : ℕ) (truth : Bool) : Type 0 where
-  pub some : 254 ≤ adapted chance truth
-  pub most : adapted chance truth ≤ 65281
+-- a probability within its bounds stays there
+pub record Adapts (probability : ℕ) (truth : Bool) : Type 0 where
+  pub some : 254 ≤ adapted probability truth
+  pub most : adapted probability truth ≤ 65281
 
-pub adapts : (chance : ℕ) (truth : Bool) → 254 ≤ chance → chance ≤ 65281 → Adapts chance truth
-adapts chance true some most =
-    elim (cases_lt (chance / 256) 1) [
+pub adapts : (probability : ℕ) (truth : Bool) → 254 ≤ probability → probability ≤ 65281 → Adapts probability truth
+adapts probability true some most =
+    elim (cases_lt (probability / 256) 1) [
       | inl low ↦
-          let first : chance / 256 ≡ 0 = omega arith in
+          let first : probability / 256 ≡ 0 = omega arith in
           let none = ap step_of first ∙ step_none in
           record { some = omega arith; most = omega arith }
       | inr high ↦
-          let fits = step_within (chance / 256) high (omega arith) in
+          let fits = step_within (probability / 256) high (omega arith) in
           record { some = omega arith; most = omega arith }
     ]
-adapts chance false some most =
-    elim (cases_lt (255 - chance / 256) 1) [
+adapts probability false some most =
+    elim (cases_lt (255 - probability / 256) 1) [
       | inl low ↦
-          let first : 255 - chance / 256 ≡ 0 = omega arith in
+          let first : 255 - probability / 256 ≡ 0 = omega arith in
           let none = ap step_of first ∙ step_none in
           record { some = omega arith; most = omega arith }
       | inr high ↦
-          let fits = step_within (255 - chance / 256) high (omega arith) in
+          let fits = step_within (255 - probability / 256) high (omega arith) in
           record { some = omega arith; most = omega arith }
     ]
 
--- no chance grows past its bound
-pub adapted_most : (chance : ℕ) (truth : Bool) → chance ≤ 65281 → adapted chance truth ≤ 65281
-adapted_most chance true most = omega arith
-adapted_most chance false most =
-    elim (cases_lt (255 - chance / 256) 1) [
+-- no probability grows past its bound
+pub adapted_most : (probability : ℕ) (truth : Bool) → probability ≤ 65281 → adapted probability truth ≤ 65281
+adapted_most probability true most = omega arith
+adapted_most probability false most =
+    elim (cases_lt (255 - probability / 256) 1) [
       | inl low ↦
-          let first : 255 - chance / 256 ≡ 0 = omega arith in
+          let first : 255 - probability / 256 ≡ 0 = omega arith in
           let none = ap step_of first ∙ step_none in
           omega arith
       | inr high ↦
-          let fits = step_within (255 - chance / 256) high (omega arith) in
+          let fits = step_within (255 - probability / 256) high (omega arith) in
           omega arith
     ]

@@ -1,22 +1,20 @@
 -- What a block reads to, decision by decision: a decision is true where the front of the block lies in the part of the
 -- interval that true keeps. Each step gives its value and the reading behind it, or why there is none.
-use Rattle.std.specs.Prelude.{◌≡◌, ℕ, zero, suc, ℤ, pos, ◌+◌, ◌-◌, ◌*◌, ◌==◌, nat_le, nat_lt, if◌then◌else◌, Bool, true, ◌&&◌, List, Result, Ok, Err}
+use Rattle.std.specs.Prelude.{◌≡◌, ℕ, zero, suc, ℤ, pos, ◌+◌, ◌-◌, ◌*◌, ◌==◌, if◌then◌else◌, Bool, true, List, Result, Ok, Err}
 use Rattle.dirac_types.specs.declared.faults.Cause.{Cause}
 use Rattle.dirac_types.specs.declared.faults.Cause.TheVariants.{CodeWord, NumberTooLong}
 use Rattle.dirac_types.specs.Bits.{bit_value}
-use Rattle.dirac_arith.specs.Chain.{◌>>=◌}
+use Rattle.dirac_types.specs.Chain.{◌>>=◌}
+use Rattle.dirac_types.specs.Numbers.{signed_value}
 use Rattle.dirac_arith.specs.Front.{front}
-use Rattle.dirac_arith.specs.Interval.{Decision, Interval, narrowed, narrowed_by, whole}
+use Rattle.dirac_arith.specs.Interval.{Decision, narrowed, narrowed_by, whole}
 use Rattle.dirac_arith.specs.Reading.{Reading}
-use Rattle.dirac_arith.specs.Spelling.{follow_at, signed_value}
+use Rattle.dirac_arith.specs.Spelling.{follow_at}
+use Rattle.dirac_arith.specs.Carried.{lies_in}
 
 -- the start of a block
 abbrev pub begin : List ℕ → Reading
 begin block = record { block = block; at = whole }
-
--- whether the front of the block lies in the interval
-abbrev pub lies_in : List ℕ → Interval → Bool
-lies_in block s = nat_le s.low (front block (16 + s.doublings)) && nat_lt (front block (16 + s.doublings)) (s.low + s.range)
 
 -- the reading after a decision
 abbrev pub after : Reading → Decision → Reading

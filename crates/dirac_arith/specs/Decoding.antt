@@ -3,7 +3,7 @@ use Rattle.std.specs.Prelude.{◌≡◌, ◌≢◌, ◌*◌, ◌^◌, ◌<◌, �
 use Rattle.dirac_arith.specs.declared.decoder.Decoder.TheInside.{Inside}
 use Rattle.dirac_arith.specs.Front.{front}
 use Rattle.dirac_arith.specs.Reading.{Reading}
-use Rattle.dirac_arith.specs.Registers.{Stands, low_of, doublings_of, AreChances}
+use Rattle.dirac_arith.specs.Registers.{Stands, low_of, doublings_of, AreProbabilities}
 
 -- the block and the exact interval
 abbrev pub reading : Inside → Reading
@@ -27,4 +27,4 @@ pub record IsSound (a : Inside) : Type 0 where
   pub most_ahead : a.registers.ahead ≤ 48
   pub refused : a.refused ≡ true → (front a.block.now 16 ≡ 0xFFFF) × (a.registers.range * 2 ^ a.registers.ahead ≤ a.registers.window)
   pub inside : a.refused ≡ false → (front a.block.now 16 ≢ 0xFFFF) × (a.registers.window < a.registers.range * 2 ^ a.registers.ahead)
-  pub chances : AreChances a.contexts
+  pub probabilities : AreProbabilities a.contexts

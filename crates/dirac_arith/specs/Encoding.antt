@@ -2,7 +2,7 @@
 use Rattle.std.specs.Prelude.{◌+◌, ◌*◌, ◌^◌, ◌<◌, ◌≤◌}
 use Rattle.dirac_arith.specs.declared.encoder.Encoder.TheInside.{Inside}
 use Rattle.dirac_arith.specs.Interval.{Interval}
-use Rattle.dirac_arith.specs.Registers.{AreChances}
+use Rattle.dirac_arith.specs.Registers.{AreProbabilities}
 
 -- the exact interval
 abbrev pub encoding : Inside → Interval
@@ -15,4 +15,4 @@ pub record IsEncoding (a : Inside) : Type 0 where
   pub within : a.tail.value + a.range ≤ 0xFFFF * 2 ^ a.tail.doublings
   pub register : a.tail.register + a.range ≤ 2 ^ (17 + a.tail.pending)
   pub pending : a.tail.pending ≤ 47
-  pub chances : AreChances a.contexts
+  pub probabilities : AreProbabilities a.contexts

@@ -7,7 +7,7 @@ use Rattle.dirac_arith.specs.StepTable.{step_of}
 abbrev pub Decision : Type 0
 Decision = ℕ × Bool
 
--- an interval from `low`, `range` wide, after so many doublings, with the chance of each context
+-- an interval from `low`, `range` wide, after so many doublings, with the probability of each context
 pub record Interval : Type 0 where
   pub low : ℕ
   pub range : ℕ
@@ -29,12 +29,12 @@ widened s =
     let j = doublings_for s.range in
     record { low = s.low * 2 ^ j; range = s.range * 2 ^ j; doublings = s.doublings + j; contexts = s.contexts }
 
--- the chance of a context after a decision: it falls at true and grows at false
+-- the probability of a context after a decision: it falls at true and grows at false
 abbrev pub adapted : ℕ → Bool → ℕ
-adapted chance true = chance - step_of (chance / 256)
-adapted chance false = chance + step_of (255 - chance / 256)
+adapted probability true = probability - step_of (probability / 256)
+adapted probability false = probability + step_of (255 - probability / 256)
 
--- the part of the range that false keeps, by the chance of the context
+-- the part of the range that false keeps, by the probability of the context
 abbrev pub split_at : Interval → ℕ → ℕ
 split_at s context = s.range * slice_index s.contexts context / 2 ^ 16
 

@@ -38,6 +38,7 @@ CarriesOneSigned =
 abbrev pub TruthsAreBits : Type 0
 TruthsAreBits = (follow : List ℕ) (bits v : ℕ) → map (λ (d : Decision). d.1) (spelling follow bits v) ≡ uint v
 
+-- the same of a signed number
 abbrev pub SignedTruthsAreBits : Type 0
 SignedTruthsAreBits = (follow : List ℕ) (bits sign : ℕ) (v : ℤ) → map (λ (d : Decision). d.1) (signed_spelling follow bits sign v) ≡ sint v
 
@@ -93,6 +94,7 @@ SignedIsRead =
     (block : List ℕ) (common : List Decision) (old new : Reading) (follow : List ℕ) (bits sign : ℕ) (v : ℤ) → Reads (begin block) common old
     → (signed_read follow bits sign old ≡ Ok (v, new)) ↔ ((nat_abs v < 2 ^ 39 - 1) × Reads old (signed_spelling follow bits sign v) new)
 
+-- it is refused where its magnitude is too long
 abbrev pub LongSignedIsRefused : Type 0
 LongSignedIsRefused =
     (block : List ℕ) (common : List Decision) (old : Reading) (follow : List ℕ) (bits sign : ℕ) → Reads (begin block) common old

@@ -1,5 +1,4 @@
 pub mod Carried
-pub mod Chain
 pub mod Deciding
 pub mod Decoding
 pub mod Encoding

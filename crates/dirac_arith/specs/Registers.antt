@@ -16,9 +16,9 @@ low_of block r = (front block (8 * r.next) - r.window) / 2 ^ r.ahead
 abbrev pub doublings_of : Registers → ℕ
 doublings_of r = 8 * r.next - 16 - r.ahead
 
--- the chances of the contexts stay within these bounds, so each part of a range is above 32
-abbrev pub AreChances : List ℕ → Type 0
-AreChances contexts = (i : ℕ) → i < 38 → (254 ≤ slice_index contexts i) × (slice_index contexts i ≤ 65281)
+-- the probabilities of the contexts stay within these bounds, so each part of a range is above 32
+abbrev pub AreProbabilities : List ℕ → Type 0
+AreProbabilities contexts = (i : ℕ) → i < 38 → (254 ≤ slice_index contexts i) × (slice_index contexts i ≤ 65281)
 
 -- how wide the part is that a decision keeps
 abbrev pub part_of : ℕ → ℕ → Bool → ℕ

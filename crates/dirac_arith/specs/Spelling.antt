@@ -30,9 +30,3 @@ unfoldable pub signed_spelling : List ℕ → ℕ → ℕ → ℤ → List Decis
 signed_spelling follow bits sign (pos zero) = spelling follow bits 0
 signed_spelling follow bits sign (pos (suc n)) = spelling follow bits (suc n) ++ (sign, false) ∷ []
 signed_spelling follow bits sign (negsuc n) = spelling follow bits (suc n) ++ (sign, true) ∷ []
-
--- a magnitude with a sign, true for negative
-abbrev pub signed_value : ℕ → Bool → ℤ
-signed_value n false = pos n
-signed_value zero true = pos zero
-signed_value (suc n) true = negsuc n

@@ -1,4 +1,4 @@
--- By how much a decision moves the chance of its context.
+-- By how much a decision moves the probability of its context.
 use Rattle.std.specs.Prelude.{ℕ, List, [], ◌∷◌, slice_index}
 
 -- the probability table of the standard, 16 numbers a row
@@ -21,6 +21,6 @@ step_table =
     1582 ∷ 1561 ∷ 1540 ∷ 1518 ∷ 1495 ∷ 1471 ∷ 1447 ∷ 1422 ∷ 1396 ∷ 1369 ∷ 1341 ∷ 1312 ∷ 1282 ∷ 1251 ∷ 1219 ∷ 1186 ∷
     1151 ∷ 1114 ∷ 1077 ∷ 1037 ∷ 995 ∷ 952 ∷ 906 ∷ 857 ∷ 805 ∷ 750 ∷ 690 ∷ 625 ∷ 553 ∷ 471 ∷ 376 ∷ 255 ∷ []
 
--- the step for the upper byte of a chance
+-- the step for the upper byte of a probability
 unfoldable pub step_of : ℕ → ℕ
 step_of upper = slice_index step_table upper

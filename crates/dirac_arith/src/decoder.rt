@@ -7,11 +7,10 @@ ghost use Rattle.dirac_arith.specs.Interval.{narrowed, narrowed_by, whole};
 ghost use Rattle.dirac_arith.specs.Reading.{Reads};
 ghost use Rattle.dirac_arith.specs.Spelling.{AreContexts, signed_spelling, spelling, spelt};
 
-use crate::chances::adapt;
 use crate::follow::follow_context;
-use crate::magnitude::with_sign;
+use crate::probabilities::adapt;
 use crate::registers::{Registers, begin, decide, fill, is_past};
-use dirac_types::Cause;
+use dirac_types::{Cause, with_sign};
 use std::marker::Model;
 
 /// Reads the decisions of a block, each under the number of its context (arithmetic decoding, Dirac specification).
@@ -51,7 +50,7 @@ impl<'a> Decoder<'a> {
         }
     }
 
-    /// The chance of a context, as a part of 0x10000, that its next decision is false.
+    /// The probability of a context, as a part of 0x10000, that its next decision is false.
     pub fn context(&self, ctx: u8) -> u16
         requires { ctx < 38 }
         ensures { result ≡ slice_index self.now.at.contexts ctx }
@@ -76,9 +75,9 @@ impl<'a> Decoder<'a> {
             return Err(Cause::CodeWord);
         }
         let at = ctx as usize;
-        let chance = self.contexts[at];
-        let decided = decide(self.registers, chance);
-        self.contexts[at] = adapt(chance, decided.truth);
+        let probability = self.contexts[at];
+        let decided = decide(self.registers, probability);
+        self.contexts[at] = adapt(probability, decided.truth);
         self.registers = fill(self.block, decided.registers);
         Ok(decided.truth)
     }

@@ -5,8 +5,8 @@ ghost use Rattle.dirac_arith.specs.Registers.{part_of, lift_of};
 ghost use Rattle.dirac_arith.specs.Spelling.{AreContexts, signed_spelling, spelling};
 ghost use Rattle.dirac_arith.specs.Written.{flush};
 
-use crate::chances::adapt;
 use crate::follow::follow_context;
+use crate::probabilities::adapt;
 use crate::registers::doublings;
 use crate::tail::Tail;
 use dirac_types::NoMemory;
@@ -44,21 +44,21 @@ struct Part {
 }
 
 /// The part that a decision of this truth keeps.
-fn part_after(range: u32, chance: u16, truth: bool) -> Part
+fn part_after(range: u32, probability: u16, truth: bool) -> Part
     requires wide { 0x4000 < range }
     requires narrow { range ≤ 0xFFFF }
-    requires some_chance { 254 ≤ chance }
-    requires most_chance { chance ≤ 65281 }
-    ensures lift { result.lift ≡ lift_of (range * chance / 2 ^ 16) truth }
-    ensures doublings { result.doublings ≡ doublings_for (part_of range (range * chance / 2 ^ 16) truth) }
-    ensures range { let part = part_of range (range * chance / 2 ^ 16) truth in
+    requires some_probability { 254 ≤ probability }
+    requires most_probability { probability ≤ 65281 }
+    ensures lift { result.lift ≡ lift_of (range * probability / 2 ^ 16) truth }
+    ensures doublings { result.doublings ≡ doublings_for (part_of range (range * probability / 2 ^ 16) truth) }
+    ensures range { let part = part_of range (range * probability / 2 ^ 16) truth in
         result.range ≡ part * 2 ^ doublings_for part }
-    ensures within { result.lift + part_of range (range * chance / 2 ^ 16) truth ≤ range }
+    ensures within { result.lift + part_of range (range * probability / 2 ^ 16) truth ≤ range }
     ensures few { result.doublings ≤ 9 }
     ensures wide { 0x4000 < result.range }
     ensures narrow { result.range ≤ 0xFFFF }
 {
-    let split = range * u32::from(chance) / 65536;
+    let split = range * u32::from(probability) / 65536;
     if truth {
         let count = doublings(range - split);
         return Part {
@@ -87,7 +87,7 @@ impl Encoder {
         }
     }
 
-    /// The chance of a context, as a part of 0x10000, that its next decision is false.
+    /// The probability of a context, as a part of 0x10000, that its next decision is false.
     pub fn context(&self, ctx: u8) -> u16
         requires { ctx < 38 }
         ensures { result ≡ slice_index self.now.contexts ctx }
@@ -103,11 +103,11 @@ impl Encoder {
     {
         self.tail.settle()?;
         let at = ctx as usize;
-        let chance = self.contexts[at];
-        let part = part_after(self.range, chance, truth);
+        let probability = self.contexts[at];
+        let part = part_after(self.range, probability, truth);
         self.tail.advance(part.lift, part.doublings);
         self.range = part.range;
-        self.contexts[at] = adapt(chance, truth);
+        self.contexts[at] = adapt(probability, truth);
         Ok(())
     }
 

@@ -1,12 +1,11 @@
 //! Arithmetic coding of the Dirac specification: decisions, and the numbers that they spell.
 #![tactic(auto)]
 
-mod chances;
 mod decoder;
 mod encoder;
 mod follow;
 mod laws;
-mod magnitude;
+mod probabilities;
 mod registers;
 mod tables;
 mod tail;

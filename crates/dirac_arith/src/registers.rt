@@ -107,20 +107,20 @@ pub fn doublings(range: u32) -> u32
     (range - 1).leading_zeros().saturating_sub(17)
 }
 
-/// Takes one decision at a context of this chance.
-pub fn decide(registers: Registers, chance: u16) -> Decided
+/// Takes one decision at a context of this probability.
+pub fn decide(registers: Registers, probability: u16) -> Decided
     requires wide { 0x4000 < registers.range }
     requires narrow { registers.range ≤ 0xFFFF }
-    requires some_chance { 254 ≤ chance }
-    requires most_chance { chance ≤ 65281 }
+    requires some_probability { 254 ≤ probability }
+    requires most_probability { probability ≤ 65281 }
     requires some_ahead { 9 ≤ registers.ahead }
     requires most_ahead { registers.ahead ≤ 48 }
     requires inside { registers.window < registers.range * 2 ^ registers.ahead }
     ensures stands { (block : List ℕ) (low k : ℕ) → Stands block registers low k →
-        let split = registers.range * chance / 2 ^ 16 in
+        let split = registers.range * probability / 2 ^ 16 in
         let part = part_of registers.range split result.truth in
         Stands block result.registers ((low + lift_of split result.truth) * 2 ^ doublings_for part) (k + doublings_for part) }
-    ensures range { let part = part_of registers.range (registers.range * chance / 2 ^ 16) result.truth in
+    ensures range { let part = part_of registers.range (registers.range * probability / 2 ^ 16) result.truth in
         result.registers.range ≡ part * 2 ^ doublings_for part }
     ensures wide { 0x4000 < result.registers.range }
     ensures narrow { result.registers.range ≤ 0xFFFF }
@@ -129,7 +129,7 @@ pub fn decide(registers: Registers, chance: u16) -> Decided
     ensures most { result.registers.ahead ≤ registers.ahead }
     ensures inside { result.registers.window < result.registers.range * 2 ^ result.registers.ahead }
 {
-    let split = registers.range * u32::from(chance) / 65536;
+    let split = registers.range * u32::from(probability) / 65536;
     let bound = u64::from(split) << registers.ahead;
     let truth = registers.window >= bound;
     let (window, range) = if truth {

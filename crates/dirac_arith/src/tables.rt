@@ -1,6 +1,6 @@
 //! The probability table of the standard.
 
-/// By how much a decision moves the chance of its context, by the upper byte of that chance.
+/// By how much a decision moves the probability of its context, by the upper byte of that probability.
 pub static STEPS: [u16; 256] = [
     0, 2, 5, 8, 11, 15, 20, 24, 29, 35, 41, 47, 53, 60, 67, 74, // 0x00
     82, 89, 97, 106, 114, 123, 132, 141, 150, 160, 170, 180, 190, 201, 211, 222, // 0x10

@@ -1,5 +1,4 @@
 pub mod Interleaves
 pub mod Predictions
-pub mod RowLemmas
 pub mod Sizes
 pub mod Undoing

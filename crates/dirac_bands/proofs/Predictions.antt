@@ -4,11 +4,13 @@ use Rattle.std.specs.Int.{int_div_euclid}
 use Rattle.std.specs.List.{All}
 use Rattle.std.proofs.lemmas.Int.{ints}
 use Rattle.std.proofs.lemmas.Nat.{mul-add-lt, mod-mul-add, div-mul-add, mul-le, div-add-mod', div_below, mod_below, same_from_place}
-use Rattle.std.proofs.lemmas.List.{get_or-set_same, get_or-set_other, length-set, get_or_default, get_or_past, get_or_push, get_or_append_left, length_push, ext_get_or, take_at}
+use Rattle.std.proofs.lemmas.List.{get_or-set_same, get_or-set_other, length-set, get_or_default, get_or_push, get_or_append_left, length_push, ext_get_or, take_at}
 use Rattle.std.proofs.lemmas.Bool.{cases_eq, cases_lt, ne_eqb}
 use Rattle.std.proofs.Math.Nat.{suc-mul}
 use Rattle.dirac_types.specs.Table.{Table, with_values}
-use Rattle.dirac_bands.specs.DcSum.{mean_of_three, value_at, by_rows, prediction_in, IsDcSum, sums_up_to, dc_sum}
+use Rattle.dirac_types.specs.Samples.{mean_of_three}
+use Rattle.dirac_types.proofs.Bounds.{values_bound}
+use Rattle.dirac_bands.specs.DcSum.{value_at, by_rows, prediction_in, IsDcSum, sums_up_to, dc_sum}
 
 -- the row above ends a width earlier
 row_above : (y w : ℕ) → y ≢ 0 → y * w ≡ (y - 1) * w + w
@@ -97,13 +99,6 @@ sums_slope b w xs ys p (suc n) x y s h l k below =
     omega (arith, slope, mul-le (i + j + 1) b (x + y) b nearer (omega arith))) in
     let own : unsigned_abs (value_at xs w x y) ≤ b = h (y * w + x) in
     rw (s.done x y k (omega arith)) (omega (arith, ints, predicted, own))
-
-pub values_bound : (b : ℕ) (xs : List ℤ) → All (λ v. unsigned_abs v ≤ b) xs → (q : ℕ) → unsigned_abs (get_or xs q (pos 0)) ≤ b
-values_bound b [] h q = omega arith
-values_bound b (x ∷ xs) h q = elim (cases_lt q (length (x ∷ xs))) [
-  | inl inside ↦ h q (pos 0) inside
-  | inr past ↦ rw (get_or_past (x ∷ xs) q (pos 0) past) (omega arith)
-]
 
 pub sums_bound : (b w h : ℕ) (xs ys : List ℤ) (p : ℕ) → SumsBelow w xs ys p → 1 ≤ w → length xs ≡ w * h → p ≤ w * h → All (λ v. unsigned_abs v ≤ b) xs → All (λ v. unsigned_abs v ≤ (w + h) * b) ys
 sums_bound b w h xs ys p s one len most all k d inside =

@@ -1,7 +1,11 @@
 -- How large padded sizes and the sizes of subbands are.
 use Rattle.std.proofs.Common.{◌≡◌, ℕ, ◌+◌, ◌-◌, ◌*◌, ◌/◌, ◌%◌, ◌^◌, ◌≤◌, ◌<◌, arith}
 use Rattle.std.proofs.Math.Pow.{pow_mono}
-use Rattle.std.proofs.lemmas.Nat.{one_shl, pow-add, pow_pos, div-add-mod', mul-le, div_below}
+use Rattle.std.proofs.lemmas.Nat.{le-div, one_shl, pow-add, pow_pos, div-add-mod', mul-le, div_below}
+
+-- a quotient rises with its dividend
+pub div_mono : (a b m : ℕ) → 0 < m → a ≤ b → a / m ≤ b / m
+div_mono a b m some l = le-div (a / m) b m some (omega (arith, l, div-add-mod' a m))
 
 -- a quotient by two or more is at most a half
 pub quotient_half : (n m : ℕ) → 2 ≤ m → 2 * (n / m) ≤ n
@@ -13,7 +17,7 @@ lowest_band_bound n depth h one =
     omega (arith, quotient_half n (2 ^ depth) (pow_mono {i = 1} {j = depth} one))
 
 -- a multiple of m that k times m limits before it is rounded up
-rounded_up_bound : (n m k : ℕ) → 0 < m → n ≤ k * m → (n + m - 1) / m * m ≤ k * m
+pub rounded_up_bound : (n m k : ℕ) → 0 < m → n ≤ k * m → (n + m - 1) / m * m ≤ k * m
 rounded_up_bound n m k h l =
     let quotient : (n + m - 1) / m < k + 1 = div_below (n + m - 1) m (k + 1) h (omega arith) in
     mul-le ((n + m - 1) / m) m k m (omega arith) (omega arith)

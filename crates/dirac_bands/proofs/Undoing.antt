@@ -1,23 +1,14 @@
 -- Joining and splitting undo each other.
-use Rattle.std.proofs.Common.{◌≡◌, ℕ, ℤ, pos, ◌+◌, ◌*◌, ◌/◌, ◌%◌, ◌<◌, ◌≤◌, ◌==◌, if◌then◌else◌, length, arith, refl, inl, inr, ap, sym, ◌∙◌, eq-eqb}
-use Rattle.std.proofs.lemmas.Nat.{mul-add-lt, mod-mul-add, div-mul-add}
-use Rattle.std.proofs.lemmas.List.FromFn.{get_or-map-range_with_len}
+use Rattle.std.proofs.Common.{◌≡◌, ℕ, ℤ, ◌+◌, ◌*◌, ◌/◌, ◌%◌, ◌<◌, ◌≤◌, ◌==◌, if◌then◌else◌, length, arith, refl, inl, inr, sym, ◌∙◌, eq-eqb}
 use Rattle.std.proofs.lemmas.Bool.{cases_eq, ne_eqb}
-use Rattle.dirac_types.specs.Table.{Table, table_at}
-use Rattle.dirac_bands.specs.Interleaving.{filled, table_of, joined_at, joined, band_of}
-use Rattle.dirac_bands.proofs.RowLemmas.{rows_all}
+use Rattle.dirac_types.specs.Table.{Table, table_at, table_of}
+use Rattle.dirac_bands.specs.Interleaving.{joined_at, joined, band_of}
+use Rattle.dirac_types.proofs.Rows.{rows_all, filled_at}
 
 -- a table is the one that its values tell
 pub table_is : (f : ℕ → ℕ → ℤ) (t : Table) (w h : ℕ) → t.width ≡ w → t.height ≡ h → 0 < w → length t.values ≡ t.width * t.height → ((x y : ℕ) → x < t.width → y < t.height → table_at t x y ≡ f x y) → t ≡ table_of w h f
 table_is f t w h ew eh some len each =
     rows_all f t w h t.height ew eh some (omega arith) (record { len = len; done = each })
-
--- what is read of a table that is told
-pub told_at : (f : ℕ → ℕ → ℤ) (w h x y : ℕ) → x < w → y < h → table_at (table_of w h f) x y ≡ f x y
-unfolding filled
-told_at f w h x y p q =
-    get_or-map-range_with_len (λ i. f (i % w) (i / w)) 0 (w * h) (y * w + x) (y * w + x) (pos 0) (mul-add-lt y w x h q p) (omega arith)
-    ∙ ap (λ i. f i ((y * w + x) / w)) (mod-mul-add y w x p) ∙ ap (f x) (div-mul-add y w x p)
 
 -- a value of the plane is that of its band
 pub joined_reads : (ll hl lh hh : Table) (right below x y : ℕ) → right ≤ 1 → below ≤ 1 → x < ll.width → y < ll.height → table_at (joined ll hl lh hh) (2 * x + right) (2 * y + below) ≡ table_at (if below == 0 then (if right == 0 then ll else hl) else (if right == 0 then lh else hh)) x y
@@ -26,7 +17,7 @@ joined_reads ll hl lh hh right below x y r b p q =
     let half : (2 * x + right) / 2 ≡ x = omega arith in
     let row : (2 * y + below) % 2 ≡ below = omega arith in
     let half_down : (2 * y + below) / 2 ≡ y = omega arith in
-    told_at (joined_at ll hl lh hh) (2 * ll.width) (2 * ll.height) (2 * x + right) (2 * y + below) (omega arith) (omega arith)
+    filled_at (joined_at ll hl lh hh) (2 * ll.width) (2 * ll.height) (2 * x + right) (2 * y + below) (omega arith) (omega arith)
     ∙ rw (column, half, row, half_down) refl
 
 pub record Whole (t : Table) (w h : ℕ) : Type 0 where
@@ -60,7 +51,7 @@ band_reads : (t : Table) (right below x y : ℕ) → x < t.width → y < t.heigh
 band_reads t right below x y p q ew eh r b =
     let column : 2 * (x / 2) + right ≡ x = omega arith in
     let row : 2 * (y / 2) + below ≡ y = omega arith in
-    told_at (λ i j. table_at t (2 * i + right) (2 * j + below)) (t.width / 2) (t.height / 2) (x / 2) (y / 2) (omega arith) (omega arith)
+    filled_at (λ i j. table_at t (2 * i + right) (2 * j + below)) (t.width / 2) (t.height / 2) (x / 2) (y / 2) (omega arith) (omega arith)
     ∙ rw (column, row) refl
 
 joined_of_bands : (t : Table) (x y : ℕ) → x < t.width → y < t.height → t.width % 2 ≡ 0 → t.height % 2 ≡ 0 → joined_at (band_of t 0 0) (band_of t 1 0) (band_of t 0 1) (band_of t 1 1) x y ≡ table_at t x y

@@ -1,15 +1,11 @@
 -- The prediction of an intra picture's LL band.
 use Rattle.std.specs.Prelude.{◌≡◌, ℕ, zero, suc, ℤ, pos, ◌+◌, ◌-◌, ◌*◌, ◌/◌, ◌%◌, ◌<◌, ◌==◌, ◌+ℤ◌, List, [], ◌∷◌, ◌++◌, length, slice_index_or, if◌then◌else◌}
-use Rattle.std.specs.Int.{int_div_euclid}
 use Rattle.dirac_types.specs.Table.{Table, table_at}
+use Rattle.dirac_types.specs.Samples.{mean_of_three}
 
 -- the table with these values by rows
 abbrev pub by_rows : ℕ → ℕ → List ℤ → Table
 by_rows width height values = record { width = width; height = height; values = values }
-
--- the mean of three values, rounded to the nearest
-abbrev pub mean_of_three : ℤ → ℤ → ℤ → ℤ
-mean_of_three a b c = int_div_euclid (((a +ℤ b) +ℤ c) +ℤ pos 1) (pos 3)
 
 -- the value in column x of row y of a list by rows
 abbrev pub value_at : List ℤ → ℕ → ℕ → ℕ → ℤ

@@ -1,15 +1,7 @@
 -- How four subbands of one level make one plane: LL at even columns and rows, HL at odd columns, LH at odd rows, HH at both odd.
 use Rattle.std.specs.Prelude.{ℕ, ℤ, pos, ◌+◌, ◌*◌, ◌/◌, ◌%◌, ◌==◌, List, length, map, slice_index_or, if◌then◌else◌}
 use Rattle.std.specs.List.{range_with_len}
-use Rattle.dirac_types.specs.Table.{Table, table_at}
-
--- the values of a table by rows, told by column and row
-unfoldable pub filled : ℕ → ℕ → (ℕ → ℕ → ℤ) → List ℤ
-filled width height f = map (λ place. f (place % width) (place / width)) (range_with_len 0 (width * height))
-
--- the table with these values
-abbrev pub table_of : ℕ → ℕ → (ℕ → ℕ → ℤ) → Table
-table_of width height f = record { width = width; height = height; values = filled width height f }
+use Rattle.dirac_types.specs.Table.{Table, table_at, table_of}
 
 -- the band that a place of the plane belongs to
 abbrev pub band_at : Table → Table → Table → Table → ℕ → ℕ → Table

@@ -1,7 +1,8 @@
 ghost use Rattle.std.specs.Prelude.{◌≡◌, ℕ, ◌+◌, ◌*◌, ◌^◌, ◌<◌, ◌≤◌, ◌+ℤ◌, ◌-ℤ◌, unsigned_abs, length};
 ghost use Rattle.std.specs.List.{All};
 ghost use Rattle.dirac_types.specs.Table.{Table};
-ghost use Rattle.dirac_bands.specs.DcSum.{by_rows, mean_of_three, prediction_in, IsDcSum, dc_sum};
+ghost use Rattle.dirac_types.specs.Samples.{mean_of_three};
+ghost use Rattle.dirac_bands.specs.DcSum.{by_rows, prediction_in, IsDcSum, dc_sum};
 
 use dirac_types::Wide;
 

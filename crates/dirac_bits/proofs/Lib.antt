@@ -6,6 +6,7 @@ pub mod Literals
 pub mod Blocks
 pub mod Read
 pub mod Ends
+pub mod Fields
 pub mod Whole
 pub mod Given
 pub mod Runs

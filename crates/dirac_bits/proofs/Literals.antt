@@ -4,7 +4,7 @@ use Rattle.dirac_types.specs.declared.faults.Cause.{Cause}
 use Rattle.dirac_types.specs.declared.faults.Cause.TheVariants.{UnitShort}
 use Rattle.dirac_types.specs.Bits.{is_bit_set, byte_bits, bits_of, bit_value, number_from}
 use Rattle.dirac_types.specs.Numbers.{literal}
-use Rattle.dirac_bits.specs.Chain.{◌>>=◌}
+use Rattle.dirac_types.specs.Chain.{◌>>=◌}
 use Rattle.dirac_bits.specs.Cursor.{Cursor, skip, bits_left, first_of, bit_next, Passes}
 use Rattle.dirac_bits.specs.Fields.{bits_on, number_of, literal_on, literal_at}
 use Rattle.dirac_bits.proofs.Bits.{drop_byte}

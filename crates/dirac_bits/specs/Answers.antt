@@ -1,6 +1,8 @@
 -- What the answer of a reader says of what is read.
-use Rattle.std.specs.Prelude.{◌≡◌, Result, Ok, Err}
+use Rattle.std.specs.Prelude.{◌≡◌, ⊤, ℕ, ◌≤◌, Result, Ok, Err}
 use Rattle.dirac_types.specs.declared.faults.Refusal.{Refusal}
+use Rattle.dirac_types.specs.declared.faults.Stop.{Stop}
+use Rattle.dirac_types.specs.declared.faults.Stop.TheVariants as stop
 use Rattle.dirac_bits.specs.Cursor.{Cursor}
 
 -- the reader answers what is read, seen by `view`, and stands behind it; after a refusal it stands where it stood
@@ -17,6 +19,17 @@ Reads view (Err e) new read = read ≡ Err e
 abbrev pub Gives : {X Y E : Type 0} → (X → Y) → Result X E → Result Y E → Type 0
 Gives view (Ok x) read = read ≡ Ok (view x)
 Gives view (Err e) read = read ≡ Err e
+
+-- the answer of a reader that takes memory is what is read, and the reader stands behind it; want of memory says nothing of the input
+abbrev pub ReadsOrStops : {X : Type 0} → Result X Stop → Cursor → Result (X × Cursor) Refusal → Type 0
+ReadsOrStops (Ok x) new read = read ≡ Ok (x, new)
+ReadsOrStops (Err (stop.Refused r)) new read = read ≡ Err r
+ReadsOrStops (Err stop.NoMemory) new read = ⊤
+
+-- a refusal is within so many bytes
+abbrev pub IsEarly : ℕ → Stop → Type 0
+IsEarly len (stop.Refused r) = r.at ≤ len
+IsEarly len stop.NoMemory = ⊤
 
 -- what is read, without the place behind it
 abbrev pub value_of : {A E : Type 0} → Result (A × Cursor) E → Result A E

@@ -1,10 +1,11 @@
 -- The fields of the bitstream, read: a value and the place behind it, or why there is none.
-use Rattle.std.specs.Prelude.{ℕ, zero, suc, ℤ, pos, negsuc, ◌+◌, ◌-◌, ◌*◌, ◌==◌, if◌then◌else◌, Bool, true, false, List, [], ◌∷◌, Result, Ok, Err}
+use Rattle.std.specs.Prelude.{ℕ, zero, suc, ℤ, pos, ◌+◌, ◌-◌, ◌*◌, ◌==◌, if◌then◌else◌, Bool, List, [], ◌∷◌, Result, Ok, Err}
 use Rattle.dirac_types.specs.declared.faults.Cause.{Cause}
 use Rattle.dirac_types.specs.declared.faults.Cause.TheVariants.{NumberTooLong}
 use Rattle.dirac_types.specs.declared.faults.Refusal.{Refusal}
 use Rattle.dirac_types.specs.Bits.{bit_value, number_from}
-use Rattle.dirac_bits.specs.Chain.{◌>>=◌}
+use Rattle.dirac_types.specs.Chain.{◌>>=◌}
+use Rattle.dirac_types.specs.Numbers.{signed_value}
 use Rattle.dirac_bits.specs.Cursor.{Cursor, place, bit_next}
 
 -- a number, its digits so far making `value`, where so many more may follow: a follow bit 1 ends it
@@ -16,15 +17,9 @@ number_on (suc left) value c = do
   follow ← bit_next c
   if follow.0 then Ok (value - 1, follow.1) else (bit_next follow.1 >>= λ digit. number_on left (2 * value + bit_value digit.0) digit.1)
 
--- a magnitude with its sign
-abbrev pub signed : Bool → ℕ → ℤ
-signed true zero = pos 0
-signed true (suc n) = negsuc n
-signed false n = pos n
-
 -- this number with a sign that was read
 abbrev pub with_sign : ℕ → Bool × Cursor → Result (ℤ × Cursor) Cause
-with_sign n sign = Ok (signed sign.0 n, sign.1)
+with_sign n sign = Ok (signed_value n sign.0, sign.1)
 
 -- the sign of this number, where it isn't 0
 unfoldable pub sign_on : ℕ × Cursor → Result (ℤ × Cursor) Cause

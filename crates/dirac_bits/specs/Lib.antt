@@ -1,4 +1,3 @@
-pub mod Chain
 pub mod Cursor
 pub mod Fields
 pub mod Syntax
@@ -8,3 +7,5 @@ pub mod Answers
 pub mod Laws
 pub mod Spots
 pub mod Writing
+pub use Rattle.dirac_types.specs.Bits
+pub use Rattle.dirac_types.specs.Numbers

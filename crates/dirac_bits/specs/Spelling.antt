@@ -22,3 +22,9 @@ Spells (align_then s) x k bits =
     (gap : List Bool) × (rest : List Bool) × (k + length gap ≡ 8 * ((k + 7) / 8)) × (bits ≡ gap ++ rest) × Spells s x (k + length gap) rest
 Spells (here_then f) x k bits = Spells (f (k / 8)) x k bits
 Spells (refuse at cause) x k bits = ⊥
+
+-- behind the first bits, the second have these of a spelling of this value
+pub record SpelledBehind {A : Type 0} (s : Syntax A) (x : A) (old new : List Bool) : Type 0 where
+  pub bits : List Bool
+  pub is : new ≡ old ++ bits
+  pub spells : Spells s x (length old) bits

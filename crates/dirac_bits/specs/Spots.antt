@@ -8,6 +8,7 @@ use Rattle.dirac_bits.specs.Cursor.{Cursor}
 abbrev pub bit_number : Spot → ℕ
 bit_number spot = 8 * spot.byte + spot.bit
 
+-- the reading of these bytes that stands at this bit
 abbrev pub cursor_at : List ℕ → Spot → Cursor
 cursor_at bytes spot = record { bytes = bytes; at = bit_number spot }
 

@@ -1,10 +1,10 @@
 ghost use Rattle.std.specs.Prelude.{◌≡◌, ◌+◌, ◌*◌, ◌<◌, ◌≤◌, ◌^◌, length, IfOk, IsOk, ◌↔◌, slice_range, unsigned_abs};
 ghost use Rattle.dirac_bits.specs.Cursor.{bit_next};
-ghost use Rattle.dirac_bits.specs.Fields.{number_on, signed_on, signed, literal_on, bytes_on};
+ghost use Rattle.dirac_bits.specs.Fields.{number_on, signed_on, literal_on, bytes_on};
 ghost use Rattle.dirac_bits.specs.Spots.{cursor_at, bit_number, Steps, StepsBy};
 
 use crate::spot::Spot;
-use dirac_types::Cause;
+use dirac_types::{Cause, with_sign};
 
 /// The bit at `spot`, and the spot behind it.
 pub fn next_bit(bytes: &[u8], spot: Spot) -> Result<(bool, Spot), Cause>
@@ -56,16 +56,7 @@ pub fn next_signed(bytes: &[u8], first: Spot) -> Result<(i64, Spot), Cause>
         return Ok((0, behind));
     }
     let (negative, next) = next_bit(bytes, behind)?;
-    Ok((with_sign(negative, magnitude), next))
-}
-
-fn with_sign(negative: bool, magnitude: u64) -> i64
-    requires { magnitude < 2 ^ 39 }
-    ensures value { result ≡ signed negative magnitude }
-    ensures size { unsigned_abs result ≡ magnitude }
-{
-    let number = magnitude as i64;
-    if negative { -number } else { number }
+    Ok((with_sign(magnitude, negative), next))
 }
 
 /// The four bytes at `first` as a number, and the spot behind them.

@@ -11,9 +11,10 @@ use Rattle.dirac_blocks.specs.declared.parts.Reference.TheVariants as references
 use Rattle.dirac_blocks.specs.Grammar.{listed, units_step, vectors_listed, second_listed, dcs_listed, values_listed}
 use Rattle.dirac_blocks.specs.Laws.{CarriedIsRead}
 use Rattle.dirac_blocks.specs.Tables.{BlockTable, IsBlockTable}
+use Rattle.dirac_blocks.proofs.Stages.{by}
 use Rattle.dirac_block_laws.specs.Standing.{some_blocks, EachCarries}
 use Rattle.dirac_block_laws.proofs.Reading.{answer_same, read_then, read_list, first_stands}
-use Rattle.dirac_block_laws.proofs.Shown.{Known, next, shown, by, shown_lawful, shown_next, shown_told, leads_on}
+use Rattle.dirac_block_laws.proofs.Shown.{Known, next, shown, shown_lawful, shown_next, shown_told, leads_on}
 use Rattle.dirac_block_laws.proofs.Stepping.{list_of, seconds, dcs}
 
 -- these lists are read one after another, from one table and place to another

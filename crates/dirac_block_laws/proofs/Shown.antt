@@ -1,11 +1,9 @@
 -- A finished table as it was when some of its lists were read.
-use Rattle.std.proofs.Common.{◌≡◌, ℕ, ℤ, ◌+◌, ◌*◌, ◌<◌, ◌≤◌, inl, inr, Bool, true, false, List, length, map, replicate, get_or, ext_get_or, refl, sym, ap, ap₂, ◌∙◌, arith, subst}
+use Rattle.std.proofs.Common.{◌≡◌, ℕ, ℤ, ◌+◌, ◌*◌, ◌<◌, inl, inr, Bool, true, false, List, length, map, replicate, ext_get_or, refl, sym, ap, ap₂, ◌∙◌, arith, subst}
 use Rattle.std.specs.Prelude.{pos}
-use Rattle.std.proofs.lemmas.Bool.{cases_eq, cases_lt}
+use Rattle.std.proofs.lemmas.Bool.{cases_lt}
 use Rattle.std.proofs.lemmas.Int.{ints}
 use Rattle.std.proofs.lemmas.List.{get_or_past, get_or-map, get_or-replicate, length-map, length-replicate}
-use Rattle.std.proofs.lemmas.List.Elements.{All-map}
-use Rattle.std.proofs.lemmas.Nat.{mul-add-lt}
 use Rattle.dirac_types.specs.declared.formats.Vector.{Vector}
 use Rattle.dirac_arith.specs.Carried.{Carries}
 use Rattle.dirac_arith.specs.Interval.{Decision}
@@ -18,58 +16,15 @@ use Rattle.dirac_blocks.specs.declared.parts.Reference.TheVariants as references
 use Rattle.dirac_blocks.specs.Carried.{with_part, ReadsTo}
 use Rattle.dirac_blocks.specs.Grammar.{empty_table, units_step}
 use Rattle.dirac_blocks.specs.Laws.{CarriedIsRead}
-use Rattle.dirac_blocks.specs.Tables.{BlockTable, IsBlock, IsBlockTable, block_at, grey, no_vector, split_at, first_of}
+use Rattle.dirac_blocks.specs.Tables.{BlockTable, IsBlock, IsBlockTable, block_at, grey, no_vector}
+use Rattle.dirac_blocks.proofs.Stages.{by, by_at, by_lawful, place_inside}
+use Rattle.dirac_blocks.proofs.Spelled.{nothing_yet}
 use Rattle.dirac_block_laws.proofs.Stepping.{list_of}
 use Rattle.dirac_block_laws.proofs.Told.{told, ToldSame, lists_same}
-
--- the table with each block changed
-abbrev pub by : (Block → Block) → BlockTable → BlockTable
-by f t = record t { blocks = map f t.blocks }
 
 -- a change that keeps blocks lawful
 abbrev pub KeepsLaws : ℕ → (Block → Block) → Type 0
 KeepsLaws refs f = (b : Block) → IsBlock refs b → IsBlock refs (f b)
-
-place_inside : (t : BlockTable) (x y : ℕ) → IsBlockTable t → x < 4 * t.across → y < 4 * t.down → y * (4 * t.across) + x < length t.blocks
-place_inside t x y inv p q = let h = mul-add-lt y (4 * t.across) x (4 * t.down) q p in omega (arith, inv.blocks_len)
-
-by_at : (f : Block → Block) (t : BlockTable) (x y : ℕ) → IsBlockTable t → x < 4 * t.across → y < 4 * t.down → block_at (by f t) x y ≡ f (block_at t x y)
-by_at f t x y inv p q = get_or-map f t.blocks (y * (4 * t.across) + x) grey grey (place_inside t x y inv p q)
-
--- the first of a unit's columns is in the superblock
-first_below : (split i : ℕ) → split ≤ 2 → i < 4 → first_of split i < 4
-first_below split i h l =
-    elim (cases_eq split 0) [
-      | inl e ↦ subst (λ (s : ℕ). first_of s i < 4) (sym e) (omega arith)
-      | inr a ↦ elim (cases_eq split 1) [
-        | inl e ↦ subst (λ (s : ℕ). first_of s i < 4) (sym e) (omega arith)
-        | inr b ↦ let e : split ≡ 2 = omega arith in subst (λ (s : ℕ). first_of s i < 4) (sym e) (omega arith)
-      ]
-    ]
-
-split_few : (t : BlockTable) (sx sy : ℕ) → IsBlockTable t → sx < t.across → sy < t.down → split_at t sx sy ≤ 2
-split_few t sx sy inv p q =
-    let h = mul-add-lt sy t.across sx t.down q p in
-    let inside : sy * t.across + sx < length t.splits = omega (arith, inv.splits_len) in
-    inv.splits (sy * t.across + sx) 0 inside
-
-pub by_lawful : (f : Block → Block) (t : BlockTable) → IsBlockTable t → KeepsLaws t.refs f → IsBlockTable (by f t)
-by_lawful f t inv lawful =
-    record {
-      size = inv.size;
-      splits_len = inv.splits_len;
-      blocks_len = length-map t.blocks f ∙ inv.blocks_len;
-      splits = inv.splits;
-      blocks = All-map (IsBlock t.refs) f t.blocks (λ i d l. lawful (get_or t.blocks i d) (inv.blocks i d l));
-      units = λ sx sy i j hx hy p q.
-          let s = split_at t sx sy in
-          let two = split_few t sx sy inv hx hy in
-          let p' = first_below s i two p in
-          let q' = first_below s j two q in
-          by_at f t (4 * sx + i) (4 * sy + j) inv (omega arith) (omega arith)
-          ∙ ap f (inv.units sx sy i j hx hy p q)
-          ∙ sym (by_at f t (4 * sx + first_of s i) (4 * sy + first_of s j) inv (omega arith) (omega arith));
-    }
 
 -- a change of blocks that leaves what the modes and a list tell
 told_by : (part : Part) (f : Block → Block) (t : BlockTable) → ((b : Block) → told part (f b) ≡ told part b) → ToldSame part t (by f t)
@@ -105,8 +60,8 @@ leads_on law part t f g block inv before after is same carry =
         shape = record { across = refl; down = refl; refs = refl; splits = refl };
         blocks = λ i j p q.
             let b = block_at t i j in
-            let at = by_at g t i j inv p q in
-            ap₂ (λ (x y : Block). with_part part x y) (by_at f t i j inv p q) (at ∙ sym (is b)) ∙ absorbs part (f b) b ∙ is b ∙ sym at;
+            let at = by_at g t i j (place_inside t i j inv p q) in
+            ap₂ (λ (x y : Block). with_part part x y) (by_at f t i j (place_inside t i j inv p q)) (at ∙ sym (is b)) ∙ absorbs part (f b) b ∙ is b ∙ sym at;
       };
       carried = subst (λ (ds : List Decision). Carries block ds) (lists_same part t (map g t.blocks) (told_by part g t same)) carry;
     })
@@ -199,18 +154,6 @@ shown_told (parts.Down references.Second) k b = refl
 shown_told (parts.Dc components.Y) k b = refl
 shown_told (parts.Dc components.U) k b = refl
 shown_told (parts.Dc components.V) k b = refl
-
--- a table all of whose blocks are finished
-pub by_end : (f : Block → Block) (t : BlockTable) → IsBlockTable t → ((b : Block) → IsBlock t.refs b → f b ≡ b) → by f t ≡ t
-by_end f t inv same =
-    let len : length (map f t.blocks) ≡ length t.blocks = length-map t.blocks f in
-    ap (λ (xs : List Block). let u : BlockTable = record t { blocks = xs } in u)
-    (ext_get_or grey (map f t.blocks) t.blocks len
-    (λ k l. let inside : k < length t.blocks = omega arith in get_or-map f t.blocks k grey grey inside ∙ same (get_or t.blocks k grey) (inv.blocks k grey inside)))
-
--- before any block is read
-abbrev pub nothing_yet : Block → Block
-nothing_yet b = grey
 
 pub by_nothing : (t : BlockTable) → IsBlockTable t → map nothing_yet t.blocks ≡ (empty_table t.across t.down t.refs).blocks
 by_nothing t inv =

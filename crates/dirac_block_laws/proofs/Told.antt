@@ -1,12 +1,11 @@
 -- A later list changes nothing that the lists before it tell, so they are told by the same decisions of the finished table.
-use Rattle.std.proofs.Common.{◌≡◌, ℕ, zero, suc, ℤ, ◌+◌, ◌*◌, ◌/◌, ◌%◌, ◌<◌, ◌≤◌, inl, inr, Bool, true, false, List, [], ◌∷◌, ◌++◌, length, get_or, Option, Some, refl, sym, ap, ap₂, ◌∙◌, arith, subst}
+use Rattle.std.proofs.Common.{◌≡◌, ℕ, zero, suc, ℤ, ◌+◌, ◌*◌, ◌/◌, ◌%◌, ◌<◌, inl, inr, Bool, List, [], ◌∷◌, ◌++◌, length, get_or, Option, Some, refl, sym, ap, ap₂, ◌∙◌, arith, subst}
 use Rattle.std.specs.Prelude.{option_map, if◌then◌else◌, ◌==◌}
-use Rattle.std.proofs.lemmas.Bool.{cases_eq, cases_lt, eq-eqb, ne_eqb}
+use Rattle.std.proofs.lemmas.Bool.{cases_lt}
 use Rattle.std.proofs.lemmas.List.{get_or_past}
-use Rattle.std.proofs.lemmas.Nat.{mul-le}
 use Rattle.dirac_types.specs.declared.formats.Vector.{Vector}
 use Rattle.dirac_arith.specs.Interval.{Decision}
-use Rattle.dirac_vectors.specs.Predictions.{component_of, dc_of, mode_of}
+use Rattle.dirac_vectors.specs.Predictions.{dc_of, mode_of}
 use Rattle.dirac_blocks.specs.declared.block.Block.{Block}
 use Rattle.dirac_blocks.specs.declared.parts.Component.{Component}
 use Rattle.dirac_blocks.specs.declared.parts.Component.TheVariants as components
@@ -14,11 +13,13 @@ use Rattle.dirac_blocks.specs.declared.parts.Part.{Part}
 use Rattle.dirac_blocks.specs.declared.parts.Part.TheVariants as parts
 use Rattle.dirac_blocks.specs.declared.parts.Reference.TheVariants as references
 use Rattle.dirac_blocks.specs.Carried.{with_part, IsWithPart}
-use Rattle.dirac_blocks.specs.Decisions.{UnitPart, left_of, above_of, corner_of, predicted, counted, differ, less_prediction, ref1_at, ref2_at, superblock_part, superblock_row, superblock_rows, unit_decisions}
+use Rattle.dirac_blocks.specs.Decisions.{UnitPart, predicted, counted, differ, less_prediction, ref1_at, ref2_at, superblock_part, superblock_row, superblock_rows, unit_decisions}
 use Rattle.dirac_blocks.specs.Grammar.{block_using, is_dc}
 use Rattle.dirac_blocks.specs.Parts.{vector_at, dc_at, part_at}
 use Rattle.dirac_blocks.specs.Reached.{SameShape}
 use Rattle.dirac_blocks.specs.Tables.{BlockTable, IsBlockTable, block_at, grey}
+use Rattle.dirac_blocks.proofs.Stages.{counted_map, components_same}
+use Rattle.dirac_blocks.proofs.Filled.{same_table, place_row}
 
 -- what the modes and one list tell of a block
 abbrev pub told : Part → Block → Block
@@ -26,44 +27,6 @@ told part b = with_part part (block_using b.ref1 b.ref2) b
 
 pub places_same : {A : Type 0} (f g : ℕ → ℕ → A) → ((x y : ℕ) → f x y ≡ g x y) → f ≡ g
 places_same f g same = λ i x y. same x y i
-
--- what is told of a component
-left_map : {A B : Type 0} (h : A → B) (f : ℕ → ℕ → Option A) (i j : ℕ) → option_map h (left_of f i j) ≡ left_of (λ x y. option_map h (f x y)) i j
-left_map h f i j = elim (cases_eq i 0) [ inl none ↦ rw (eq-eqb i 0 none) refl | inr some ↦ rw (ne_eqb i 0 some) refl ]
-
-above_map : {A B : Type 0} (h : A → B) (f : ℕ → ℕ → Option A) (i j : ℕ) → option_map h (above_of f i j) ≡ above_of (λ x y. option_map h (f x y)) i j
-above_map h f i j = elim (cases_eq j 0) [ inl none ↦ rw (eq-eqb j 0 none) refl | inr some ↦ rw (ne_eqb j 0 some) refl ]
-
-corner_map : {A B : Type 0} (h : A → B) (f : ℕ → ℕ → Option A) (i j : ℕ) → option_map h (corner_of f i j) ≡ corner_of (λ x y. option_map h (f x y)) i j
-corner_map h f i j =
-    elim (cases_eq i 0) [
-      | inl none ↦ rw (eq-eqb i 0 none) refl
-      | inr some ↦ elim (cases_eq j 0) [
-        | inl none ↦ rw (ne_eqb i 0 some, eq-eqb j 0 none) refl
-        | inr more ↦ rw (ne_eqb i 0 some, ne_eqb j 0 more) refl
-      ]
-    ]
-
-component_is : (h : Vector → ℤ) (f : ℕ → ℕ → Option Vector) (i j : ℕ)
-    → component_of (option_map h (left_of f i j)) (option_map h (above_of f i j)) (option_map h (corner_of f i j)) ≡ predicted component_of (λ x y. option_map h (f x y)) i j
-component_is h f i j =
-    ap (λ (o : Option ℤ). component_of o (option_map h (above_of f i j)) (option_map h (corner_of f i j))) (left_map h f i j)
-    ∙ ap (λ (o : Option ℤ). component_of (left_of (λ x y. option_map h (f x y)) i j) o (option_map h (corner_of f i j))) (above_map h f i j)
-    ∙ ap (λ (o : Option ℤ). component_of (left_of (λ x y. option_map h (f x y)) i j) (above_of (λ x y. option_map h (f x y)) i j) o) (corner_map h f i j)
-
--- two tables whose vectors have the same components are told by the same decisions
-components_same : (h : Vector → ℤ) (f g : ℕ → ℕ → Option Vector) → ((x y : ℕ) → option_map h (f x y) ≡ option_map h (g x y)) → (i j : ℕ)
-    → less_prediction (27 ∷ 28 ∷ 29 ∷ 30 ∷ 31 ∷ []) 32 33 (component_of (option_map h (left_of f i j)) (option_map h (above_of f i j)) (option_map h (corner_of f i j))) (option_map h (f i j))
-    ≡ less_prediction (27 ∷ 28 ∷ 29 ∷ 30 ∷ 31 ∷ []) 32 33 (component_of (option_map h (left_of g i j)) (option_map h (above_of g i j)) (option_map h (corner_of g i j))) (option_map h (g i j))
-components_same h f g same i j =
-    let prediction = component_is h f i j
-    ∙ ap (λ (k : ℕ → ℕ → Option ℤ). predicted component_of k i j) (places_same (λ x y. option_map h (f x y)) (λ x y. option_map h (g x y)) same)
-    ∙ sym (component_is h g i j) in
-    ap₂ (λ (p : ℤ) (o : Option ℤ). less_prediction (27 ∷ 28 ∷ 29 ∷ 30 ∷ 31 ∷ []) 32 33 p o) prediction (same i j)
-
-counted_map : (h : Vector → ℤ) (b : Bool) (v : Vector) → option_map h (counted b v) ≡ counted b (h v)
-counted_map h true v = refl
-counted_map h false v = refl
 
 -- two tables that the modes and one list tell the same of
 abbrev pub ToldSame : Part → BlockTable → BlockTable → Type 0
@@ -113,29 +76,6 @@ part_same (parts.Dc c) t u refs same i j =
     dc_view components.Y t u x y e = ap (λ (b : Block). counted (is_dc b) b.dc_y) e
     dc_view components.U t u x y e = ap (λ (b : Block). counted (is_dc b) b.dc_u) e
     dc_view components.V t u x y e = ap (λ (b : Block). counted (is_dc b) b.dc_v) e
-
-pub same_table : (a b : BlockTable) → a.across ≡ b.across → a.down ≡ b.down → a.refs ≡ b.refs → a.splits ≡ b.splits → a.blocks ≡ b.blocks → a ≡ b
-same_table a b p q r s t =
-    let make : ℕ → ℕ → ℕ → List ℕ → List Block → BlockTable = λ x y z w v. record { across = x; down = y; refs = z; splits = w; blocks = v } in
-    ap (λ x. make x a.down a.refs a.splits a.blocks) p ∙ ap (λ x. make b.across x a.refs a.splits a.blocks) q
-    ∙ ap (λ x. make b.across b.down x a.splits a.blocks) r ∙ ap (λ x. make b.across b.down b.refs x a.blocks) s
-    ∙ ap (λ x. make b.across b.down b.refs b.splits x) t
-
--- the row and column of a place
-pub place_row : (w h k : ℕ) → k < h * w → (0 < w) × (k / w < h) × (k % w < w) × (k / w * w + k % w ≡ k)
-place_row w h k l =
-    elim (cases_eq w 0) [
-      | inl none ↦ let z : h * w ≡ 0 = rw none (omega arith) in absurd (omega arith)
-      | inr some ↦
-          let pos : 0 < w = omega arith in
-          let rest : k % w < w = omega arith in
-          let parts : k / w * w + k % w ≡ k = omega arith in
-          let row : k / w < h = elim (cases_lt (k / w) h) [ inl a ↦ a | inr b ↦ absurd (past w h k b rest parts l) ] in
-          (pos, row, rest, parts)
-    ]
-  where
-    past : (w h k : ℕ) → h ≤ k / w → k % w < w → k / w * w + k % w ≡ k → k < h * w → ⊥
-    past w h k b rest parts l = let m : h * w ≤ k / w * w = mul-le h w (k / w) w b (omega arith) in omega arith
 
 -- a table with other blocks
 abbrev pub with_blocks : BlockTable → List Block → BlockTable

@@ -14,9 +14,10 @@ use Rattle.dirac_blocks.specs.Grammar.{empty_table, listed, splits_step, units_s
 use Rattle.dirac_blocks.specs.Laws as lists
 use Rattle.dirac_blocks.specs.Reached.{SameShape}
 use Rattle.dirac_blocks.specs.Tables.{BlockTable, IsBlockTable}
+use Rattle.dirac_blocks.proofs.Spelled.{empty_lawful}
 use Rattle.dirac_block_laws.specs.Laws.{ReadIsCarried}
 use Rattle.dirac_block_laws.specs.Standing.{some_blocks, EachCarries}
-use Rattle.dirac_block_laws.proofs.Empty.{empty_grey, empty_lawful}
+use Rattle.dirac_block_laws.proofs.Empty.{empty_grey}
 use Rattle.dirac_block_laws.proofs.Reading.{then_read, list_read, one_more}
 use Rattle.dirac_block_laws.proofs.Stepping.{Went, went_more, went_on, vectors_went, seconds, second_went, dcs, dcs_went, AreLater, list_of, comes, stands}
 use Rattle.dirac_block_laws.proofs.Told.{shaped}

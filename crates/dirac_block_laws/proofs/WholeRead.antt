@@ -14,12 +14,14 @@ use Rattle.dirac_blocks.specs.Decisions.{Numbers, AreSplitNumbers, split_rows, b
 use Rattle.dirac_blocks.specs.Grammar.{empty_table, listed, splits_step, units_step, values_listed, lists_of, blocks}
 use Rattle.dirac_blocks.specs.Laws as lists
 use Rattle.dirac_blocks.specs.Tables.{BlockTable, IsBlockTable, no_vector}
+use Rattle.dirac_blocks.proofs.Stages.{by, by_lawful}
+use Rattle.dirac_blocks.proofs.Spelled.{empty_lawful, nothing_yet, by_end}
+use Rattle.dirac_blocks.proofs.Nearby.{grey_lawful}
 use Rattle.dirac_block_laws.specs.Laws.{CarriedIsRead, OneIsCarried}
 use Rattle.dirac_block_laws.specs.Standing.{some_blocks, EachCarries}
-use Rattle.dirac_block_laws.proofs.Empty.{empty_lawful, grey_lawful}
 use Rattle.dirac_block_laws.proofs.Leading.{Leads, after, leads_from, value_lists, values_read}
 use Rattle.dirac_block_laws.proofs.Reading.{answer_same, read_then, read_list, first_stands}
-use Rattle.dirac_block_laws.proofs.Shown.{no_values, shown, by, by_lawful, by_end, by_nothing, nothing_yet, shown_lawful, shown_told, leads_on}
+use Rattle.dirac_block_laws.proofs.Shown.{no_values, shown, by_nothing, shown_lawful, shown_told, leads_on}
 use Rattle.dirac_block_laws.proofs.Stepping.{list_of}
 use Rattle.dirac_block_laws.proofs.Whole.{lists_behind, decisions_are, each_length, as_many}
 

@@ -6,7 +6,7 @@ use Rattle.std.proofs.lemmas.Int.{ints}
 use Rattle.dirac_types.specs.declared.faults.Cause.{Cause}
 use Rattle.dirac_types.specs.declared.faults.Cause.TheVariants as cause
 use Rattle.dirac_types.specs.declared.formats.Vector.{Vector}
-use Rattle.dirac_arith.specs.Chain.{◌>>=◌}
+use Rattle.dirac_types.specs.Chain.{◌>>=◌}
 use Rattle.dirac_arith.specs.Deciding.{decided, signed_read}
 use Rattle.dirac_arith.specs.Interval.{Decision}
 use Rattle.dirac_arith.specs.Reading.{Reading, Reads}
@@ -28,6 +28,7 @@ use Rattle.dirac_blocks.specs.Parts.{vector_at, dc_at, part_at}
 use Rattle.dirac_blocks.specs.Tables.{BlockTable, IsBlock, IsBlockTable, block_at}
 use Rattle.dirac_blocks.proofs.Nearby.{Near, ref1_near, ref2_near, vector_near, dc_near, block_lawful}
 use Rattle.dirac_blocks.proofs.UnitValues.{across_lawful, down_lawful, dc_lawful}
+use Rattle.dirac_blocks.proofs.Forwards.{differ_twice}
 
 -- steps that led to an answer
 pub record Passed {A B E : Type 0} (x : Result A E) (g : A → Result B E) (y : B) : Type 0 where
@@ -61,12 +62,6 @@ short_from v e = record { least = low v e; most = high v e }
 
     high : (v : ℤ) → is_short v ≡ true → v ≤ℤ pos 32767
     high v e = at_least v (pos 32767) (and_parts (int_le (negsuc 32767) v) (int_le v (pos 32767)) e).1
-
-differ_back : (a b : Bool) → differ (differ a b) b ≡ a
-differ_back true true = refl
-differ_back true false = refl
-differ_back false true = refl
-differ_back false false = refl
 
 difference : (n p : ℤ) → (n +ℤ p) -ℤ p ≡ n
 difference n p = omega (arith, ints)
@@ -196,9 +191,9 @@ modes_two_came m i j b r s led two e =
       reads = λ u refs near here.
           let at : block_at u i j ≡ block_using (differ f pa) (differ g pb) = here ∙ block in
           let a_is : differ (block_at u i j).ref1 (predicted mode_of (ref1_at u) i j) ≡ f =
-          ap (λ (c : Block). differ c.ref1 (predicted mode_of (ref1_at u) i j)) at ∙ ap (λ (t : Bool). differ (differ f pa) t) (sym (ref1_near m u i j near)) ∙ differ_back f pa in
+          ap (λ (c : Block). differ c.ref1 (predicted mode_of (ref1_at u) i j)) at ∙ ap (λ (t : Bool). differ (differ f pa) t) (sym (ref1_near m u i j near)) ∙ differ_twice f pa in
           let b_is : differ (block_at u i j).ref2 (predicted mode_of (ref2_at u) i j) ≡ g =
-          ap (λ (c : Block). differ c.ref2 (predicted mode_of (ref2_at u) i j)) at ∙ ap (λ (t : Bool). differ (differ g pb) t) (sym (ref2_near m u i j near)) ∙ differ_back g pb in
+          ap (λ (c : Block). differ c.ref2 (predicted mode_of (ref2_at u) i j)) at ∙ ap (λ (t : Bool). differ (differ g pb) t) (sym (ref2_near m u i j near)) ∙ differ_twice g pb in
           two_modes u i j f g r s (refs ∙ two) a_is b_is both;
     }
   where
@@ -231,7 +226,7 @@ modes_one_came m i j b r s led not e =
       reads = λ u refs near here.
           let at : block_at u i j ≡ block_using (differ f pa) false = here ∙ block in
           let a_is : differ (block_at u i j).ref1 (predicted mode_of (ref1_at u) i j) ≡ f =
-          ap (λ (c : Block). differ c.ref1 (predicted mode_of (ref1_at u) i j)) at ∙ ap (λ (t : Bool). differ (differ f pa) t) (sym (ref1_near m u i j near)) ∙ differ_back f pa in
+          ap (λ (c : Block). differ c.ref1 (predicted mode_of (ref1_at u) i j)) at ∙ ap (λ (t : Bool). differ (differ f pa) t) (sym (ref1_near m u i j near)) ∙ differ_twice f pa in
           one_mode u i j f r s (λ two. not (sym refs ∙ two)) a_is one;
     }
   where

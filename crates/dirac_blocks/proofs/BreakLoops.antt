@@ -8,7 +8,7 @@ use Rattle.dirac_arith.specs.Deciding.{begin}
 use Rattle.dirac_arith.specs.Front.{front}
 use Rattle.dirac_arith.specs.Interval.{Decision}
 use Rattle.dirac_arith.specs.Reading.{Reading, Reads}
-use Rattle.dirac_arith.proofs.Carrieds.{IsLed}
+use Rattle.dirac_arith.proofs.Carrieds.{IsLed, no_answer}
 use Rattle.dirac_arith.proofs.Led.{led_begin, reads_carried}
 use Rattle.dirac_arith.proofs.Spellings.{reads_more}
 use Rattle.dirac_blocks.specs.declared.block.Block.{Block}
@@ -25,7 +25,7 @@ use Rattle.dirac_blocks.specs.Reached.{SameShape, IsUnit, progress}
 use Rattle.dirac_blocks.specs.Refused.{Told, value_told, Break, IsBreak, broken_part, cause_of, CarriesBreak}
 use Rattle.dirac_blocks.specs.Tables.{BlockTable, IsBlockTable, block_at, split_at, unit_size}
 use Rattle.dirac_blocks.proofs.BackwardLoops.{IsOutside, Came, row_came, rows_came, superblocks_came, superblock_rows_came}
-use Rattle.dirac_blocks.proofs.Breaks.{stopped, no_refusal, unit_breaks}
+use Rattle.dirac_blocks.proofs.Breaks.{stopped, unit_breaks}
 use Rattle.dirac_blocks.proofs.Fills.{split_few}
 use Rattle.dirac_blocks.proofs.ForwardLoops.{unit_of_superblock, units_fill}
 use Rattle.dirac_blocks.proofs.Repeating.{shape_join, shape_refl, split_same, unit_same}
@@ -40,7 +40,7 @@ pub record StepBreaks (step : ℕ → Step) (n : ℕ) (x : Progress) (e : Cause)
 
 pub repeated_breaks : (step : ℕ → Step) (n : ℕ) (x : Progress) (e : Cause) → repeated step n x ≡ Err e → StepBreaks step n x e
 unfolding repeated
-repeated_breaks step zero x e is = absurd (no_refusal (Ok x) x e refl is)
+repeated_breaks step zero x e is = absurd (no_answer (Ok x) x e refl is)
 repeated_breaks step (suc n) x e is =
     elim (stopped (repeated step n x) (step n) e is) [
       | inl bad ↦
@@ -146,7 +146,7 @@ unit_broken part m r e size i j inv led some is =
     let refused : unit_read part m i j r ≡ Err e =
     elim (stopped (unit_read part m i j r) (λ b. let x : Result Progress Cause = Ok (record { table = with_unit m size i j b.0; reading = b.1 }) in x) e is) [
       | inl bad ↦ bad
-      | inr q ↦ absurd (no_refusal (Ok (progress (with_unit m size i j q.0.0) q.0.1)) (progress (with_unit m size i j q.0.0) q.0.1) e refl q.2)
+      | inr q ↦ absurd (no_answer (Ok (progress (with_unit m size i j q.0.0) q.0.1)) (progress (with_unit m size i j q.0.0) q.0.1) e refl q.2)
     ] in
     let k = unit_breaks part m i j r e led some refused in
     record {

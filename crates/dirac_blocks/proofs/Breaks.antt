@@ -4,12 +4,12 @@ use Rattle.std.specs.Prelude.{if◌then◌else◌}
 use Rattle.std.proofs.lemmas.Bool.{cases_Bool, cases_eq, eq-eqb, ne_eqb, both_ways}
 use Rattle.dirac_types.specs.declared.faults.Cause.{Cause}
 use Rattle.dirac_types.specs.declared.faults.Cause.TheVariants as cause
-use Rattle.dirac_arith.specs.Chain.{◌>>=◌}
+use Rattle.dirac_types.specs.Chain.{◌>>=◌}
 use Rattle.dirac_arith.specs.Deciding.{after, after_all, truth_of, decided, signed_read}
 use Rattle.dirac_arith.specs.Front.{front}
 use Rattle.dirac_arith.specs.Reading.{Reading, Reads}
 use Rattle.dirac_arith.specs.Spelling.{spelt, signed_spelling}
-use Rattle.dirac_arith.proofs.Carrieds.{IsLed, some_signed, reads_of}
+use Rattle.dirac_arith.proofs.Carrieds.{IsLed, some_signed, reads_of, no_answer}
 use Rattle.dirac_arith.proofs.Decidings.{decided_open, signed_is_read, signed_is_long}
 use Rattle.dirac_vectors.specs.Predictions.{mode_of, vector_of, dc_of}
 use Rattle.dirac_blocks.specs.declared.block.Block.{Block}
@@ -20,10 +20,6 @@ use Rattle.dirac_blocks.specs.Grammar.{block_using, mode_read, second_use_read, 
 use Rattle.dirac_blocks.specs.Parts.{vector_at, dc_at}
 use Rattle.dirac_blocks.specs.Refused.{Told, component_told, dc_told, value_told, Break, long, beyond, IsBreak, broken_part, cause_of}
 use Rattle.dirac_blocks.specs.Tables.{BlockTable, block_at}
-
--- an answer is no refusal
-pub no_refusal : {A : Type 0} (x : Result A Cause) (v : A) (e : Cause) → x ≡ Ok v → x ≡ Err e → ⊥
-no_refusal x v e p q = cc
 
 pub one_refusal : {A : Type 0} (x : Result A Cause) (d e : Cause) → x ≡ Err d → x ≡ Err e → d ≡ e
 one_refusal x d e p q = cc
@@ -56,7 +52,7 @@ value_breaks v r e led some is =
           let ds = signed_spelling v.follow v.bits v.sign z in
           let read = signed_is_read v.follow v.bits v.sign z r led.tame some found.1 found.2 in
           elim (stopped (signed_read v.follow v.bits v.sign r) (value_from v.range v.prediction) e is) [
-            | inl bad ↦ absurd (no_refusal (signed_read v.follow v.bits v.sign r) (z, after_all r ds) e read bad)
+            | inl bad ↦ absurd (no_answer (signed_read v.follow v.bits v.sign r) (z, after_all r ds) e read bad)
             | inr q ↦
                 let value : value_from v.range v.prediction (z, after_all r ds) ≡ Err e =
                 let told : value_read v.range v.follow v.bits v.sign v.prediction r ≡ value_from v.range v.prediction (z, after_all r ds) =
@@ -89,7 +85,7 @@ value_breaks v r e led some is =
     fits : (v : Told) (x : ℤ × Reading) (e : Cause) → is_short (x.0 +ℤ v.prediction) ≡ true → value_from v.range v.prediction x ≡ Err e → ⊥
     fits v x e short is =
         let P : Bool → Type 0 = λ b. (let r : Result (ℤ × Reading) Cause = if b then Ok (x.0 +ℤ v.prediction, x.1) else Err v.range in r ≡ Err e) in
-        no_refusal (Ok (x.0 +ℤ v.prediction, x.1)) (x.0 +ℤ v.prediction, x.1) e refl (subst P short is)
+        no_answer (Ok (x.0 +ℤ v.prediction, x.1)) (x.0 +ℤ v.prediction, x.1) e refl (subst P short is)
 
     apart : (v : Told) (x : ℤ × Reading) (e : Cause) → is_short (x.0 +ℤ v.prediction) ≡ false → value_from v.range v.prediction x ≡ Err e → v.range ≡ e
     apart v x e far is =
@@ -105,9 +101,9 @@ into_breaks part m i j true bm put v r e led some told is =
       | inl bad ↦
           let k = value_breaks v r e led some bad in
           record { told = v; is = told refl; breaks = k.breaks; breaks_so = k.breaks_so; cause_is = k.cause_is; reads = k.reads }
-      | inr q ↦ absurd (no_refusal (Ok (put bm q.0.0, q.0.1)) (put bm q.0.0, q.0.1) e refl q.2)
+      | inr q ↦ absurd (no_answer (Ok (put bm q.0.0, q.0.1)) (put bm q.0.0, q.0.1) e refl q.2)
     ]
-into_breaks part m i j false bm put v r e led some told is = absurd (no_refusal (Ok (bm, r)) (bm, r) e refl is)
+into_breaks part m i j false bm put v r e led some told is = absurd (no_answer (Ok (bm, r)) (bm, r) e refl is)
 
 -- bits are never refused, but for ones
 modes_never : (m : BlockTable) (i j : ℕ) (r : Reading) (e : Cause) → front r.block 16 ≢ 0xFFFF → mode_read m i j r ≡ Err e → ⊥
@@ -119,7 +115,7 @@ modes_never m i j r e some is =
     (decided_open 25 r some) in
     elim (stopped (second_use_read m i j mid) k e (sym next ∙ is)) [
       | inl bad ↦ second m i j mid e some bad
-      | inr q ↦ no_refusal (k q.0) (block_using (differ (truth_of 25 r) (predicted mode_of (ref1_at m) i j)) q.0.0, q.0.1) e refl q.2
+      | inr q ↦ no_answer (k q.0) (block_using (differ (truth_of 25 r) (predicted mode_of (ref1_at m) i j)) q.0.0, q.0.1) e refl q.2
     ]
   where
     second : (m : BlockTable) (i j : ℕ) (mid : Reading) (e : Cause) → front mid.block 16 ≢ 0xFFFF → second_use_read m i j mid ≡ Err e → ⊥
@@ -129,10 +125,10 @@ modes_never m i j r e some is =
         elim (cases_eq m.refs 2) [
           | inl two ↦
               elim (stopped (decided 26 mid) g e (subst P (eq-eqb m.refs 2 two) is)) [
-                | inl bad ↦ no_refusal (decided 26 mid) (truth_of 26 mid, after mid (26, truth_of 26 mid)) e (decided_open 26 mid some) bad
-                | inr q ↦ no_refusal (g q.0) (differ q.0.0 (predicted mode_of (ref2_at m) i j), q.0.1) e refl q.2
+                | inl bad ↦ no_answer (decided 26 mid) (truth_of 26 mid, after mid (26, truth_of 26 mid)) e (decided_open 26 mid some) bad
+                | inr q ↦ no_answer (g q.0) (differ q.0.0 (predicted mode_of (ref2_at m) i j), q.0.1) e refl q.2
               ]
-          | inr not ↦ no_refusal (Ok (false, mid)) (false, mid) e refl (subst P (ne_eqb m.refs 2 not) is)
+          | inr not ↦ no_answer (Ok (false, mid)) (false, mid) e refl (subst P (ne_eqb m.refs 2 not) is)
         ]
 
 -- a value that a unit has is told

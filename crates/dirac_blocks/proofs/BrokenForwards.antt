@@ -5,7 +5,7 @@ use Rattle.std.proofs.lemmas.Bool.{cases_lt, both_ways}
 use Rattle.std.proofs.lemmas.Nat.{mul-le}
 use Rattle.dirac_types.specs.declared.faults.Cause.{Cause}
 use Rattle.dirac_types.specs.declared.formats.Vector.{Vector}
-use Rattle.dirac_arith.specs.Chain.{◌>>=◌}
+use Rattle.dirac_types.specs.Chain.{◌>>=◌}
 use Rattle.dirac_arith.specs.Deciding.{begin, after_all}
 use Rattle.dirac_arith.specs.Interval.{Decision}
 use Rattle.dirac_arith.specs.Reading.{Reading, Reads}
@@ -26,9 +26,10 @@ use Rattle.dirac_blocks.specs.Reached.{IsUnit, progress}
 use Rattle.dirac_blocks.specs.Refused.{Told, component_told, dc_told, value_told, Break, long, beyond, IsBreak, broken_part, cause_of, list_until}
 use Rattle.dirac_blocks.specs.Tables.{BlockTable, IsBlockTable, block_at, split_at, unit_size}
 use Rattle.dirac_blocks.proofs.Fills.{split_few}
-use Rattle.dirac_blocks.proofs.ForwardLoops.{Toward, row_goes, rows_go, superblocks_go, superblock_rows_go, shape_back, unit_of_superblock, units_fill, size_some}
+use Rattle.dirac_blocks.proofs.ForwardLoops.{Toward, row_goes, rows_go, superblocks_go, superblock_rows_go, shape_back, unit_of_superblock, units_fill}
 use Rattle.dirac_blocks.proofs.Nearby.{Near, SameWithin, near_within, vector_near, dc_near}
 use Rattle.dirac_blocks.proofs.Repeating.{repeated_stops, split_same}
+use Rattle.dirac_blocks.proofs.Units.{size_some}
 
 -- a value whose decisions break off is refused
 value_refused : (v : Told) (k : Break) (r s : Reading) → IsLed r → IsBreak v k → Reads r (broken_part v k) s → value_read v.range v.follow v.bits v.sign v.prediction r ≡ Err (cause_of v k)

@@ -10,7 +10,7 @@ use Rattle.dirac_blocks.specs.Grammar.{row_filled, rows_filled, with_split, with
 use Rattle.dirac_blocks.specs.Reached.{AllGrey, IsUnit}
 use Rattle.dirac_blocks.specs.Tables.{BlockTable, IsBlock, IsBlockTable, grey, split_at, block_in, unit_size, first_of}
 use Rattle.dirac_blocks.proofs.Putting.{split_inside}
-use Rattle.dirac_blocks.proofs.Units.{of_splits, first_below, first_alike}
+use Rattle.dirac_blocks.proofs.Units.{of_splits, first_below, first_alike, size_some}
 
 pub row_filled_next : (blocks : List Block) (start : ℕ) (b : Block) (n : ℕ) → row_filled blocks start b (n + 1) ≡ slice_set (row_filled blocks start b n) (start + n) b
 unfolding row_filled
@@ -166,9 +166,6 @@ pub record IsPlaced (t : BlockTable) (size i j : ℕ) : Type 0 where
 
 pub split_few : (t : BlockTable) (sx sy : ℕ) → IsBlockTable t → sx < t.across → sy < t.down → split_at t sx sy ≤ 2
 split_few t sx sy inv hx hy = inv.splits (sy * t.across + sx) 0 (split_inside t sx sy inv hx hy)
-
-size_some : (split : ℕ) → split ≤ 2 → 1 ≤ unit_size split
-size_some split h = of_splits (λ s. 1 ≤ unit_size s) split h (omega arith) (omega arith) (omega arith)
 
 size_few : (split : ℕ) → split ≤ 2 → unit_size split ≤ 4
 size_few split h = of_splits (λ s. unit_size s ≤ 4) split h (omega arith) (omega arith) (omega arith)

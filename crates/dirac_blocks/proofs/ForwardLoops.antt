@@ -24,7 +24,7 @@ use Rattle.dirac_blocks.proofs.Fills.{unit_lawful, split_few, unit_placed}
 use Rattle.dirac_blocks.proofs.Forwards.{Meets, unit_forward}
 use Rattle.dirac_blocks.proofs.Nearby.{SameWithin, near_within, block_lawful}
 use Rattle.dirac_blocks.proofs.Repeating.{split_same, unit_same}
-use Rattle.dirac_blocks.proofs.Units.{of_splits}
+use Rattle.dirac_blocks.proofs.Units.{of_splits, size_some}
 
 -- a table on its way to a finished one: what it lacks is in this part
 pub record Toward (part : Part) (m u : BlockTable) : Type 0 where
@@ -192,9 +192,6 @@ rows_go part u m size across i j count (suc n) r s inv toward units fits some fe
 -- the units of a superblock fill it
 pub units_fill : (split : ℕ) → split ≤ 2 → 2 ^ split * unit_size split ≡ 4
 units_fill split h = of_splits (λ s. 2 ^ s * unit_size s ≡ 4) split h (omega arith) (omega arith) (omega arith)
-
-pub size_some : (split : ℕ) → split ≤ 2 → 1 ≤ unit_size split
-size_some split h = of_splits (λ s. 1 ≤ unit_size s) split h (omega arith) (omega arith) (omega arith)
 
 pub unit_of_superblock : (u : BlockTable) (sx sy k l : ℕ) → sx < u.across → sy < u.down → k < 2 ^ split_at u sx sy → l < 2 ^ split_at u sx sy
     → (let size = unit_size (split_at u sx sy) in IsUnit u size (4 * sx + k * size) (4 * sy + l * size))

@@ -38,7 +38,7 @@ back : (v p : ℤ) → v ≡ (v -ℤ p) +ℤ p
 back v p = omega (arith, ints)
 
 -- a bit against its prediction, and again
-differ_twice : (a b : Bool) → differ (differ a b) b ≡ a
+pub differ_twice : (a b : Bool) → differ (differ a b) b ≡ a
 differ_twice true true = refl
 differ_twice true false = refl
 differ_twice false true = refl

@@ -1,37 +1,13 @@
 -- All decisions of a table's lists are in contexts that there are.
-use Rattle.std.proofs.Common.{◌≡◌, ◌-ℤ◌, ℕ, zero, suc, ℤ, pos, negsuc, ◌+◌, ◌*◌, ◌<◌, ◌==◌, min, Bool, true, false, List, [], ◌∷◌, ◌++◌, length, slice_index, Option, Some, None, if◌then◌else◌, sym, subst, arith, lit<}
-use Rattle.dirac_types.specs.Numbers.{digits_of}
+use Rattle.std.proofs.Common.{◌≡◌, ◌-ℤ◌, ℕ, zero, suc, ℤ, ◌+◌, ◌*◌, ◌<◌, ◌==◌, min, Bool, true, false, List, [], ◌∷◌, slice_index, Option, Some, None, if◌then◌else◌, sym, subst, arith, lit<}
 use Rattle.dirac_arith.specs.Interval.{Decision, InContexts}
-use Rattle.dirac_arith.specs.Spelling.{follow_at, opening, spelling, signed_spelling}
+use Rattle.dirac_arith.specs.Spelling.{follow_at, spelling}
+use Rattle.dirac_arith.proofs.InContexts.{AreBelow, in_append, in_signed, in_spelling}
 use Rattle.dirac_blocks.specs.declared.parts.Part.{Part}
 use Rattle.dirac_blocks.specs.declared.parts.Part.TheVariants as part
 use Rattle.dirac_blocks.specs.Tables.{BlockTable}
 use Rattle.dirac_blocks.specs.Decisions.{Numbers, UnitPart, less_prediction, split_row, split_rows, unit_row, unit_rows, superblock_part, superblock_row, superblock_rows}
 use Rattle.dirac_blocks.specs.Parts.{part_at}
-
-in_append : (ds es : List Decision) → InContexts ds → InContexts es → InContexts (ds ++ es)
-in_append [] es p q = q
-in_append (d ∷ ds) es p q = (p.0, in_append ds es p.1 q)
-
--- follow contexts that there are
-record AreBelow (follow : List ℕ) : Type 0 where
-  each : (i : ℕ) → follow_at follow i < 38
-
-in_opening : (follow : List ℕ) (bits i : ℕ) (digits : List Bool) → AreBelow follow → bits < 38 → InContexts (opening follow bits i digits)
-in_opening follow bits i [] f h = tt
-in_opening follow bits i (b ∷ bs) f h = (f.each i, (h, in_opening follow bits (i + 1) bs f h))
-
-in_spelling : (follow : List ℕ) (bits n : ℕ) → AreBelow follow → bits < 38 → InContexts (spelling follow bits n)
-unfolding spelling
-in_spelling follow bits n f h =
-    let last : Decision = (follow_at follow (length (digits_of n)), true) in
-    in_append (opening follow bits 0 (digits_of n)) (last ∷ []) (in_opening follow bits 0 (digits_of n) f h) (f.each (length (digits_of n)), tt)
-
-in_signed : (follow : List ℕ) (bits sign : ℕ) (v : ℤ) → AreBelow follow → bits < 38 → sign < 38 → InContexts (signed_spelling follow bits sign v)
-unfolding signed_spelling
-in_signed follow bits sign (pos zero) f h s = in_spelling follow bits 0 f h
-in_signed follow bits sign (pos (suc n)) f h s = let d : Decision = (sign, false) in in_append (spelling follow bits (suc n)) (d ∷ []) (in_spelling follow bits (suc n) f h) (s, tt)
-in_signed follow bits sign (negsuc n) f h s = let d : Decision = (sign, true) in in_append (spelling follow bits (suc n)) (d ∷ []) (in_spelling follow bits (suc n) f h) (s, tt)
 
 two_below : (a b i : ℕ) → a < 38 → b < 38 → follow_at (a ∷ b ∷ []) i < 38
 two_below a b zero p q = p

@@ -5,13 +5,13 @@ mod BreakLoops
 mod Breaks
 mod BrokenForwards
 mod Examples
-mod Filled
+pub mod Filled
 mod Fills
 mod ForwardLoops
 mod Forwards
 mod InContexts
 mod Narrowing
-mod Nearby
+pub mod Nearby
 mod Ones
 mod Putting
 mod Repeating
@@ -19,7 +19,7 @@ mod SplitBackwards
 mod SplitBreaks
 mod SplitForwards
 mod UnitValues
-mod Spelled
+pub mod Spelled
 mod SplitsRefused
-mod Stages
+pub mod Stages
 mod Units

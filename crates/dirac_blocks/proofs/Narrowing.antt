@@ -1,19 +1,9 @@
 -- Lists of decisions that are written one after the other, and how the lists of a table grow.
-use Rattle.std.proofs.Common.{◌≡◌, ℕ, ◌+◌, ◌*◌, List, [], ◌∷◌, ◌++◌, refl, sym, ◌∙◌, ap}
+use Rattle.std.proofs.Common.{◌≡◌, ℕ, ◌+◌, ◌*◌, [], ◌∷◌, ◌++◌, refl}
 use native.Mathlib.Numerals.{unary_clauses}
-use Rattle.dirac_arith.specs.Interval.{Decision, Interval, narrowed, narrowed_by}
 use Rattle.dirac_arith.specs.Spelling.{spelling}
 use Rattle.dirac_blocks.specs.Tables.{BlockTable}
 use Rattle.dirac_blocks.specs.Decisions.{Numbers, UnitPart, split_row, split_rows, unit_row, unit_rows, superblock_part, superblock_row, superblock_rows}
-
-narrowed_append : (s : Interval) (ds es : List Decision) → narrowed_by s (ds ++ es) ≡ narrowed_by (narrowed_by s ds) es
-narrowed_append s [] es = refl
-narrowed_append s (d ∷ ds) es = narrowed_append (narrowed s d) ds es
-
--- decisions and then others
-pub narrowed_more : (old mid new : Interval) (ds es all : List Decision) → mid ≡ narrowed_by old ds → new ≡ narrowed_by mid es → all ≡ ds ++ es → new ≡ narrowed_by old all
-narrowed_more old mid new ds es all p q e =
-    q ∙ ap (λ (s : Interval). narrowed_by s es) p ∙ sym (narrowed_append old ds es) ∙ ap (λ (l : List Decision). narrowed_by old l) (sym e)
 
 pub unit_row_next : (part : UnitPart) (size i j n : ℕ) → unit_row part size i j (n + 1) ≡ unit_row part size i j n ++ part (i + n * size) j
 unfolding unit_row

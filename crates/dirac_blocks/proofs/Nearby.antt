@@ -5,8 +5,9 @@ use Rattle.std.proofs.lemmas.Bool.{cases_eq, cases_lt, eq-eqb, ne_eqb}
 use Rattle.std.proofs.lemmas.List.{get_or_past}
 use Rattle.std.proofs.lemmas.Int.{ints}
 use Rattle.dirac_types.specs.declared.formats.Vector.{Vector}
+use Rattle.dirac_types.specs.Samples.{mean_of_three}
 use Rattle.dirac_vectors.proofs.Means.{mean_of_two_short, mean_of_three_short, median_short}
-use Rattle.dirac_vectors.specs.Neighbours.{IsShort, median, mean_of_three}
+use Rattle.dirac_vectors.specs.Neighbours.{IsShort, median}
 use Rattle.dirac_vectors.specs.Predictions.{IsShortVector, of_neighbours, vector_of, dc_of, mode_of}
 use Rattle.dirac_blocks.specs.declared.block.Block.{Block}
 use Rattle.dirac_blocks.specs.declared.parts.Component.{Component}

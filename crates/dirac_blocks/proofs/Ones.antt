@@ -3,7 +3,7 @@ use Rattle.std.proofs.Common.{◌≡◌, ℕ, ℤ, zero, suc, ◌+◌, ◌*◌, 
 use Rattle.dirac_types.specs.declared.faults.Cause.{Cause}
 use Rattle.dirac_types.specs.declared.faults.Cause.TheVariants as cause
 use Rattle.dirac_arith.specs.Carried.{Carries}
-use Rattle.dirac_arith.specs.Chain.{◌>>=◌}
+use Rattle.dirac_types.specs.Chain.{◌>>=◌}
 use Rattle.dirac_arith.specs.Deciding.{begin}
 use Rattle.dirac_arith.specs.Front.{front}
 use Rattle.dirac_arith.specs.Interval.{Decision}

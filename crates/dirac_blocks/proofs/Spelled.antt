@@ -1,7 +1,6 @@
 -- The bits of a block table that is written spell it, so they are read as the same table.
-use Rattle.std.proofs.Common.{◌≡◌, ℕ, zero, suc, ◌+◌, ◌-◌, ◌*◌, ◌/◌, ◌%◌, ◌^◌, ◌<◌, ◌≤◌, inl, inr, Bool, false, List, [], ◌∷◌, ◌++◌, length, map, replicate, Option, Some, None, Result, Ok, Err, OnOk, refl, sym, ap, ◌∙◌, arith, subst, lit<, mod-lt, append_assoc, append-nil, length-append, get_or, ext_get_or}
+use Rattle.std.proofs.Common.{◌≡◌, ℕ, ◌+◌, ◌-◌, ◌*◌, ◌/◌, ◌%◌, ◌^◌, ◌<◌, ◌≤◌, inl, inr, Bool, List, [], ◌∷◌, ◌++◌, length, map, replicate, Option, Some, None, Result, OnOk, refl, sym, ap, ◌∙◌, arith, subst, append_assoc, append-nil, length-append, get_or, ext_get_or}
 use Rattle.std.specs.Prelude.{if◌then◌else◌}
-use Rattle.std.specs.List.{AllByRecursion}
 use Rattle.std.proofs.lemmas.Bool.{cases_eq, cases_lt, eq-eqb, ne_eqb}
 use Rattle.std.proofs.lemmas.List.{length-replicate, length-map, get_or-map, get_or-replicate, get_or_past}
 use Rattle.std.proofs.lemmas.List.Elements.{All-from_get_or}
@@ -10,14 +9,15 @@ use Rattle.dirac_types.specs.declared.faults.Cause.{Cause}
 use Rattle.dirac_types.specs.declared.formats.Vector.{Vector}
 use Rattle.dirac_types.specs.Bits.{bits_of}
 use Rattle.dirac_types.specs.Numbers.{uint}
-use Rattle.dirac_types.specs.Numbers as numbers
+use Rattle.dirac_types.proofs.Answers.{ok_both}
 use Rattle.dirac_arith.specs.Deciding.{begin}
-use Rattle.dirac_arith.specs.Interval.{Decision, interval_of}
-use Rattle.dirac_arith.specs.Written.{bytes_of, block_length, flushed, flush}
-use Rattle.dirac_arith.proofs.Encodings.{flushed_is_carried}
-use Rattle.dirac_bits.specs.Spelling.{Spells}
-use Rattle.dirac_bits.specs.Syntax.{Syntax, done, flag_then, uint_then, sint_then, literal_then, block_then, align_then, here_then, refuse, ◌>>=◌}
+use Rattle.dirac_arith.specs.Interval.{Decision}
+use Rattle.dirac_arith.specs.Written.{flush}
+use Rattle.dirac_arith.proofs.Encodings.{flushed_is_carried, flush_bytes}
+use Rattle.dirac_bits.specs.Spelling.{Spells, SpelledBehind}
+use Rattle.dirac_bits.specs.Syntax.{Syntax, done, ◌>>=◌}
 use Rattle.dirac_bits.specs.Writing.{gap, IsWhole}
+use Rattle.dirac_bits.proofs.Fields.{behind_then, gap_length-at}
 use Rattle.dirac_vectors.specs.Predictions.{split_of}
 use Rattle.dirac_blocks.specs.declared.block.Block.{Block}
 use Rattle.dirac_blocks.specs.declared.parts.Component.TheVariants as components
@@ -31,82 +31,12 @@ use Rattle.dirac_blocks.specs.Grammar.{Progress, Step, empty_table, listed, tabl
 use Rattle.dirac_blocks.specs.Parts.{part_at}
 use Rattle.dirac_blocks.specs.Reached.{progress}
 use Rattle.dirac_blocks.specs.Tables.{BlockTable, IsBlock, IsBlockTable, IsSize, split_at, grey, no_vector}
-use Rattle.dirac_blocks.specs.Written.{with_block, with_lists, AreShort, SpelledBehind}
+use Rattle.dirac_blocks.specs.Written.{with_block, with_lists, AreShort}
 use Rattle.dirac_blocks.proofs.Appended.{lists_append}
 use Rattle.dirac_blocks.proofs.InContexts.{in_split_rows}
 use Rattle.dirac_blocks.proofs.Nearby.{grey_lawful}
 use Rattle.dirac_blocks.proofs.SplitForwards.{carried_splits_are_read}
 use Rattle.dirac_blocks.proofs.Stages.{by, by_lawful, IsStage, next_stage, stage_next, stage_modes, modes_same, part_same, stage_reads}
-
--- the parts of what is spelled, with more bits behind it
-longer : (a first rest b : List Bool) → a ≡ first ++ rest → a ++ b ≡ first ++ (rest ++ b)
-longer a first rest b e = ap (λ bits. bits ++ b) e ∙ append_assoc first rest b
-
--- the place behind it
-behind : (k n : ℕ) (a first rest : List Bool) → a ≡ first ++ rest → length first ≡ n → k + length a ≡ k + n + length rest
-behind k n a first rest e len = omega (arith, ap length e, length-append first rest)
-
--- fields and then others are spelled by the bits of the first and then those of the others
-pub spells_then : {A B : Type 0} (s : Syntax A) (f : A → Syntax B) (y : A) (x : B) (k : ℕ) (a b : List Bool)
-    → Spells s y k a → Spells (f y) x (k + length a) b → Spells (s >>= f) x k (a ++ b)
-spells_then (done z) f y x k a b e more =
-    let none : k + length a ≡ k = omega (arith, ap length e.1) in
-    let here = subst (λ n. Spells (f y) x n b) none more in
-    let bits : a ++ b ≡ b = ap (λ front. front ++ b) e.1 in
-    subst (λ z. Spells (f z) x k (a ++ b)) (sym e.0) (subst (λ (l : List Bool). Spells (f y) x k l) (sym bits) here)
-spells_then (flag_then g) f y x k a b e more =
-    let place = behind k 1 a (e.0 ∷ []) e.1 e.2 refl in
-    (e.0, e.1 ++ b, ap (λ bits. bits ++ b) e.2, spells_then (g e.0) f y x (k + 1) e.1 b e.3 (subst (λ n. Spells (f y) x n b) place more))
-spells_then (uint_then g) f y x k a b e more =
-    let first = numbers.uint e.0 in
-    let place = behind k (length first) a first e.1 e.3 refl in
-    (e.0, e.1 ++ b, e.2, longer a first e.1 b e.3, spells_then (g e.0) f y x (k + length first) e.1 b e.4 (subst (λ n. Spells (f y) x n b) place more))
-spells_then (sint_then g) f y x k a b e more =
-    let first = numbers.sint e.0 in
-    let place = behind k (length first) a first e.1 e.3 refl in
-    (e.0, e.1 ++ b, e.2, longer a first e.1 b e.3, spells_then (g e.0) f y x (k + length first) e.1 b e.4 (subst (λ n. Spells (f y) x n b) place more))
-spells_then (literal_then g) f y x k a b e more =
-    let first = numbers.literal e.0 in
-    let place = behind k 32 a first e.1 e.3 refl in
-    (e.0, e.1 ++ b, e.2, longer a first e.1 b e.3, spells_then (g e.0) f y x (k + 32) e.1 b e.4 (subst (λ n. Spells (f y) x n b) place more))
-spells_then (block_then len g) f y x k a b e more =
-    let first = bits_of e.0 in
-    let place = behind k (length first) a first e.1 e.3 refl in
-    (e.0, e.1 ++ b, e.2, longer a first e.1 b e.3, spells_then (g e.0) f y x (k + length first) e.1 b e.4 (subst (λ n. Spells (f y) x n b) place more))
-spells_then (align_then s) f y x k a b e more =
-    let place = behind k (length e.0) a e.0 e.1 e.3 refl in
-    (e.0, e.1 ++ b, e.2, longer a e.0 e.1 b e.3, spells_then s f y x (k + length e.0) e.1 b e.4 (subst (λ n. Spells (f y) x n b) place more))
-spells_then (here_then g) f y x k a b e more = spells_then (g (k / 8)) f y x k a b e more
-spells_then (refuse at cause) f y x k a b e more = absurd e
-
--- fields and then others behind bits
-spelled_then : (s : Syntax BlockTable) (f : BlockTable → Syntax BlockTable) (t u : BlockTable) (old mid new : List Bool)
-    → SpelledBehind s t old mid → SpelledBehind (f t) u mid new → SpelledBehind (s >>= f) u old new
-spelled_then s f t u old mid new p q =
-    let len : length mid ≡ length old + length p.bits = ap length p.is ∙ length-append old p.bits in
-    record {
-      bits = p.bits ++ q.bits;
-      is = q.is ∙ ap (λ (l : List Bool). l ++ q.bits) p.is ∙ append_assoc old p.bits q.bits;
-      spells = spells_then s f t u (length old) p.bits q.bits p.spells (subst (λ (n : ℕ). Spells (f t) u n q.bits) len q.spells);
-    }
-
--- a block's bytes are below 256
-in_bytes : (m n : ℕ) → AllByRecursion (λ b. b < 2 ^ 8) (bytes_of m n)
-unfolding bytes_of
-in_bytes zero n = tt
-in_bytes (suc m) n = (mod-lt (n / 2 ^ (8 * m)) {m = 256} (lit< tt), in_bytes m n)
-
-flush_bytes : (ds : List Decision) → AllByRecursion (λ b. b < 2 ^ 8) (flush ds)
-unfolding flushed
-flush_bytes [] = tt
-flush_bytes (d ∷ ds) =
-    let s = interval_of (d ∷ ds) in
-    let m = block_length s.doublings in
-    in_bytes m ((s.low + s.range) / 2 ^ (16 + s.doublings - 8 * m) - 1)
-
--- a gap ends where a byte does
-gap_length : (bits : List Bool) (k : ℕ) → length bits ≡ k → k + length (gap bits) ≡ 8 * ((k + 7) / 8)
-gap_length bits k e = omega (arith, length-replicate {A = Bool} ((8 - length bits % 8) % 8) false)
 
 four_parts : (a b c d : List Bool) → ((a ++ b) ++ c) ++ d ≡ a ++ (b ++ (c ++ d))
 four_parts a b c d = simp append_assoc
@@ -132,7 +62,7 @@ list_spelled step t u ds old read short =
         gap before ++ bits_of block,
         short,
         refl,
-        (gap before, bits_of block, gap_length before k1 (length-append old first), refl, (block, [], (refl, flush_bytes ds), sym (append-nil (bits_of block)), last)),
+        (gap before, bits_of block, gap_length-at before k1 (length-append old first), refl, (block, [], (refl, flush_bytes ds), sym (append-nil (bits_of block)), last)),
       );
     }
 
@@ -204,7 +134,7 @@ empty_lawful across down refs size =
     }
 
 -- before any block is read
-abbrev nothing_yet : Block → Block
+abbrev pub nothing_yet : Block → Block
 nothing_yet b = grey
 
 -- the splits of a finished table are read from the block that is written for them
@@ -263,7 +193,7 @@ vectors_spelled t k f old inv s short short' =
     let mid = with_block (flush (block_of t (parts.Across k))) old in
     let two = list_spelled (units_step (parts.Down k)) (by g t) (by (next_stage (parts.Down k) g) t) (block_of t (parts.Down k)) mid
     (next_read (parts.Down k) t g inv (stage_next (parts.Across k) t f s)) short' in
-    spelled_then (listed (units_step (parts.Across k)) (by f t)) (λ u. listed (units_step (parts.Down k)) u) (by g t) (by (next_stage (parts.Down k) g) t) old mid _ one two
+    behind_then (listed (units_step (parts.Across k)) (by f t)) (λ u. listed (units_step (parts.Down k)) u) (by g t) (by (next_stage (parts.Down k) g) t) old mid _ one two
 
 -- the DC values
 dcs_spelled : (t : BlockTable) (f : Block → Block) (old : List Bool) → IsBlockTable t → IsStage t f
@@ -286,8 +216,8 @@ dcs_spelled t f old inv s short =
     let one = list_spelled (units_step y) (by f t) (by f1 t) (block_of t y) old (next_read y t f inv s) short.0 in
     let two = list_spelled (units_step u) (by f1 t) (by f2 t) (block_of t u) b1 (next_read u t f1 inv s1) short.1.0 in
     let three = list_spelled (units_step v) (by f2 t) (by f3 t) (block_of t v) b2 (next_read v t f2 inv s2) short.1.1.0 in
-    let rest = spelled_then (listed (units_step u) (by f1 t)) (λ w. listed (units_step v) w) (by f2 t) (by f3 t) b1 b2 b3 two three in
-    spelled_then (listed (units_step y) (by f t)) (λ w. listed (units_step u) w >>= (λ x. listed (units_step v) x)) (by f1 t) (by f3 t) old b1 b3 one rest
+    let rest = behind_then (listed (units_step u) (by f1 t)) (λ w. listed (units_step v) w) (by f2 t) (by f3 t) b1 b2 b3 two three in
+    behind_then (listed (units_step y) (by f t)) (λ w. listed (units_step u) w >>= (λ x. listed (units_step v) x)) (by f1 t) (by f3 t) old b1 b3 one rest
 
 third_stage : (t : BlockTable) → IsStage t stage3
 third_stage t = stage_next (parts.Down references.First) t stage2 (stage_next (parts.Across references.First) t stage1 (first_stage t))
@@ -324,7 +254,7 @@ whole_two b = refl
 whole_one : (b : Block) → b.v2 ≡ no_vector → with_dcs stage3 b ≡ b
 whole_one b e = let make : Vector → Block = λ v. record b { v2 = v } in ap make (sym e)
 
-by_end : (f : Block → Block) (t : BlockTable) → IsBlockTable t → ((b : Block) → IsBlock t.refs b → f b ≡ b) → by f t ≡ t
+pub by_end : (f : Block → Block) (t : BlockTable) → IsBlockTable t → ((b : Block) → IsBlock t.refs b → f b ≡ b) → by f t ≡ t
 by_end f t inv same =
     let len : length (map f t.blocks) ≡ length t.blocks = length-map t.blocks f in
     ap (λ (xs : List Block). let u : BlockTable = record t { blocks = xs } in u)
@@ -352,13 +282,13 @@ rest_spelled t old inv short =
       | inl two ↦
           let end : by (with_dcs stage5) t ≡ t = by_end (with_dcs stage5) t inv (λ b h. whole_two b) in
           subst (λ (u : BlockTable). SpelledBehind (second_listed (by stage3 t) >>= (λ u. dcs_listed u)) u old new) end
-          (spelled_then (second_listed (by stage3 t)) (λ u. dcs_listed u) (by stage5 t) (by (with_dcs stage5) t) old mid new
+          (behind_then (second_listed (by stage3 t)) (λ u. dcs_listed u) (by stage5 t) (by (with_dcs stage5) t) old mid new
           (two_spelled t old inv two parts'.0) (dcs_spelled t stage5 mid inv (fifth_stage t) parts'.1))
       | inr not ↦
           let single : t.refs ≡ 1 = omega (arith, inv.size.some_refs, inv.size.most_refs) in
           let end : by (with_dcs stage3) t ≡ t = by_end (with_dcs stage3) t inv (λ b h. whole_one b (h.no_v2 (h.second single))) in
           subst (λ (u : BlockTable). SpelledBehind (second_listed (by stage3 t) >>= (λ u. dcs_listed u)) u old new) end
-          (spelled_then (second_listed (by stage3 t)) (λ u. dcs_listed u) (by stage3 t) (by (with_dcs stage3) t) old mid new
+          (behind_then (second_listed (by stage3 t)) (λ u. dcs_listed u) (by stage3 t) (by (with_dcs stage3) t) old mid new
           (one_spelled t old not) (dcs_spelled t stage3 mid inv (third_stage t) parts'.1))
     ])
 
@@ -381,9 +311,9 @@ lists_spelled t old inv short =
     let rest3 : BlockTable → Syntax BlockTable = λ u. second_listed u >>= (λ v. dcs_listed v) in
     let rest2 : BlockTable → Syntax BlockTable = λ u. vectors_listed references.First u >>= rest3 in
     let rest1 : BlockTable → Syntax BlockTable = λ u. listed (units_step m) u >>= rest2 in
-    let behind3 = spelled_then (vectors_listed references.First (by stage1 t)) rest3 (by stage3 t) t b2 b4 new three four in
-    let behind2 = spelled_then (listed (units_step m) (by nothing_yet t)) rest2 (by stage1 t) t b1 b2 new two behind3 in
-    spelled_then (listed splits_step t0) rest1 (by nothing_yet t) t old b1 new one behind2
+    let behind3 = behind_then (vectors_listed references.First (by stage1 t)) rest3 (by stage3 t) t b2 b4 new three four in
+    let behind2 = behind_then (listed (units_step m) (by nothing_yet t)) rest2 (by stage1 t) t b1 b2 new two behind3 in
+    behind_then (listed splits_step t0) rest1 (by nothing_yet t) t old b1 new one behind2
 
 -- a table that is written is spelled
 pub table_spelled : (t : BlockTable) (old : List Bool) → IsBlockTable t → IsWhole old → AreShort (block_decisions t (least_numbers t))
@@ -399,11 +329,6 @@ table_spelled t old inv whole short =
       is = h.is;
       spells = ([], h.bits, aligned, refl, subst (λ (n : ℕ). Spells (lists_of (empty_table t.across t.down t.refs)) t n h.bits) (sym stays) h.spells);
     }
-
--- what follows from two facts of an answer
-pub ok_both : {T E : Type 0} (P Q R : Type 0) → (P → Q → R) → (r : Result T E) → OnOk r P → OnOk r Q → OnOk r R
-ok_both P Q R both (Ok x) p q = both p q
-ok_both P Q R both (Err e) p q = p
 
 -- short lists one after the other
 pub short_append : (xs ys : List (List Decision)) → AreShort xs → AreShort ys → AreShort (xs ++ ys)

@@ -7,7 +7,7 @@ use Rattle.dirac_arith.specs.Front.{front}
 use Rattle.dirac_arith.specs.Interval.{Decision}
 use Rattle.dirac_arith.specs.Reading.{Reading, Reads}
 use Rattle.dirac_arith.specs.Spelling.{spelt, spelling}
-use Rattle.dirac_arith.proofs.Carrieds.{IsLed, some_number, reads_of}
+use Rattle.dirac_arith.proofs.Carrieds.{IsLed, some_number, reads_of, no_answer}
 use Rattle.dirac_arith.proofs.Decidings.{number_is, number_is_long}
 use Rattle.dirac_arith.proofs.Led.{led_begin, reads_carried}
 use Rattle.dirac_arith.proofs.Spellings.{reads_more}
@@ -17,7 +17,7 @@ use Rattle.dirac_blocks.specs.Laws.{RefusedSplitsAreBroken}
 use Rattle.dirac_blocks.specs.Reached.{AllGrey, progress}
 use Rattle.dirac_blocks.specs.Refused.{CarriesSplitBreak}
 use Rattle.dirac_blocks.specs.Tables.{BlockTable}
-use Rattle.dirac_blocks.proofs.Breaks.{stopped, no_refusal, one_refusal}
+use Rattle.dirac_blocks.proofs.Breaks.{stopped, one_refusal}
 use Rattle.dirac_blocks.proofs.BreakLoops.{repeated_breaks}
 use Rattle.dirac_blocks.proofs.Repeating.{blocks_join}
 use Rattle.dirac_blocks.proofs.SplitBackwards.{RowsCame, RowCame, row_came, rows_came, split_row_same, split_rows_same, with_value, value_there, value_here}
@@ -35,11 +35,11 @@ unfolding split_step
 split_breaks sy sx m r e led some is =
     let k : ℕ × Reading → Result Progress Cause = λ number. Ok (record { table = with_split m sx sy ((number.0 + predicted_split m sx sy) % 3); reading = number.1 }) in
     elim (stopped (number_read (22 ∷ 23 ∷ []) 24 r) k e is) [
-      | inr q ↦ absurd (no_refusal (k q.0) (progress (with_split m sx sy ((q.0.0 + predicted_split m sx sy) % 3)) q.0.1) e refl q.2)
+      | inr q ↦ absurd (no_answer (k q.0) (progress (with_split m sx sy ((q.0.0 + predicted_split m sx sy) % 3)) q.0.1) e refl q.2)
       | inl bad ↦
           elim (some_number r.block r.at (22 ∷ 23 ∷ []) 24 (led.lies some)) [
             | inl found ↦
-                absurd (no_refusal (number_read (22 ∷ 23 ∷ []) 24 r) (found.0, after_all r (spelling (22 ∷ 23 ∷ []) 24 found.0)) e
+                absurd (no_answer (number_read (22 ∷ 23 ∷ []) 24 r) (found.0, after_all r (spelling (22 ∷ 23 ∷ []) 24 found.0)) e
                 (number_is (22 ∷ 23 ∷ []) 24 found.0 r led.tame some found.1 found.2) bad)
             | inr far ↦
                 let ds = spelt (22 ∷ 23 ∷ []) 24 far.0 false in

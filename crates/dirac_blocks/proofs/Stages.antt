@@ -32,10 +32,10 @@ use Rattle.dirac_blocks.proofs.Units.{first_below}
 abbrev pub by : (Block → Block) → BlockTable → BlockTable
 by f t = record t { blocks = map f t.blocks }
 
-by_at : (f : Block → Block) (t : BlockTable) (x y : ℕ) → y * (4 * t.across) + x < length t.blocks → block_at (by f t) x y ≡ f (block_at t x y)
+pub by_at : (f : Block → Block) (t : BlockTable) (x y : ℕ) → y * (4 * t.across) + x < length t.blocks → block_at (by f t) x y ≡ f (block_at t x y)
 by_at f t x y inside = get_or-map f t.blocks (y * (4 * t.across) + x) grey grey inside
 
-place_inside : (t : BlockTable) (x y : ℕ) → IsBlockTable t → x < 4 * t.across → y < 4 * t.down → y * (4 * t.across) + x < length t.blocks
+pub place_inside : (t : BlockTable) (x y : ℕ) → IsBlockTable t → x < 4 * t.across → y < 4 * t.down → y * (4 * t.across) + x < length t.blocks
 place_inside t x y inv p q = let h = mul-add-lt y (4 * t.across) x (4 * t.down) q p in omega (arith, inv.blocks_len)
 
 -- what each block tells is what it told before, outside of the table too
@@ -230,7 +230,7 @@ component_is h f i j =
     ∙ ap (λ (o : Option ℤ). component_of (left_of (λ x y. option_map h (f x y)) i j) (above_of (λ x y. option_map h (f x y)) i j) o) (corner_map h f i j)
 
 -- two tables whose vectors have the same components are told by the same decisions
-components_same : (h : Vector → ℤ) (f g : ℕ → ℕ → Option Vector) → ((x y : ℕ) → option_map h (f x y) ≡ option_map h (g x y)) → (i j : ℕ)
+pub components_same : (h : Vector → ℤ) (f g : ℕ → ℕ → Option Vector) → ((x y : ℕ) → option_map h (f x y) ≡ option_map h (g x y)) → (i j : ℕ)
     → less_prediction (27 ∷ 28 ∷ 29 ∷ 30 ∷ 31 ∷ []) 32 33 (component_of (option_map h (left_of f i j)) (option_map h (above_of f i j)) (option_map h (corner_of f i j))) (option_map h (f i j))
     ≡ less_prediction (27 ∷ 28 ∷ 29 ∷ 30 ∷ 31 ∷ []) 32 33 (component_of (option_map h (left_of g i j)) (option_map h (above_of g i j)) (option_map h (corner_of g i j))) (option_map h (g i j))
 components_same h f g same i j =
@@ -243,7 +243,7 @@ dcs_same f g same i j =
     ap₂ (λ (p : ℤ) (o : Option ℤ). less_prediction (34 ∷ 35 ∷ []) 36 37 p o)
     (predicted_same dc_of f g i j (λ p. same (i - 1) j) (λ p. same i (j - 1)) (λ p q. same (i - 1) (j - 1))) (same i j)
 
-counted_map : (h : Vector → ℤ) (b : Bool) (v : Vector) → option_map h (counted b v) ≡ counted b (h v)
+pub counted_map : (h : Vector → ℤ) (b : Bool) (v : Vector) → option_map h (counted b v) ≡ counted b (h v)
 counted_map h true v = refl
 counted_map h false v = refl
 

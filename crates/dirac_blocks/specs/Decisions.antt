@@ -37,6 +37,7 @@ differ false b = b
 abbrev pub ref1_at : BlockTable → ℕ → ℕ → Option Bool
 ref1_at t i j = Some (block_at t i j).ref1
 
+-- whether it uses reference 2
 abbrev pub ref2_at : BlockTable → ℕ → ℕ → Option Bool
 ref2_at t i j = Some (block_at t i j).ref2
 
@@ -44,6 +45,7 @@ ref2_at t i j = Some (block_at t i j).ref2
 abbrev pub v1_at : BlockTable → ℕ → ℕ → Option Vector
 v1_at t i j = counted (block_at t i j).ref1 (block_at t i j).v1
 
+-- the vector of reference 2, where the block uses it
 abbrev pub v2_at : BlockTable → ℕ → ℕ → Option Vector
 v2_at t i j = counted (block_at t i j).ref2 (block_at t i j).v2
 
@@ -51,12 +53,15 @@ v2_at t i j = counted (block_at t i j).ref2 (block_at t i j).v2
 abbrev pub is_dc_at : BlockTable → ℕ → ℕ → Bool
 is_dc_at t i j = not ((block_at t i j).ref1 || (block_at t i j).ref2)
 
+-- its value of Y
 abbrev pub dc_y_at : BlockTable → ℕ → ℕ → Option ℤ
 dc_y_at t i j = counted (is_dc_at t i j) (block_at t i j).dc_y
 
+-- its value of U
 abbrev pub dc_u_at : BlockTable → ℕ → ℕ → Option ℤ
 dc_u_at t i j = counted (is_dc_at t i j) (block_at t i j).dc_u
 
+-- its value of V
 abbrev pub dc_v_at : BlockTable → ℕ → ℕ → Option ℤ
 dc_v_at t i j = counted (is_dc_at t i j) (block_at t i j).dc_v
 

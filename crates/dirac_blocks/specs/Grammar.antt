@@ -3,7 +3,7 @@
 use Rattle.std.specs.Prelude.{ℕ, zero, suc, ℤ, pos, negsuc, ◌+◌, ◌+ℤ◌, ◌*◌, ◌%◌, ◌^◌, ◌==◌, int_le, if◌then◌else◌, Bool, true, false, not, ◌||◌, ◌&&◌, List, [], ◌∷◌, replicate, slice_set, Result, Ok, Err}
 use Rattle.dirac_types.specs.declared.faults.Cause.{Cause}
 use Rattle.dirac_types.specs.declared.faults.Cause.TheVariants.{VectorRange, DcRange}
-use Rattle.dirac_arith.specs.Chain.{◌>>=◌ as ◌>>◌}
+use Rattle.dirac_types.specs.Chain.{◌>>=◌ as ◌>>◌}
 use Rattle.dirac_arith.specs.Deciding.{begin, decided, number_read, signed_read}
 use Rattle.dirac_arith.specs.Reading.{Reading}
 use Rattle.dirac_bits.specs.Syntax.{Syntax, done, refuse, block_then, uint, align, here, ◌>>=◌}
@@ -108,11 +108,12 @@ uses references.Second b = b.ref2
 abbrev pub is_dc : Block → Bool
 is_dc b = not (b.ref1 || b.ref2)
 
--- the block with a component of a vector
+-- the block with this component across of a vector
 abbrev pub with_across : Reference → Block → ℤ → Block
 with_across references.First b v = record b { v1 = record { x = v; y = b.v1.y } }
 with_across references.Second b v = record b { v2 = record { x = v; y = b.v2.y } }
 
+-- the same of the component down
 abbrev pub with_down : Reference → Block → ℤ → Block
 with_down references.First b v = record b { v1 = record { x = b.v1.x; y = v } }
 with_down references.Second b v = record b { v2 = record { x = b.v2.x; y = v } }

@@ -1,4 +1,3 @@
-pub mod Answers
 pub mod Carried
 pub mod Decisions
 pub mod Grammar

@@ -23,10 +23,11 @@ pub record Told : Type 0 where
   pub prediction : ℤ
   pub range : Cause
 
--- a component of a vector, and a DC value
+-- a component of a vector
 abbrev pub component_told : ℤ → Told
 component_told p = record { follow = 27 ∷ 28 ∷ 29 ∷ 30 ∷ 31 ∷ []; bits = 32; sign = 33; prediction = p; range = VectorRange }
 
+-- a DC value
 abbrev pub dc_told : ℤ → Told
 dc_told p = record { follow = 34 ∷ 35 ∷ []; bits = 36; sign = 37; prediction = p; range = DcRange }
 
@@ -42,6 +43,7 @@ pub data Break : Type 0 where
   long : List Bool → Break
   beyond : ℤ → Break
 
+-- as many digits as no number has, or a number that can be spelt and is out of range
 abbrev pub IsBreak : Told → Break → Type 0
 IsBreak v (long digits) = length digits ≡ 38
 IsBreak v (beyond z) = (nat_abs z < 2 ^ 39 - 1) × (is_short (z +ℤ v.prediction) ≡ false)

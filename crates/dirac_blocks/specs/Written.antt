@@ -1,17 +1,10 @@
 -- The bits of a block table: a length and an arithmetic block for each of its lists.
-use Rattle.std.specs.Prelude.{◌≡◌, ℕ, ◌+◌, ◌^◌, ◌<◌, Bool, List, [], ◌∷◌, ◌++◌, length}
+use Rattle.std.specs.Prelude.{ℕ, ◌+◌, ◌^◌, ◌<◌, Bool, List, [], ◌∷◌, ◌++◌, length}
 use Rattle.dirac_types.specs.Bits.{bits_of}
 use Rattle.dirac_types.specs.Numbers.{uint}
 use Rattle.dirac_arith.specs.Interval.{Decision}
 use Rattle.dirac_arith.specs.Written.{flush}
-use Rattle.dirac_bits.specs.Spelling.{Spells}
-use Rattle.dirac_bits.specs.Syntax.{Syntax}
-use Rattle.dirac_bits.specs.Writing.{gap}
-use Rattle.dirac_blocks.specs.Tables.{BlockTable}
-
--- these bits, and 0 up to the next byte
-abbrev pub up_to_byte : List Bool → List Bool
-up_to_byte bits = bits ++ gap bits
+use Rattle.dirac_bits.specs.Writing.{up_to_byte}
 
 -- the bits with a block behind them: its length, 0 up to the next byte, and its bytes
 abbrev pub with_block : List ℕ → List Bool → List Bool
@@ -26,9 +19,3 @@ with_lists (ds ∷ more) bits = with_lists more (with_block (flush ds) bits)
 abbrev pub AreShort : List (List Decision) → Type 0
 AreShort [] = Unit {0}
 AreShort (ds ∷ more) = (length (flush ds) + 1 < 2 ^ 39) × AreShort more
-
--- behind the first bits, the second have these of a spelling of this table
-pub record SpelledBehind (s : Syntax BlockTable) (t : BlockTable) (old new : List Bool) : Type 0 where
-  pub bits : List Bool
-  pub is : new ≡ old ++ bits
-  pub spells : Spells s t (length old) bits

@@ -1,6 +1,6 @@
 ghost use Rattle.std.specs.Prelude.{◌≡◌, length, IfOk, IfErr};
 ghost use Rattle.dirac_bits.specs.Syntax.{read};
-ghost use Rattle.dirac_blocks.specs.Answers.{ReadsOrStops, IsEarly};
+ghost use Rattle.dirac_bits.specs.Answers.{ReadsOrStops, IsEarly};
 ghost use Rattle.dirac_blocks.specs.Grammar.{blocks};
 ghost use Rattle.dirac_blocks.specs.Tables.{IsBlockTable, IsSize};
 

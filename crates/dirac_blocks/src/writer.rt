@@ -1,11 +1,12 @@
 ghost use Rattle.std.specs.Prelude.{◌≡◌, ◌+◌, ◌^◌, ◌<◌, [], ◌∷◌, length, OnOk};
 ghost use Rattle.dirac_arith.specs.Written.{flush};
 ghost use Rattle.dirac_bits.specs.Writing.{IsWhole};
+ghost use Rattle.dirac_bits.specs.Spelling.{SpelledBehind};
 ghost use Rattle.dirac_blocks.specs.Decisions.{block_decisions, least_numbers, second_lists, split_rows, unit_decisions};
 ghost use Rattle.dirac_blocks.specs.Grammar.{blocks as blocks_grammar};
 ghost use Rattle.dirac_blocks.specs.Parts.{part_at};
 ghost use Rattle.dirac_blocks.specs.Tables.{IsBlockTable};
-ghost use Rattle.dirac_blocks.specs.Written.{AreShort, SpelledBehind, with_block, with_lists};
+ghost use Rattle.dirac_blocks.specs.Written.{AreShort, with_block, with_lists};
 
 use crate::list_writer::{part_block, split_block};
 use crate::parts::{Component, Part, Reference};

@@ -7,7 +7,7 @@ use Rattle.dirac_arith.specs.Front.{front}
 use Rattle.dirac_arith.specs.Interval.{Decision, Interval, narrowed_by, whole}
 use Rattle.dirac_arith.specs.Reading.{Reading, Reads}
 use Rattle.dirac_arith.specs.Spelling.{spelling, spelt, signed_spelling, opening, follow_at}
-use Rattle.dirac_arith.proofs.Spellings.{carried_lies, lies_carried, lies_first, tame_by, whole_tame, narrowed_by-append, carries_one_signed, carries_one_truth, one_spelt_from, spelt_is, signed_is, signed_some, sign_before}
+use Rattle.dirac_arith.proofs.Spellings.{carried_lies, lies_carried, lies_first, tame_by, whole_tame, narrowed_by-append, carries_one_signed, carries_one_truth, one_spelt_from, spelt_is, signed_is, signed_some, sign_before, carried_behind}
 
 -- decisions that a block carries, it carries up to any of them
 pub front_carried : (block : List ℕ) (ds es : List Decision) → Carries block (ds ++ es) → Carries block ds
@@ -40,12 +40,6 @@ one_value block common follow bits sign v w small small' p q =
     (subst (λ (l : List Decision). Carries block l) (ended v) p)
     (subst (λ (l : List Decision). Carries block l) (ended w) q)
 
--- decisions behind common ones lie in the interval of both
-behind : (block : List ℕ) (common ds : List Decision) → 0 < length ds → Carries block (common ++ ds) → Lies block (narrowed_by (narrowed_by whole common) ds)
-behind block common ds some p =
-    let longer : 0 < length (common ++ ds) = omega (arith, length-append {A = Decision} common ds) in
-    subst (λ (s : Interval). Lies block s) (narrowed_by-append whole common ds) (carried_lies block (common ++ ds) longer p)
-
 -- no value beside a number that is too long
 pub value_apart : (block : List ℕ) (common : List Decision) (follow : List ℕ) (bits sign : ℕ) (v : ℤ) (digits : List Bool) → length digits ≡ 38
     → Carries block (common ++ signed_spelling follow bits sign v) → Carries block (common ++ spelt follow bits digits false) → ⊥
@@ -59,9 +53,9 @@ value_apart block common follow bits sign v digits long p q =
     let last : Decision = (follow_at follow (length digits), false) in
     let some' : 0 < length (spelt follow bits digits false) = omega (arith, length-append {A = Decision} (opening follow bits 0 digits) (last ∷ [])) in
     let value : Lies block (narrowed_by s (spelt follow bits (digits_of n) true ++ sign_before sign v [])) =
-    subst P (ended ∙ signed_is follow bits sign v []) (behind block common (signed_spelling follow bits sign v) some p) in
+    subst P (ended ∙ signed_is follow bits sign v []) (carried_behind block common (signed_spelling follow bits sign v) some p) in
     let left = subst P (spelt_is follow bits (digits_of n) true (sign_before sign v [])) value in
-    let right = subst P (sym (append-nil (spelt follow bits digits false)) ∙ spelt_is follow bits digits false []) (behind block common (spelt follow bits digits false) some' q) in
+    let right = subst P (sym (append-nil (spelt follow bits digits false)) ∙ spelt_is follow bits digits false []) (carried_behind block common (spelt follow bits digits false) some' q) in
     let same =
     one_spelt_from block s follow bits 0 38 (digits_of n) digits true false (sign_before sign v []) [] (tame_by whole common whole_tame)
     (digits_few n) (omega arith) (λ e. absurd (true≢false e)) (λ e. long) left right in

@@ -1,15 +1,10 @@
 -- The edges of codeblocks rise from 0 to the band's size.
-use Rattle.std.proofs.Common.{◌≡◌, ℕ, ◌+◌, ◌*◌, ◌/◌, ◌<◌, ◌≤◌, arith}
-use Rattle.std.proofs.Math.Nat.{mul-div_cancel, div-mul-le_self, zero-div, mul-zero, le-div_iff_mul-le}
+use Rattle.std.proofs.Common.{◌≡◌, ℕ, ◌+◌, ◌*◌, ◌<◌, ◌≤◌, arith}
+use Rattle.std.proofs.Math.Nat.{mul-div_cancel, zero-div, mul-zero}
 use Rattle.std.proofs.lemmas.Nat.{mul-le}
 use Rattle.dirac_bands.specs.Geometry.{edge_of}
+use Rattle.dirac_bands.proofs.Sizes.{div_mono}
 use Rattle.dirac_coeffs.specs.Spots.{span_of}
-
--- a quotient rises with its dividend
-div_mono : (m n k : ℕ) → 0 < k → m ≤ n → m / k ≤ n / k
-div_mono m n k h l =
-    let whole : m / k * k ≤ n = omega (arith, div-mul-le_self m k) in
-    (le-div_iff_mul-le {k = k} {x = m / k} {y = n} h).1 whole
 
 pub edge_rises : (size count c d : ℕ) → 0 < count → c ≤ d → edge_of size count c ≤ edge_of size count d
 edge_rises size count c d h l = div_mono (size * c) (size * d) count h (mul-le size c size d (omega arith) l)

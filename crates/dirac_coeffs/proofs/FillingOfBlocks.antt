@@ -3,6 +3,7 @@ use Rattle.std.proofs.Common.{◌≡◌, ℕ, ℤ, ◌+◌, ◌<◌, ◌≤◌, 
 use Rattle.std.proofs.lemmas.Bool.{cases_lt}
 use Rattle.dirac_arith.specs.Interval.{Decision}
 use Rattle.dirac_arith.specs.Reading.{Reading, Reads}
+use Rattle.dirac_arith.proofs.Spellings.{reads_more}
 use Rattle.dirac_bands.specs.Geometry.{edge_of}
 use Rattle.dirac_coeffs.specs.declared.spot.BandSpot.{BandSpot}
 use Rattle.dirac_coeffs.specs.BandRead.{put_at}
@@ -13,7 +14,6 @@ use Rattle.dirac_coeffs.specs.Reached.{BlocksRead, BandRead, RowsBroken, BlockBr
 use Rattle.dirac_coeffs.specs.Spots.{IsSpot, span_of, is_flagged}
 use Rattle.dirac_coeffs.proofs.AgreementOfBlocks.{blocks_same, blocks_next, bands_same, bands_next, zeros_same}
 use Rattle.dirac_coeffs.proofs.Edges.{edge_rises, edge_most}
-use Rattle.dirac_coeffs.proofs.Readings.{reads_join}
 use Rattle.dirac_coeffs.proofs.Within.{kept_above, kept_left, same_less}
 
 pub put_here : {A : Type 0} (former : ℕ → A) (n : ℕ) (a : A) → put_at former n a n ≡ a
@@ -58,7 +58,7 @@ blocks_more spot parent old mid new xs ys cy n mark is h k p q z =
     record {
       marks = marks;
       zeros = chosen (λ c m. SkippedIsZero spot ys cy c m) p.marks n mark (zeros_before_block spot xs ys cy n p.marks is (omega arith) same p.zeros) z;
-      reads = rw (blocks_next spot parent ys marks cy n, sym before, sym here) (reads_join old mid new (blocks_part spot parent xs p.marks cy n) (block_part spot parent ys cy n mark) p.reads q);
+      reads = rw (blocks_next spot parent ys marks cy n, sym before, sym here) (reads_more old mid new (blocks_part spot parent xs p.marks cy n) (block_part spot parent ys cy n mark) p.reads q);
     }
 
 pub blocks_break : (spot : BandSpot) (parent : List ℤ) (old mid new : Reading) (xs ys : List ℤ) (cy n : ℕ) → IsSpot spot → n < spot.across
@@ -78,7 +78,7 @@ blocks_break spot parent old mid new xs ys cy n is h k p b =
       inside = b.inside;
       long = b.long;
       zeros = zeros_before_block spot xs ys cy n p.marks is (omega arith) same p.zeros;
-      reads = rw (sym before) (reads_join old mid new (blocks_part spot parent xs p.marks cy n) (block_until spot parent ys cy n b.row b.column b.digits) p.reads b.reads);
+      reads = rw (sym before) (reads_more old mid new (blocks_part spot parent xs p.marks cy n) (block_until spot parent ys cy n b.row b.column b.digits) p.reads b.reads);
     }
 
 -- the values above row n of codeblocks are as they were
@@ -109,7 +109,7 @@ bands_more spot parent old mid new xs ys n is h k p q =
     record {
       marks = marks;
       zeros = λ cy cx l m. all cy l cx m;
-      reads = rw (bands_next spot parent ys marks n, sym before, sym here) (reads_join old mid new (bands_part spot parent xs p.marks n) (blocks_part spot parent ys q.marks n spot.across) p.reads q.reads);
+      reads = rw (bands_next spot parent ys marks n, sym before, sym here) (reads_more old mid new (bands_part spot parent xs p.marks n) (blocks_part spot parent ys q.marks n spot.across) p.reads q.reads);
     }
 
 pub bands_break : (spot : BandSpot) (parent : List ℤ) (old mid new : Reading) (xs ys : List ℤ) (n : ℕ) → IsSpot spot → n < spot.down
@@ -128,7 +128,7 @@ bands_break spot parent old mid new xs ys n is h k p b =
       inside = record { down = h; across = b.in_blocks; row = b.in_rows; column = b.inside; digits = b.long };
       zeros_above = λ cy cx l m. subst (λ row. SkippedIsZero spot ys cy cx (row cx)) (put_before p.marks n b.marks cy l) (zeros_above_row spot xs ys n p.marks is (omega arith) same p.zeros cy cx l m);
       zeros_before = λ cx l. subst (λ row. SkippedIsZero spot ys n cx (row cx)) here (b.zeros cx l);
-      reads = rw (sym before, sym until) (reads_join old mid new (bands_part spot parent xs p.marks n) (blocks_until spot parent ys b.marks n b.across b.row b.column b.digits) p.reads b.reads);
+      reads = rw (sym before, sym until) (reads_more old mid new (bands_part spot parent xs p.marks n) (blocks_until spot parent ys b.marks n b.across b.row b.column b.digits) p.reads b.reads);
     }
 
 -- a codeblock without a zero flag breaks off where its rows do
@@ -165,5 +165,5 @@ flagged_breaks spot parent old mid xs cy cx new has flag b =
       in_rows = b.in_rows;
       inside = b.inside;
       long = b.long;
-      reads = subst (λ flagged. Reads old (flagged_part flagged false rows) new) (sym has) (reads_join old mid new (d ∷ []) rows flag b.reads);
+      reads = subst (λ flagged. Reads old (flagged_part flagged false rows) new) (sym has) (reads_more old mid new (d ∷ []) rows flag b.reads);
     }

@@ -1,17 +1,17 @@
 -- What is found among all bands is what the block carries.
 use Rattle.std.proofs.Common.{◌≡◌, ◌≢◌, ℕ, zero, suc, ℤ, pos, negsuc, neg_ℤ, ◌+◌, ◌-◌, ◌*◌, ◌^◌, ◌<◌, ◌≤◌, ◌⊎◌, ◌==◌, nat_lt, nat_le, if◌then◌else◌, Bool, true, false, ◌&&◌, List, [], ◌∷◌, ◌++◌, length, map, find, unsigned_abs, Option, Some, None, Result, Ok, Err, All, Decides, refl, sym, ap, ◌∙◌, subst, arith, inl, inr, eq-eqb, ne_eqb, true≢false, leb-true, le-leb}
 use Rattle.std.specs.List.{list_all, flat_map, AllByRecursion}
-use Rattle.std.proofs.lemmas.Bool.{cases_lt, cases_eq, cases_Bool, false≢true}
+use Rattle.std.proofs.lemmas.Bool.{cases_lt, cases_eq, cases_Bool, false≢true, and_parts, and_from}
 use Rattle.std.proofs.lemmas.Bool.Decides.{Decides-and, Decides-below_and, Decides-by_and, Decides-ltb, Decides-eqb}
 use Rattle.std.proofs.lemmas.List.Elements.{recursion_from_All}
 use Rattle.dirac_types.specs.declared.faults.Cause.{Cause}
 use Rattle.dirac_types.specs.declared.faults.Cause.TheVariants.{CodeWord, NumberTooLong}
-use Rattle.dirac_arith.specs.Carried.{Lies, Carries}
+use Rattle.dirac_arith.specs.Carried.{Lies, Carries, lies_in}
 use Rattle.dirac_arith.specs.Front.{front}
 use Rattle.dirac_arith.specs.Interval.{Decision, Interval, interval_of}
 use Rattle.dirac_bands.specs.Geometry.{edge_of}
 use Rattle.dirac_coeffs.specs.declared.spot.BandSpot.{BandSpot}
-use Rattle.dirac_coeffs.specs.BandRead.{lies_in, is_carried, all_below, is_zero_block, implied, flags_hold, Marked, carries_marked, numbers_below, lists_of, put_at, choices_of, flag_of, rows_of_marks, all_marks, all_bands, values_found, band_read}
+use Rattle.dirac_coeffs.specs.BandRead.{is_carried, all_below, is_zero_block, implied, flags_hold, Marked, carries_marked, numbers_below, lists_of, put_at, choices_of, flag_of, rows_of_marks, all_marks, all_bands, values_found, band_read}
 use Rattle.dirac_coeffs.specs.Carried.{IsZeroBlock, SkippedIsZero, CarriesBand, CarriesLong}
 use Rattle.dirac_coeffs.specs.Contexts.{value_at, is_zero}
 use Rattle.dirac_coeffs.specs.Decisions.{Mark, Marks, band_decisions}
@@ -21,14 +21,6 @@ use Rattle.dirac_coeffs.proofs.Apart.{no_band_beside_long, ones_carry_nothing}
 use Rattle.dirac_coeffs.proofs.FillingOfBlocks.{chosen}
 use Rattle.dirac_coeffs.proofs.OneBand.{one_band}
 use Rattle.dirac_coeffs.proofs.Within.{same_refl}
-
--- two tests
-pub and_both : (a b : Bool) → (a && b) ≡ true → (a ≡ true) × (b ≡ true)
-and_both true b e = (refl, e)
-and_both false b e = absurd (false≢true e)
-
-pub both_and : (a b : Bool) → a ≡ true → b ≡ true → (a && b) ≡ true
-both_and a b p q = rw (p, q) refl
 
 -- some member is so
 SomeOf : {A : Type 0} → (A → Type 0) → List A → Type 0
@@ -190,9 +182,9 @@ marked_carried spot parent block m e =
     let len = length m.values == spot.width * spot.height in
     let small = list_all (λ v. nat_lt (unsigned_abs v) (2 ^ 39 - 1)) m.values in
     let flags = flags_hold spot m.values m.marks in
-    let first = and_both len (small && (flags && is_carried block ds)) e in
-    let second = and_both small (flags && is_carried block ds) first.1 in
-    let third = and_both flags (is_carried block ds) second.1 in
+    let first = and_parts len (small && (flags && is_carried block ds)) e in
+    let second = and_parts small (flags && is_carried block ds) first.1 in
+    let third = and_parts flags (is_carried block ds) second.1 in
     record {
       len = (Decides-eqb (length m.values) (spot.width * spot.height)).0 first.0;
       small = (small_decides (2 ^ 39 - 1) m.values).0 second.0;
@@ -206,9 +198,9 @@ carried_marked spot parent block m a =
     let len = length m.values == spot.width * spot.height in
     let small = list_all (λ v. nat_lt (unsigned_abs v) (2 ^ 39 - 1)) m.values in
     let flags = flags_hold spot m.values m.marks in
-    both_and len (small && (flags && is_carried block ds)) ((Decides-eqb (length m.values) (spot.width * spot.height)).1 a.len)
-    (both_and small (flags && is_carried block ds) ((small_decides (2 ^ 39 - 1) m.values).1 a.small)
-    (both_and flags (is_carried block ds) ((flags_decide spot m.values m.marks).1 (λ cy l cx k. a.zeros cy cx l k)) ((carried_decides block ds).1 a.carried)))
+    and_from len (small && (flags && is_carried block ds)) ((Decides-eqb (length m.values) (spot.width * spot.height)).1 a.len)
+    (and_from small (flags && is_carried block ds) ((small_decides (2 ^ 39 - 1) m.values).1 a.small)
+    (and_from flags (is_carried block ds) ((flags_decide spot m.values m.marks).1 (λ cy l cx k. a.zeros cy cx l k)) ((carried_decides block ds).1 a.carried)))
 
 -- marks that are the same for each codeblock serve as well
 same_marks : (spot : BandSpot) (parent : List ℤ) (block : List ℕ) (xs : List ℤ) (ms ms' : Marks) → IsSpot spot → ((cy : ℕ) → cy < spot.down → (cx : ℕ) → cx < spot.across → ms' cy cx ≡ ms cy cx)

@@ -5,14 +5,15 @@ use Rattle.std.proofs.lemmas.List.{length-replicate}
 use Rattle.std.proofs.lemmas.List.Elements.{All-set}
 use Rattle.std.proofs.lemmas.Nat.{mul-le}
 use Rattle.dirac_types.specs.declared.faults.Cause.TheVariants.{CodeWord, NumberTooLong}
-use Rattle.dirac_arith.specs.Carried.{Lies}
-use Rattle.dirac_arith.specs.Deciding.{begin, lies_in, after}
+use Rattle.dirac_arith.specs.Carried.{Lies, lies_in}
+use Rattle.dirac_arith.specs.Deciding.{begin, after}
 use Rattle.dirac_arith.specs.Front.{front}
 use Rattle.dirac_arith.specs.Interval.{Decision, narrowed, narrowed_by}
 use Rattle.dirac_arith.specs.Reading.{Reading, Reads}
 use Rattle.dirac_arith.specs.Spelling.{spelt, signed_spelling}
 use Rattle.dirac_arith.proofs.Carrieds.{some_signed, start_lies}
 use Rattle.dirac_arith.proofs.Decidings.{some_truth}
+use Rattle.dirac_arith.proofs.Spellings.{reads_more}
 use Rattle.dirac_bands.specs.Geometry.{edge_of}
 use Rattle.dirac_coeffs.specs.declared.spot.BandSpot.{BandSpot}
 use Rattle.dirac_coeffs.specs.BandRead.{band_read}
@@ -29,7 +30,7 @@ use Rattle.dirac_coeffs.proofs.Filling.{row_more, row_breaks, rows_more, rows_br
 use Rattle.dirac_coeffs.proofs.FillingOfBlocks.{blocks_more, blocks_break, bands_more, bands_break, plain_breaks, flagged_breaks}
 use Rattle.dirac_coeffs.proofs.Found.{band_found, ones_read, long_read}
 use Rattle.dirac_coeffs.proofs.Read.{read_is_carried, broken_is_long, zeros_first, zeros_small}
-use Rattle.dirac_coeffs.proofs.Readings.{reads_none, reads_join}
+use Rattle.dirac_coeffs.proofs.Readings.{reads_none}
 use Rattle.dirac_coeffs.proofs.Within.{kept_refl, kept_join, kept_wider, set_kept, zero_right, zero_below}
 
 -- what reading came to from these values on: values that are changed in these columns and rows alone, and either all of it
@@ -223,7 +224,7 @@ flagged_goes spot parent old mid xs cy cx has flag all =
       small = all.small;
       came = elim all.came [
         | inl read ↦
-            let joined : Reads old (d ∷ rows all.ys) all.new = reads_join old mid all.new (d ∷ []) (rows all.ys) flag read.0 in
+            let joined : Reads old (d ∷ rows all.ys) all.new = reads_more old mid all.new (d ∷ []) (rows all.ys) flag read.0 in
             inl ((mark, subst (λ flagged. Reads old (flagged_part flagged false (rows all.ys)) all.new) (sym has) joined, λ flagged skipped i j p q. absurd cc), read.1)
         | inr broken ↦ inr (flagged_breaks spot parent old mid all.ys cy cx all.new has flag broken)
       ];

@@ -1,51 +1,33 @@
 -- The bits of a band that is written spell it, so they are read as the same band.
-use Rattle.std.proofs.Common.{◌≡◌, ◌≢◌, ℕ, zero, suc, ℤ, pos, ◌+◌, ◌-◌, ◌*◌, ◌/◌, ◌%◌, ◌^◌, ◌<◌, ◌==◌, if◌then◌else◌, nat_le, Bool, true, false, List, [], ◌∷◌, ◌++◌, length, replicate, Result, Ok, Err, OnOk, refl, sym, ap, ap₂, ◌∙◌, subst, arith, inl, inr, lit<, append_assoc, append-nil, length-append, ne_eqb, le-leb, mod-lt}
+use Rattle.std.proofs.Common.{◌≡◌, ◌≢◌, ℕ, ℤ, pos, ◌+◌, ◌-◌, ◌*◌, ◌/◌, ◌%◌, ◌^◌, ◌<◌, ◌==◌, if◌then◌else◌, nat_le, Bool, true, false, List, [], ◌∷◌, ◌++◌, length, replicate, Ok, Err, refl, sym, ap, ap₂, ◌∙◌, subst, arith, inl, inr, lit<, append_assoc, append-nil, length-append, ne_eqb, le-leb}
 use Rattle.std.specs.List.{AllByRecursion}
-use Rattle.std.proofs.lemmas.Bool.{cases_Bool}
+use Rattle.std.proofs.lemmas.Bool.{cases_Bool, and_from}
 use Rattle.std.proofs.lemmas.List.{length-replicate}
 use Rattle.dirac_types.specs.declared.faults.Cause.TheVariants.{QuantIndex, CodeWord}
 use Rattle.dirac_types.specs.Bits.{bits_of}
 use Rattle.dirac_types.specs.Numbers.{uint}
 use Rattle.dirac_arith.specs.Front.{front, first_bits}
-use Rattle.dirac_arith.specs.Interval.{Decision, interval_of}
-use Rattle.dirac_arith.specs.Written.{bytes_of, block_length, flushed, flush}
-use Rattle.dirac_bits.specs.Spelling.{Spells}
+use Rattle.dirac_bits.specs.Spelling.{Spells, SpelledBehind}
 use Rattle.dirac_bits.specs.Syntax.{Syntax, done, refuse, block_then, align, here, between, ◌>>=◌}
-use Rattle.dirac_bits.specs.Writing.{gap, IsWhole}
+use Rattle.dirac_bits.specs.Writing.{gap, IsWhole, up_to_byte}
+use Rattle.dirac_bits.proofs.Fields.{gap_length-at}
+use Rattle.dirac_arith.proofs.Encodings.{flush_bytes}
 use Rattle.dirac_coeffs.specs.declared.spot.BandSpot.{BandSpot}
 use Rattle.dirac_coeffs.specs.declared.spot.CodedBand.{CodedBand}
 use Rattle.dirac_coeffs.specs.BandRead.{band_read}
 use Rattle.dirac_coeffs.specs.Decisions.{band_decisions}
 use Rattle.dirac_coeffs.specs.Grammar.{band, coded_band, band_from, band_table, zero_band, IsCodedBand}
 use Rattle.dirac_coeffs.specs.Spots.{IsSpot}
-use Rattle.dirac_coeffs.specs.Written.{marks_of, block_of, is_zero_band, up_to_byte, with_block, with_band, SpelledBehind}
-use Rattle.dirac_coeffs.proofs.Found.{ones_read, both_and}
+use Rattle.dirac_coeffs.specs.Written.{marks_of, block_of, is_zero_band, with_block, with_band}
+use Rattle.dirac_coeffs.proofs.Found.{ones_read}
 use Rattle.dirac_coeffs.proofs.Writing.{written_read}
 use Rattle.dirac_coeffs.proofs.ZeroTests.{all_zeros}
-
--- a gap ends where a byte does
-pub gap_length : (bits : List Bool) (k : ℕ) → length bits ≡ k → k + length (gap bits) ≡ 8 * ((k + 7) / 8)
-gap_length bits k e = omega (arith, length-replicate {A = Bool} ((8 - length bits % 8) % 8) false)
 
 pub gap_whole : (bits : List Bool) → IsWhole (bits ++ gap bits)
 gap_whole bits = omega (arith, length-append {A = Bool} bits (gap bits), length-replicate {A = Bool} ((8 - length bits % 8) % 8) false)
 
 six_parts : (a b c d e f : List Bool) → ((((a ++ b) ++ c) ++ d) ++ e) ++ f ≡ a ++ (b ++ (c ++ (d ++ (e ++ f))))
 six_parts a b c d e f = simp append_assoc
-
--- a block's bytes are below 256
-in_bytes : (m n : ℕ) → AllByRecursion (λ b. b < 2 ^ 8) (bytes_of m n)
-unfolding bytes_of
-in_bytes zero n = tt
-in_bytes (suc m) n = (mod-lt (n / 2 ^ (8 * m)) {m = 256} (lit< tt), in_bytes m n)
-
-flush_bytes : (ds : List Decision) → AllByRecursion (λ b. b < 2 ^ 8) (flush ds)
-unfolding flushed
-flush_bytes [] = tt
-flush_bytes (d ∷ ds) =
-    let s = interval_of (d ∷ ds) in
-    let m = block_length s.doublings in
-    in_bytes m ((s.low + s.range) / 2 ^ (16 + s.doublings - 8 * m) - 1)
 
 -- an empty block reads as ones
 empty_ones : (block : List ℕ) → length block ≡ 0 → front block 16 ≡ 65535
@@ -82,11 +64,11 @@ coded_spelled spot parent b block k before is len bytes read =
     let k2 = k1 + length (gap before) in
     let k3 = k2 + length (bits_of block) in
     let rest : ℕ → Syntax CodedBand = λ index. align >>= λ g. (here >>= λ place. block_then (length block) (λ bytes. band_from spot index place (band_read spot parent bytes))) in
-    let allowed : between 0 99 b.index ≡ true = both_and (nat_le 0 b.index) (nat_le b.index 99) (le-leb 0 b.index (omega arith)) (le-leb b.index 99 is.index) in
+    let allowed : between 0 99 b.index ≡ true = and_from (nat_le 0 b.index) (nat_le b.index 99) (le-leb 0 b.index (omega arith)) (le-leb b.index 99 is.index) in
     let last : Spells (band_from spot b.index (k2 / 8) (band_read spot parent block)) b k3 [] =
     subst (λ r. Spells (band_from spot b.index (k2 / 8) r) b k3 []) (sym read) (sym (coded_is spot b is), refl) in
     let tail : Spells (rest b.index) b k1 (gap before ++ bits_of block) =
-    (gap before, bits_of block, gap_length before k1 len, refl, (block, [], (refl, bytes), sym (append-nil (bits_of block)), last)) in
+    (gap before, bits_of block, gap_length-at before k1 len, refl, (block, [], (refl, bytes), sym (append-nil (bits_of block)), last)) in
     let small : b.index + 1 < 2 ^ 39 = omega (arith, is.index) in (
       b.index,
       gap before ++ bits_of block,
@@ -111,7 +93,7 @@ zeros_spelled spot parent b bits e =
     record {
       bits = gap bits ++ uint 0;
       is = append_assoc bits (gap bits) (uint 0);
-      spells = (gap bits, uint 0, gap_length bits (length bits) refl, refl, (0, [], lit< tt, sym (append-nil (uint 0)), (sym e, refl)));
+      spells = (gap bits, uint 0, gap_length-at bits (length bits) refl, refl, (0, [], lit< tt, sym (append-nil (uint 0)), (sym e, refl)));
     }
 
 block_spelled : (spot : BandSpot) (parent : List ℤ) (b : CodedBand) (bits : List Bool) → IsSpot spot → IsCodedBand spot b → length (block_of spot parent b.table.values) + 1 < 2 ^ 39
@@ -136,7 +118,7 @@ block_spelled spot parent b bits spot_is is short =
     record {
       bits = gap bits ++ (uint len ++ rest);
       is = six_parts bits (gap bits) (uint len) (uint b.index) (gap before) (bits_of block);
-      spells = (gap bits, uint len ++ rest, gap_length bits k refl, refl, (len, rest, short, refl, chosen));
+      spells = (gap bits, uint len ++ rest, gap_length-at bits k refl, refl, (len, rest, short, refl, chosen));
     }
 
 -- a band that is written is spelled
@@ -150,8 +132,3 @@ band_spelled spot parent b bits spot_is is index short =
       | inr others ↦
           subst (λ (l : List Bool). SpelledBehind (band spot parent) b bits l) (sym (block_written spot parent b bits others)) (block_spelled spot parent b bits spot_is is (short others))
     ]
-
--- what follows from two facts of an answer
-pub ok_both : {T E : Type 0} (P Q R : Type 0) → (P → Q → R) → (r : Result T E) → OnOk r P → OnOk r Q → OnOk r R
-ok_both P Q R both (Ok x) p q = both p q
-ok_both P Q R both (Err e) p q = p

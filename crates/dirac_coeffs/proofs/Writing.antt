@@ -1,9 +1,9 @@
 -- What an encoder has written, and that it is read back.
-use Rattle.std.proofs.Common.{◌≡◌, ℕ, zero, suc, ℤ, pos, negsuc, ◌+◌, ◌*◌, ◌<◌, min, Bool, true, false, List, [], ◌∷◌, ◌++◌, ◌&&◌, length, slice_index, Result, Ok, Err, IfOk, sym, ap, ◌∙◌, subst, arith, lit<}
-use Rattle.dirac_types.specs.Numbers.{digits_of}
-use Rattle.dirac_arith.specs.Interval.{Decision, Interval, InContexts, narrowed_by}
-use Rattle.dirac_arith.specs.Spelling.{follow_at, opening, spelling, signed_spelling}
+use Rattle.std.proofs.Common.{◌≡◌, ℕ, zero, suc, ℤ, pos, negsuc, ◌+◌, ◌*◌, ◌<◌, min, Bool, true, false, List, [], ◌∷◌, ◌&&◌, length, slice_index, Result, Ok, Err, IfOk, sym, subst, arith, lit<}
+use Rattle.dirac_arith.specs.Interval.{Decision, InContexts}
+use Rattle.dirac_arith.specs.Spelling.{follow_at}
 use Rattle.dirac_arith.proofs.Encodings.{flushed_is_carried}
+use Rattle.dirac_arith.proofs.InContexts.{AreBelow, in_append, in_signed}
 use Rattle.dirac_bands.specs.Geometry.{edge_of}
 use Rattle.dirac_coeffs.specs.declared.spot.BandSpot.{BandSpot}
 use Rattle.dirac_coeffs.specs.BandRead.{band_read}
@@ -13,37 +13,6 @@ use Rattle.dirac_coeffs.specs.Decisions.{Frame, Mark, Marks, frame_of, value_par
 use Rattle.dirac_coeffs.specs.Spots.{IsSpot, span_of, is_flagged}
 use Rattle.dirac_coeffs.specs.Written.{marks_of, block_of}
 use Rattle.dirac_coeffs.proofs.Found.{band_found, zero_block_decides}
-use Rattle.dirac_coeffs.proofs.Readings.{narrowed_append}
-
--- decisions and then others
-pub narrowed_more : (old mid new : Interval) (ds es all : List Decision) → mid ≡ narrowed_by old ds → new ≡ narrowed_by mid es → all ≡ ds ++ es → new ≡ narrowed_by old all
-narrowed_more old mid new ds es all p q e =
-    q ∙ ap (λ (s : Interval). narrowed_by s es) p ∙ sym (narrowed_append old ds es) ∙ ap (λ (l : List Decision). narrowed_by old l) (sym e)
-
--- all decisions of a value are in contexts that there are
-in_append : (ds es : List Decision) → InContexts ds → InContexts es → InContexts (ds ++ es)
-in_append [] es p q = q
-in_append (d ∷ ds) es p q = (p.0, in_append ds es p.1 q)
-
--- the follow contexts of a coefficient
-record IsFollow (follow : List ℕ) : Type 0 where
-  each : (i : ℕ) → follow_at follow i < 38
-
-in_opening : (follow : List ℕ) (bits i : ℕ) (digits : List Bool) → IsFollow follow → bits < 38 → InContexts (opening follow bits i digits)
-in_opening follow bits i [] f h = tt
-in_opening follow bits i (b ∷ bs) f h = (f.each i, (h, in_opening follow bits (i + 1) bs f h))
-
-in_spelling : (follow : List ℕ) (bits n : ℕ) → IsFollow follow → bits < 38 → InContexts (spelling follow bits n)
-unfolding spelling
-in_spelling follow bits n f h =
-    let last : Decision = (follow_at follow (length (digits_of n)), true) in
-    in_append (opening follow bits 0 (digits_of n)) (last ∷ []) (in_opening follow bits 0 (digits_of n) f h) (f.each (length (digits_of n)), tt)
-
-in_signed : (follow : List ℕ) (bits sign : ℕ) (v : ℤ) → IsFollow follow → bits < 38 → sign < 38 → InContexts (signed_spelling follow bits sign v)
-unfolding signed_spelling
-in_signed follow bits sign (pos zero) f h s = in_spelling follow bits 0 f h
-in_signed follow bits sign (pos (suc n)) f h s = let d : Decision = (sign, false) in in_append (spelling follow bits (suc n)) (d ∷ []) (in_spelling follow bits (suc n) f h) (s, tt)
-in_signed follow bits sign (negsuc n) f h s = let d : Decision = (sign, true) in in_append (spelling follow bits (suc n)) (d ∷ []) (in_spelling follow bits (suc n) f h) (s, tt)
 
 -- a list of six contexts
 six_below : (a b c d e f i : ℕ) → (a < 38) × (b < 38) × (c < 38) × (d < 38) × (e < 38) × (f < 38) → follow_at (a ∷ b ∷ c ∷ d ∷ e ∷ f ∷ []) i < 38
@@ -56,7 +25,7 @@ six_below a b c d e f (suc (suc (suc (suc (suc i))))) h =
     let last : min (suc (suc (suc (suc (suc i))))) 5 ≡ 5 = omega arith in
     subst (λ k. slice_index (a ∷ b ∷ c ∷ d ∷ e ∷ f ∷ []) k < 38) (sym last) h.5
 
-follow_below : (p n : Bool) → IsFollow (follow_of p n)
+follow_below : (p n : Bool) → AreBelow (follow_of p n)
 follow_below true true = record { each = λ i. six_below 0 4 5 6 7 8 i (lit< tt, lit< tt, lit< tt, lit< tt, lit< tt, lit< tt) }
 follow_below true false = record { each = λ i. six_below 1 4 5 6 7 8 i (lit< tt, lit< tt, lit< tt, lit< tt, lit< tt, lit< tt) }
 follow_below false true = record { each = λ i. six_below 2 9 10 11 12 13 i (lit< tt, lit< tt, lit< tt, lit< tt, lit< tt, lit< tt) }

@@ -1,14 +1,14 @@
 -- A test of a codeblock's values is the test of its definition.
 use Rattle.std.proofs.Common.{◌≡◌, ℕ, ℤ, pos, ◌+◌, ◌<◌, Bool, true, false, List, [], ◌∷◌, length, replicate, refl, ap, ◌∙◌, subst, inl, inr}
 use Rattle.std.specs.List.{list_all}
-use Rattle.std.proofs.lemmas.Bool.{cases_Bool}
+use Rattle.std.proofs.lemmas.Bool.{cases_Bool, and_parts}
 use Rattle.std.proofs.lemmas.Bool.Decides.{same_from_decides}
 use Rattle.dirac_bands.specs.Geometry.{edge_of}
 use Rattle.dirac_coeffs.specs.declared.spot.BandSpot.{BandSpot}
 use Rattle.dirac_coeffs.specs.BandRead.{is_zero_block}
 use Rattle.dirac_coeffs.specs.Contexts.{value_at, is_zero}
 use Rattle.dirac_coeffs.specs.Spots.{span_of}
-use Rattle.dirac_coeffs.proofs.Found.{zero_block_decides, zero_decides, and_both}
+use Rattle.dirac_coeffs.proofs.Found.{zero_block_decides, zero_decides}
 
 -- zeros in a rectangle
 pub record IsZeroIn (w : ℕ) (xs : List ℤ) (left columns top rows : ℕ) : Type 0 where
@@ -43,6 +43,6 @@ tests_block b spot xs cy cx left columns top rows el ec et er t =
 pub all_zeros : (xs : List ℤ) → list_all is_zero xs ≡ true → xs ≡ replicate (length xs) (pos 0)
 all_zeros [] h = refl
 all_zeros (x ∷ xs) h =
-    let both = and_both (is_zero x) (list_all is_zero xs) h in
+    let both = and_parts (is_zero x) (list_all is_zero xs) h in
     let here : x ≡ pos 0 = (zero_decides x).0 both.0 in
     ap (λ z. z ∷ xs) here ∙ ap (λ l. pos 0 ∷ l) (all_zeros xs both.1)

@@ -1,11 +1,9 @@
 -- What the answers of readers that take memory say; want of memory says nothing of the input.
-use Rattle.std.specs.Prelude.{◌≡◌, ⊤, ℕ, ℤ, ◌≤◌, List, Result, Ok, Err}
+use Rattle.std.specs.Prelude.{◌≡◌, ⊤, ℕ, ℤ, List, Result, Ok, Err}
 use Rattle.dirac_types.specs.declared.faults.Cause.{Cause}
-use Rattle.dirac_types.specs.declared.faults.Refusal.{Refusal}
 use Rattle.dirac_types.specs.declared.faults.Stop.{Stop}
 use Rattle.dirac_types.specs.declared.faults.Stop.TheVariants as stop
 use Rattle.dirac_types.specs.Table.{Table}
-use Rattle.dirac_bits.specs.Cursor.{Cursor}
 use Rattle.dirac_coeffs.specs.declared.spot.BandSpot.{BandSpot}
 use Rattle.dirac_coeffs.specs.Grammar.{band_table}
 
@@ -14,14 +12,3 @@ abbrev pub GivesBlock : BandSpot → ℕ → Result Table Stop → Result (List 
 GivesBlock spot at (Ok t) read = (t ≡ band_table spot t.values) × (read ≡ Ok t.values)
 GivesBlock spot at (Err (stop.Refused r)) read = (r.at ≡ at) × (read ≡ Err r.cause)
 GivesBlock spot at (Err stop.NoMemory) read = ⊤
-
--- the answer is what is read, and the reader stands behind it
-abbrev pub ReadsOrStops : {X : Type 0} → Result X Stop → Cursor → Result (X × Cursor) Refusal → Type 0
-ReadsOrStops (Ok x) new read = read ≡ Ok (x, new)
-ReadsOrStops (Err (stop.Refused r)) new read = read ≡ Err r
-ReadsOrStops (Err stop.NoMemory) new read = ⊤
-
--- a refusal is within so many bytes
-abbrev pub IsEarly : ℕ → Stop → Type 0
-IsEarly len (stop.Refused r) = r.at ≤ len
-IsEarly len stop.NoMemory = ⊤

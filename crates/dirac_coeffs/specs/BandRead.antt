@@ -1,19 +1,16 @@
 -- What a block reads to: the band whose decisions it carries. At most one is carried, so it is found among all bands.
-use Rattle.std.specs.Prelude.{ℕ, zero, suc, ℤ, pos, neg_ℤ, ◌+◌, ◌-◌, ◌*◌, ◌^◌, ◌==◌, nat_le, nat_lt, if◌then◌else◌, Bool, true, false, ◌&&◌, List, [], ◌∷◌, length, map, find, unsigned_abs, Option, Some, None, Result, Ok, Err}
+use Rattle.std.specs.Prelude.{ℕ, zero, suc, ℤ, pos, neg_ℤ, ◌+◌, ◌-◌, ◌*◌, ◌^◌, ◌==◌, nat_lt, if◌then◌else◌, Bool, true, false, ◌&&◌, List, [], ◌∷◌, length, map, find, unsigned_abs, Option, Some, None, Result, Ok, Err}
 use Rattle.std.specs.List.{list_all, flat_map}
 use Rattle.dirac_types.specs.declared.faults.Cause.{Cause}
 use Rattle.dirac_types.specs.declared.faults.Cause.TheVariants.{CodeWord, NumberTooLong}
 use Rattle.dirac_arith.specs.Front.{front}
-use Rattle.dirac_arith.specs.Interval.{Decision, Interval, interval_of}
+use Rattle.dirac_arith.specs.Interval.{Decision, interval_of}
+use Rattle.dirac_arith.specs.Carried.{lies_in}
 use Rattle.dirac_bands.specs.Geometry.{edge_of}
 use Rattle.dirac_coeffs.specs.declared.spot.BandSpot.{BandSpot}
 use Rattle.dirac_coeffs.specs.Contexts.{value_at, is_zero}
 use Rattle.dirac_coeffs.specs.Decisions.{Mark, Marks, band_decisions}
 use Rattle.dirac_coeffs.specs.Spots.{span_of, is_flagged}
-
--- whether the front of the block lies in the interval
-abbrev pub lies_in : List ℕ → Interval → Bool
-lies_in block s = nat_le s.low (front block (16 + s.doublings)) && nat_lt (front block (16 + s.doublings)) (s.low + s.range)
 
 -- whether the block carries these decisions
 abbrev pub is_carried : List ℕ → List Decision → Bool

@@ -25,6 +25,7 @@ corner_of w xs x y = if x == 0 then pos 0 else if y == 0 then pos 0 else value_a
 abbrev pub parent_of : ℕ → List ℤ → ℕ → ℕ → ℤ
 parent_of w parent x y = slice_index_or parent (y / 2 * (w / 2) + x / 2) (pos 0)
 
+-- whether a value is 0
 abbrev pub is_zero : ℤ → Bool
 is_zero (pos zero) = true
 is_zero (pos (suc n)) = false

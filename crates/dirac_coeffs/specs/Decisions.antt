@@ -22,6 +22,7 @@ pub record Mark : Type 0 where
 abbrev pub Marks : Type 0
 Marks = ℕ → ℕ → Mark
 
+-- those of a band with this parent
 abbrev pub frame_of : BandSpot → List ℤ → Frame
 frame_of spot parent = record { band = spot.band; width = spot.width; parent = parent }
 

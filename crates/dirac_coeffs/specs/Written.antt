@@ -1,12 +1,11 @@
 -- How a subband is written: the marks of its codeblocks, its block, and its bits.
-use Rattle.std.specs.Prelude.{◌≡◌, ℕ, ℤ, Bool, List, ◌++◌, length, if◌then◌else◌}
+use Rattle.std.specs.Prelude.{ℕ, ℤ, Bool, List, ◌++◌, length, if◌then◌else◌}
 use Rattle.std.specs.List.{list_all}
 use Rattle.dirac_types.specs.Bits.{bits_of}
 use Rattle.dirac_types.specs.Numbers.{uint}
 use Rattle.dirac_arith.specs.Written.{flush}
-use Rattle.dirac_bits.specs.Spelling.{Spells}
-use Rattle.dirac_bits.specs.Syntax.{Syntax}
-use Rattle.dirac_bits.specs.Writing.{gap}
+pub use Rattle.dirac_bits.specs.Spelling.{SpelledBehind}
+pub use Rattle.dirac_bits.specs.Writing.{up_to_byte}
 use Rattle.dirac_coeffs.specs.declared.spot.BandSpot.{BandSpot}
 use Rattle.dirac_coeffs.specs.declared.spot.CodedBand.{CodedBand}
 use Rattle.dirac_coeffs.specs.BandRead.{flag_of, is_zero_block}
@@ -21,12 +20,9 @@ marks_of spot xs cy cx = flag_of (is_zero_block spot xs cy cx)
 abbrev pub block_of : BandSpot → List ℤ → List ℤ → List ℕ
 block_of spot parent xs = flush (band_decisions spot parent xs (marks_of spot xs))
 
+-- whether a band has zeros alone
 abbrev pub is_zero_band : List ℤ → Bool
 is_zero_band xs = list_all is_zero xs
-
--- these bits, and 0 up to the next byte
-abbrev pub up_to_byte : List Bool → List Bool
-up_to_byte bits = bits ++ gap bits
 
 -- the bits with a band behind them that has a block
 abbrev pub with_block : ℕ → List ℕ → List Bool → List Bool
@@ -37,9 +33,3 @@ abbrev pub with_band : BandSpot → List ℤ → CodedBand → List Bool → Lis
 with_band spot parent b bits =
     if is_zero_band b.table.values then up_to_byte bits ++ uint 0
     else with_block b.index (block_of spot parent b.table.values) (up_to_byte bits)
-
--- behind the first bits, the second have these of a spelling of this value
-pub record SpelledBehind (s : Syntax CodedBand) (b : CodedBand) (old new : List Bool) : Type 0 where
-  pub bits : List Bool
-  pub is : new ≡ old ++ bits
-  pub spells : Spells s b (length old) bits

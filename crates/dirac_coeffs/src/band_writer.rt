@@ -1,10 +1,11 @@
 ghost use Rattle.std.specs.Prelude.{◌≡◌, ◌+◌, ◌*◌, ◌<◌, ◌≤◌, ◌^◌, length, true, OnOk};
 ghost use Rattle.std.specs.Option.{ForSome};
 ghost use Rattle.dirac_bits.specs.Writing.{IsWhole};
+ghost use Rattle.dirac_bits.specs.Spelling.{SpelledBehind};
 ghost use Rattle.dirac_coeffs.specs.Carried.{AreSmall};
 ghost use Rattle.dirac_coeffs.specs.Grammar.{band as band_grammar, values_of_parent, IsParentOf, IsCodedBand};
 ghost use Rattle.dirac_coeffs.specs.Spots.{IsSpot};
-ghost use Rattle.dirac_coeffs.specs.Written.{block_of, is_zero_band, with_block, with_band, SpelledBehind};
+ghost use Rattle.dirac_coeffs.specs.Written.{block_of, is_zero_band, with_block, with_band};
 
 use crate::band::parent_values;
 use crate::block_writer::write_block;

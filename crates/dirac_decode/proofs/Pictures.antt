@@ -5,6 +5,7 @@ use Rattle.std.specs.Int.{int_min}
 use Rattle.std.proofs.lemmas.Int.{ints, int_max_is, int_min_is}
 use Rattle.std.proofs.lemmas.List.Elements.{All-map}
 use Rattle.dirac_types.specs.declared.picture.Picture.{Picture}
+use Rattle.dirac_types.specs.Samples.{clip}
 use Rattle.dirac_sequence.specs.declared.sequence.Sequence.{Sequence}
 use Rattle.dirac_header.specs.declared.header.PictureHeader.{PictureHeader}
 use Rattle.dirac_upconvert.specs.HalfSamples.{IsSample}
@@ -12,7 +13,6 @@ use Rattle.dirac_obmc.specs.declared.motion.Part.{Part}
 use Rattle.dirac_picture.specs.declared.coded.CodedMotion.{CodedMotion}
 use Rattle.dirac_picture.specs.declared.coded.CodedPicture.{CodedPicture}
 use Rattle.dirac_picture.specs.declared.coded.CodedResidual.{CodedResidual}
-use Rattle.dirac_residual.specs.Residual.{clip}
 use Rattle.dirac_decode.specs.Content.{IsPlane, width_of, height_of, samples_from, plane_samples}
 
 -- a clipped value is a sample

@@ -6,14 +6,14 @@ use Rattle.std.proofs.lemmas.Bool.{cases_lt, cases_Bool, lt-ltb}
 use Rattle.std.proofs.lemmas.Bool.Decides.{Decides-int_eq}
 use Rattle.std.proofs.lemmas.Int.{int_rem_euclid_is, ints}
 use Rattle.dirac_types.specs.Numbers as numbers
-use Rattle.dirac_bits.specs.Spelling.{Spells}
+use Rattle.dirac_bits.specs.Spelling.{Spells, SpelledBehind}
 use Rattle.dirac_bits.specs.Syntax.{Syntax, done, ◌>>=◌}
 use Rattle.dirac_bits.specs.Writing.{gap}
 use Rattle.dirac_header.specs.declared.header.PictureHeader.{PictureHeader}
 use Rattle.dirac_header.specs.Codes.{is_reference, references_of}
 use Rattle.dirac_header.specs.Header.{moved_by, retired_by, reference, retirement, header}
-use Rattle.dirac_header.specs.Written.{centred, offset_to, reference_bits, retirement_bits, header_bits, IsInRange, HasReferences, MayRetire, SpelledBehind}
-use Rattle.dirac_header.proofs.Spelled.{spells_then, spells_last, gap_length}
+use Rattle.dirac_header.specs.Written.{centred, offset_to, reference_bits, retirement_bits, header_bits, IsInRange, HasReferences, MayRetire}
+use Rattle.dirac_bits.proofs.Fields.{spells_then, spells_last, gap_length}
 
 -- the two halves of the numbers modulo 2 ^ 32
 centred_low : (a : ℕ) → a < 2 ^ 31 → centred a ≡ pos a

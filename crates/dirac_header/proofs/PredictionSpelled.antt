@@ -12,7 +12,7 @@ use Rattle.dirac_header.specs.declared.prediction.Weights.{Weights}
 use Rattle.dirac_header.specs.Codes.{references_of}
 use Rattle.dirac_header.specs.Prediction.{grid_of, block_grid, vector_precision, modes, weights, weighted, prediction}
 use Rattle.dirac_header.specs.Written.{default_weights, prediction_of, prediction_bits, PredictionBehind}
-use Rattle.dirac_header.proofs.Spelled.{spells_then, spells_last, field_spelled, between_is, gap_length}
+use Rattle.dirac_bits.proofs.Fields.{spells_then, spells_last, field_spelled, between_is, gap_length}
 
 grid_spelled : (chroma : Chroma) (index k : ℕ) → 2 ≤ index → index ≤ 4 → Spells (block_grid chroma) (grid_of index) k (uint index)
 unfolding block_grid

@@ -9,12 +9,12 @@ use Rattle.dirac_types.specs.declared.faults.Cause.TheVariants.{Wavelet, Depth, 
 use Rattle.dirac_types.specs.Numbers.{uint}
 use Rattle.dirac_bits.specs.Spelling.{Spells}
 use Rattle.dirac_bits.specs.Syntax.{Syntax, done, ◌>>=◌, field, between}
-use Rattle.dirac_bands.specs.Geometry.{padded_size}
+use Rattle.dirac_bands.specs.Geometry.{padded_size, band_length}
 use Rattle.dirac_header.specs.declared.transform.Transform.{Transform}
-use Rattle.dirac_header.specs.Transform.{band_length, level_counts, counts_behind, partition, codeblocks, transform}
+use Rattle.dirac_header.specs.Transform.{level_counts, counts_behind, partition, codeblocks, transform}
 use Rattle.dirac_header.specs.Written.{counts_bits, is_above_one, is_parted, partition_bits, codeblock_bits, transform_bits, IsTransform, FitFrom, TransformBehind}
 use Rattle.dirac_header.proofs.Sizes.{band_small}
-use Rattle.dirac_header.proofs.Spelled.{spells_then, spells_last, field_spelled, between_is}
+use Rattle.dirac_bits.proofs.Fields.{spells_then, spells_last, field_spelled, between_is}
 
 -- bands of a picture have no more columns or rows than a count can be
 band_fits : (size depth level : ℕ) → size < 2 ^ 32 → 1 ≤ depth → depth ≤ 5 → band_length size depth level < 2 ^ 32

@@ -42,6 +42,7 @@ own_grid chroma = do
   ybsep ← uint
   if is_grid chroma (grid xblen yblen xbsep ybsep) then done (grid xblen yblen xbsep ybsep) else refuse at BlockSize
 
+-- the block sizes: those of an index, or behind index 0 their own
 unfoldable pub block_grid : Chroma → Syntax BlockGrid
 block_grid chroma = do
   at ← here
@@ -71,6 +72,7 @@ own_weights two = do
   second ← second_weight two
   done (record { bits = bits; first = first; second = second })
 
+-- the weights of the references, else 1 and 1 with precision 1
 unfoldable pub weights : Bool → Syntax Weights
 weights two = custom (record { bits = 1; first = pos 1; second = pos 1 }) (own_weights two)
 

@@ -2,12 +2,8 @@
 use Rattle.std.specs.Prelude.{ℕ, zero, suc, ◌+◌, if◌then◌else◌, List, [], ◌∷◌, ◌++◌, length, replicate}
 use Rattle.dirac_types.specs.declared.faults.Cause.TheVariants.{Wavelet, Depth, Codeblocks, CodeblockMode}
 use Rattle.dirac_bits.specs.Syntax.{Syntax, done, ◌>>=◌, flag, field, between}
+pub use Rattle.dirac_bands.specs.Geometry.{band_length}
 use Rattle.dirac_header.specs.declared.transform.Transform.{Transform}
-use Rattle.dirac_bands.specs.Geometry.{padded_size, size_of_band}
-
--- the columns or rows of a luma band of this level
-abbrev pub band_length : ℕ → ℕ → ℕ → ℕ
-band_length size depth level = size_of_band (padded_size size depth) depth level
 
 -- the counts of codeblocks of one level, across and down, at most as many as its luma bands have columns and rows
 unfoldable pub level_counts : ℕ → ℕ → ℕ → ℕ → Syntax (ℕ × ℕ)

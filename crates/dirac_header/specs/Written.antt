@@ -3,22 +3,16 @@ use Rattle.std.specs.Prelude.{◌≡◌, ℕ, ℤ, pos, ◌+◌, ◌-◌, ◌-�
 use Rattle.std.specs.List.{AllByRecursion}
 use Rattle.dirac_types.specs.declared.formats.Chroma.{Chroma}
 use Rattle.dirac_types.specs.Numbers as numbers
-use Rattle.dirac_bits.specs.Syntax.{Syntax}
-use Rattle.dirac_bits.specs.Spelling.{Spells}
 use Rattle.dirac_bits.specs.Writing.{gap}
+use Rattle.dirac_bands.specs.Geometry.{band_length}
+pub use Rattle.dirac_bits.specs.Spelling.{SpelledBehind}
 use Rattle.dirac_header.specs.declared.header.PictureHeader.{PictureHeader}
 use Rattle.dirac_header.specs.declared.prediction.Prediction.{Prediction}
 use Rattle.dirac_header.specs.declared.prediction.Weights.{Weights}
 use Rattle.dirac_header.specs.declared.transform.Transform.{Transform}
 use Rattle.dirac_header.specs.Codes.{is_reference, references_of}
 use Rattle.dirac_header.specs.Prediction.{grid_of, weighted, prediction}
-use Rattle.dirac_header.specs.Transform.{band_length, transform}
-
--- behind the first bits, the second have these of a spelling of this value
-pub record SpelledBehind {A : Type 0} (s : Syntax A) (x : A) (old new : List Bool) : Type 0 where
-  pub bits : List Bool
-  pub is : new ≡ old ++ bits
-  pub spells : Spells s x (length old) bits
+use Rattle.dirac_header.specs.Transform.{transform}
 
 -- a number modulo 2 ^ 32, as one from - 2 ^ 31 to 2 ^ 31 - 1
 abbrev pub centred : ℕ → ℤ

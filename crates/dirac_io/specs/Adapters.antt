@@ -17,5 +17,6 @@ pub record Writes (W : Type 0) : Type 0 where
 abbrev pub left_after : ℕ → ℕ
 left_after given = 2 ^ 63 - 1 - given
 
+-- it is one
 pub left_after_fits : (given : ℕ) → left_after given < 2 ^ 63
 left_after_fits given = omega arith

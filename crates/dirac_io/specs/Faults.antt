@@ -14,5 +14,6 @@ one_more count = min (count + 1) (2 ^ 64 - 1)
 abbrev pub clipped : ℕ → ℕ
 clipped count = min count (2 ^ 64 - 1)
 
+-- it fits
 pub clipped_fits : (count : ℕ) → clipped count < 2 ^ 64
 clipped_fits count = omega arith

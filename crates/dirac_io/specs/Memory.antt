@@ -36,6 +36,7 @@ fed feed room = record {
 abbrev pub left_of : List ℕ → ℕ
 left_of bytes = min (length bytes) (2 ^ 63 - 1)
 
+-- it is one
 pub left_of_fits : (bytes : List ℕ) → left_of bytes < 2 ^ 63
 left_of_fits bytes = omega arith
 

@@ -1,16 +1,14 @@
 -- How large a step makes the values of a line.
-use Rattle.std.proofs.Common.{◌≡◌, ℕ, ℤ, pos, Bool, true, false, ◌+◌, ◌-◌, ◌*◌, ◌/◌, ◌%◌, ◌^◌, ◌<◌, ◌≤◌, unsigned_abs, List, length, get_or, arith, inl, inr}
+use Rattle.std.proofs.Common.{◌≡◌, ℕ, ℤ, pos, Bool, true, false, ◌+◌, ◌-◌, ◌*◌, ◌/◌, ◌%◌, ◌^◌, ◌≤◌, unsigned_abs, List, length, get_or, arith, inl, inr}
 use Rattle.std.specs.List.{sum_by}
 use Rattle.std.proofs.lemmas.Int.{ints}
-use Rattle.std.proofs.lemmas.Nat.{le-div, div-add-mod', pow_pos}
+use Rattle.std.proofs.lemmas.Nat.{pow_pos}
 use Rattle.std.proofs.lemmas.Bool.{cases_lt}
+use Rattle.dirac_bands.proofs.Sizes.{div_mono}
 use Rattle.dirac_lift.specs.Lifting.{Step, own, value_read, weighted, change_at, moved, new_at, lift, PlacesWithin, grown}
 use Rattle.dirac_lift.proofs.Lifted.{LiftedBelow, lift_below}
 use Rattle.dirac_lift.proofs.Signed.{abs-rounded}
 use Rattle.dirac_lift.proofs.Weighted.{abs-weighted}
-
-div_mono : (a b m : ℕ) → 0 < m → a ≤ b → a / m ≤ b / m
-div_mono a b m some l = le-div (a / m) b m some (omega (arith, l, div-add-mod' a m))
 
 abs-moved : (minus : Bool) (v d : ℤ) → unsigned_abs (moved minus v d) ≤ unsigned_abs v + unsigned_abs d
 abs-moved true v d = omega (arith, ints)

@@ -4,9 +4,8 @@ use Rattle.std.specs.List.{All}
 use Rattle.std.proofs.lemmas.Int.{ints}
 use Rattle.std.proofs.lemmas.List.{get_or_default, get_or-map, ext_get_or, take_at, length-map}
 use lib.Signed.{shr_z}
-use Rattle.dirac_types.specs.Table.{Table, with_values}
+use Rattle.dirac_types.specs.Table.{Table, with_values, filled}
 use Rattle.dirac_bands.specs.DcSum.{by_rows}
-use Rattle.dirac_bands.specs.Interleaving.{filled}
 use Rattle.dirac_lift.specs.Level.{column, row_in, halved, doubled, ended, begun, synthesised, analysed}
 use Rattle.dirac_lift.specs.Places.{ColumnsBecome, ColumnsSafe, RowsBecome}
 use Rattle.dirac_lift.specs.Wavelets.{run, taken_back, steps_of, has_shift, synth, analyse, synth_bound, analyse_bound}
@@ -14,9 +13,6 @@ use Rattle.dirac_lift.proofs.ColumnLemmas.{length-column, column_bound, columns_
 use Rattle.dirac_lift.proofs.RowLemmas.{length-row, row_bound, rows_bound, rows_values}
 use Rattle.dirac_lift.proofs.Runs.{synth_safe, analyse_safe, synth_grows, analyse_grows, run_there, parities_of}
 use Rattle.dirac_lift.proofs.Signed.{abs-rounded}
-
-pub all_weaker : (a b : ℕ) (xs : List ℤ) → a ≤ b → All (λ v. unsigned_abs v ≤ a) xs → All (λ v. unsigned_abs v ≤ b) xs
-all_weaker a b xs l all k d i = omega (arith, l, all k d i)
 
 -- small values are safe
 pub synth_columns_safe : (k w h : ℕ) (xs : List ℤ) → k ≤ 6 → h % 2 ≡ 0 → All (λ v. unsigned_abs v ≤ 2 ^ 108) xs → ColumnsSafe (steps_of k) w h xs

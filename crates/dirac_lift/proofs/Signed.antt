@@ -1,24 +1,15 @@
 -- Signed sums that are shifted down, as the code has them.
 use Rattle.std.proofs.Common.{◌≡◌, ℕ, ℤ, pos, negsuc, suc, ◌+◌, ◌*◌, ◌/◌, ◌%◌, ◌^◌, ◌<◌, ◌≤◌, ◌+ℤ◌, unsigned_abs, to_z, of_z, arith, refl, ap, ◌∙◌}
 use Rattle.std.specs.Int.{w128}
-use Rattle.std.proofs.lemmas.Int.{ints, to_z-of_z, to_z_pos, fits_signed_from_abs}
+use Rattle.std.proofs.lemmas.Int.{ints, to_z_pos, fits_signed_from_abs}
 use Rattle.std.proofs.lemmas.Nat.{one_shl, pow_pos, le-div, div-add-mod'}
-use Rattle.std.proofs.Math.Nat.{div-le_self, suc-mul}
+use Rattle.std.proofs.Math.Nat.{suc-mul}
 use Rattle.std.proofs.Math.Pow.{pow_mono}
 use lib.Signed.{shr_z}
 use mir.Syntax.{Width}
-use mir.Val.{SFits, hbits}
+use mir.Val.{hbits}
+use Rattle.dirac_types.proofs.Shifts.{shr_sum_is}
 use Rattle.dirac_lift.specs.Lifting.{rounded}
-
--- a number shifted down fits where the number does
-shr_fits : (w : Width) (z : ℤ) (m : ℕ) → SFits w z → SFits w (shr_z z m)
-shr_fits w (pos n) m f = record { sfits = let small : n / m ≤ n = div-le_self n m in omega (arith, f.sfits, small) }
-shr_fits w (negsuc n) m f = record { sfits = let small : n / m ≤ n = div-le_self n m in omega (arith, f.sfits, small) }
-
--- a sum shifted down, through the bits
-shr_sum_is : (w : Width) (x h : ℤ) (m : ℕ) → SFits w x → SFits w h → SFits w (x +ℤ h) → to_z w (of_z w (shr_z (to_z w (of_z w (to_z w (of_z w x) +ℤ to_z w (of_z w h)))) m)) ≡ shr_z (x +ℤ h) m
-shr_sum_is w x h m fx fh fs =
-    rw (to_z-of_z w x fx) (rw (to_z-of_z w h fh) (rw (to_z-of_z w (x +ℤ h) fs) (to_z-of_z w (shr_z (x +ℤ h) m) (shr_fits w (x +ℤ h) m fs))))
 
 -- half a power of two, as the code shifts it
 half_is : (w : Width) (m n : ℕ) → 1 * 2 ^ m % n ≡ 2 ^ m → 2 ^ m < 2 ^ hbits w → shr_z (to_z w (1 * 2 ^ m % n)) 2 ≡ pos (2 ^ m / 2)

@@ -7,10 +7,9 @@ use Rattle.std.specs.List.{All}
 use Rattle.std.proofs.lemmas.Int.{ints}
 use Rattle.std.proofs.lemmas.List.FromFn.{get_or-map-range_with_len, length-map-range_with_len}
 use Rattle.std.proofs.lemmas.Nat.{mod_below, div_below}
-use Rattle.dirac_types.specs.Table.{Table}
+use Rattle.dirac_types.specs.Table.{Table, filled, table_of}
 use Rattle.std.proofs.lemmas.List.{length-replicate}
-use Rattle.dirac_upconvert.specs.HalfSamples.{filled, table_of}
-use Rattle.dirac_upconvert.proofs.RowLemmas.{RowsFilled}
+use Rattle.dirac_types.proofs.Rows.{RowsFilled}
 use Rattle.dirac_obmc.specs.Compensation.{Compensation, IsMotion, blended, blocks_down, predicted_at, predicted_plane, predicted_rows}
 use Rattle.dirac_obmc.specs.Directions.{IsSound}
 use Rattle.dirac_obmc.proofs.Bounds.{rows_small}

@@ -2,7 +2,7 @@
 use Rattle.std.specs.Prelude.{◌≡◌, ℕ, zero, suc, ℤ, pos, ◌+◌, ◌-◌, ◌*◌, ◌/◌, ◌^◌, ◌<◌, ◌≤◌, ◌+ℤ◌, ◌*ℤ◌, false, if◌then◌else◌, Option, Some, None, IsSome, IsTrue, unsigned_abs}
 use Rattle.std.specs.Int.{int_div_euclid, int_shr}
 use Rattle.std.specs.Option.{ForSome}
-use Rattle.dirac_types.specs.Table.{Table}
+use Rattle.dirac_types.specs.Table.{Table, table_of}
 use Rattle.dirac_types.specs.declared.formats.Chroma.{Chroma}
 use Rattle.dirac_types.specs.declared.formats.Vector.{Vector}
 use Rattle.dirac_sequence.specs.Ratios.{ratio_across, ratio_down}
@@ -10,7 +10,6 @@ use Rattle.dirac_header.specs.Prediction.{is_grid}
 use Rattle.dirac_header.specs.declared.prediction.Prediction.{Prediction}
 use Rattle.dirac_blocks.specs.Tables.{BlockTable, block_at}
 use Rattle.dirac_blocks.specs.declared.block.Block.{Block}
-use Rattle.dirac_upconvert.specs.HalfSamples.{table_of}
 use Rattle.dirac_upconvert.specs.SubSamples.{Up, rounded, sub_sample}
 use Rattle.dirac_obmc.specs.declared.motion.Part.{Part}
 use Rattle.dirac_obmc.specs.declared.motion.Part.TheVariants as part

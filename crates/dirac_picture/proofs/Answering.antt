@@ -4,12 +4,11 @@ use Rattle.std.specs.Prelude.{IfOk}
 use Rattle.dirac_types.specs.declared.faults.Refusal.{Refusal}
 use Rattle.dirac_types.specs.declared.faults.Stop.{Stop}
 use Rattle.dirac_types.specs.declared.faults.Stop.TheVariants as stop
-use Rattle.dirac_bits.specs.Answers.{value_of}
+use Rattle.dirac_bits.specs.Answers.{value_of, ReadsOrStops}
 use Rattle.dirac_bits.specs.Cursor.{Cursor, start}
 use Rattle.dirac_bits.specs.Laws.{StartsWith}
 use Rattle.dirac_bits.specs.Syntax.{Syntax, read}
 use Rattle.dirac_bits.proofs.Whole.{whole_read, read_whole}
-use Rattle.dirac_coeffs.specs.Answers.{ReadsOrStops}
 use Rattle.dirac_picture.specs.Answers.{GivesOrStops}
 
 -- the answer is what is read

@@ -6,9 +6,9 @@ use Rattle.dirac_types.specs.declared.faults.Stop.TheVariants as stop
 use Rattle.dirac_bits.specs.Cursor.{Cursor}
 use Rattle.dirac_bits.specs.Syntax.{read}
 use Rattle.dirac_bits.specs.Then.{read_then}
+use Rattle.dirac_bits.specs.Answers.{ReadsOrStops}
 use Rattle.dirac_header.specs.declared.transform.Transform.{Transform}
 use Rattle.dirac_coeffs.specs.declared.spot.CodedBand.{CodedBand}
-use Rattle.dirac_coeffs.specs.Answers.{ReadsOrStops}
 use Rattle.dirac_coeffs.specs.Grammar.{band}
 use Rattle.dirac_picture.specs.Bands.{spot_of, parent_values}
 use Rattle.dirac_picture.specs.Grammar.{bands_behind}

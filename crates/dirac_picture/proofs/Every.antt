@@ -1,10 +1,10 @@
 -- What holds of each value that fields can have holds of the value that is read.
-use Rattle.std.proofs.Common.{◌≡◌, ℕ, ℤ, Bool, true, false, List, Result, Ok, Err, refl, subst, ◌≤◌, ◌&&◌, if◌then◌else◌}
+use Rattle.std.proofs.Common.{◌≡◌, ℕ, ℤ, Bool, true, false, List, Result, Ok, Err, refl, subst, ◌≤◌, if◌then◌else◌}
 use Rattle.std.specs.Prelude.{nat_le}
-use Rattle.std.proofs.lemmas.Bool.{leb-true}
+use Rattle.std.proofs.lemmas.Bool.{leb-true, and_parts}
 use Rattle.dirac_types.specs.declared.faults.Cause.{Cause}
 use Rattle.dirac_types.specs.declared.faults.Refusal.{Refusal}
-use Rattle.dirac_bits.specs.Chain.{◌>>=◌ as ◌>>◌}
+use Rattle.dirac_types.specs.Chain.{◌>>=◌ as ◌>>◌}
 use Rattle.dirac_bits.specs.Cursor.{Cursor, place, aligned}
 use Rattle.dirac_bits.specs.Fields.{flag_at, uint_at, sint_at, literal_at, block_at}
 use Rattle.dirac_bits.proofs.Passing.{same_answer}
@@ -68,12 +68,8 @@ every_allowed : (P : ℕ → Type 0) (n at : ℕ) (cause : Cause) (allowed : Boo
 every_allowed P n at cause true k = k refl
 every_allowed P n at cause false k = tt
 
-both : (a b : Bool) → (a && b) ≡ true → (a ≡ true) × (b ≡ true)
-both true b is = (refl, is)
-both false b is = absurd cc
-
 -- a number from one to another is in between
 pub every_field : (cause : Cause) (low high : ℕ) → Every (λ n. (low ≤ n) × (n ≤ high)) (field cause (between low high))
 every_field cause low high = λ at n.
     every_allowed (λ m. (low ≤ m) × (m ≤ high)) n at cause (between low high n) (λ yes.
-    let parts = both (nat_le low n) (nat_le n high) yes in (leb-true low n parts.0, leb-true n high parts.1))
+    let parts = and_parts (nat_le low n) (nat_le n high) yes in (leb-true low n parts.0, leb-true n high parts.1))

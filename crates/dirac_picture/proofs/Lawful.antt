@@ -6,11 +6,12 @@ use Rattle.std.proofs.lemmas.List.{get_or-replicate, length-replicate}
 use Rattle.dirac_types.specs.declared.faults.Cause.TheVariants.{Wavelet, Depth, Codeblocks, CodeblockMode}
 use Rattle.dirac_bits.specs.Cursor.{Cursor}
 use Rattle.dirac_bits.specs.Syntax.{read, done, field, between, ◌>>=◌}
+use Rattle.dirac_bands.specs.Geometry.{band_length}
 use Rattle.dirac_header.specs.declared.header.PictureHeader.{PictureHeader}
 use Rattle.dirac_header.specs.declared.transform.Transform.{Transform}
 use Rattle.dirac_header.specs.Codes.{references_of, is_reference}
 use Rattle.dirac_header.specs.Header.{header, reference, retirement}
-use Rattle.dirac_header.specs.Transform.{transform, codeblocks, partition, counts_behind, level_counts, band_length}
+use Rattle.dirac_header.specs.Transform.{transform, codeblocks, partition, counts_behind, level_counts}
 use Rattle.dirac_picture.specs.Bands.{counts_at, counts_among}
 use Rattle.dirac_picture.specs.Fits.{IsCount, IsLayout, IsTransform, NamesReferences}
 use Rattle.dirac_picture.proofs.Every.{Every, every_read, every_then, every_any, every_field}

@@ -4,8 +4,7 @@ use Rattle.std.proofs.Math.Nat.{mul-div_cancel, div-mul-le_self, div-le_self}
 use Rattle.std.proofs.Math.Pow.{pow_mono}
 use Rattle.std.proofs.lemmas.Nat.{pow-add, pow_pos, mul-le, le-div}
 use Rattle.std.proofs.lemmas.Bool.{ne_eqb}
-use Rattle.dirac_bands.specs.Geometry.{padded_size}
-use Rattle.dirac_header.specs.Transform.{band_length}
+use Rattle.dirac_bands.specs.Geometry.{padded_size, band_length}
 
 -- a multiple of 2 ^ depth, divided by a smaller power
 pub whole_quotient : (q depth k : ℕ) → k ≤ depth → q * 2 ^ depth / 2 ^ k ≡ q * 2 ^ (depth - k)

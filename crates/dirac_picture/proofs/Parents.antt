@@ -1,8 +1,8 @@
 -- A band and its parent.
 use Rattle.std.proofs.Common.{◌≡◌, ℕ, ◌+◌, ◌-◌, ◌*◌, ◌/◌, ◌≤◌, List, length, ap, sym, ◌∙◌}
 use Rattle.dirac_types.specs.Table.{Table}
+use Rattle.dirac_bands.specs.Geometry.{band_length}
 use Rattle.dirac_header.specs.declared.transform.Transform.{Transform}
-use Rattle.dirac_header.specs.Transform.{band_length}
 use Rattle.dirac_coeffs.specs.declared.spot.CodedBand.{CodedBand}
 use Rattle.dirac_coeffs.specs.Grammar.{IsCodedBand}
 use Rattle.dirac_picture.specs.Bands.{spot_of, IsParentAmong}

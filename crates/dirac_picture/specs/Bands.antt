@@ -1,10 +1,10 @@
 -- The subbands of a plane, in the order in which they are coded: LL, then HL, LH and HH of level 1, of level 2 and so on.
-use Rattle.std.specs.Prelude.{◌≡◌, ◌≤◌, ℕ, ℤ, ◌+◌, ◌-◌, ◌*◌, ◌/◌, ◌%◌, ◌==◌, nat_le, if◌then◌else◌, List, [], length, slice_get, Option, None, Some}
+use Rattle.std.specs.Prelude.{◌≡◌, ◌≤◌, ℕ, ℤ, ◌+◌, ◌-◌, ◌*◌, ◌%◌, ◌==◌, nat_le, if◌then◌else◌, List, [], length, slice_get, Option, None, Some}
 use Rattle.dirac_types.specs.declared.formats.Band.{Band}
 use Rattle.dirac_types.specs.declared.formats.Band.TheVariants.{LL, HL, LH, HH}
 use Rattle.dirac_types.specs.Table.{Table}
+use Rattle.dirac_bands.specs.Geometry.{level_of, band_length}
 use Rattle.dirac_header.specs.declared.transform.Transform.{Transform}
-use Rattle.dirac_header.specs.Transform.{band_length}
 use Rattle.dirac_coeffs.specs.declared.spot.BandSpot.{BandSpot}
 use Rattle.dirac_coeffs.specs.declared.spot.CodedBand.{CodedBand}
 
@@ -15,10 +15,6 @@ band_count depth = 3 * depth + 1
 -- the orientation of band n
 abbrev pub orientation_of : ℕ → Band
 orientation_of n = if n == 0 then LL else if n % 3 == 1 then HL else if n % 3 == 2 then LH else HH
-
--- the level of band n
-abbrev pub level_of : ℕ → ℕ
-level_of n = (n + 2) / 3
 
 -- counts of codeblocks, across and down: those told, else one
 abbrev pub counts_among : Option (ℕ × ℕ) → ℕ × ℕ

@@ -1,12 +1,12 @@
 -- What every coded picture of a sequence has.
 use Rattle.std.specs.Prelude.{◌≡◌, ℕ, ◌+◌, ◌≤◌, true, false, IsTrue, List, length, nat_le, slice_get, unsigned_abs, Option, None, Some, is_some}
 use Rattle.dirac_types.specs.declared.formats.Chroma.{Chroma}
+use Rattle.dirac_bands.specs.Geometry.{band_length}
 use Rattle.dirac_sequence.specs.declared.sequence.Sequence.{Sequence}
 use Rattle.dirac_header.specs.declared.header.PictureHeader.{PictureHeader}
 use Rattle.dirac_header.specs.declared.prediction.Prediction.{Prediction}
 use Rattle.dirac_header.specs.declared.transform.Transform.{Transform}
 use Rattle.dirac_header.specs.Prediction.{is_grid}
-use Rattle.dirac_header.specs.Transform.{band_length}
 use Rattle.dirac_header.specs.Codes.{references_of}
 use Rattle.dirac_blocks.specs.Tables.{IsBlockTable}
 use Rattle.dirac_coeffs.specs.declared.spot.CodedBand.{CodedBand}

@@ -16,3 +16,4 @@ pub use coded::{CodedMotion, CodedPicture, CodedResidual};
 pub use motion::is_intra;
 pub use picture::read_picture;
 pub use plane_bands::PlaneBands;
+pub use spots::spot;

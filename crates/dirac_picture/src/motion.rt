@@ -1,7 +1,7 @@
 ghost use Rattle.std.specs.Prelude.{◌≡◌, ◌≤◌, length, IfOk, IfErr, IsTrue, false};
 ghost use Rattle.dirac_bits.specs.Syntax.{read};
+ghost use Rattle.dirac_bits.specs.Answers.{ReadsOrStops, IsEarly};
 ghost use Rattle.dirac_sequence.specs.Lawful.{IsSequence};
-ghost use Rattle.dirac_coeffs.specs.Answers.{ReadsOrStops, IsEarly};
 ghost use Rattle.dirac_picture.specs.Grammar as grammar;
 ghost use Rattle.dirac_picture.specs.Fits.{HasMotion, IsMotion};
 

@@ -1,9 +1,8 @@
 ghost use Rattle.std.specs.Prelude.{◌≡◌, length, IfOk, IfErr, IsTrue, Ok, true, false, ◌≤◌};
 ghost use Rattle.dirac_bits.specs.Laws.{StartsWith};
-ghost use Rattle.dirac_bits.specs.Answers.{Reads};
+ghost use Rattle.dirac_bits.specs.Answers.{Reads, ReadsOrStops, IsEarly};
 ghost use Rattle.dirac_bits.specs.Syntax.{read};
 ghost use Rattle.dirac_sequence.specs.Lawful.{IsSequence};
-ghost use Rattle.dirac_coeffs.specs.Answers.{ReadsOrStops, IsEarly};
 ghost use Rattle.dirac_picture.specs.declared.coded.CodedPicture.{CodedPicture as ThePicture};
 ghost use Rattle.dirac_picture.specs.Answers.{GivesOrStops};
 ghost use Rattle.dirac_picture.specs.Grammar as grammar;

@@ -1,7 +1,7 @@
 ghost use Rattle.std.specs.Prelude.{◌≡◌, ◌<◌, ◌≤◌, ◌+◌, ◌*◌, length, IfOk, IfErr};
 ghost use Rattle.std.specs.Option.{ForSome};
 ghost use Rattle.dirac_bits.specs.Syntax.{read};
-ghost use Rattle.dirac_coeffs.specs.Answers.{ReadsOrStops, IsEarly};
+ghost use Rattle.dirac_bits.specs.Answers.{ReadsOrStops, IsEarly};
 ghost use Rattle.dirac_coeffs.specs.Grammar.{band, values_of_parent, IsParentOf, IsCodedBand};
 ghost use Rattle.dirac_picture.specs.Bands as places;
 ghost use Rattle.dirac_picture.specs.Grammar as grammar;

@@ -23,9 +23,9 @@ fn orientation(n: u32) -> Band
     }
 }
 
-/// What band `n` of a plane of `width` by `height` samples is.
+/// What band `n` of a plane of `width` by `height` samples is: LL is band 0, and HL, LH and HH of each level follow it.
 #[tactic(auto, unfolding(crate::specs::Bands::spot_of))]
-pub(crate) fn spot(transform: &Transform, width: u32, height: u32, n: u32) -> BandSpot
+pub fn spot(transform: &Transform, width: u32, height: u32, n: u32) -> BandSpot
     requires layout { IsLayout transform.now }
     requires size { IsPlaneSize width height }
     requires there { n ≤ 3 * transform.now.depth }

@@ -1,16 +1,14 @@
 -- The sizes of the LL band on the way through the levels.
 use Rattle.std.proofs.Common.{◌≡◌, ℕ, zero, suc, ◌+◌, ◌-◌, ◌*◌, ◌/◌, ◌^◌, ◌<◌, ◌≤◌, arith, ap, sym, ◌∙◌}
 use Rattle.std.proofs.lemmas.Bool.{ne_eqb}
-use Rattle.std.proofs.lemmas.Nat.{pow-add, pow_pos, shl-shr, mul-le, div-add-mod', div_below, mod_below}
+use Rattle.std.proofs.lemmas.Nat.{pow-add, pow_pos, shl-shr, mul-le, div-add-mod', mod_below}
 use Rattle.std.proofs.Math.Pow.{pow_mono}
+use Rattle.dirac_bands.specs.Geometry.{lowest_size}
+use Rattle.dirac_bands.proofs.Sizes.{rounded_up_bound}
 use Rattle.dirac_residual.specs.Fits.{length_of_band}
 
--- how often 2 ^ depth goes into the padded size: the size of the LL band of level 0
-abbrev pub quotient : ℕ → ℕ → ℕ
-quotient size depth = (size + 2 ^ depth - 1) / 2 ^ depth
-
-pub lowest_length : (size depth : ℕ) → length_of_band size depth 0 ≡ quotient size depth
-lowest_length size depth = shl-shr (quotient size depth) depth
+pub lowest_length : (size depth : ℕ) → length_of_band size depth 0 ≡ lowest_size size depth
+lowest_length size depth = shl-shr (lowest_size size depth) depth
 
 -- a power that is parted
 pow_parts : (n depth : ℕ) → n ≤ depth → 2 ^ depth ≡ 2 ^ n * 2 ^ (depth - n)
@@ -24,27 +22,21 @@ padded_parts q n depth l =
     ap (λ p. p / 2 ^ (depth - n)) parts ∙ shl-shr (q * 2 ^ n) (depth - n)
 
 -- bands 3n + 1 to 3n + 3 have the size of the LL band after n levels
-pub level_length : (size depth n band : ℕ) → n < depth → 3 * n + 1 ≤ band → band ≤ 3 * n + 3 → length_of_band size depth band ≡ quotient size depth * 2 ^ n
+pub level_length : (size depth n band : ℕ) → n < depth → 3 * n + 1 ≤ band → band ≤ 3 * n + 3 → length_of_band size depth band ≡ lowest_size size depth * 2 ^ n
 level_length size depth n band l low high =
     let level : (band + 2) / 3 ≡ n + 1 = omega (arith, low, high) in
     let some : n + 1 ≡ 0 → ⊥ = λ e. omega (arith, e) in
     let shift : depth - (n + 1) + 1 ≡ depth - n = omega (arith, l) in
-    rw (level, ne_eqb (n + 1) 0 some, shift) (padded_parts (quotient size depth) n depth (omega (arith, l)))
+    rw (level, ne_eqb (n + 1) 0 some, shift) (padded_parts (lowest_size size depth) n depth (omega (arith, l)))
 
--- a multiple of m that k times m limits before it is rounded up
-rounded_up_bound : (n m k : ℕ) → 0 < m → n ≤ k * m → (n + m - 1) / m * m ≤ k * m
-rounded_up_bound n m k h l =
-    let below : (n + m - 1) / m < k + 1 = div_below (n + m - 1) m (k + 1) h (omega arith) in
-    mul-le ((n + m - 1) / m) m k m (omega arith) (omega arith)
-
-padded_bound : (size depth : ℕ) → size ≤ 8192 → depth ≤ 5 → quotient size depth * 2 ^ depth ≤ 8192
+padded_bound : (size depth : ℕ) → size ≤ 8192 → depth ≤ 5 → lowest_size size depth * 2 ^ depth ≤ 8192
 padded_bound size depth small five =
     let split : depth + (13 - depth) ≡ 13 = omega (arith, five) in
     let all : 2 ^ 13 ≡ 2 ^ (13 - depth) * 2 ^ depth = omega (arith, ap (λ k. 2 ^ k) split, pow-add 2 depth (13 - depth)) in
     omega (arith, all, rounded_up_bound size (2 ^ depth) (2 ^ (13 - depth)) (pow_pos depth) (omega (arith, all, small)))
 
 -- the LL band before the last level has at most half the size of the largest table
-pub quotient_bound : (size depth n : ℕ) → size ≤ 8192 → n < depth → depth ≤ 5 → quotient size depth * 2 ^ n ≤ 4096
+pub quotient_bound : (size depth n : ℕ) → size ≤ 8192 → n < depth → depth ≤ 5 → lowest_size size depth * 2 ^ n ≤ 4096
 quotient_bound size depth n small l five =
     let double : 2 ^ (n + 1) ≤ 2 ^ depth = pow_mono {i = n + 1} {j = depth} (omega (arith, l)) in
     let power : 2 ^ (n + 1) ≡ 2 ^ n * 2 = pow-add 2 n 1 in
@@ -52,11 +44,11 @@ quotient_bound size depth n small l five =
     omega (
       arith,
       padded_bound size depth small five,
-      mul-le (quotient size depth) (2 ^ n * 2) (quotient size depth) (2 ^ depth) (omega arith) half,
+      mul-le (lowest_size size depth) (2 ^ n * 2) (lowest_size size depth) (2 ^ depth) (omega arith) half,
     )
 
 -- after all levels the size is the padded one, which is at least the size itself
-pub size_within : (size depth : ℕ) → size ≤ quotient size depth * 2 ^ depth
+pub size_within : (size depth : ℕ) → size ≤ lowest_size size depth * 2 ^ depth
 size_within size depth =
     omega (arith, div-add-mod' (size + 2 ^ depth - 1) (2 ^ depth), pow_pos depth, mod_below (size + 2 ^ depth - 1) (2 ^ depth) (pow_pos depth))
 

@@ -1,17 +1,13 @@
 -- What the bands of a plane are, whatever their values.
-use Rattle.std.specs.Prelude.{◌≡◌, ℕ, ◌+◌, ◌-◌, ◌*◌, ◌/◌, ◌^◌, ◌<◌, ◌≤◌, List, length, Some, slice_get, unsigned_abs}
+use Rattle.std.specs.Prelude.{◌≡◌, ℕ, ◌+◌, ◌-◌, ◌*◌, ◌^◌, ◌<◌, ◌≤◌, List, length, Some, slice_get, unsigned_abs}
 use Rattle.std.specs.List.{All}
 use Rattle.dirac_types.specs.Table.{Table}
-use Rattle.dirac_bands.specs.Geometry.{padded_size, size_of_band}
+use Rattle.dirac_bands.specs.Geometry.{level_of, band_length}
 use Rattle.dirac_coeffs.specs.declared.spot.CodedBand.{CodedBand}
-
--- the level of band n of a plane
-abbrev pub level_of : ℕ → ℕ
-level_of n = (n + 2) / 3
 
 -- the size across or down of band n, in a plane of this size
 abbrev pub length_of_band : ℕ → ℕ → ℕ → ℕ
-length_of_band size depth n = size_of_band (padded_size size depth) depth (level_of n)
+length_of_band size depth n = band_length size depth (level_of n)
 
 -- band n of a plane of this size: an index of a quantiser, and a table of the band's sizes whose values can be spelt
 pub record IsBandOf (depth width height n : ℕ) (b : CodedBand) : Type 0 where

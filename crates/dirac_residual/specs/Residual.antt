@@ -1,13 +1,12 @@
 -- From the quantised subbands of a plane to its residual, and from that and what is predicted to its samples.
-use Rattle.std.specs.Prelude.{ℕ, zero, suc, ℤ, pos, negsuc, ◌+◌, ◌*◌, ◌+ℤ◌, List, [], map, Option, None, Some, slice_get}
-use Rattle.std.specs.Int.{int_max, int_min}
+use Rattle.std.specs.Prelude.{ℕ, zero, suc, ℤ, ◌+◌, ◌*◌, ◌+ℤ◌, List, [], map, Option, None, Some, slice_get}
 use Rattle.std.specs.Simd.Lanes.{zip2}
 use Rattle.dirac_types.specs.declared.formats.Kind.{Kind}
 use Rattle.dirac_types.specs.declared.formats.Kind.TheVariants.{Intra, Inter}
-use Rattle.dirac_types.specs.Table.{Table, table_at}
+pub use Rattle.dirac_types.specs.Samples.{clip}
+use Rattle.dirac_types.specs.Table.{Table, table_at, table_of}
 use Rattle.dirac_quant.specs.Quantiser.{restored}
 use Rattle.dirac_bands.specs.DcSum.{dc_sum}
-use Rattle.dirac_bands.specs.Interleaving.{table_of}
 use Rattle.dirac_coeffs.specs.declared.spot.CodedBand.{CodedBand}
 use Rattle.dirac_lift.specs.Level.{level}
 
@@ -46,10 +45,6 @@ cut width height t = table_of width height (table_at t)
 -- the residual of a plane of this size, from its bands
 abbrev pub residual : ℕ → ℕ → Kind → List CodedBand → ℕ → ℕ → Table
 residual wavelet depth kind bands width height = cut width height (after_levels wavelet kind bands depth)
-
--- a value clipped to the range of samples
-abbrev pub clip : ℤ → ℤ
-clip v = int_max (negsuc 127) (int_min v (pos 127))
 
 -- the plane of these values, clipped
 abbrev pub clipped : Table → Table

@@ -1,5 +1,4 @@
 pub mod Accepted
 mod Examples
 pub mod Packed
-pub mod Spelled
 mod Written

@@ -14,7 +14,7 @@ use Rattle.dirac_sequence.specs.declared.sequence.SignalRange.{SignalRange}
 use Rattle.dirac_sequence.specs.Grammar.{base_format, size, chroma_of, own_chroma, is_whole, chroma, sampling, rate, fraction, frames, aspect, clean_area, own_range, signal_range, signal, is_depth, samples, colours, values, sequence}
 use Rattle.dirac_sequence.specs.Tables.{preset, rate_of, range_of}
 use Rattle.dirac_sequence.specs.Written.{IsWritable, is_same, index_of, is_own_size, is_own_chroma, is_own_rate, is_own_signal, custom_bits, base_bits, whole_area_bits, frames_bits, samples_bits, sequence_bits, sequence_of}
-use Rattle.dirac_sequence.proofs.Spelled.{spells_then, spells_last, field_spelled, between_is}
+use Rattle.dirac_bits.proofs.Fields.{spells_then, spells_last, field_spelled, between_is}
 
 -- a custom flag and what it announces, or the default
 custom_spelled : {A : Type 0} (default : A) (s : Syntax A) (x : A) (own : Bool) (bits : List Bool) (k : ℕ) → Spells s x (k + 1) bits → (own ≡ false → default ≡ x)

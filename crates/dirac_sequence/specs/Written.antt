@@ -5,7 +5,7 @@ use Rattle.dirac_types.specs.declared.formats.Chroma.TheVariants.{C444, C422, C4
 use Rattle.dirac_types.specs.declared.settings.Settings.{Settings}
 use Rattle.dirac_types.specs.Bytes.{bytes_of}
 use Rattle.dirac_types.specs.Numbers as numbers
-use Rattle.dirac_bits.specs.Writing.{gap}
+pub use Rattle.dirac_bits.specs.Writing.{up_to_byte}
 use Rattle.dirac_sequence.specs.declared.sequence.Sequence.{Sequence}
 use Rattle.dirac_sequence.specs.Grammar.{chroma_of}
 use Rattle.dirac_sequence.specs.Lawful.{IsSize}
@@ -34,16 +34,19 @@ index_of C444 = 0
 index_of C422 = 1
 index_of C420 = 2
 
--- which of the base's values are replaced
+-- whether the base's size is replaced
 abbrev pub is_own_size : Settings → Bool
 is_own_size t = not (is_same (t.width, t.height) ((preset t.base).width, (preset t.base).height))
 
+-- whether its chroma format is
 abbrev pub is_own_chroma : Settings → Bool
 is_own_chroma t = not (t.chroma == index_of (preset t.base).chroma)
 
+-- whether its frame rate is
 abbrev pub is_own_rate : Settings → Bool
 is_own_rate t = not (is_same (rate_of t.rate) (preset t.base).rate)
 
+-- whether its signal range is
 abbrev pub is_own_signal : Settings → Bool
 is_own_signal t =
     not (is_same (range_of t.signal).luma (preset t.base).luma && is_same (range_of t.signal).colour (preset t.base).colour)
@@ -94,10 +97,6 @@ samples_bits t =
 -- the header: behind its values no colours of its own, and picture coding mode 0
 abbrev pub sequence_bits : Settings → List Bool
 sequence_bits t = base_bits t ++ frames_bits t ++ samples_bits t ++ (false ∷ []) ++ numbers.uint 0
-
--- these bits, and 0 up to the next byte
-abbrev pub up_to_byte : List Bool → List Bool
-up_to_byte bits = bits ++ gap bits
 
 -- the header's bytes, its last byte filled up with bits 0
 unfoldable pub sequence_payload : Settings → List ℕ

@@ -18,7 +18,7 @@ number_push high [] b = refl
 number_push high (c ∷ bs) b = number_push (2 * high + bit_value c) bs b
 
 -- a remainder by two is a digit
-bit_value-of_rest : (n : ℕ) → bit_value (n % 2 == 1) ≡ n % 2
+pub bit_value-of_rest : (n : ℕ) → bit_value (n % 2 == 1) ≡ n % 2
 bit_value-of_rest n = rest (n % 2) (omega arith) where
   rest : (r : ℕ) → r < 2 → bit_value (r == 1) ≡ r
   rest zero h = refl

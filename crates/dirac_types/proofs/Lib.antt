@@ -1,3 +1,7 @@
+pub mod Answers
+pub mod Bounds
 pub mod Digits
 mod Examples
 pub mod InRange
+pub mod Rows
+pub mod Shifts

@@ -1,8 +1,10 @@
 pub mod Bits
 pub mod Bytes
 pub mod Causes
+pub mod Chain
 pub mod Lending
 pub mod Names
 pub mod Numbers
+pub mod Samples
 pub mod Settings
 pub mod Table

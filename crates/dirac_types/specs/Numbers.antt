@@ -29,3 +29,9 @@ sint (negsuc n) = uint (suc n) ++ true ∷ []
 -- a literal: four bytes, the most significant first
 abbrev pub literal : ℕ → List Bool
 literal v = byte_bits (v / 16777216 % 256) (byte_bits (v / 65536 % 256) (byte_bits (v / 256 % 256) (byte_bits (v % 256) [])))
+
+-- a magnitude with a sign, true for negative
+abbrev pub signed_value : ℕ → Bool → ℤ
+signed_value n false = pos n
+signed_value zero true = pos zero
+signed_value (suc n) true = negsuc n

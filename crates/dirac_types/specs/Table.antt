@@ -1,5 +1,6 @@
 -- A table of samples or values, as contracts see planes: by rows, from the top.
-use Rattle.std.specs.Prelude.{ℕ, ℤ, ◌+◌, ◌*◌, pos, List, length, ◌++◌, take, drop, slice_index_or, slice_range, slice_set, unsigned_abs, int_lt, ◌-◌, if◌then◌else◌}
+use Rattle.std.specs.Prelude.{ℕ, ℤ, ◌+◌, ◌*◌, ◌/◌, ◌%◌, pos, List, length, map, ◌++◌, take, drop, slice_index_or, slice_range, slice_set, unsigned_abs, int_lt, ◌-◌, if◌then◌else◌}
+use Rattle.std.specs.List.{range_with_len}
 
 -- columns, rows, and the values row by row
 pub record Table : Type 0 where
@@ -38,3 +39,11 @@ clamped_to x size = if int_lt x (pos (size - 1)) then (if int_lt x (pos 0) then 
 -- the value at a position clamped to the table
 abbrev pub clamped_at : Table → ℤ → ℤ → ℤ
 clamped_at t x y = table_at t (clamped_to x t.width) (clamped_to y t.height)
+
+-- the values of a table by rows, told by column and row
+unfoldable pub filled : ℕ → ℕ → (ℕ → ℕ → ℤ) → List ℤ
+filled width height f = map (λ place. f (place % width) (place / width)) (range_with_len 0 (width * height))
+
+-- the table with these values
+abbrev pub table_of : ℕ → ℕ → (ℕ → ℕ → ℤ) → Table
+table_of width height f = record { width = width; height = height; values = filled width height f }

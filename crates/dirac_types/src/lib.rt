@@ -1,4 +1,4 @@
-//! What all crates of the codec share: sample tables and pictures, the causes of faults, and the
+//! What all crates of the codec share: sample tables and pictures, signed numbers, the causes of faults, and the
 //! definitions of the standard's numbers (in `specs/`).
 #![tactic(auto)]
 
@@ -6,6 +6,7 @@ mod band_table;
 mod faults;
 mod formats;
 mod memory;
+mod numbers;
 mod picture;
 mod plane;
 mod ranges;
@@ -17,6 +18,7 @@ pub use band_table::BandTable;
 pub use faults::{Cause, Fault, Refusal, Stop};
 pub use formats::{Band, BlockGrid, Chroma, Kind, Vector};
 pub use memory::NoMemory;
+pub use numbers::with_sign;
 pub use picture::Picture;
 pub use plane::Plane;
 pub use settings::{BadSetting, Name, Settings};

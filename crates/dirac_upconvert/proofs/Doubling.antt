@@ -4,7 +4,8 @@ use Rattle.std.specs.Int.{int_shr}
 use Rattle.std.proofs.lemmas.Int.{ints, clamps}
 use Rattle.std.proofs.lemmas.List.{get_or-set_same, get_or-set_other, length-set}
 use Rattle.std.proofs.lemmas.Bool.{cases_eq, ne_eqb}
-use Rattle.dirac_upconvert.specs.HalfSamples.{IsSample, between, clipped, weighted, half_behind, doubled_at}
+use Rattle.dirac_types.specs.Samples.{clip}
+use Rattle.dirac_upconvert.specs.HalfSamples.{IsSample, between, weighted, half_behind, doubled_at}
 
 -- samples stand at even places
 pub at_even : (f : ℕ → ℤ) (last n p : ℕ) → p ≡ 2 * n → doubled_at f last p ≡ f n
@@ -77,7 +78,7 @@ doubled_same f g last p e h = elim (cases_eq (p % 2) 0) [
 ]
 
 -- what is clipped is a sample
-clipped_sample : (v : ℤ) → IsSample (clipped v)
+clipped_sample : (v : ℤ) → IsSample (clip v)
 clipped_sample v = record { least = omega (arith, ints, clamps); most = omega (arith, ints, clamps) }
 
 pub between_sample : (a3 a2 a1 a0 b0 b1 b2 b3 : ℤ) → IsSample (between a3 a2 a1 a0 b0 b1 b2 b3)

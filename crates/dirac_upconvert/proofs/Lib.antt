@@ -3,5 +3,4 @@ mod Examples
 pub mod Halves
 pub mod Mixing
 pub mod PartRows
-pub mod RowLemmas
 pub mod SampleRows

@@ -3,12 +3,11 @@ use Rattle.std.proofs.Common.{◌≡◌, ℕ, ℤ, pos, negsuc, zero, suc, ◌+�
 use Rattle.std.specs.Int.{w32, int_rem_euclid}
 use Rattle.std.proofs.lemmas.Int.{ints, to_z-of_z, to_z_pos, fits_signed_from_abs, unsigned_abs-mul}
 use Rattle.std.proofs.lemmas.Nat.{mul-le, one_shl, pow_pos, div-add-mod', div_below, mod_below}
-use Rattle.std.proofs.Math.Nat.{div-le_self, suc-mul}
+use Rattle.std.proofs.Math.Nat.{suc-mul}
 use Rattle.std.proofs.Math.Pow.{pow_mono}
 use Rattle.std.proofs.Math.IntN.{zero-*ℤ, suc_ℤ-*ℤ, pred_ℤ-*ℤ}
 use lib.Signed.{shr_z}
-use mir.Syntax.{Width}
-use mir.Val.{SFits}
+use Rattle.dirac_types.proofs.Shifts.{shr_sum_is}
 use Rattle.dirac_upconvert.specs.HalfSamples.{IsSample}
 use Rattle.dirac_upconvert.specs.SubSamples.{IsRest, IsWithin, mixed, product, rounded}
 
@@ -114,16 +113,6 @@ rounded_sample zero z few w = shifted_sample (z +ℤ pos 0) 1 (omega arith) (ome
 rounded_sample (suc zero) z few w = shifted_sample (z +ℤ pos 2) 4 (omega arith) (omega (arith, ints, w.least)) (omega (arith, ints, w.most))
 rounded_sample (suc (suc zero)) z few w = shifted_sample (z +ℤ pos 8) 16 (omega arith) (omega (arith, ints, w.least)) (omega (arith, ints, w.most))
 rounded_sample (suc (suc (suc k))) z few w = absurd (omega arith)
-
--- a number shifted down fits where the number does
-pub shr_fits : (w : Width) (z : ℤ) (m : ℕ) → SFits w z → SFits w (shr_z z m)
-shr_fits w (pos n) m f = record { sfits = let small : n / m ≤ n = div-le_self n m in omega (arith, f.sfits, small) }
-shr_fits w (negsuc n) m f = record { sfits = let small : n / m ≤ n = div-le_self n m in omega (arith, f.sfits, small) }
-
--- a sum shifted down, through the bits
-pub shr_sum_is : (w : Width) (x h : ℤ) (m : ℕ) → SFits w x → SFits w h → SFits w (x +ℤ h) → to_z w (of_z w (shr_z (to_z w (of_z w (to_z w (of_z w x) +ℤ to_z w (of_z w h)))) m)) ≡ shr_z (x +ℤ h) m
-shr_sum_is w x h m fx fh fs =
-    rw (to_z-of_z w x fx) (rw (to_z-of_z w h fh) (rw (to_z-of_z w (x +ℤ h) fs) (to_z-of_z w (shr_z (x +ℤ h) m) (shr_fits w (x +ℤ h) m fs))))
 
 -- a power of two, as the code shifts it
 pub power_is : (m : ℕ) → m ≤ 4 → to_z w32 (1 * 2 ^ m % 2 ^ 32) ≡ pos (2 ^ m)

@@ -1,17 +1,13 @@
 -- The half samples of a plane: between its rows first, then between the columns of that result.
-use Rattle.std.specs.Prelude.{ℕ, ℤ, pos, negsuc, ◌+◌, ◌-◌, ◌*◌, ◌/◌, ◌%◌, ◌==◌, ◌+ℤ◌, ◌-ℤ◌, ◌*ℤ◌, ◌≤ℤ◌, min, List, map, if◌then◌else◌}
-use Rattle.std.specs.Int.{int_max, int_min, int_shr}
-use Rattle.std.specs.List.{range_with_len}
-use Rattle.dirac_types.specs.Table.{Table, table_at}
+use Rattle.std.specs.Prelude.{ℕ, ℤ, pos, negsuc, ◌+◌, ◌-◌, ◌*◌, ◌/◌, ◌%◌, ◌==◌, ◌+ℤ◌, ◌-ℤ◌, ◌*ℤ◌, ◌≤ℤ◌, min, if◌then◌else◌}
+use Rattle.std.specs.Int.{int_shr}
+use Rattle.dirac_types.specs.Table.{Table, table_at, table_of}
+use Rattle.dirac_types.specs.Samples.{clip}
 
 -- a sample of eight bits, signed
 pub record IsSample (v : ℤ) : Type 0 where
   pub least : negsuc 127 ≤ℤ v
   pub most : v ≤ℤ pos 127
-
--- a number clipped to -128..127
-abbrev pub clipped : ℤ → ℤ
-clipped v = int_min (int_max v (negsuc 127)) (pos 127)
 
 -- the weighted sum of four pairs, from the inner to the outer
 abbrev pub weighted : ℤ → ℤ → ℤ → ℤ → ℤ
@@ -20,7 +16,7 @@ weighted first second third fourth = (pos 21 *ℤ first -ℤ pos 7 *ℤ second) 
 -- the half sample between a0 and b0; the others lie further out
 unfoldable pub between : ℤ → ℤ → ℤ → ℤ → ℤ → ℤ → ℤ → ℤ → ℤ
 between a3 a2 a1 a0 b0 b1 b2 b3 =
-    clipped (int_shr (weighted (a0 +ℤ b0) (a1 +ℤ b1) (a2 +ℤ b2) (a3 +ℤ b3) +ℤ pos 16) 5)
+    clip (int_shr (weighted (a0 +ℤ b0) (a1 +ℤ b1) (a2 +ℤ b2) (a3 +ℤ b3) +ℤ pos 16) 5)
 
 -- the half sample behind place i of a line whose places are 0 to last; places are clamped to the line
 abbrev pub half_behind : (ℕ → ℤ) → ℕ → ℕ → ℤ
@@ -39,14 +35,6 @@ row_doubled_at t x y = doubled_at (λ j. table_at t x j) (t.height - 1) y
 -- column x of row y of that result with the half samples between its columns
 abbrev pub half_at : Table → ℕ → ℕ → ℤ
 half_at t x y = doubled_at (λ i. row_doubled_at t i y) (t.width - 1) x
-
--- the values of a table by rows, told by column and row
-unfoldable pub filled : ℕ → ℕ → (ℕ → ℕ → ℤ) → List ℤ
-filled width height f = map (λ place. f (place % width) (place / width)) (range_with_len 0 (width * height))
-
--- the table with these values
-abbrev pub table_of : ℕ → ℕ → (ℕ → ℕ → ℤ) → Table
-table_of width height f = record { width = width; height = height; values = filled width height f }
 
 -- a plane with all its half samples
 abbrev pub half : Table → Table

@@ -1,7 +1,8 @@
 ghost use Rattle.std.specs.Prelude.{◌≡◌, ℕ, pos, ◌+◌, ◌-◌, ◌<◌, ◌≤◌, ◌+ℤ◌, ◌-ℤ◌, ◌*ℤ◌, unsigned_abs, length, slice_index_or};
 ghost use Rattle.std.specs.List.{All};
 ghost use Rattle.std.specs.Int.{int_shr};
-ghost use Rattle.dirac_upconvert.specs.HalfSamples.{IsSample, between, clipped, weighted};
+ghost use Rattle.dirac_types.specs.Samples.{clip};
+ghost use Rattle.dirac_upconvert.specs.HalfSamples.{IsSample, between, weighted};
 
 #[inline(always)]
 fn pair_sum(a: i16, b: i16) -> i16
@@ -68,7 +69,7 @@ fn shifted(sum: i16) -> i16
 
 #[inline(always)]
 fn clip(value: i16) -> i16
-    ensures value { result ≡ clipped value }
+    ensures value { result ≡ clip value }
     ensures sample { IsSample result }
 {
     value.max(-128).min(127)

@@ -11,10 +11,6 @@ pub record IsShort (v : ℤ) : Type 0 where
 abbrev pub mean_of_two : ℤ → ℤ → ℤ
 mean_of_two a b = int_div_euclid ((a +ℤ b) +ℤ pos 1) (pos 2)
 
--- the mean of three values, rounded to the nearest
-abbrev pub mean_of_three : ℤ → ℤ → ℤ → ℤ
-mean_of_three a b c = int_div_euclid (((a +ℤ b) +ℤ c) +ℤ pos 1) (pos 3)
-
 -- the middle one of three values
 abbrev pub median : ℤ → ℤ → ℤ → ℤ
 median a b c = int_max (int_min a b) (int_min (int_max a b) c)

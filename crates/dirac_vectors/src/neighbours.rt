@@ -1,5 +1,6 @@
 ghost use Rattle.std.specs.Prelude.{◌≡◌};
-ghost use Rattle.dirac_vectors.specs.Neighbours.{IsShort, mean_of_two, mean_of_three, median, majority};
+ghost use Rattle.dirac_types.specs.Samples.{mean_of_three};
+ghost use Rattle.dirac_vectors.specs.Neighbours.{IsShort, mean_of_two, median, majority};
 
 /// The mean of two values; of the two whole numbers beside a half, the greater.
 pub fn half_of(a: i32, b: i32) -> i32

@@ -9,8 +9,8 @@ use Rattle.dirac_arith.proofs.registers.decide.Goals.{then-truth, else-truth}
 pub returns : goal.returns
 returns c =
     let r = c.args.registers in
-    let split = r.range * c.args.chance / 65536 in
-    let bounds = split_bounds r.range c.args.chance c.requires.wide c.requires.narrow c.requires.some_chance c.requires.most_chance in
+    let split = r.range * c.args.probability / 65536 in
+    let bounds = split_bounds r.range c.args.probability c.requires.wide c.requires.narrow c.requires.some_probability c.requires.most_probability in
     let product : c.from-2.result ≡ split = c.from-2.ensures ∙ ap (λ p. r.range * p / 65536) c.from.ensures in
     let bound = c.from-2.result * 2 ^ r.ahead % 18446744073709551616 in
     let bounded : bound ≡ split * 2 ^ r.ahead = shl_whole c.from-2.result 16 r.ahead 64 (omega arith) (omega arith) ∙ ap (λ s. s * 2 ^ r.ahead) product in

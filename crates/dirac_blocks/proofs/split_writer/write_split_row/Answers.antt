@@ -1,7 +1,8 @@
 use Rattle.std.proofs.Common.{◌+◌, [], ◌∷◌, refl}
 use Rattle.dirac_arith.specs.Spelling.{spelling}
+use Rattle.dirac_arith.proofs.Spellings.{narrowed_more}
 use Rattle.dirac_blocks.specs.Decisions.{least_numbers, split_row}
-use Rattle.dirac_blocks.proofs.Narrowing.{narrowed_more, split_row_next}
+use Rattle.dirac_blocks.proofs.Narrowing.{split_row_next}
 use Rattle.dirac_blocks.proofs.split_writer.write_split_row.Goals as goal
 
 pub superblocks-init : goal.superblocks-init

@@ -1,7 +1,8 @@
 use Rattle.dirac_arith.specs.Interval.{narrowed_by}
 use Rattle.std.proofs.Common.{ℕ, subst, ◌+◌, refl, ◌≡◌}
+use Rattle.dirac_arith.proofs.Spellings.{narrowed_more}
 use Rattle.dirac_blocks.specs.Decisions.{least_numbers, split_row, split_rows}
-use Rattle.dirac_blocks.proofs.Narrowing.{narrowed_more, split_rows_next}
+use Rattle.dirac_blocks.proofs.Narrowing.{split_rows_next}
 use Rattle.dirac_blocks.proofs.split_writer.write_split_rows.Goals as goal
 
 pub rows-init : goal.rows-init

@@ -1,7 +1,8 @@
 use Rattle.std.proofs.Common.{◌+◌, refl}
+use Rattle.dirac_arith.proofs.Spellings.{narrowed_more}
 use Rattle.dirac_blocks.specs.Parts.{part_at}
 use Rattle.dirac_blocks.specs.Decisions.{superblock_part, superblock_row}
-use Rattle.dirac_blocks.proofs.Narrowing.{narrowed_more, superblock_row_next}
+use Rattle.dirac_blocks.proofs.Narrowing.{superblock_row_next}
 use Rattle.dirac_blocks.proofs.unit_loops.write_superblock_row.Goals as goal
 
 pub superblocks-init : goal.superblocks-init

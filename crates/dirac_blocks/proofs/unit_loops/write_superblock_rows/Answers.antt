@@ -1,8 +1,9 @@
 use Rattle.std.proofs.Common.{ℕ, subst, ◌+◌, refl, ◌≡◌}
 use Rattle.dirac_blocks.specs.Parts.{part_at}
 use Rattle.dirac_arith.specs.Interval.{narrowed_by}
+use Rattle.dirac_arith.proofs.Spellings.{narrowed_more}
 use Rattle.dirac_blocks.specs.Decisions.{superblock_row, superblock_rows}
-use Rattle.dirac_blocks.proofs.Narrowing.{narrowed_more, superblock_rows_next}
+use Rattle.dirac_blocks.proofs.Narrowing.{superblock_rows_next}
 use Rattle.dirac_blocks.proofs.unit_loops.write_superblock_rows.Goals as goal
 
 pub rows-init : goal.rows-init

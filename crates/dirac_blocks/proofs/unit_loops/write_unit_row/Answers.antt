@@ -1,7 +1,8 @@
 use Rattle.std.proofs.Common.{◌+◌, ◌*◌, refl}
+use Rattle.dirac_arith.proofs.Spellings.{narrowed_more}
 use Rattle.dirac_blocks.specs.Parts.{part_at}
 use Rattle.dirac_blocks.specs.Decisions.{unit_row}
-use Rattle.dirac_blocks.proofs.Narrowing.{narrowed_more, unit_row_next}
+use Rattle.dirac_blocks.proofs.Narrowing.{unit_row_next}
 use Rattle.dirac_blocks.proofs.unit_loops.write_unit_row.Goals as goal
 
 pub units-init : goal.units-init

@@ -1,7 +1,8 @@
 use Rattle.std.proofs.Common.{◌+◌, ◌*◌, refl}
+use Rattle.dirac_arith.proofs.Spellings.{narrowed_more}
 use Rattle.dirac_blocks.specs.Parts.{part_at}
 use Rattle.dirac_blocks.specs.Decisions.{unit_row, unit_rows}
-use Rattle.dirac_blocks.proofs.Narrowing.{narrowed_more, unit_rows_next}
+use Rattle.dirac_blocks.proofs.Narrowing.{unit_rows_next}
 use Rattle.dirac_blocks.proofs.unit_loops.write_unit_rows.Goals as goal
 
 pub rows-init : goal.rows-init

@@ -1,8 +1,10 @@
 use Rattle.std.proofs.Common.{rules, ◌≡◌, ◌+◌, ◌<◌, ◌^◌, length, Bool, true, false, List, OnOk, sym, ◌∙◌, subst, true≢false}
+use Rattle.dirac_types.proofs.Answers.{ok_both}
+use Rattle.dirac_bits.specs.Spelling.{SpelledBehind}
 use Rattle.dirac_coeffs.specs.Grammar.{band as band_grammar}
 use Rattle.dirac_coeffs.specs.Grammar.{values_of_parent}
-use Rattle.dirac_coeffs.specs.Written.{block_of, is_zero_band, with_band, SpelledBehind}
-use Rattle.dirac_coeffs.proofs.SpelledBand.{band_spelled, ok_both}
+use Rattle.dirac_coeffs.specs.Written.{block_of, is_zero_band, with_band}
+use Rattle.dirac_coeffs.proofs.SpelledBand.{band_spelled}
 use Rattle.dirac_coeffs.proofs.band_writer.write_band.Goals as goal
 
 pub returns-then-are_all_zeros-clause-spelled : goal.returns-then-are_all_zeros-clause-spelled

@@ -1,8 +1,8 @@
 use Rattle.std.proofs.Common.{◌+◌, refl}
+use Rattle.dirac_arith.proofs.Spellings.{narrowed_more}
 use Rattle.dirac_coeffs.specs.Decisions.{blocks_part, bands_part}
 use Rattle.dirac_coeffs.specs.Written.{marks_of}
 use Rattle.dirac_coeffs.proofs.AgreementOfBlocks.{bands_next}
-use Rattle.dirac_coeffs.proofs.Writing.{narrowed_more}
 use Rattle.dirac_coeffs.proofs.codeblock_writer.write_all.Goals as goal
 
 pub down-init : goal.down-init

@@ -1,8 +1,8 @@
 use Rattle.std.proofs.Common.{◌+◌, refl}
+use Rattle.dirac_arith.proofs.Spellings.{narrowed_more}
 use Rattle.dirac_coeffs.specs.Decisions.{block_part, blocks_part}
 use Rattle.dirac_coeffs.specs.Written.{marks_of}
 use Rattle.dirac_coeffs.proofs.AgreementOfBlocks.{blocks_next}
-use Rattle.dirac_coeffs.proofs.Writing.{narrowed_more}
 use Rattle.dirac_coeffs.proofs.codeblock_writer.write_codeblocks.Goals as goal
 
 pub across-init : goal.across-init

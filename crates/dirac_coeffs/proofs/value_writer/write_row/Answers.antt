@@ -1,7 +1,7 @@
 use Rattle.std.proofs.Common.{◌+◌, refl}
+use Rattle.dirac_arith.proofs.Spellings.{narrowed_more}
 use Rattle.dirac_coeffs.specs.Decisions.{frame_of, value_part, row_part}
 use Rattle.dirac_coeffs.proofs.Agreement.{row_next}
-use Rattle.dirac_coeffs.proofs.Writing.{narrowed_more}
 use Rattle.dirac_coeffs.proofs.value_writer.write_row.Goals as goal
 
 pub values-init : goal.values-init

@@ -1,7 +1,7 @@
 use Rattle.std.proofs.Common.{◌+◌, refl}
+use Rattle.dirac_arith.proofs.Spellings.{narrowed_more}
 use Rattle.dirac_coeffs.specs.Decisions.{frame_of, row_part, rows_part}
 use Rattle.dirac_coeffs.proofs.Agreement.{rows_next}
-use Rattle.dirac_coeffs.proofs.Writing.{narrowed_more}
 use Rattle.dirac_coeffs.proofs.value_writer.write_rows.Goals as goal
 
 pub rows-init : goal.rows-init

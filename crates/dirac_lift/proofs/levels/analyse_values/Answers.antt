@@ -1,9 +1,10 @@
 use Rattle.std.proofs.Common.{ℤ, ◌+◌, ◌*◌, ◌^◌, ◌≤◌, ◌≡◌, List, unsigned_abs, length, arith, sym, ◌∙◌, subst}
 use Rattle.std.specs.List.{All}
+use Rattle.dirac_types.proofs.Bounds.{all_weaker}
 use Rattle.dirac_lift.specs.Level.{begun}
 use Rattle.dirac_lift.specs.Places.{RowsBecome}
 use Rattle.dirac_lift.specs.Wavelets.{analyse, analyse_bound}
-use Rattle.dirac_lift.proofs.LevelLemmas.{all_weaker, analyse_columns_safe, analyse_columns_grow, analyse_rows_grow, begun_bound, length-begun, analysis_value, level_undone}
+use Rattle.dirac_lift.proofs.LevelLemmas.{analyse_columns_safe, analyse_columns_grow, analyse_rows_grow, begun_bound, length-begun, analysis_value, level_undone}
 use Rattle.dirac_lift.proofs.levels.analyse_values.Goals as goal
 
 pub analyse_rows-requires-clause-small : goal.analyse_rows-requires-clause-small

@@ -1,7 +1,7 @@
 use Rattle.std.proofs.Common.{◌≡◌, ◌+◌, ◌-◌, arith, ap, ◌∙◌, length-append, length-drop}
 use Rattle.std.proofs.lemmas.List.{length-take}
 use Rattle.dirac_types.specs.Table.{Table}
-use Rattle.dirac_upconvert.proofs.RowLemmas.{rows_more, rows_all}
+use Rattle.dirac_types.proofs.Rows.{rows_more, rows_all}
 use Rattle.dirac_obmc.specs.Compensation.{predicted_at}
 use Rattle.dirac_obmc.specs.Given.{given}
 use Rattle.dirac_obmc.proofs.Predictions.{rows_none, rows_are_small}

@@ -1,5 +1,5 @@
 use Rattle.std.proofs.Common.{◌≡◌, ◌+◌, ◌-◌, length}
-use Rattle.dirac_upconvert.proofs.RowLemmas.{RowsFilled}
+use Rattle.dirac_types.proofs.Rows.{RowsFilled}
 use Rattle.dirac_obmc.specs.Compensation.{predicted_at, x_length}
 use Rattle.dirac_obmc.specs.Given.{given}
 use Rattle.dirac_obmc.proofs.predict.rows_between.Given as goal

@@ -1,7 +1,8 @@
 use Rattle.std.proofs.Common.{◌≡◌, ◌+◌, ◌*◌, ◌^◌, arith, ap}
 use Rattle.std.proofs.lemmas.Nat.{mul-le}
 use Rattle.dirac_types.specs.Table.{Table}
-use Rattle.dirac_residual.proofs.Bounds.{all_below, all_weaker}
+use Rattle.dirac_types.proofs.Bounds.{all_weaker}
+use Rattle.dirac_residual.proofs.Bounds.{all_below}
 use Rattle.dirac_residual.proofs.plane.lowest_band.Goals as goal
 use Rattle.dirac_residual.proofs.plane.lowest_band.Goals.{in-Intra, in-Inter}
 

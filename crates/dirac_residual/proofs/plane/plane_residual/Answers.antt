@@ -1,10 +1,12 @@
 use Rattle.std.proofs.Common.{◌≡◌, ◌+◌, ◌*◌, ◌^◌, slice_get, Some, arith, ap, sym, ◌∙◌}
 use Rattle.dirac_types.specs.Table.{Table}
+use Rattle.dirac_types.proofs.Bounds.{all_weaker}
+use Rattle.dirac_bands.specs.Geometry.{lowest_size}
 use Rattle.dirac_residual.specs.Fits.{IsBandOf}
-use Rattle.dirac_residual.proofs.Bounds.{all_weaker, cut_bound}
+use Rattle.dirac_residual.proofs.Bounds.{cut_bound}
 use Rattle.dirac_residual.proofs.Levels.{first_level, more_levels, summed_width, summed_height}
 use Rattle.dirac_residual.proofs.Maps.{got_band, ok_weaker}
-use Rattle.dirac_residual.proofs.Sizes.{quotient, lowest_length, level_length, quotient_bound, size_within, next_length, entry_bound, end_bound, bound_more, bound_least}
+use Rattle.dirac_residual.proofs.Sizes.{lowest_length, level_length, quotient_bound, size_within, next_length, entry_bound, end_bound, bound_more, bound_least}
 use Rattle.dirac_residual.proofs.plane.plane_residual.Goals as goal
 
 pub lowest_band-requires-clause-across : goal.lowest_band-requires-clause-across
@@ -102,10 +104,10 @@ loop-n-preserved c =
           more_levels c.args.wavelet c.args.kind c.args.bands.now c.loop-n.n c.index-bands-n.result c.index-bands-n-in-loop-n.result c.index-bands-n-in-loop-n-2.result
           c.loop-n.low c.in_ok-next.next c.loop-n.invariant.value a b d c.in_ok-next.ensures.value;
       across =
-          next_length (quotient c.args.width c.args.depth) c.loop-n.n c.loop-n.low.width c.in_ok-next.next.width
+          next_length (lowest_size c.args.width c.args.depth) c.loop-n.n c.loop-n.low.width c.in_ok-next.next.width
           (ap (λ (t : Table). t.width) c.in_ok-next.ensures.value) c.loop-n.invariant.across;
       down =
-          next_length (quotient c.args.height c.args.depth) c.loop-n.n c.loop-n.low.height c.in_ok-next.next.height
+          next_length (lowest_size c.args.height c.args.depth) c.loop-n.n c.loop-n.low.height c.in_ok-next.next.height
           (ap (λ (t : Table). t.height) c.in_ok-next.ensures.value) c.loop-n.invariant.down;
       bound =
           all_weaker (72 * (2 ^ 77 * 73 ^ c.loop-n.n) + 40) (2 ^ 77 * 73 ^ (c.loop-n.n + 1)) c.in_ok-next.next.values (bound_more c.loop-n.n)
@@ -116,7 +118,7 @@ pub cut_to-requires-clause-across : goal.cut_to-requires-clause-across
 cut_to-requires-clause-across c =
     let last : c.loop-n.n ≡ c.args.depth = omega arith in (
       c.requires.across.0,
-      omega (arith, c.loop-n.invariant.across, ap (λ n. quotient c.args.width c.args.depth * 2 ^ n) last, size_within c.args.width c.args.depth),
+      omega (arith, c.loop-n.invariant.across, ap (λ n. lowest_size c.args.width c.args.depth * 2 ^ n) last, size_within c.args.width c.args.depth),
       c.requires.across.1,
     )
 
@@ -124,7 +126,7 @@ pub cut_to-requires-clause-down : goal.cut_to-requires-clause-down
 cut_to-requires-clause-down c =
     let last : c.loop-n.n ≡ c.args.depth = omega arith in (
       c.requires.down.0,
-      omega (arith, c.loop-n.invariant.down, ap (λ n. quotient c.args.height c.args.depth * 2 ^ n) last, size_within c.args.height c.args.depth),
+      omega (arith, c.loop-n.invariant.down, ap (λ n. lowest_size c.args.height c.args.depth * 2 ^ n) last, size_within c.args.height c.args.depth),
       c.requires.down.1,
     )
 

@@ -1,9 +1,9 @@
 use Rattle.std.proofs.Common.{ℕ, ◌<◌, ◌^◌, List, subst}
 use Rattle.std.specs.List.{AllByRecursion}
-use Rattle.dirac_bits.specs.Writing.{gap}
+use Rattle.dirac_bits.specs.Writing.{gap, up_to_byte}
 use Rattle.dirac_bits.proofs.Whole.{whole_read}
 use Rattle.dirac_sequence.specs.Grammar.{sequence}
-use Rattle.dirac_sequence.specs.Written.{sequence_bits, sequence_of, sequence_payload, up_to_byte}
+use Rattle.dirac_sequence.specs.Written.{sequence_bits, sequence_of, sequence_payload}
 use Rattle.dirac_sequence.proofs.Accepted.{writable}
 use Rattle.dirac_sequence.proofs.Packed.{packed, starts}
 use Rattle.dirac_sequence.proofs.Written.{sequence_spelled}

@@ -1,7 +1,8 @@
 use Rattle.std.proofs.Common.{◌≡◌, ◌+ℤ◌, pos, to_z, of_z, arith, refl, ap, ◌∙◌}
 use Rattle.std.specs.Int.{w16, int_shr}
 use Rattle.std.proofs.lemmas.Int.{ints, to_z-of_z}
-use Rattle.dirac_upconvert.specs.HalfSamples.{between, clipped, weighted}
+use Rattle.dirac_types.specs.Samples.{clip}
+use Rattle.dirac_upconvert.specs.HalfSamples.{between, weighted}
 use Rattle.dirac_upconvert.proofs.half_sample.half_sample.Goals as goal
 
 pub returns-clause-value : goal.returns-clause-value
@@ -14,4 +15,4 @@ returns-clause-value c =
     let sum : to_z w16 (of_z w16 c.whole_sum.result) ≡ weighted (c.args.a0 +ℤ c.args.b0) (c.args.a1 +ℤ c.args.b1) (c.args.a2 +ℤ c.args.b2) (c.args.a3 +ℤ c.args.b3) +ℤ pos 16 =
     to_z-of_z w16 _ (record { sfits = c.whole_sum.type_inv }) ∙ c.whole_sum.ensures.value ∙ rw (first, second, third, fourth) refl in
     to_z-of_z w16 _ (record { sfits = c.clip.type_inv }) ∙ c.clip.ensures.value
-    ∙ ap clipped (to_z-of_z w16 _ (record { sfits = c.shifted.type_inv }) ∙ c.shifted.ensures ∙ ap (λ z. int_shr z 5) sum)
+    ∙ ap clip (to_z-of_z w16 _ (record { sfits = c.shifted.type_inv }) ∙ c.shifted.ensures ∙ ap (λ z. int_shr z 5) sum)

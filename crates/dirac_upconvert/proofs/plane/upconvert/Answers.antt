@@ -3,7 +3,7 @@ use Rattle.std.proofs.lemmas.List.{length-take}
 use Rattle.dirac_types.specs.Table.{clamped_at}
 use Rattle.dirac_upconvert.specs.HalfSamples.{half}
 use Rattle.dirac_upconvert.proofs.Halves.{is_up, up_is, whole_samples}
-use Rattle.dirac_upconvert.proofs.RowLemmas.{rows_more, rows_all}
+use Rattle.dirac_types.proofs.Rows.{rows_more, rows_all}
 use Rattle.dirac_upconvert.proofs.plane.upconvert.Goals as goal
 
 pub loop-y-preserved : goal.loop-y-preserved

@@ -1,6 +1,6 @@
 use Rattle.std.proofs.Common.{◌≡◌, ◌-◌, ◌*◌, length}
 use Rattle.dirac_upconvert.specs.HalfSamples.{half_at}
-use Rattle.dirac_upconvert.proofs.RowLemmas.{RowsFilled}
+use Rattle.dirac_types.proofs.Rows.{RowsFilled}
 use Rattle.dirac_upconvert.proofs.plane.upconvert.Given as goal
 
 abbrev pub invariant-loop-y : goal.invariant-loop-y

@@ -10,7 +10,7 @@ use Rattle.dirac_types.specs.declared.faults.Cause.{Cause}
 use Rattle.dirac_arith.proofs.Decidings.{decided_is, decided_shut}
 use Rattle.dirac_arith.proofs.Intervals.{doublings_is, stands_self, one_truth, lies_kept}
 use Rattle.dirac_arith.proofs.Windows.{window_from_lies}
-use Rattle.dirac_arith.proofs.Decisions.{chances_set, moves, lies_moved}
+use Rattle.dirac_arith.proofs.Decisions.{probabilities_set, moves, lies_moved}
 use Rattle.dirac_arith.proofs.decoder.Decoder.decision.Goals as goal
 
 pub returns-then-self-clause-one : goal.returns-then-self-clause-one
@@ -21,7 +21,7 @@ returns-then-self-clause-one c =
     let P : Reading → Type 0 = λ x. Lies x.block (narrowed x.at (c.args.ctx, truth)) in
     let here = subst P (sym c.self.view_is) h in
     let s = (reading a).at in
-    let fits = sound.chances c.args.ctx c.requires.context in
+    let fits = sound.probabilities c.args.ctx c.requires.context in
     let inside = window_from_lies a.block.now a.registers s sound.stands (lies_kept a.block.now s c.args.ctx truth (omega arith) here) in
     let past = sound.refused c.if-self.true in
     absurd (omega arith)
@@ -41,7 +41,7 @@ invariant_of-self c =
       most_ahead = filled.most_ahead;
       refused = λ e. absurd (both_ways a.refused c.if-self.false e);
       inside = λ e. ((sound.inside e).0, rw filled.range (filled.inside _ decided.inside));
-      chances = chances_set a.contexts c.args.ctx c.adapt.result c.adapt.ensures.some c.adapt.ensures.most sound.chances;
+      probabilities = probabilities_set a.contexts c.args.ctx c.adapt.result c.adapt.ensures.some c.adapt.ensures.most sound.probabilities;
     }
 
 pub returns-clause-moves : goal.returns-clause-moves

@@ -19,7 +19,7 @@ invariant_of-result c =
       most_ahead = begun.most_ahead;
       refused = λ e. (past_is_ones block r begun.stands (rw begun.range at (c.is_past-refused.ensures.past e)), c.is_past-refused.ensures.past e);
       inside = λ e. (inside_not_ones block r begun.stands (rw begun.range at (c.is_past-refused.ensures.inside e)), c.is_past-refused.ensures.inside e);
-      chances = λ i below.
+      probabilities = λ i below.
           let P : ℕ → Type 0 = λ x. (254 ≤ x) × (x ≤ 65281) in
           subst P (sym (get_or-replicate 38 i 0x8000 0 below)) (omega arith, omega arith);
     }

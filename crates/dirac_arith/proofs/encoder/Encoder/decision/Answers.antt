@@ -1,7 +1,7 @@
 use Rattle.std.proofs.Common.{◌≡◌, ◌+◌, ◌*◌, ◌/◌, ◌^◌, ◌≤◌, slice_index, sym, subst, ap, ◌∙◌, arith}
 use Rattle.dirac_arith.specs.Registers.{part_of}
 use Rattle.dirac_arith.specs.Tail.{Waiting}
-use Rattle.dirac_arith.proofs.Decisions.{chances_set}
+use Rattle.dirac_arith.proofs.Decisions.{probabilities_set}
 use Rattle.dirac_arith.proofs.Encodings.{kept_within, kept_register, part_some}
 use Rattle.dirac_arith.proofs.encoder.Encoder.decision.Goals as goal
 
@@ -15,7 +15,7 @@ invariant_of-self c =
       within = rw (settled.value, settled.doublings) sound.within;
       register = settled.register c.self.inside.range sound.narrow sound.register;
       pending = settled.pending;
-      chances = sound.chances;
+      probabilities = sound.probabilities;
     }
 
 pub advance-requires-clause-amount : goal.advance-requires-clause-amount
@@ -47,5 +47,5 @@ invariant_of-self-2 c =
       within = subst W (sym c.advance.ensures) (rw range_is (kept_within tail.value a.range tail.doublings result.lift part result.doublings parts.within (rw (settled.value, settled.doublings) sound.within)));
       register = subst R (sym c.advance.ensures) (rw range_is (kept_register tail.register a.range tail.pending result.lift part result.doublings parts.within register));
       pending = subst N (sym c.advance.ensures) (omega (arith, settled.room, parts.few));
-      chances = chances_set a.contexts c.args.ctx c.adapt.result c.adapt.ensures.some c.adapt.ensures.most sound.chances;
+      probabilities = probabilities_set a.contexts c.args.ctx c.adapt.result c.adapt.ensures.some c.adapt.ensures.most sound.probabilities;
     }

@@ -14,7 +14,7 @@ invariant_of-result c =
       within = subst W (sym c.new.ensures) (omega arith);
       register = subst R (sym c.new.ensures) (omega arith);
       pending = subst N (sym c.new.ensures) (omega arith);
-      chances = λ i below.
+      probabilities = λ i below.
           let P : ℕ → Type 0 = λ x. (254 ≤ x) × (x ≤ 65281) in
           subst P (sym (get_or-replicate 38 i 0x8000 0 below)) (omega arith, omega arith);
     }

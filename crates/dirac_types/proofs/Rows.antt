@@ -1,11 +1,10 @@
--- A table that is filled row by row.
+-- A table that is filled row by row, and what is read of a table that is told by column and row.
 use Rattle.std.proofs.Common.{◌≡◌, ℕ, ℤ, pos, ◌+◌, ◌-◌, ◌*◌, ◌/◌, ◌%◌, ◌≤◌, ◌<◌, List, length, ◌++◌, get_or, take, drop, arith, inl, inr, ap, sym, ◌∙◌, length-append, length-drop}
 use Rattle.std.proofs.lemmas.List.{length-take-le, take_at, get_or_append_left, get_or-take, get_or-drop, get_or-append_right}
-use Rattle.std.proofs.lemmas.List.FromFn.{fill_by_all}
-use Rattle.std.proofs.lemmas.Nat.{row_fits, mod_below, div-add-mod', div_below}
+use Rattle.std.proofs.lemmas.List.FromFn.{fill_by_all, get_or-map-range_with_len}
+use Rattle.std.proofs.lemmas.Nat.{row_fits, mod_below, div-add-mod', div_below, mul-add-lt, div-mul-add, mod-mul-add}
 use Rattle.std.proofs.lemmas.Bool.{cases_lt}
-use Rattle.dirac_types.specs.Table.{Table, table_at, row_of, overwritten}
-use Rattle.dirac_bands.specs.Interleaving.{filled, table_of}
+use Rattle.dirac_types.specs.Table.{Table, table_at, row_of, overwritten, filled, table_of}
 
 -- what a part of a list is written over with, and what lies round it
 pieces : List ℤ → ℕ → List ℤ → List ℤ
@@ -76,3 +75,11 @@ row_at t x y l =
     let whole : y * t.width + t.width - y * t.width ≡ t.width = omega arith in
     get_or-take (y * t.width + t.width - y * t.width) (drop (y * t.width) t.values) x (pos 0) (omega (arith, whole))
     ∙ get_or-drop (y * t.width) t.values x (pos 0)
+
+-- a value of a table that is told by column and row
+pub filled_at : (f : ℕ → ℕ → ℤ) (w h x y : ℕ) → x < w → y < h → get_or (filled w h f) (y * w + x) (pos 0) ≡ f x y
+unfolding filled
+filled_at f w h x y l k =
+    get_or-map-range_with_len (λ p. f (p % w) (p / w)) 0 (w * h) (y * w + x) (y * w + x) (pos 0) (mul-add-lt y w x h k l) (omega arith)
+    ∙ ap (λ i. f i ((y * w + x) / w)) (mod-mul-add y w x l)
+    ∙ ap (λ j. f x j) (div-mul-add y w x l)

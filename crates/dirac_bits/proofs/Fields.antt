@@ -1,4 +1,4 @@
--- Which bits spell the fields of a header one after another.
+-- Which bits spell fields one after another.
 use Rattle.std.proofs.Common.{◌≡◌, ℕ, ◌+◌, ◌*◌, ◌/◌, ◌%◌, ◌-◌, ◌<◌, ◌≤◌, ◌^◌, if◌then◌else◌, Bool, true, false, List, [], ◌∷◌, ◌++◌, length, refl, sym, ap, subst, ◌∙◌, arith, append_assoc, append-nil, length-append}
 use Rattle.std.specs.Prelude.{nat_le}
 use Rattle.std.proofs.lemmas.Bool.{and_from, le-leb}
@@ -6,7 +6,7 @@ use Rattle.std.proofs.lemmas.List.{length-replicate}
 use Rattle.dirac_types.specs.declared.faults.Cause.{Cause}
 use Rattle.dirac_types.specs.Bits.{bits_of}
 use Rattle.dirac_types.specs.Numbers as numbers
-use Rattle.dirac_bits.specs.Spelling.{Spells}
+use Rattle.dirac_bits.specs.Spelling.{Spells, SpelledBehind}
 use Rattle.dirac_bits.specs.Syntax.{Syntax, done, flag_then, uint_then, sint_then, literal_then, block_then, align_then, here_then, refuse, ◌>>=◌, field, between}
 use Rattle.dirac_bits.specs.Writing.{gap}
 
@@ -56,6 +56,17 @@ pub spells_last : {A B : Type 0} (s : Syntax A) (f : A → Syntax B) (y : A) (x 
     → Spells s y k a → Spells (f y) x (k + length a) [] → Spells (s >>= f) x k a
 spells_last s f y x k a e more = subst (λ (l : List Bool). Spells (s >>= f) x k l) (append-nil a) (spells_then s f y x k a [] e more)
 
+-- the same behind other bits
+pub behind_then : {A B : Type 0} (s : Syntax A) (f : A → Syntax B) (y : A) (x : B) (old mid new : List Bool)
+    → SpelledBehind s y old mid → SpelledBehind (f y) x mid new → SpelledBehind (s >>= f) x old new
+behind_then s f y x old mid new a b =
+    let place : length mid ≡ length old + length a.bits = ap length a.is ∙ length-append old a.bits in
+    record {
+      bits = a.bits ++ b.bits;
+      is = b.is ∙ ap (λ (l : List Bool). l ++ b.bits) a.is ∙ append_assoc old a.bits b.bits;
+      spells = spells_then s f y x (length old) a.bits b.bits a.spells (subst (λ (n : ℕ). Spells (f y) x n b.bits) place b.spells);
+    }
+
 -- a number that the rule of its field allows
 pub field_spelled : (cause : Cause) (allows : ℕ → Bool) (n k : ℕ) → n + 1 < 2 ^ 39 → allows n ≡ true → Spells (field cause allows) n k (numbers.uint n)
 field_spelled cause allows n k small allowed =
@@ -68,3 +79,6 @@ between_is low high n above below = and_from (nat_le low n) (nat_le n high) (le-
 -- a gap ends where a byte does
 pub gap_length : (bits : List Bool) → length bits + length (gap bits) ≡ 8 * ((length bits + 7) / 8)
 gap_length bits = omega (arith, length-replicate {A = Bool} ((8 - length bits % 8) % 8) false)
+
+pub gap_length-at : (bits : List Bool) (k : ℕ) → length bits ≡ k → k + length (gap bits) ≡ 8 * ((k + 7) / 8)
+gap_length-at bits k e = rw (sym e) (gap_length bits)

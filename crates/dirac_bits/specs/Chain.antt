@@ -1,8 +1,0 @@
--- Steps that may be refused, one after another.
-use Rattle.std.specs.Prelude.{Result, Ok, Err}
-
-infixl 10 ◌>>=◌
--- this step, and where it isn't refused the next one, which is given its value
-abbrev pub ◌>>=◌ : {A B E : Type 0} → Result A E → (A → Result B E) → Result B E
-(Ok x) >>= f = f x
-(Err e) >>= f = Err e
