@@ -14,7 +14,8 @@ use Rattle.dirac_picture.specs.declared.coded.CodedPicture.{CodedPicture}
 use Rattle.dirac_picture.specs.declared.coded.CodedResidual.{CodedResidual}
 use Rattle.dirac_picture.specs.Grammar.{are_listed, body, motion, zero_residual, residual_unless, chroma_height, chroma_width, picture, plane_bands, planes, residual}
 use Rattle.dirac_encode.specs.Coded.{coded_from, intra_header}
-use Rattle.dirac_encode.proofs.Behind.{behind_then, behind_done, behind_gap}
+use Rattle.dirac_bits.proofs.Fields.{behind_then}
+use Rattle.dirac_encode.proofs.Behind.{behind_done, behind_gap}
 
 pub planes_spelled : (s : Sequence) (r : CodedResidual) (old one two new : List Bool) → SpelledBehind (plane_bands r.transform s.width s.height) r.y old one
     → SpelledBehind (plane_bands r.transform (chroma_width s) (chroma_height s)) r.u one two → SpelledBehind (plane_bands r.transform (chroma_width s) (chroma_height s)) r.v two new

@@ -7,11 +7,12 @@ use Rattle.dirac_header.specs.declared.transform.Transform.{Transform}
 use Rattle.dirac_header.specs.Written.{SpelledBehind}
 use Rattle.dirac_coeffs.specs.declared.spot.CodedBand.{CodedBand}
 use Rattle.dirac_coeffs.specs.Grammar.{band}
-use Rattle.dirac_coeffs.specs.Written.{with_band, SpelledBehind as BandBehind}
+use Rattle.dirac_coeffs.specs.Written.{with_band}
 use Rattle.dirac_picture.specs.Bands.{parent_values, spot_of}
 use Rattle.dirac_picture.specs.Grammar.{bands_behind}
 use Rattle.dirac_encode.specs.Payload.{with_bands}
-use Rattle.dirac_encode.proofs.Behind.{behind_then, behind_done}
+use Rattle.dirac_bits.proofs.Fields.{behind_then}
+use Rattle.dirac_encode.proofs.Behind.{behind_done}
 use Rattle.dirac_encode.proofs.Taken.{taken_more, dropped_next}
 
 pub one_written : (t : Transform) (width height : ℕ) (bands : List CodedBand) (n : ℕ) (b : CodedBand) (old new all : List Bool) → n < length bands → slice_get bands n ≡ Some b
@@ -38,7 +39,7 @@ none_led t width height bands start final s =
     subst (λ n. SpelledBehind (bands_behind t width height [] n) bands start final) count s
 
 pub one_led : (t : Transform) (width height : ℕ) (bands : List CodedBand) (n : ℕ) (b : CodedBand) (start old new : List Bool) → n < length bands → slice_get bands n ≡ Some b
-    → BandBehind (band (spot_of t width height n) (parent_values (take n bands))) b old new → Leads t width height bands n start old → Leads t width height bands (n + 1) start new
+    → SpelledBehind (band (spot_of t width height n) (parent_values (take n bands))) b old new → Leads t width height bands n start old → Leads t width height bands (n + 1) start new
 unfolding Leads bands_behind
 one_led t width height bands n b start old new few is spelled leads final s =
     let before = take n bands in
@@ -47,8 +48,7 @@ one_led t width height bands n b start old new few is spelled leads final s =
     let count : suc more ≡ length bands - n = omega arith in
     let place : ℕ → Syntax CodedBand = λ k. band (spot_of t width height k) (parent_values before) in
     let next : CodedBand → Syntax (List CodedBand) = λ x. bands_behind t width height (before ++ x ∷ []) more in
-    let one : SpelledBehind (place n) b old new = record { bits = spelled.bits; is = spelled.is; spells = spelled.spells } in
-    let here : SpelledBehind (place (length before)) b old new = subst (λ k. SpelledBehind (place k) b old new) (sym len) one in
+    let here : SpelledBehind (place (length before)) b old new = subst (λ k. SpelledBehind (place k) b old new) (sym len) spelled in
     let rest : SpelledBehind (next b) bands new final = subst (λ (l : List CodedBand). SpelledBehind (bands_behind t width height l more) bands new final) (taken_more bands n (n + 1) b refl is) s in
     let whole : SpelledBehind (bands_behind t width height before (suc more)) bands old final = behind_then (place (length before)) next b bands old new final here rest in
     leads final (subst (λ k. SpelledBehind (bands_behind t width height before k) bands old final) count whole)

@@ -20,24 +20,11 @@ use Rattle.dirac_decode.specs.Course.{Course, Moved, begun, first_or, header_mov
 use Rattle.dirac_decode.specs.Shown.{Outcome, IsShown, follows, outcome, with_front}
 use Rattle.dirac_encode.specs.Coded.{coded_intra}
 use Rattle.dirac_encode.specs.Payload.{payload_of}
-use Rattle.dirac_encode.specs.Stream.{AreCoded, AreNumbered, IsRead, end_info, end_unit, header_length, info_for, picture_length, pictures_from, reconstructions, shown_of, stream_of}
+use Rattle.dirac_encode.specs.Stream.{AreCoded, AreNumbered, IsRead, end_info, end_unit, header_length, info_for, picture_length, pictures_from, reconstructions, shown_of, stream_of, units_from, header_text, picture_text, end_text, StreamsAreCut}
 use Rattle.dirac_encode.proofs.Cutting.{nothing_left, one_cut, unit_front_is}
 use Rattle.dirac_encode.proofs.Delivering.{Leaves, key_small, queue, queue_delivered, queue_flushed, queue_none, queue_push}
 
 -- ---- the units
-
-header_text : Settings → ℕ → UnitText
-header_text t previous = record { info = info_for 0x00 previous (sequence_payload t); payload = sequence_payload t }
-
-picture_text : Settings → Picture → UnitText
-picture_text t p = record { info = info_for 0x0C (header_length t) (payload_of t p); payload = payload_of t p }
-
-end_text : ℕ → UnitText
-end_text previous = record { info = end_info previous; payload = [] }
-
-units_from : Settings → ℕ → List Picture → List UnitText
-units_from t previous [] = end_text previous ∷ []
-units_from t previous (p ∷ pictures) = header_text t previous ∷ picture_text t p ∷ units_from t (picture_length t p) pictures
 
 header_lawful : (previous : ℕ) (payload : List ℕ) → IsLawful (info_for 0x00 previous payload)
 header_lawful previous payload = rw (le-leb 13 (13 + length payload) (omega arith)) refl
@@ -192,13 +179,20 @@ first_going : (t : Settings) → Going t 0 0 [] (first_course t)
 unfolding first_course
 first_going t = record { opened = refl; first = refl; queued = queue_none 0; next = refl }
 
+pub streams_cut : IsReadAsWritten → StreamsAreCut
+unfolding header_text units_from pictures_from
+streams_cut written t [] coded =
+    let info = info_for 0x00 0 (sequence_payload t) in
+    header_cut written t 0 start (end_unit (header_length t)) (end_text (header_length t) ∷ []) coded.short (omega arith) (end_cut written (header_length t) (after start info) coded.short)
+streams_cut written t (p ∷ pictures) coded = cut_from written t (p ∷ pictures) 0 start (omega arith) coded.short coded.each
+
 pub streams_shown : IsReadAsWritten → (t : Settings) (pictures : List Picture) → AreCoded t pictures
     → (o : Outcome) × IsShown (stream_of t pictures) o × (o.shown ≡ reconstructions t pictures) × (o.end ≡ None)
 unfolding first_course header_text units_from pictures_from
 streams_shown written t [] coded =
     let units = header_text t 0 ∷ end_text (header_length t) ∷ [] in
     let info = info_for 0x00 0 (sequence_payload t) in
-    let cut = header_cut written t 0 start (end_unit (header_length t)) (end_text (header_length t) ∷ []) coded.short (omega arith) (end_cut written (header_length t) (after start info) coded.short) in
+    let cut = streams_cut written t [] coded in
     let rest = shows_end t 0 0 (header_length t) [] (after start info) (first_course t) (first_going t) in
     let step = outcome_more begun start (header_text t 0) (end_text (header_length t) ∷ []) (staying (first_course t)) (opens t coded.header) in
     (outcome begun start units None, record { units = units; end = None; cut = cut; same = refl }, ap (λ (o : Outcome). o.shown) step ∙ rest.shown, ap (λ (o : Outcome). o.end) step ∙ rest.none)
@@ -208,7 +202,7 @@ streams_shown written t (p ∷ pictures) coded =
     let few = coded.few in
     let numbered = coded.numbered in
     let each = coded.each in
-    let cut = cut_from written t (p ∷ pictures) 0 start (omega arith) coded.short coded.each in
+    let cut = streams_cut written t (p ∷ pictures) coded in
     let more = units_from t (picture_length t p) pictures in
     let rest = shows_picture t p pictures 0 0 [] (after start info) (first_course t) more (first_going t) each.0 numbered.0 (omega arith)
     (λ k waiting spot course g. shows_from t pictures 1 k (picture_length t p) waiting spot course g numbered.1 (omega arith) each.1) in

@@ -4,6 +4,7 @@ use Rattle.std.specs.Io.KnownBytes.{Appends}
 use Rattle.dirac_io.specs.Writing.{AppendsFront}
 use Rattle.dirac_types.specs.declared.picture.Picture.{Picture}
 use Rattle.dirac_types.specs.declared.settings.Settings.{Settings}
+use Rattle.dirac_units.specs.Cut.{IsCut, start}
 use Rattle.dirac_sequence.specs.Written.{sequence_payload}
 use Rattle.dirac_refs.specs.declared.waiting.Waiting.{Waiting}
 use Rattle.dirac_refs.specs.Delivery.{deliver, key_of}
@@ -12,7 +13,7 @@ use Rattle.dirac_decode.specs.Shown.{Outcome, IsShown}
 use Rattle.dirac_encode.specs.declared.answers.Encoded.{Encoded}
 use Rattle.dirac_encode.specs.declared.answers.Encoded.TheVariants as encoded
 use Rattle.dirac_encode.specs.Raw.{left_over, raw_length, sources, whole_pictures}
-use Rattle.dirac_encode.specs.Stream.{last_length, picture_length, reconstructions, shown_of, stream_of, unit, units_of}
+use Rattle.dirac_encode.specs.Stream.{last_length, picture_length, reconstructions, shown_of, stream_of, stream_units, unit, units_of}
 
 -- the unit of a picture is no longer than the settings allow
 abbrev pub is_short : Settings → Picture → Bool
@@ -89,8 +90,9 @@ EndsStream (encoded.PartialPicture n) = ⊤
 EndsStream encoded.TooManyPictures = ⊤
 EndsStream answer = ⊥
 
--- the stream of these bytes' pictures has no fault and shows their reconstructions; with quantiser index 0 these are the pictures themselves, and their raw bytes are those that were read
+-- the stream of these bytes' pictures is cut into its units, has no fault and shows their reconstructions; with quantiser index 0 these are the pictures themselves, and their raw bytes are those that were read
 pub record IsRecovered (t : Settings) (bytes : List ℕ) : Type 0 where
+  pub cut : IsCut start (stream_of t (sources t bytes)) (stream_units t (sources t bytes)) None
   pub shows : (o : Outcome) × IsShown (stream_of t (sources t bytes)) o × (o.shown ≡ reconstructions t (sources t bytes)) × (o.end ≡ None)
   pub lossless : t.index ≡ 0 → reconstructions t (sources t bytes) ≡ sources t bytes
   pub raw : raws (sources t bytes) ≡ take (length (sources t bytes) * raw_length t) bytes

@@ -4,6 +4,7 @@ use Rattle.std.specs.List.{AllByRecursion}
 use Rattle.dirac_types.specs.declared.picture.Picture.{Picture}
 use Rattle.dirac_types.specs.declared.settings.Settings.{Settings}
 use Rattle.dirac_units.specs.declared.info.ParseInfo.{ParseInfo}
+use Rattle.dirac_units.specs.Cut.{UnitText, IsCut, start}
 use Rattle.dirac_units.specs.Writing.{info_bytes}
 use Rattle.dirac_sequence.specs.Grammar.{sequence_read}
 use Rattle.dirac_sequence.specs.Written.{sequence_of, sequence_payload}
@@ -55,6 +56,26 @@ abbrev pub stream_of : Settings → List Picture → List ℕ
 stream_of t [] = unit 0x00 0 (sequence_payload t) ++ end_unit (header_length t)
 stream_of t (p ∷ pictures) = pictures_from t 0 (p ∷ pictures)
 
+-- those units: a sequence header's, a picture's and the end unit
+unfoldable pub header_text : Settings → ℕ → UnitText
+header_text t previous = record { info = info_for 0x00 previous (sequence_payload t); payload = sequence_payload t }
+
+unfoldable pub picture_text : Settings → Picture → UnitText
+picture_text t p = record { info = info_for 0x0C (header_length t) (payload_of t p); payload = payload_of t p }
+
+unfoldable pub end_text : ℕ → UnitText
+end_text previous = record { info = end_info previous; payload = [] }
+
+-- the units of pictures and the end unit, behind a unit of this length
+unfoldable pub units_from : Settings → ℕ → List Picture → List UnitText
+units_from t previous [] = end_text previous ∷ []
+units_from t previous (p ∷ pictures) = header_text t previous ∷ picture_text t p ∷ units_from t (picture_length t p) pictures
+
+-- the units of the stream
+abbrev pub stream_units : Settings → List Picture → List UnitText
+stream_units t [] = header_text t 0 ∷ end_text (header_length t) ∷ []
+stream_units t (p ∷ pictures) = units_from t 0 (p ∷ pictures)
+
 -- the picture that decoders show for a source, which is predicted from none; and those for sources
 abbrev pub shown_of : Settings → Picture → Picture
 shown_of t p = rebuilt (sequence_of t) [] (coded_intra t p)
@@ -84,3 +105,7 @@ abbrev pub StreamsShowTheirPictures : Type 0
 StreamsShowTheirPictures =
     (t : Settings) (pictures : List Picture) → AreCoded t pictures
     → (o : Outcome) × IsShown (stream_of t pictures) o × (o.shown ≡ reconstructions t pictures) × (o.end ≡ None)
+
+-- a stream is cut into just its units, and has no fault there
+abbrev pub StreamsAreCut : Type 0
+StreamsAreCut = (t : Settings) (pictures : List Picture) → AreCoded t pictures → IsCut start (stream_of t pictures) (stream_units t pictures) None

@@ -4,7 +4,7 @@ ghost use Rattle.std.specs.Prelude.{◌≡◌, ◌<◌, ◌≤◌, ◌+◌, ◌*
 ghost use Rattle.std.specs.Option.{ForSome};
 ghost use Rattle.dirac_coeffs.specs.declared.spot.CodedBand.{CodedBand as TheBand};
 ghost use Rattle.dirac_coeffs.specs.Grammar.{band, values_of_parent};
-ghost use Rattle.dirac_coeffs.specs.Written.{with_band, is_zero_band, SpelledBehind as BandBehind};
+ghost use Rattle.dirac_coeffs.specs.Written.{with_band, is_zero_band};
 ghost use Rattle.dirac_header.specs.Written.{SpelledBehind};
 ghost use Rattle.dirac_picture.specs.Bands as places;
 ghost use Rattle.dirac_picture.specs.Grammar as grammar;
@@ -12,11 +12,10 @@ ghost use Rattle.dirac_picture.specs.Fits.{AreBandsOf, IsLayout, IsPlaneSize};
 ghost use Rattle.dirac_encode.specs.Payload.{with_plane};
 ghost use Rattle.dirac_encode.specs.Writable.{HaveNoughts};
 
-use crate::spots::spot;
 use dirac_bits::BitWriter;
 use dirac_coeffs::write_band;
 use dirac_header::Transform;
-use dirac_picture::PlaneBands;
+use dirac_picture::{PlaneBands, spot};
 use dirac_types::{BandTable, NoMemory};
 use std::alloc::Global;
 
@@ -49,7 +48,7 @@ fn write_next(
     requires noughts { HaveNoughts bands.now }
     requires there { n < length bands.now }
     ensures exact { (b : TheBand) → slice_get bands.now n ≡ Some b → OnOk result (w.new ≡ with_band (places.spot_of transform.now width height n) (places.parent_values (take n bands.now)) b w.old) }
-    ensures spelled { (b : TheBand) → slice_get bands.now n ≡ Some b → OnOk result (BandBehind (band (places.spot_of transform.now width height n) (places.parent_values (take n bands.now))) b w.old w.new) }
+    ensures spelled { (b : TheBand) → slice_get bands.now n ≡ Some b → OnOk result (SpelledBehind (band (places.spot_of transform.now width height n) (places.parent_values (take n bands.now))) b w.old w.new) }
 {
     let place = spot(transform, width, height, n);
     write_band(alloc, w, place, parent(bands, n), bands.at(n))

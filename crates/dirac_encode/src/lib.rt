@@ -10,7 +10,6 @@ mod picture;
 mod progress;
 mod raw;
 mod shared;
-mod spots;
 mod stream;
 mod transform;
 mod units;

@@ -1,5 +1,8 @@
-use Rattle.dirac_encode.proofs.Showing.{streams_shown}
+use Rattle.dirac_encode.proofs.Showing.{streams_cut, streams_shown}
 use Rattle.dirac_encode.proofs.laws.streams_show_their_pictures.Goals as goal
 
-pub returns : goal.returns
-returns c = streams_shown c.infos_are_read_as_written.ensures
+pub returns-clause-shown : goal.returns-clause-shown
+returns-clause-shown c = streams_shown c.infos_are_read_as_written.ensures
+
+pub returns-clause-cut : goal.returns-clause-cut
+returns-clause-cut c = streams_cut c.infos_are_read_as_written.ensures

@@ -64,7 +64,7 @@ returns-in-Part-clause-recovered g c =
     let t = c.args.settings.now in
     let first = g.S.Source.held c.args.source.now in
     if_some_after first (λ bytes. IsRecovered t bytes) (EndsStream c.behind_whole.result)
-    (part_recovers c.streams_show_their_pictures.ensures t first c.pictures.coding (g.S.Source.held c.pictures.source) (g.S.Source.held c.fill.new.source)
+    (part_recovers c.streams_show_their_pictures.ensures.shown c.streams_show_their_pictures.ensures.cut t first c.pictures.coding (g.S.Source.held c.pictures.source) (g.S.Source.held c.fill.new.source)
     (g.K.Sink.taken c.args.out.now) (g.K.Sink.taken c.pictures.out) (g.N.Sink.taken c.args.side.now) (g.N.Sink.taken c.pictures.side)
     c.fill.new.buf c.in-Part.n c.pictures.invariant.so_far (c.in-Part.ensures.part c.in-Part.n refl) (c.in-Part.ensures.end c.in-Part.n refl)
     (omega (arith, c.in-Part.ensures.short c.in-Part.n refl, c.fill.ensures.size)) (c.fill.ensures.size ∙ c.pictures.invariant.size) c.pictures.invariant.few (most_pictures t c.requires.accepted)
@@ -102,7 +102,7 @@ returns-then-coding-settings-clause-recovered g c =
     let t = c.args.settings.now in
     let first = g.S.Source.held c.args.source.now in
     if_some_after first (λ bytes. IsRecovered t bytes) _
-    (many_recovers c.streams_show_their_pictures.ensures t first c.pictures.coding (g.S.Source.held c.pictures.source) (g.S.Source.held c.fill.new.source)
+    (many_recovers c.streams_show_their_pictures.ensures.shown c.streams_show_their_pictures.ensures.cut t first c.pictures.coding (g.S.Source.held c.pictures.source) (g.S.Source.held c.fill.new.source)
     (g.K.Sink.taken c.args.out.now) (g.K.Sink.taken c.pictures.out) (g.N.Sink.taken c.args.side.now) (g.N.Sink.taken c.pictures.side)
     c.fill.new.buf c.pictures.invariant.so_far (c.in-Whole.ensures.whole refl) (c.fill.ensures.size ∙ c.pictures.invariant.size) (raw_some t c.requires.accepted)
     (omega (arith, c.if-coding-settings.true)) (most_pictures t c.requires.accepted)
