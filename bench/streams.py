@@ -3,6 +3,7 @@
 
 streams.py padding MEGABYTES    a stream of padding units of 64 KiB, and an end unit
 streams.py grey PICTURES        intra pictures of 704 by 576, 4:2:0, all of whose subbands are empty
+streams.py raw PICTURES         raw pictures of 720 by 576, 4:2:2: a slope that moves, with noise in its lowest bits
 """
 import sys
 
@@ -37,6 +38,21 @@ def grey(pictures):
     yield 0x10, b""
 
 
+def write_raw(pictures):
+    state = 1
+    for number in range(pictures):
+        picture = bytearray()
+        for plane, width in enumerate((720, 360, 360)):
+            for y in range(576):
+                for x in range(width):
+                    state = (state * 1103515245 + 12345) & 0x7FFFFFFF
+                    picture.append((2 * x + 3 * y + 5 * number + 40 * plane + (state >> 27)) // 4 % 256)
+        sys.stdout.buffer.write(picture)
+
+
 if __name__ == "__main__":
     kind, count = sys.argv[1], int(sys.argv[2])
-    write({"padding": padding, "grey": grey}[kind](count))
+    if kind == "raw":
+        write_raw(count)
+    else:
+        write({"padding": padding, "grey": grey}[kind](count))
