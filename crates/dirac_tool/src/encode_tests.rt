@@ -1,6 +1,6 @@
 use crate::ended::Ended;
 use crate::run::run;
-use crate::tests::{SMALL, STREAM, header, joined, shows};
+use crate::tests::{SMALL, STREAM, header, joined};
 use crate::words::Words;
 use dirac_io::{MemSink, MemSource, OpenGate};
 use dirac_types::{BadSetting, Name};
@@ -244,49 +244,124 @@ fn encodes_until_a_call_fails(rt: HostRuntime) -> Result<(), Fail> {
     Ok(())
 }
 
-// A size with a chroma format, and how many bytes its raw picture has.
-#[derive(Clone, Copy)]
+const WAVELETS: [&str; 7] = [
+    "--wavelet=0",
+    "--wavelet=1",
+    "--wavelet=2",
+    "--wavelet=3",
+    "--wavelet=4",
+    "--wavelet=5",
+    "--wavelet=6",
+];
+
+const DEPTHS: [&str; 4] = ["--depth=1", "--depth=2", "--depth=3", "--depth=4"];
+
+// Settings of small pictures, and how many bytes two of them have; at index 0 nothing is lost.
 struct Shape {
-    words: [&'static str; 3],
+    words: [&'static str; 5],
     bytes: usize,
+    lossless: bool,
 }
 
 const SHAPES: [Shape; 9] = [
     Shape {
-        words: ["--width=1", "--height=1", "--chroma=0"],
-        bytes: 3,
-    },
-    Shape {
-        words: ["--width=5", "--height=3", "--chroma=0"],
-        bytes: 45,
-    },
-    Shape {
-        words: ["--width=12", "--height=10", "--chroma=0"],
-        bytes: 360,
-    },
-    Shape {
-        words: ["--width=2", "--height=1", "--chroma=1"],
-        bytes: 4,
-    },
-    Shape {
-        words: ["--width=6", "--height=7", "--chroma=1"],
-        bytes: 84,
-    },
-    Shape {
-        words: ["--width=12", "--height=10", "--chroma=1"],
-        bytes: 240,
-    },
-    Shape {
-        words: ["--width=2", "--height=2", "--chroma=2"],
+        words: [
+            "--width=1",
+            "--height=1",
+            "--chroma=0",
+            "--index=0",
+            "--codeblocks=1",
+        ],
         bytes: 6,
+        lossless: true,
     },
     Shape {
-        words: ["--width=4", "--height=6", "--chroma=2"],
-        bytes: 36,
+        words: [
+            "--width=5",
+            "--height=3",
+            "--chroma=0",
+            "--index=0",
+            "--codeblocks=3",
+        ],
+        bytes: 90,
+        lossless: true,
     },
     Shape {
-        words: ["--width=12", "--height=10", "--chroma=2"],
-        bytes: 180,
+        words: [
+            "--width=12",
+            "--height=10",
+            "--chroma=0",
+            "--index=12",
+            "--codeblocks=3",
+        ],
+        bytes: 720,
+        lossless: false,
+    },
+    Shape {
+        words: [
+            "--width=2",
+            "--height=1",
+            "--chroma=1",
+            "--index=0",
+            "--codeblocks=1",
+        ],
+        bytes: 8,
+        lossless: true,
+    },
+    Shape {
+        words: [
+            "--width=6",
+            "--height=7",
+            "--chroma=1",
+            "--index=0",
+            "--codeblocks=3",
+        ],
+        bytes: 168,
+        lossless: true,
+    },
+    Shape {
+        words: [
+            "--width=12",
+            "--height=10",
+            "--chroma=1",
+            "--index=12",
+            "--codeblocks=3",
+        ],
+        bytes: 480,
+        lossless: false,
+    },
+    Shape {
+        words: [
+            "--width=2",
+            "--height=2",
+            "--chroma=2",
+            "--index=0",
+            "--codeblocks=1",
+        ],
+        bytes: 12,
+        lossless: true,
+    },
+    Shape {
+        words: [
+            "--width=4",
+            "--height=6",
+            "--chroma=2",
+            "--index=0",
+            "--codeblocks=3",
+        ],
+        bytes: 72,
+        lossless: true,
+    },
+    Shape {
+        words: [
+            "--width=12",
+            "--height=10",
+            "--chroma=2",
+            "--index=12",
+            "--codeblocks=3",
+        ],
+        bytes: 360,
+        lossless: false,
     },
 ];
 
@@ -302,16 +377,44 @@ fn noise(alloc: Global, count: usize) -> Result<Vec<u8>, Fail> {
     Ok(bytes)
 }
 
-// Encodes two pictures of a shape, decodes the stream, and compares what both gave; at index 0 with the input.
+// Decodes a stream of two pictures, and compares what came out.
+fn decodes_to<R: Abort + Threads + Sync>(
+    rt: &R,
+    alloc: Global,
+    stream: &[u8],
+    raw: &[u8],
+) -> Result<(), Fail> {
+    let mut words = Words::new(alloc);
+    words.push("decode")?;
+    let mut source = MemSource::new(Vec::from_slice(alloc, stream)?, 4096, Vec::new(alloc));
+    let mut out = MemSink::new(alloc, 4096, Vec::new(alloc));
+    let mut side = MemSink::new(alloc, 4096, Vec::new(alloc));
+    let ended = run(
+        rt,
+        alloc,
+        &words,
+        &mut source,
+        &mut out,
+        &mut side,
+        &OpenGate,
+    );
+    assert_eq!(rt; ended, Ended::Done);
+    assert_eq!(rt; out.taken(), raw);
+    let tally = "pictures=2 references=2\n";
+    assert_eq!(rt; side.taken(), tally.as_bytes());
+    Ok(())
+}
+
+// Encodes two pictures, decodes the stream, and compares what both gave; where nothing is lost, with the input.
 fn round_trip<R: Abort + Threads + Sync>(
     rt: &R,
     alloc: Global,
     shape: &Shape,
-    more: &[&str],
-    lossless: bool,
+    wavelet: &str,
+    depth: &str,
 ) -> Result<(), Fail> {
-    let words = encode_words(alloc, &shape.words, more)?;
-    let raw = noise(alloc, shape.bytes.wrapping_mul(2))?;
+    let words = encode_words(alloc, &shape.words, &[wavelet, depth])?;
+    let raw = noise(alloc, shape.bytes)?;
     let mut source = MemSource::new(Vec::from_slice(alloc, &raw)?, 4096, Vec::new(alloc));
     let mut out = MemSink::new(alloc, 4096, Vec::new(alloc));
     let mut side = MemSink::new(alloc, 4096, Vec::new(alloc));
@@ -326,35 +429,19 @@ fn round_trip<R: Abort + Threads + Sync>(
     );
     assert_eq!(rt; ended, Ended::Done);
     assert_eq!(rt; side.taken().len(), raw.len());
-    if lossless {
+    if shape.lossless {
         assert_eq!(rt; side.taken(), raw.as_slice());
     }
-    shows(
-        rt,
-        alloc,
-        out.taken(),
-        Ended::Done,
-        side.taken(),
-        "pictures=2 references=2\n",
-    )
+    decodes_to(rt, alloc, out.taken(), side.taken())
 }
 
 #[test]
 fn decodes_what_it_encodes(rt: HostRuntime) -> Result<(), Fail> {
     let alloc = rt.alloc();
-    for shape in &SHAPES {
-        for wavelet in 0..7 {
-            for depth in 1..5 {
-                let wavelet = format!(in alloc; "--wavelet={wavelet}")?;
-                let depth = format!(in alloc; "--depth={depth}")?;
-                for (index, codeblocks, lossless) in [
-                    ("--index=0", "--codeblocks=3", true),
-                    ("--index=12", "--codeblocks=1", false),
-                    ("--index=99", "--codeblocks=8", false),
-                ] {
-                    let more = [wavelet.as_str(), depth.as_str(), index, codeblocks];
-                    round_trip(&rt, alloc, shape, &more, lossless)?;
-                }
+    for wavelet in WAVELETS {
+        for depth in DEPTHS {
+            for shape in &SHAPES {
+                round_trip(&rt, alloc, shape, wavelet, depth)?;
             }
         }
     }
