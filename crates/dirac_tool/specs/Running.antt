@@ -1,5 +1,5 @@
 -- What a run answers, reads and writes, command by command.
-use Rattle.std.specs.Prelude.{◌≡◌, ℕ, List, Option, None, Some, IfSome, Result, Ok, Err}
+use Rattle.std.specs.Prelude.{◌≡◌, ℕ, ◌≤◌, List, Option, None, Some, IfSome, Result, Ok, Err}
 use Rattle.std.specs.Io.KnownBytes.{IsAtEnd}
 use Rattle.dirac_types.specs.declared.settings.BadSetting.{BadSetting}
 use Rattle.dirac_types.specs.declared.settings.Settings.{Settings}
@@ -38,6 +38,7 @@ pub record Encodes (t : Settings) (old new : Told) (answer : Ended) : Type 0 whe
   pub answers : IsEncodeAnswer answer
   pub encoded : IfSome old.held (λ bytes. IsEncoded t bytes answer old.out new.out old.side new.side)
   pub whole : answer ≡ ended.Done → IsAtEnd new.held
+  pub partial : (n : ℕ) → answer ≡ ended.PartialPicture n → (1 ≤ n) × IsAtEnd new.held
 
 -- `encode`: the first setting that is out of its range is answered and nothing is read or written, or there is none
 abbrev pub EncodesUnless : Option BadSetting → Settings → Told → Told → Ended → Type 0

@@ -1,4 +1,4 @@
-ghost use Rattle.std.specs.Prelude.{◌≡◌, ◌≤◌, IfSome};
+ghost use Rattle.std.specs.Prelude.{◌≡◌, ◌≤◌, ℕ, IfSome};
 ghost use Rattle.std.specs.Io.KnownBytes.{IsAtEnd};
 ghost use Rattle.dirac_io.specs.Faults.{Rose};
 ghost use Rattle.dirac_types.specs.Settings.{IsAccepted};
@@ -26,6 +26,7 @@ pub fn encode<R: Threads + Sync, S: Source, K: Sink, N: Sink, G: RowGate>(
     ensures encoded { IfSome (S.held source.old) (λ bytes. IsEncoded settings.now bytes result
         (K.taken out.old) (K.taken out.new) (N.taken side.old) (N.taken side.new)) }
     ensures whole { result ≡ Ended.Done → IsAtEnd (S.held source.new) }
+    ensures partial { (n : ℕ) → result ≡ Ended.PartialPicture n → (1 ≤ n) × IsAtEnd (S.held source.new) }
     ensures read { result ≡ Ended.ReadFault → Rose (S.faults source.old) (S.faults source.new) }
     ensures write { result ≡ Ended.WriteFault → Rose (K.faults out.old) (K.faults out.new) }
     ensures side { result ≡ Ended.SideFault → Rose (N.faults side.old) (N.faults side.new) }
