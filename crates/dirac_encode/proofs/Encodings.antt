@@ -11,7 +11,7 @@ use Rattle.dirac_refs.specs.Delivery.{Leaving, deliver, delivered, flushed, key_
 use Rattle.dirac_decode.proofs.Flushing.{pushed_append}
 use Rattle.dirac_encode.specs.declared.answers.Encoded.{Encoded}
 use Rattle.dirac_encode.specs.declared.answers.Encoded.TheVariants as encoded
-use Rattle.dirac_encode.specs.Encoding.{Encoding, before_long, encoding_by, first_long, is_short, pushed, stream_before, waiting_of}
+use Rattle.dirac_encode.specs.Encoding.{Encoding, PicturesLeaveInOrder, before_long, encoding_by, first_long, is_short, pushed, stream_before, waiting_of}
 use Rattle.dirac_encode.specs.Payload.{payload_of}
 use Rattle.dirac_encode.specs.Steps.{header_unit, last_units, leaving, picture_units}
 use Rattle.dirac_encode.specs.Stream.{AreNumbered, end_unit, header_length, last_length, picture_length, pictures_from, reconstructions, shown_of, stream_of, unit, units_of}
@@ -135,6 +135,9 @@ pub all_leave : (t : Settings) (ps : List Picture) → AreNumbered 0 ps → leng
 all_leave t ps numbered few =
     let all = in_order t ps 0 0 [] [] (queue_none 0) refl numbered (omega arith) in
     sym all.order ∙ ap (λ l. (pushed_now t ps).gone ++ l) (sym (queue_flushed all.next all.rest) ∙ ap flushed (sym all.waiting))
+
+pub pictures_leave : PicturesLeaveInOrder
+pictures_leave t ps numbered few = sym (all_leave t ps numbered (omega (arith, few)))
 
 -- ---- what is still to come
 

@@ -22,6 +22,7 @@ use Rattle.dirac_encode.specs.Coded.{coded_intra}
 use Rattle.dirac_encode.specs.Payload.{payload_of}
 use Rattle.dirac_encode.specs.Stream.{AreCoded, AreNumbered, IsRead, end_info, end_unit, header_length, info_for, picture_length, pictures_from, reconstructions, shown_of, stream_of, units_from, header_text, picture_text, end_text, StreamsAreCut}
 use Rattle.dirac_encode.proofs.Cutting.{nothing_left, one_cut, unit_front_is}
+use Rattle.dirac_encode.proofs.Headers.{header_read, header_short}
 use Rattle.dirac_encode.proofs.Delivering.{Leaves, key_small, queue, queue_delivered, queue_flushed, queue_none, queue_push}
 
 -- ---- the units
@@ -58,18 +59,18 @@ end_cut written previous spot small =
     subst (λ (l : List ℕ). IsCut spot l (record { info = info; payload = [] } ∷ []) None) whole
     (one_cut spot info [] [] [] None (unit_front_is written spot info [] [] refl (omega arith) small refl) (nothing_left (after spot info) refl))
 
-cut_from : IsReadAsWritten → (t : Settings) (pictures : List Picture) (previous : ℕ) (spot : Spot) → previous < 2 ^ 32 → header_length t < 2 ^ 32 → AllByRecursion (IsRead t) pictures
+cut_from : IsReadAsWritten → (t : Settings) (pictures : List Picture) (previous : ℕ) (spot : Spot) → previous < 2 ^ 32 → header_length t < 2 ^ 32 → AllByRecursion (λ p. picture_length t p < 2 ^ 32) pictures
     → IsCut spot (pictures_from t previous pictures) (units_from t previous pictures) None
 unfolding pictures_from units_from
 cut_from written t [] previous spot small short all = end_cut written previous spot small
 cut_from written t (p ∷ pictures) previous spot small short all =
     let here = all.0 in
     let next = after spot (info_for 0x00 previous (sequence_payload t)) in
-    let more = cut_from written t pictures (picture_length t p) (after next (info_for 0x0C (header_length t) (payload_of t p))) here.short short all.1 in
+    let more = cut_from written t pictures (picture_length t p) (after next (info_for 0x0C (header_length t) (payload_of t p))) here short all.1 in
     let units = units_from t (picture_length t p) pictures in
     let rest = pictures_from t (picture_length t p) pictures in
     header_cut written t previous spot ((info_bytes (info_for 0x0C (header_length t) (payload_of t p)) ++ payload_of t p) ++ rest) (picture_text t p ∷ units) short small
-    (picture_cut written t p next rest units short here.short more)
+    (picture_cut written t p next rest units short here more)
 
 -- ---- their content
 
@@ -181,10 +182,14 @@ first_going t = record { opened = refl; first = refl; queued = queue_none 0; nex
 
 pub streams_cut : IsReadAsWritten → StreamsAreCut
 unfolding header_text units_from pictures_from
-streams_cut written t [] coded =
+streams_cut written t [] short =
     let info = info_for 0x00 0 (sequence_payload t) in
-    header_cut written t 0 start (end_unit (header_length t)) (end_text (header_length t) ∷ []) coded.short (omega arith) (end_cut written (header_length t) (after start info) coded.short)
-streams_cut written t (p ∷ pictures) coded = cut_from written t (p ∷ pictures) 0 start (omega arith) coded.short coded.each
+    header_cut written t 0 start (end_unit (header_length t)) (end_text (header_length t) ∷ []) (header_short t) (omega arith) (end_cut written (header_length t) (after start info) (header_short t))
+streams_cut written t (p ∷ pictures) short = cut_from written t (p ∷ pictures) 0 start (omega arith) (header_short t) short
+
+each_short : (t : Settings) (pictures : List Picture) → AllByRecursion (IsRead t) pictures → AllByRecursion (λ p. picture_length t p < 2 ^ 32) pictures
+each_short t [] all = tt
+each_short t (p ∷ pictures) all = (all.0.short, each_short t pictures all.1)
 
 pub streams_shown : IsReadAsWritten → (t : Settings) (pictures : List Picture) → AreCoded t pictures
     → (o : Outcome) × IsShown (stream_of t pictures) o × (o.shown ≡ reconstructions t pictures) × (o.end ≡ None)
@@ -192,9 +197,9 @@ unfolding first_course header_text units_from pictures_from
 streams_shown written t [] coded =
     let units = header_text t 0 ∷ end_text (header_length t) ∷ [] in
     let info = info_for 0x00 0 (sequence_payload t) in
-    let cut = streams_cut written t [] coded in
+    let cut = streams_cut written t [] tt in
     let rest = shows_end t 0 0 (header_length t) [] (after start info) (first_course t) (first_going t) in
-    let step = outcome_more begun start (header_text t 0) (end_text (header_length t) ∷ []) (staying (first_course t)) (opens t coded.header) in
+    let step = outcome_more begun start (header_text t 0) (end_text (header_length t) ∷ []) (staying (first_course t)) (opens t (header_read t coded.accepted)) in
     (outcome begun start units None, record { units = units; end = None; cut = cut; same = refl }, ap (λ (o : Outcome). o.shown) step ∙ rest.shown, ap (λ (o : Outcome). o.end) step ∙ rest.none)
 streams_shown written t (p ∷ pictures) coded =
     let units = units_from t 0 (p ∷ pictures) in
@@ -202,9 +207,9 @@ streams_shown written t (p ∷ pictures) coded =
     let few = coded.few in
     let numbered = coded.numbered in
     let each = coded.each in
-    let cut = streams_cut written t (p ∷ pictures) coded in
+    let cut = streams_cut written t (p ∷ pictures) (each_short t (p ∷ pictures) coded.each) in
     let more = units_from t (picture_length t p) pictures in
     let rest = shows_picture t p pictures 0 0 [] (after start info) (first_course t) more (first_going t) each.0 numbered.0 (omega arith)
     (λ k waiting spot course g. shows_from t pictures 1 k (picture_length t p) waiting spot course g numbered.1 (omega arith) each.1) in
-    let step = outcome_more begun start (header_text t 0) (picture_text t p ∷ more) (staying (first_course t)) (opens t coded.header) in
+    let step = outcome_more begun start (header_text t 0) (picture_text t p ∷ more) (staying (first_course t)) (opens t (header_read t coded.accepted)) in
     (outcome begun start units None, record { units = units; end = None; cut = cut; same = refl }, ap (λ (o : Outcome). o.shown) step ∙ rest.shown, ap (λ (o : Outcome). o.end) step ∙ rest.none)

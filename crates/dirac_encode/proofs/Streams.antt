@@ -1,5 +1,5 @@
 -- What is written of a stream while its pictures come, and what is answered.
-use Rattle.std.proofs.Common.{◌≡◌, ℕ, zero, suc, ◌+◌, ◌-◌, ◌*◌, ◌/◌, ◌<◌, ◌≤◌, ◌^◌, ◌==◌, if◌then◌else◌, Bool, true, false, List, [], ◌∷◌, ◌++◌, length, take, drop, refl, sym, ap, ap₂, ◌∙◌, subst, arith, append_assoc, append-nil, length-append, length-drop, Option, None, Some, inl, inr, Ok}
+use Rattle.std.proofs.Common.{◌≡◌, ℕ, zero, suc, ◌+◌, ◌-◌, ◌*◌, ◌/◌, ◌<◌, ◌≤◌, ◌^◌, ◌==◌, if◌then◌else◌, Bool, true, false, List, [], ◌∷◌, ◌++◌, length, take, drop, refl, sym, ap, ap₂, ◌∙◌, subst, arith, append_assoc, append-nil, length-append, length-drop, Option, None, Some, inl, inr}
 use Rattle.std.specs.Prelude.{min, IfSome}
 use Rattle.std.specs.List.{AllByRecursion}
 use Rattle.std.specs.Io.KnownBytes.{Appends, Consumes, IsAtEnd, Keeps}
@@ -10,10 +10,10 @@ use Rattle.std.proofs.lemmas.Bool.{le-leb, lt-leb}
 use Rattle.std.proofs.lemmas.Grind.{flat_map-append}
 use Rattle.dirac_types.specs.declared.picture.Picture.{Picture}
 use Rattle.dirac_types.specs.declared.settings.Settings.{Settings}
+use Rattle.dirac_types.specs.Settings.{IsAccepted}
 use Rattle.dirac_io.specs.Writing.{AppendsFront}
 use Rattle.dirac_units.specs.Cut.{IsCut, start}
-use Rattle.dirac_sequence.specs.Grammar.{sequence_read}
-use Rattle.dirac_sequence.specs.Written.{sequence_of, sequence_payload}
+use Rattle.dirac_sequence.specs.Written.{sequence_payload}
 use Rattle.dirac_refs.specs.Delivery.{flushed}
 use Rattle.dirac_decode.specs.Raw.{raw, raws}
 use Rattle.dirac_encode.specs.declared.answers.Encoded.{Encoded}
@@ -22,7 +22,7 @@ use Rattle.dirac_encode.specs.declared.progress.Progress.{Progress}
 use Rattle.dirac_encode.specs.Encoding.{EndsStream, AnswersEncode, Encoding, IsRecovered, WritesAll, WritesFront, behind, encoding, encoding_by, ending, first_long, is_short}
 use Rattle.dirac_encode.specs.Raw.{left_over, picture_from, pictures_in, raw_length, sources, whole_pictures}
 use Rattle.dirac_encode.specs.Steps.{BreaksOff, EndsEarly, IsCoded, IsEnded, IsFault, IsKnown, IsTooLong, StopsPicture, header_unit, last_units, leaving, picture_units}
-use Rattle.dirac_encode.specs.Stream.{AreCoded, IsRead, StreamsAreCut, StreamsShowTheirPictures, header_length, last_length, reconstructions, stream_of, stream_units, units_of, AreNumbered}
+use Rattle.dirac_encode.specs.Stream.{AreCoded, IsRead, StreamsAreCut, StreamsShowTheirPictures, last_length, picture_length, reconstructions, stream_of, stream_units, units_of, AreNumbered}
 use Rattle.dirac_encode.proofs.Encodings.{AreShort, ahead, ahead_next, all_more, ends_long, ends_whole, gone_more, last_parts, pushed_now, units_more, waiting_more}
 use Rattle.dirac_encode.proofs.Sources.{front_more, left_count, length-pictures_in, numbered_in, picture_more, pictures_parts, raws_more, rest_more, whole_count, whole_more}
 
@@ -308,15 +308,19 @@ each_read : (t : Settings) (ps : List Picture) → AllByRecursion (IsKnown t) ps
 each_read t [] all = tt
 each_read t (p ∷ ps) all = (all.0.read, each_read t ps all.1)
 
+each_unit_short : (t : Settings) (ps : List Picture) → AllByRecursion (IsKnown t) ps → AllByRecursion (λ p. picture_length t p < 2 ^ 32) ps
+each_unit_short t [] all = tt
+each_unit_short t (p ∷ ps) all = (all.0.read.short, each_unit_short t ps all.1)
+
 recovers : StreamsShowTheirPictures → StreamsAreCut → (t : Settings) (bytes : List ℕ) (coding : Progress) (held out0 out side0 side : Option (List ℕ)) (answer : Encoded) → Runs t bytes coding held out0 out side0 side → Closes t bytes coding.count answer
-    → coding.count ≤ t.pictures → t.pictures ≤ 2147483647 → header_length t < 2 ^ 32 → sequence_read (sequence_payload t) ≡ Ok (sequence_of t) → IsRecovered t bytes
-recovers law cuts t bytes coding held out0 out side0 side answer so closes few most short read =
+    → coding.count ≤ t.pictures → t.pictures ≤ 2147483647 → IsAccepted t → IsRecovered t bytes
+recovers law cuts t bytes coding held out0 out side0 side answer so closes few most accepted =
     let n = coding.count in
     let ps = first_pictures t bytes n in
     let count = length-pictures_in t n 0 bytes in
-    let coded : AreCoded t ps = record { short = short; header = read; numbered = numbered_in t n 0 bytes; few = omega (arith, count, few, most); each = each_read t ps so.known } in
+    let coded : AreCoded t ps = record { accepted = accepted; numbered = numbered_in t n 0 bytes; few = omega (arith, count, few, most); each = each_read t ps so.known } in
     let all : IsRecovered t bytes = record {
-      cut = subst (λ (l : List Picture). IsCut start (stream_of t l) (stream_units t l) None) (sym closes.all) (cuts t ps coded);
+      cut = subst (λ (l : List Picture). IsCut start (stream_of t l) (stream_units t l) None) (sym closes.all) (cuts t ps (each_unit_short t ps so.known));
       shows = subst (λ (l : List Picture). (o : Outcome) × IsShown (stream_of t l) o × (o.shown ≡ reconstructions t l) × (o.end ≡ None)) (sym closes.all) (law t ps coded);
       lossless = λ none. subst (λ (l : List Picture). reconstructions t l ≡ l) (sym closes.all) (shown_again t ps none so.known);
       raw = subst (λ (l : List Picture). raws l ≡ take (length l * raw_length t) bytes) (sym closes.all) (so.raw ∙ ap (λ k. take (k * raw_length t) bytes) (sym count));
@@ -416,11 +420,11 @@ part_early t (Some bytes) coding held held' out0 out out' side0 side side' buf k
 
 pub part_recovers : StreamsShowTheirPictures → StreamsAreCut → (t : Settings) (first : Option (List ℕ)) (coding : Progress) (held held' out0 out side0 side : Option (List ℕ)) (buf : List ℕ) (k : ℕ) → SoFar t first coding held out0 out side0 side
     → Consumes held held' (take k buf) → IsAtEnd held' → k < length buf → length buf ≡ raw_length t → coding.count ≤ t.pictures → t.pictures ≤ 2147483647
-    → header_length t < 2 ^ 32 → sequence_read (sequence_payload t) ≡ Ok (sequence_of t) → IfSome first (λ bytes. IsRecovered t bytes)
-part_recovers law cuts t None coding held held' out0 out side0 side buf k so got end short whole few most small read = tt
-part_recovers law cuts t (Some bytes) coding held held' out0 out side0 side buf k so got end short whole few most small read =
+    → IsAccepted t → IfSome first (λ bytes. IsRecovered t bytes)
+part_recovers law cuts t None coding held held' out0 out side0 side buf k so got end short whole few most accepted = tt
+part_recovers law cuts t (Some bytes) coding held held' out0 out side0 side buf k so got end short whole few most accepted =
     let closes = part t bytes coding held held' out0 out side0 side buf k so got end short whole few in
-    recovers law cuts t bytes coding held out0 out side0 side (behind k) so closes few most small read
+    recovers law cuts t bytes coding held out0 out side0 side (behind k) so closes few most accepted
 
 -- what is known where one more picture is whole than the settings allow
 many : (t : Settings) (bytes : List ℕ) (coding : Progress) (held held' out0 out side0 side : Option (List ℕ)) (chunk : List ℕ) → Runs t bytes coding held out0 out side0 side
@@ -448,11 +452,11 @@ many_early t (Some bytes) coding held held' out0 out out' side0 side side' chunk
 
 pub many_recovers : StreamsShowTheirPictures → StreamsAreCut → (t : Settings) (first : Option (List ℕ)) (coding : Progress) (held held' out0 out side0 side : Option (List ℕ)) (chunk : List ℕ) → SoFar t first coding held out0 out side0 side
     → Consumes held held' chunk → length chunk ≡ raw_length t → 1 ≤ raw_length t → coding.count ≡ t.pictures → t.pictures ≤ 2147483647
-    → header_length t < 2 ^ 32 → sequence_read (sequence_payload t) ≡ Ok (sequence_of t) → IfSome first (λ bytes. IsRecovered t bytes)
-many_recovers law cuts t None coding held held' out0 out side0 side chunk so got whole some all most small read = tt
-many_recovers law cuts t (Some bytes) coding held held' out0 out side0 side chunk so got whole some all most small read =
+    → IsAccepted t → IfSome first (λ bytes. IsRecovered t bytes)
+many_recovers law cuts t None coding held held' out0 out side0 side chunk so got whole some all most accepted = tt
+many_recovers law cuts t (Some bytes) coding held held' out0 out side0 side chunk so got whole some all most accepted =
     let closes = many t bytes coding held held' out0 out side0 side chunk so got whole some all in
-    recovers law cuts t bytes coding held out0 out side0 side encoded.TooManyPictures so closes (omega (arith, all)) most small read
+    recovers law cuts t bytes coding held out0 out side0 side encoded.TooManyPictures so closes (omega (arith, all)) most accepted
 
 -- what a partial picture is not
 IsPart : Encoded → Type 0

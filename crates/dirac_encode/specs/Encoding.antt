@@ -1,5 +1,5 @@
 -- What the encoding of raw pictures writes and answers.
-use Rattle.std.specs.Prelude.{◌≡◌, ℕ, ◌==◌, nat_le, if◌then◌else◌, Bool, List, [], ◌∷◌, ◌++◌, length, map, take, ◌*◌, Option, None, Some, ⊤}
+use Rattle.std.specs.Prelude.{◌≡◌, ℕ, ◌<◌, ◌^◌, ◌==◌, nat_le, if◌then◌else◌, Bool, List, [], ◌∷◌, ◌++◌, length, map, take, ◌*◌, Option, None, Some, ⊤}
 use Rattle.std.specs.Io.KnownBytes.{Appends}
 use Rattle.dirac_io.specs.Writing.{AppendsFront}
 use Rattle.dirac_types.specs.declared.picture.Picture.{Picture}
@@ -7,13 +7,13 @@ use Rattle.dirac_types.specs.declared.settings.Settings.{Settings}
 use Rattle.dirac_units.specs.Cut.{IsCut, start}
 use Rattle.dirac_sequence.specs.Written.{sequence_payload}
 use Rattle.dirac_refs.specs.declared.waiting.Waiting.{Waiting}
-use Rattle.dirac_refs.specs.Delivery.{deliver, key_of}
+use Rattle.dirac_refs.specs.Delivery.{deliver, flush, key_of}
 use Rattle.dirac_decode.specs.Raw.{raws}
 use Rattle.dirac_decode.specs.Shown.{Outcome, IsShown}
 use Rattle.dirac_encode.specs.declared.answers.Encoded.{Encoded}
 use Rattle.dirac_encode.specs.declared.answers.Encoded.TheVariants as encoded
 use Rattle.dirac_encode.specs.Raw.{left_over, raw_length, sources, whole_pictures}
-use Rattle.dirac_encode.specs.Stream.{last_length, picture_length, reconstructions, shown_of, stream_of, stream_units, unit, units_of}
+use Rattle.dirac_encode.specs.Stream.{AreNumbered, last_length, picture_length, reconstructions, shown_of, stream_of, stream_units, unit, units_of}
 
 -- the unit of a picture is no longer than the settings allow
 abbrev pub is_short : Settings → Picture → Bool
@@ -96,3 +96,7 @@ pub record IsRecovered (t : Settings) (bytes : List ℕ) : Type 0 where
   pub shows : (o : Outcome) × IsShown (stream_of t (sources t bytes)) o × (o.shown ≡ reconstructions t (sources t bytes)) × (o.end ≡ None)
   pub lossless : t.index ≡ 0 → reconstructions t (sources t bytes) ≡ sources t bytes
   pub raw : raws (sources t bytes) ≡ take (length (sources t bytes) * raw_length t) bytes
+
+-- pictures of rising numbers are delivered in their order
+abbrev pub PicturesLeaveInOrder : Type 0
+PicturesLeaveInOrder = (t : Settings) (pictures : List Picture) → AreNumbered 0 pictures → length pictures < 2 ^ 31 → flush (pushed t pictures) ≡ reconstructions t pictures

@@ -3,6 +3,7 @@ use Rattle.std.specs.Prelude.{◌≡◌, ℕ, ◌+◌, ◌<◌, ◌^◌, List, [
 use Rattle.std.specs.List.{AllByRecursion}
 use Rattle.dirac_types.specs.declared.picture.Picture.{Picture}
 use Rattle.dirac_types.specs.declared.settings.Settings.{Settings}
+use Rattle.dirac_types.specs.Settings.{IsAccepted}
 use Rattle.dirac_units.specs.declared.info.ParseInfo.{ParseInfo}
 use Rattle.dirac_units.specs.Cut.{UnitText, IsCut, start}
 use Rattle.dirac_units.specs.Writing.{info_bytes}
@@ -88,24 +89,29 @@ abbrev pub AreNumbered : ℕ → List Picture → Type 0
 AreNumbered n [] = Unit {0}
 AreNumbered n (p ∷ pictures) = (p.number ≡ n) × AreNumbered (n + 1) pictures
 
--- the units' lengths fit their offsets, and what is written is read again, as the coding of headers and of pictures promises
+-- the picture's unit has a length that its offset can hold, and its payload is read again, as the coding of pictures promises
 pub record IsRead (t : Settings) (p : Picture) : Type 0 where
   pub short : picture_length t p < 2 ^ 32
   pub read : (refs : List Picture) → picture_read 0x0C (sequence_of t) refs (payload_of t p) ≡ Ok (coded_intra t p)
 
 pub record AreCoded (t : Settings) (pictures : List Picture) : Type 0 where
-  pub short : header_length t < 2 ^ 32
-  pub header : sequence_read (sequence_payload t) ≡ Ok (sequence_of t)
+  pub accepted : IsAccepted t
   pub numbered : AreNumbered 0 pictures
   pub few : length pictures < 2 ^ 31
   pub each : AllByRecursion (IsRead t) pictures
+
+-- the sequence header of accepted settings is read as their sequence, and its unit's length fits its offset
+abbrev pub HeadersAreRead : Type 0
+HeadersAreRead = (t : Settings) → IsAccepted t → (sequence_read (sequence_payload t) ≡ Ok (sequence_of t)) × (header_length t < 2 ^ 32)
+
+-- a stream is cut into just its units, and has no fault there
+abbrev pub StreamsAreCut : Type 0
+StreamsAreCut =
+    (t : Settings) (pictures : List Picture) → AllByRecursion (λ p. picture_length t p < 2 ^ 32) pictures
+    → IsCut start (stream_of t pictures) (stream_units t pictures) None
 
 -- a stream shows the reconstructions in order, and has no fault
 abbrev pub StreamsShowTheirPictures : Type 0
 StreamsShowTheirPictures =
     (t : Settings) (pictures : List Picture) → AreCoded t pictures
     → (o : Outcome) × IsShown (stream_of t pictures) o × (o.shown ≡ reconstructions t pictures) × (o.end ≡ None)
-
--- a stream is cut into just its units, and has no fault there
-abbrev pub StreamsAreCut : Type 0
-StreamsAreCut = (t : Settings) (pictures : List Picture) → AreCoded t pictures → IsCut start (stream_of t pictures) (stream_units t pictures) None

@@ -4,8 +4,7 @@ ghost use Rattle.std.specs.Prelude.{◌≡◌, ◌≤◌, ◌<◌, ℕ, length, 
 ghost use Rattle.std.specs.Io.KnownBytes.{IsAtEnd};
 ghost use Rattle.dirac_io.specs.Faults.{Rose};
 ghost use Rattle.dirac_types.specs.Settings.{IsAccepted};
-ghost use Rattle.dirac_sequence.specs.Grammar.{sequence_read};
-ghost use Rattle.dirac_sequence.specs.Written.{sequence_of, sequence_payload};
+ghost use Rattle.dirac_sequence.specs.Written.{sequence_payload};
 ghost use Rattle.dirac_encode.specs.Raw.{raw_length as length_of};
 ghost use Rattle.dirac_encode.specs.Encoding.{AnswersEncode, EndsStream, IsRecovered, behind, encoding};
 
@@ -89,7 +88,6 @@ fn put_pictures<R: Threads + Sync, S: Source, K: Sink, N: Sink, G: RowGate>(
 ) -> Encoded
     requires accepted { IsAccepted settings.now }
     requires header { header.now ≡ sequence_payload settings.now }
-    requires read { sequence_read header.now ≡ Ok (sequence_of settings.now) }
     requires bytes { length bytes.old ≡ length_of settings.now }
     ensures encoded { IfSome (S.held source.old) (λ held. AnswersEncode result (encoding settings.now held)
         (K.taken out.old) (K.taken out.new) (N.taken side.old) (N.taken side.new)) }

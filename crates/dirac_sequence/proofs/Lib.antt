@@ -1,4 +1,4 @@
 pub mod Accepted
 mod Examples
 pub mod Packed
-mod Written
+pub mod Written

@@ -103,8 +103,12 @@ fn still_block_table(rt: HostRuntime) -> Result<(), NoMemory> {
             assert!(rt; table.at(i, j) == still);
         }
     }
+    let copy = table.try_copy(alloc)?;
+    for n in 0..4u32 {
+        assert!(rt; copy.at(n, 3 - n) == still);
+    }
     let mut writer = BitWriter::new(alloc);
-    write_blocks(alloc, &mut writer, &table)?;
+    write_blocks(alloc, &mut writer, &copy)?;
     writer.align()?;
     assert!(rt; writer.finish()?.as_slice() == STILL.as_slice());
     Ok(())

@@ -1,6 +1,6 @@
 use dirac_bits::{BitReader, BitWriter};
 use dirac_coeffs::{BandSpot, read_band};
-use dirac_header::{read_header, read_prediction, read_transform};
+use dirac_header::{read_header, read_prediction, read_transform, write_prediction};
 use dirac_types::{Band, BlockGrid, Cause, Chroma, NoMemory, Refusal, Stop};
 use std::alloc::Global;
 
@@ -31,6 +31,16 @@ fn written_bits(rt: HostRuntime) -> Result<(), NoMemory> {
     writer.literal(0x4242_4344)?;
     writer.block([0xFEu8].as_slice())?;
     assert!(rt; writer.finish()?.as_slice() == [0x30u8, 0x42, 0x42, 0x43, 0x44, 0xFE].as_slice());
+    Ok(())
+}
+
+#[test]
+fn prediction_parameters_written(rt: HostRuntime) -> Result<(), NoMemory> {
+    // block preset 2, precision 2, no global motion, mode 0, default weights
+    let mut writer = BitWriter::new(rt.alloc());
+    write_prediction(&mut writer, 2, 2)?;
+    writer.align()?;
+    assert!(rt; writer.finish()?.as_slice() == [0x6Du8, 0x00].as_slice());
     Ok(())
 }
 

@@ -1,12 +1,9 @@
-use Rattle.std.proofs.Common.{Ok, ◌≡◌, refl, sym, ◌∙◌, subst, arith, ℕ, List}
+use Rattle.std.proofs.Common.{refl, sym, ◌∙◌, subst, arith, ℕ, List}
 use Rattle.std.specs.Prelude.{IfSome}
 use Rattle.dirac_encode.specs.declared.answers.Encoded.{Encoded}
 use Rattle.dirac_encode.specs.Encoding.{AnswersEncode, EndsStream, IsRecovered, encoding}
 use Rattle.dirac_encode.specs.Steps.{EndsEarly, IsEnded}
 use Rattle.dirac_encode.proofs.Accepted.{most_pictures, raw_some}
-use Rattle.dirac_encode.proofs.Headers.{header_short}
-use Rattle.dirac_sequence.specs.Grammar.{sequence_read}
-use Rattle.dirac_sequence.specs.Written.{sequence_of}
 use Rattle.dirac_encode.proofs.Stepping.{header_fits, if_some_after}
 use Rattle.dirac_encode.proofs.Streams.{behind_some, fault_no_part, stop_no_part, many_early, many_ended, many_recovers, part_early, part_ended, part_recovers, so_far_more, so_far_none, stops_between, stops_picture}
 use Rattle.dirac_encode.proofs.stream.put_pictures.Goals as goal
@@ -67,8 +64,7 @@ returns-in-Part-clause-recovered g c =
     (part_recovers c.streams_show_their_pictures.ensures.shown c.streams_show_their_pictures.ensures.cut t first c.pictures.coding (g.S.Source.held c.pictures.source) (g.S.Source.held c.fill.new.source)
     (g.K.Sink.taken c.args.out.now) (g.K.Sink.taken c.pictures.out) (g.N.Sink.taken c.args.side.now) (g.N.Sink.taken c.pictures.side)
     c.fill.new.buf c.in-Part.n c.pictures.invariant.so_far (c.in-Part.ensures.part c.in-Part.n refl) (c.in-Part.ensures.end c.in-Part.n refl)
-    (omega (arith, c.in-Part.ensures.short c.in-Part.n refl, c.fill.ensures.size)) (c.fill.ensures.size ∙ c.pictures.invariant.size) c.pictures.invariant.few (most_pictures t c.requires.accepted)
-    (header_short t) (subst (λ (h : List ℕ). sequence_read h ≡ Ok (sequence_of t)) c.requires.header c.requires.read))
+    (omega (arith, c.in-Part.ensures.short c.in-Part.n refl, c.fill.ensures.size)) (c.fill.ensures.size ∙ c.pictures.invariant.size) c.pictures.invariant.few (most_pictures t c.requires.accepted) c.requires.accepted)
 
 pub put_last-requires-then-coding-settings : goal.put_last-requires-then-coding-settings
 put_last-requires-then-coding-settings g c = record { fits = header_fits c.args.settings.now c.args.header.now c.requires.header }
@@ -105,8 +101,7 @@ returns-then-coding-settings-clause-recovered g c =
     (many_recovers c.streams_show_their_pictures.ensures.shown c.streams_show_their_pictures.ensures.cut t first c.pictures.coding (g.S.Source.held c.pictures.source) (g.S.Source.held c.fill.new.source)
     (g.K.Sink.taken c.args.out.now) (g.K.Sink.taken c.pictures.out) (g.N.Sink.taken c.args.side.now) (g.N.Sink.taken c.pictures.side)
     c.fill.new.buf c.pictures.invariant.so_far (c.in-Whole.ensures.whole refl) (c.fill.ensures.size ∙ c.pictures.invariant.size) (raw_some t c.requires.accepted)
-    (omega (arith, c.if-coding-settings.true)) (most_pictures t c.requires.accepted)
-    (header_short t) (subst (λ (h : List ℕ). sequence_read h ≡ Ok (sequence_of t)) c.requires.header c.requires.read))
+    (omega (arith, c.if-coding-settings.true)) (most_pictures t c.requires.accepted) c.requires.accepted)
 
 pub returns-in-Err-put_next-clause-encoded : goal.returns-in-Err-put_next-clause-encoded
 returns-in-Err-put_next-clause-encoded g c =
