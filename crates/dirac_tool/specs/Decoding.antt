@@ -1,5 +1,5 @@
 -- What `decode` answers and writes.
-use Rattle.std.specs.Prelude.{◌≡◌, ℕ, List, ◌++◌, codes, decimal, Option, None, Some, ⊤}
+use Rattle.std.specs.Prelude.{◌≡◌, ℕ, ◌≤◌, List, ◌++◌, codes, decimal, Option, None, Some, ⊤}
 use Rattle.std.specs.Io.KnownBytes.{Appends, Keeps}
 use Rattle.dirac_io.specs.Writing.{AppendsFront}
 use Rattle.dirac_decode.specs.declared.answers.Tally.{Tally}
@@ -29,6 +29,12 @@ AnswersDecode _ o out out' side side' = ⊥
 -- the answer, and what both sinks took, are those of what these bytes show
 abbrev pub IsDecoded : List ℕ → Ended → Option (List ℕ) → Option (List ℕ) → Option (List ℕ) → Option (List ℕ) → Type 0
 IsDecoded bytes answer out out' side side' = (o : Outcome) × IsShown bytes o × AnswersDecode answer o out out' side side'
+
+-- where the tally is written, the greatest length of the reference list that it tells is at most 8
+abbrev pub TellsFew : Ended → List ℕ → Type 0
+TellsFew ended.Done bytes = (o : Outcome) × IsShown bytes o × (o.most ≤ 8)
+TellsFew (ended.Fault fault) bytes = (o : Outcome) × IsShown bytes o × (o.most ≤ 8)
+TellsFew _ bytes = ⊤
 
 -- the answers that `decode` may give, of whatever source
 abbrev pub IsDecodeAnswer : Ended → Type 0

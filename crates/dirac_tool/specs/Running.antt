@@ -10,7 +10,7 @@ use Rattle.dirac_tool.specs.declared.words.Command.{Command}
 use Rattle.dirac_tool.specs.declared.words.Command.TheVariants as command
 use Rattle.dirac_tool.specs.declared.words.WordsStop.{WordsStop}
 use Rattle.dirac_tool.specs.declared.words.WordsStop.TheVariants.{Usage}
-use Rattle.dirac_tool.specs.Decoding.{IsDecoded, IsDecodeAnswer}
+use Rattle.dirac_tool.specs.Decoding.{IsDecoded, IsDecodeAnswer, TellsFew}
 use Rattle.dirac_tool.specs.Encoding.{IsEncoded, IsEncodeAnswer}
 use Rattle.dirac_tool.specs.Listing.{IsListed, IsListAnswer}
 
@@ -31,6 +31,7 @@ pub record Lists (old new : Told) (answer : Ended) : Type 0 where
 pub record Decodes (old new : Told) (answer : Ended) : Type 0 where
   pub answers : IsDecodeAnswer answer
   pub decoded : IfSome old.held (λ bytes. IsDecoded bytes answer old.out new.out old.side new.side)
+  pub few : IfSome old.held (TellsFew answer)
   pub whole : answer ≡ ended.Done → IsAtEnd new.held
 
 -- `encode` with accepted settings: the stream of the raw pictures that the bytes held are, and their reconstructions

@@ -2,7 +2,7 @@ ghost use Rattle.std.specs.Prelude.{◌≡◌, ◌≤◌, IfOk, IfSome, string_b
 ghost use Rattle.std.specs.Io.KnownBytes.{Appends, IsAtEnd};
 ghost use Rattle.dirac_io.specs.Faults.{Rose};
 ghost use Rattle.dirac_io.specs.Writing.{AppendsFront};
-ghost use Rattle.dirac_tool.specs.Decoding.{IsDecodeAnswer, IsDecoded, tally_line};
+ghost use Rattle.dirac_tool.specs.Decoding.{IsDecodeAnswer, IsDecoded, TellsFew, tally_line};
 
 use crate::ended::Ended;
 use dirac_decode::{Decoded, Tally, decode_stream};
@@ -21,6 +21,7 @@ pub fn decode<S: Source, K: Sink, N: Sink>(
     ensures answer { IsDecodeAnswer result }
     ensures decoded { IfSome (S.held source.old) (λ bytes. IsDecoded bytes result
         (K.taken out.old) (K.taken out.new) (N.taken side.old) (N.taken side.new)) }
+    ensures few { IfSome (S.held source.old) (TellsFew result) }
     ensures whole { result ≡ Ended.Done → IsAtEnd (S.held source.new) }
     ensures read { result ≡ Ended.ReadFault → Rose (S.faults source.old) (S.faults source.new) }
     ensures write { result ≡ Ended.WriteFault → Rose (K.faults out.old) (K.faults out.new) }
