@@ -116,5 +116,5 @@ pub fn predict_plane(alloc: Global, motion: &Motion<'_>) -> Result<Predicted, No
     ensures small { IfOk result (λ t. All (λ v. unsigned_abs v ≤ 2 ^ 15) t.values) }
 {
     bounded(motion);
-    rows_between(alloc, motion, 0, motion.height)
+    predict_rows(alloc, motion, 0, motion.height)
 }
