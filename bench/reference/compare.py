@@ -227,19 +227,24 @@ def random_picture(source, code, number, references, listed, sequence):
 
 
 def random_sequence(source, writer):
-    """A sequence header, some pictures with other units between them, and an end unit."""
+    """A sequence header, some pictures with other units between them, and an end unit.
+
+    One in ten has mostly intra reference pictures, and enough of them to fill the list of references.
+    """
     header, sequence = random_sequence_header(source)
     writer.add(decoder.SEQUENCE_HEADER, header)
     listed = []
     first = source.choice([0, 0, 5, 2**31 - 3, 2**32 - 4])
-    for n in range(source.choice([1, 2, 3, 4, 6, 10])):
+    fills_list = source.random() < 0.1
+    codes = [0x0C] * 8 + [0x0D, 0x0A] if fills_list else [0x0C, 0x08, 0x0D, 0x0E, 0x09, 0x0A, 0x0D, 0x0A]
+    for n in range(20 if fills_list else source.choice([1, 2, 3, 4, 6, 10])):
         if source.random() < 0.08:
             code = source.choice([0x20, 0x23, 0x27, decoder.PADDING])
             writer.add(code, random_bytes(source, source.randrange(6)))
         if source.random() < 0.1:
             writer.add(decoder.SEQUENCE_HEADER, header)
         number = (first + n + source.choice([0, 0, 0, 0, 1, -1, 3])) % 2**32
-        code = source.choice([0x0C, 0x08, 0x0D, 0x0E, 0x09, 0x0A, 0x0D, 0x0A] if listed else [0x0C, 0x08])
+        code = source.choice(codes if listed else [0x0C, 0x08])
         references = []
         for _ in range(decoder.REFERENCE_COUNTS[code]):
             is_listed = source.random() < 0.97
@@ -251,7 +256,7 @@ def random_sequence(source, writer):
 
 
 def random_stream(source):
-    """One or two sequences; a quarter has a few bytes changed, and a few are cut."""
+    """One or two sequences; a quarter has a few bytes changed, and a few lack their end or their first unit."""
     writer = encoder.StreamWriter()
     for _ in range(source.choice([1, 1, 1, 2])):
         random_sequence(source, writer)
@@ -262,6 +267,8 @@ def random_stream(source):
             stream[source.randrange(len(stream))] = source.choice([source.randrange(256), 0, 255])
     elif kind < 0.3:
         del stream[source.randrange(len(stream)) :]
+    elif kind < 0.32:
+        del stream[: stream.index(b"BBCD", 1)]
     return bytes(stream)
 
 
@@ -367,8 +374,9 @@ def random_settings(source):
         settings["pictures"] = source.randrange(1, 5)
     if source.random() < 0.3:
         settings["unit_bytes"] = source.choice([14, 40, 60, 100, 200, 400, 1000])
+    without_effect = ("blocks", "precision", "references", "between", "range", "pyramid", "bias")
     for name, lowest, highest in encoder.SETTING_RANGES:
-        if name in ("blocks", "precision", "references", "between", "range", "pyramid", "bias") and source.random() < 0.2:
+        if name in without_effect and source.random() < 0.2:
             settings[name] = source.randrange(lowest, highest + 1)
     return settings
 
