@@ -77,8 +77,15 @@ def random_group(source, writer, probability, write):
         write()
 
 
+def random_free_number(source):
+    """A small number, or rarely the least number with as many digits as are allowed, or with one more."""
+    if source.random() < 0.02:
+        return 2 ** (decoder.MOST_DIGITS + source.randrange(2)) - 1
+    return source.randrange(5)
+
+
 def random_sequence_header(source):
-    """A payload that is accepted, but for a rare signal range, and its sequence."""
+    """A payload that is accepted, but for a rare signal range or long number, and its sequence."""
     chroma = source.randrange(3)
     across, down = decoder.CHROMA_RATIOS[chroma]
     longest = source.choice([6, 12, 20, 40])
@@ -86,8 +93,9 @@ def random_sequence_header(source):
     height = source.randrange(1, longest // down + 1) * down
     base = source.randrange(len(decoder.BASE_FORMATS))
     writer = encoder.BitWriter()
-    for limit in (3, 4, 5, 3):
-        writer.unsigned(source.randrange(limit))
+    writer.unsigned(source.randrange(3))
+    for _ in ("minor version", "profile", "level"):
+        writer.unsigned(random_free_number(source))
     writer.unsigned(base)
     writer.flag(1).unsigned(width).unsigned(height).flag(1).unsigned(chroma)
 
@@ -372,8 +380,6 @@ def random_settings(source):
         settings.update(profile=source.randrange(256), level=source.randrange(256))
     if source.random() < 0.2:
         settings["pictures"] = source.randrange(1, 5)
-    if source.random() < 0.3:
-        settings["unit_bytes"] = source.choice([14, 40, 60, 100, 200, 400, 1000])
     without_effect = ("blocks", "precision", "references", "between", "range", "pyramid", "bias")
     for name, lowest, highest in encoder.SETTING_RANGES:
         if name in without_effect and source.random() < 0.2:
@@ -391,12 +397,24 @@ def random_raw_input(source, length):
     return bytes(source.randrange(125, 132) for _ in range(length))
 
 
+def random_unit_limit(source, settings, data):
+    """A limit that holds for the units of the first pictures, or one byte less."""
+    lengths = []
+    for unit in decoder.read_units(encoder.encode(settings, data).stream):
+        if unit.code in decoder.REFERENCE_COUNTS:
+            lengths.append(decoder.PARSE_INFO_LENGTH + len(unit.payload))
+    first = source.randrange(len(lengths) + 1)
+    return max(lengths[:first], default=source.choice([15, 40, 100])) - source.randrange(2)
+
+
 def make_encoding(source):
     settings = random_settings(source)
     sizes = decoder.plane_sizes(decoder.Sequence(settings["width"], settings["height"], settings["chroma"]))
     length = sum(width * height for width, height in sizes)
     left = source.choice([0, 0, 0, 1, source.randrange(length)])
     data = random_raw_input(source, length * source.randrange(8) + left)
+    if source.random() < 0.3:
+        settings["unit_bytes"] = random_unit_limit(source, settings, data)
     defaults = encoder.default_settings(settings["base"]) | {"base": 0}
     words = []
     for name, value in settings.items():
