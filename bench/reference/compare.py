@@ -7,8 +7,8 @@ compare.py PROGRAM SECONDS [SEED]       PROGRAM is dirac_tool, built (`./run lis
 Round by round it makes random streams, streams with a damaged header, rows of units, raw inputs with settings, and word
 lists, all from the round's seed (SEED, 1 where none is given, and then the numbers after it). It runs PROGRAM with
 decode, list and encode on them, and compares output, standard error, status and the file of --recon with what the plain
-programs beside it say. A last round is finished when SECONDS have passed, so `compare.py PROGRAM 0 SEED` repeats the
-cases of one seed.
+programs beside it say. The round in which SECONDS pass is the last one, and is finished; so `compare.py PROGRAM 0 SEED`
+repeats the cases of one seed.
 
 Prints each difference with its seed, and at the end a line a kind with the number of cases and how they ended: by cause
 of the fault for decode and list, by status for encode. Ends with 1 where anything differs.

@@ -1,8 +1,8 @@
 """A plain decoder of this project's Dirac profile, to compare the product with.
 
 It was written from the format description (docs/FORMAT.md) alone, apart from the product, by someone who had seen
-nothing of the product. It is slow and plain on purpose: it follows the description rule by rule, holds a plane as a list
-of rows and a block table as a dictionary, and does nothing ahead of time.
+nothing of the product. It is slow and plain on purpose: it follows the description rule by rule, and holds a plane as a
+list of rows and a block table as a dictionary.
 
 Left out: reading in pieces (a stream is one bytes object), limits of memory, and the values that change no sample
 (rates, aspects, clean area, signal offsets and colours are read, checked and dropped).
@@ -631,6 +631,7 @@ def predict_dc_value(neighbours):
 
 def read_dc_values(decoder, units, uses):
     """The DC values of one plane."""
+
     def is_dc(place):
         return not uses[0][place] and not uses[1][place]
 

@@ -1,9 +1,9 @@
 """A plain encoder of this project's intra streams, to compare the product with.
 
-It was written from the description of the encoder (docs/ENCODER.md) and of the format alone, apart from the product, by
-someone who had seen nothing of the product. It is slow and plain on purpose, and so are its numbers: the interval of the
-arithmetic coder is one long exact number. It shares tables, contexts and lifting with the plain decoder, and takes the
-pictures that decoders will show from it.
+It was written from the descriptions of the encoder (docs/ENCODER.md) and of the format (docs/FORMAT.md) alone, apart
+from the product, by someone who had seen nothing of the product. It is slow and plain on purpose: the low end of the
+arithmetic coder's interval is one long exact number. It shares tables, contexts and lifting with the plain decoder, and
+takes the pictures that decoders will show from it.
 
 Left out: inter pictures. The settings that belong to them are checked and change nothing.
 
@@ -18,7 +18,6 @@ INTRA_REFERENCE_PICTURE = 0x0C
 UNIT_TOO_LONG = 6
 TOO_MANY_PICTURES = 7
 PARTIAL_PICTURE = 5
-
 
 # name, lowest, highest, in the order of their check
 SETTING_RANGES = [
