@@ -1,7 +1,7 @@
 """A plain encoder of this project's intra streams, to compare the product with.
 
-It was written from the descriptions of the encoder (docs/ENCODER.md) and of the format (docs/FORMAT.md) alone, apart
-from the product, by someone who had seen nothing of the product. It is slow and plain on purpose: the low end of the
+It was written from the descriptions of the encoder and of the format alone, apart from the product, by someone who had
+seen nothing of the product; the rules are those of docs/ENCODER.md. It is slow and plain on purpose: the low end of the
 arithmetic coder's interval is one long exact number. It shares tables, contexts and lifting with the plain decoder, and
 takes the pictures that decoders will show from it.
 
