@@ -1,13 +1,13 @@
 -- Signed sums that are shifted down, as the code has them.
-use Rattle.std.proofs.Common.{◌≡◌, ℕ, ℤ, pos, negsuc, suc, ◌+◌, ◌*◌, ◌/◌, ◌%◌, ◌^◌, ◌<◌, ◌≤◌, ◌+ℤ◌, unsigned_abs, to_z, of_z, arith, refl, ap, ◌∙◌}
+use Rattle.std.proofs.Common.{◌≡◌, ℕ, ℤ, pos, negsuc, suc, ◌+◌, ◌*◌, ◌/◌, ◌%◌, ◌^◌, ◌<◌, ◌≤◌, ◌+ℤ◌, ◌*ℤ◌, unsigned_abs, to_z, of_z, arith, refl, ap, ◌∙◌}
 use Rattle.std.specs.Int.{w128}
-use Rattle.std.proofs.lemmas.Int.{ints, to_z_pos, fits_signed_from_abs}
+use Rattle.std.proofs.lemmas.Int.{ints, to_z_pos, to_z-of_z, fits_signed_from_abs, unsigned_abs-mul}
 use Rattle.std.proofs.lemmas.Nat.{one_shl, pow_pos, le-div, div-add-mod'}
 use Rattle.std.proofs.Math.Nat.{suc-mul}
 use Rattle.std.proofs.Math.Pow.{pow_mono}
 use lib.Signed.{shr_z}
 use mir.Syntax.{Width}
-use mir.Val.{hbits}
+use mir.Val.{hbits, SFits}
 use Rattle.dirac_types.proofs.Shifts.{shr_sum_is}
 use Rattle.dirac_lift.specs.Lifting.{rounded}
 
@@ -36,3 +36,13 @@ abs-shr x (negsuc n) m h e some half =
 
 pub abs-rounded : (x : ℤ) (m : ℕ) → unsigned_abs (rounded m x) ≤ (unsigned_abs x + 2 ^ m / 2) / 2 ^ m
 abs-rounded x m = abs-shr x (x +ℤ pos (2 ^ m / 2)) (2 ^ m) (2 ^ m / 2) refl (pow_pos m) (omega arith)
+
+-- a product that is added, and the sum
+pub product_fits : (sum tap value : ℤ) → unsigned_abs sum + unsigned_abs tap * unsigned_abs value ≤ 2 ^ 126 → SFits w128 (tap *ℤ value)
+product_fits sum tap value l = fits_signed_from_abs w128 (tap *ℤ value) (omega (arith, l, unsigned_abs-mul tap value))
+
+pub product_is : (sum tap value : ℤ) → unsigned_abs sum + unsigned_abs tap * unsigned_abs value ≤ 2 ^ 126 → to_z w128 (of_z w128 (tap *ℤ value)) ≡ tap *ℤ value
+product_is sum tap value l = to_z-of_z w128 (tap *ℤ value) (product_fits sum tap value l)
+
+pub added_fits : (sum tap value : ℤ) → unsigned_abs sum + unsigned_abs tap * unsigned_abs value ≤ 2 ^ 126 → SFits w128 (sum +ℤ tap *ℤ value)
+added_fits sum tap value l = fits_signed_from_abs w128 (sum +ℤ tap *ℤ value) (omega (arith, ints, l, unsigned_abs-mul tap value))

@@ -1,6 +1,7 @@
 pub mod AddLemmas
 pub mod Added
 pub mod Bounds
+pub mod Choices
 pub mod Eight
 mod Examples
 pub mod FewTerms

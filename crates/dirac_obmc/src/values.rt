@@ -228,7 +228,6 @@ fn set_all(value: i32, out: &mut [i32])
 
 /// What a block predicts in row `y` from column `x` on; `first` and `second` are room for the samples of the
 /// references.
-#[tactic(auto, unfolding(crate::specs::Compensation::predicts))]
 pub fn block_values(
     motion: &Motion<'_>,
     block: &Block,
@@ -248,14 +247,18 @@ pub fn block_values(
 {
     if block.ref1 {
         moved_row(motion, motion.up1, block.v1, x, y, first);
+        if block.ref2 {
+            second_row(motion, block.v2, x, y, second);
+            weigh_two(motion.prediction, first, second, out);
+            return;
+        }
+        weigh_one(motion.prediction, first, out);
+        return;
     }
     if block.ref2 {
         second_row(motion, block.v2, x, y, second);
+        weigh_one(motion.prediction, second, out);
+        return;
     }
-    match (block.ref1, block.ref2) {
-        (true, true) => weigh_two(motion.prediction, first, second, out),
-        (true, false) => weigh_one(motion.prediction, first, out),
-        (false, true) => weigh_one(motion.prediction, second, out),
-        (false, false) => set_all(dc(motion.part, block), out),
-    }
+    set_all(dc(motion.part, block), out);
 }

@@ -1,8 +1,7 @@
 use crate::ended::Ended;
-use crate::run::run;
-use crate::tests::{SMALL, STREAM, header, joined};
+use crate::tests::{SMALL, STREAM, decoded, header, joined};
+use crate::tries::{Outside, counts_its_fault, pieces, tried};
 use crate::words::Words;
-use dirac_io::{MemSink, MemSource, OpenGate};
 use dirac_types::{BadSetting, Name};
 use std::alloc::Global;
 use std::process::Abort;
@@ -42,21 +41,10 @@ fn encodes<R: Abort + Threads + Sync>(
     shown: &[u8],
 ) -> Result<(), Fail> {
     for most in [1, 7, 4096] {
-        let mut source = MemSource::new(Vec::from_slice(alloc, raw)?, most, Vec::new(alloc));
-        let mut out = MemSink::new(alloc, most, Vec::new(alloc));
-        let mut side = MemSink::new(alloc, most, Vec::new(alloc));
-        let ended = run(
-            rt,
-            alloc,
-            words,
-            &mut source,
-            &mut out,
-            &mut side,
-            &OpenGate,
-        );
-        assert_eq!(rt; ended, answer, "pieces of {most}");
-        assert_eq!(rt; out.taken(), stream, "pieces of {most}");
-        assert_eq!(rt; side.taken(), shown, "pieces of {most}");
+        let left = tried(rt, alloc, words, raw, &pieces(most))?;
+        assert_eq!(rt; left.ended, answer, "pieces of {most}");
+        assert_eq!(rt; left.out.taken(), stream, "pieces of {most}");
+        assert_eq!(rt; left.side.taken(), shown, "pieces of {most}");
     }
     Ok(())
 }
@@ -202,29 +190,23 @@ fn fails_to_encode<R: Abort + Threads + Sync>(
     let words = encode_words(alloc, &SIZES, &[])?;
     let end = header(0x10, 0, 31);
     let stream = joined(alloc, &[&STREAM[..50], &end])?;
-    let raw = Vec::from_slice(alloc, &GREY[..96])?;
-    let mut source = MemSource::new(raw, 10, Vec::from_slice(alloc, reads)?);
-    let mut out = MemSink::new(alloc, 4096, Vec::from_slice(alloc, writes)?);
-    let mut side = MemSink::new(alloc, 4096, Vec::from_slice(alloc, sides)?);
-    let ended = run(
-        rt,
-        alloc,
-        &words,
-        &mut source,
-        &mut out,
-        &mut side,
-        &OpenGate,
-    );
-    assert!(rt; stream.as_slice().starts_with(out.taken()));
-    assert!(rt; GREY[..96].starts_with(side.taken()));
-    assert_eq!(rt; source.count(), u64::from(ended == Ended::ReadFault));
-    assert_eq!(rt; out.count(), u64::from(ended == Ended::WriteFault));
-    assert_eq!(rt; side.count(), u64::from(ended == Ended::SideFault));
-    if ended == Ended::Done {
-        assert_eq!(rt; out.taken(), stream.as_slice());
-        assert_eq!(rt; side.taken(), &GREY[..96]);
+    let outside = Outside {
+        read: 10,
+        write: 4096,
+        side: 4096,
+        reads,
+        writes,
+        sides,
+    };
+    let left = tried(rt, alloc, &words, &GREY[..96], &outside)?;
+    assert!(rt; stream.as_slice().starts_with(left.out.taken()));
+    assert!(rt; GREY[..96].starts_with(left.side.taken()));
+    assert!(rt; counts_its_fault(&left));
+    if left.ended == Ended::Done {
+        assert_eq!(rt; left.out.taken(), stream.as_slice());
+        assert_eq!(rt; left.side.taken(), &GREY[..96]);
     }
-    Ok(ended)
+    Ok(left.ended)
 }
 
 #[test]
@@ -244,126 +226,29 @@ fn encodes_until_a_call_fails(rt: HostRuntime) -> Result<(), Fail> {
     Ok(())
 }
 
-const WAVELETS: [&str; 7] = [
-    "--wavelet=0",
-    "--wavelet=1",
-    "--wavelet=2",
-    "--wavelet=3",
-    "--wavelet=4",
-    "--wavelet=5",
-    "--wavelet=6",
-];
-
-const DEPTHS: [&str; 4] = ["--depth=1", "--depth=2", "--depth=3", "--depth=4"];
-
-// Settings of small pictures, and how many bytes two of them have; at index 0 nothing is lost.
+// Small pictures: how many samples they have across and down, their chroma format, the quantiser index, the codeblocks of
+// each direction, and how many bytes two of them have.
+#[derive(Clone, Copy)]
 struct Shape {
-    words: [&'static str; 5],
+    width: u32,
+    height: u32,
+    chroma: u32,
+    index: u32,
+    codeblocks: u32,
     bytes: usize,
-    lossless: bool,
 }
 
-const SHAPES: [Shape; 9] = [
+fn shape_of(size: (u32, u32), chroma: u32, index: u32, codeblocks: u32, bytes: usize) -> Shape {
+    let (width, height) = size;
     Shape {
-        words: [
-            "--width=1",
-            "--height=1",
-            "--chroma=0",
-            "--index=0",
-            "--codeblocks=1",
-        ],
-        bytes: 6,
-        lossless: true,
-    },
-    Shape {
-        words: [
-            "--width=5",
-            "--height=3",
-            "--chroma=0",
-            "--index=0",
-            "--codeblocks=3",
-        ],
-        bytes: 90,
-        lossless: true,
-    },
-    Shape {
-        words: [
-            "--width=12",
-            "--height=10",
-            "--chroma=0",
-            "--index=12",
-            "--codeblocks=3",
-        ],
-        bytes: 720,
-        lossless: false,
-    },
-    Shape {
-        words: [
-            "--width=2",
-            "--height=1",
-            "--chroma=1",
-            "--index=0",
-            "--codeblocks=1",
-        ],
-        bytes: 8,
-        lossless: true,
-    },
-    Shape {
-        words: [
-            "--width=6",
-            "--height=7",
-            "--chroma=1",
-            "--index=0",
-            "--codeblocks=3",
-        ],
-        bytes: 168,
-        lossless: true,
-    },
-    Shape {
-        words: [
-            "--width=12",
-            "--height=10",
-            "--chroma=1",
-            "--index=12",
-            "--codeblocks=3",
-        ],
-        bytes: 480,
-        lossless: false,
-    },
-    Shape {
-        words: [
-            "--width=2",
-            "--height=2",
-            "--chroma=2",
-            "--index=0",
-            "--codeblocks=1",
-        ],
-        bytes: 12,
-        lossless: true,
-    },
-    Shape {
-        words: [
-            "--width=4",
-            "--height=6",
-            "--chroma=2",
-            "--index=0",
-            "--codeblocks=3",
-        ],
-        bytes: 72,
-        lossless: true,
-    },
-    Shape {
-        words: [
-            "--width=12",
-            "--height=10",
-            "--chroma=2",
-            "--index=12",
-            "--codeblocks=3",
-        ],
-        bytes: 360,
-        lossless: false,
-    },
-];
+        width,
+        height,
+        chroma,
+        index,
+        codeblocks,
+        bytes,
+    }
+}
 
 // Bytes without order.
 fn noise(alloc: Global, count: usize) -> Result<Vec<u8>, Fail> {
@@ -377,73 +262,72 @@ fn noise(alloc: Global, count: usize) -> Result<Vec<u8>, Fail> {
     Ok(bytes)
 }
 
-// Decodes a stream of two pictures, and compares what came out.
-fn decodes_to<R: Abort + Threads + Sync>(
-    rt: &R,
-    alloc: Global,
-    stream: &[u8],
-    raw: &[u8],
-) -> Result<(), Fail> {
-    let mut words = Words::new(alloc);
-    words.push("decode")?;
-    let mut source = MemSource::new(Vec::from_slice(alloc, stream)?, 4096, Vec::new(alloc));
-    let mut out = MemSink::new(alloc, 4096, Vec::new(alloc));
-    let mut side = MemSink::new(alloc, 4096, Vec::new(alloc));
-    let ended = run(
-        rt,
-        alloc,
-        &words,
-        &mut source,
-        &mut out,
-        &mut side,
-        &OpenGate,
-    );
-    assert_eq!(rt; ended, Ended::Done);
-    assert_eq!(rt; out.taken(), raw);
-    let tally = "pictures=2 references=2\n";
-    assert_eq!(rt; side.taken(), tally.as_bytes());
-    Ok(())
+// The words of `encode` for pictures of a shape.
+fn shape_words(alloc: Global, shape: &Shape, wavelet: u32, depth: u32) -> Result<Words, Fail> {
+    let mut words = encode_words(alloc, &[], &[])?;
+    for (name, value) in [
+        ("width", shape.width),
+        ("height", shape.height),
+        ("chroma", shape.chroma),
+        ("index", shape.index),
+        ("codeblocks", shape.codeblocks),
+        ("wavelet", wavelet),
+        ("depth", depth),
+    ] {
+        let word = format!(in alloc; "--{name}={value}")?;
+        words.push(&word)?;
+    }
+    Ok(words)
 }
 
-// Encodes two pictures, decodes the stream, and compares what both gave; where nothing is lost, with the input.
+// Encodes two pictures, decodes the stream, and compares what both gave; at index 0, where nothing is lost, with the input.
 fn round_trip<R: Abort + Threads + Sync>(
     rt: &R,
     alloc: Global,
     shape: &Shape,
-    wavelet: &str,
-    depth: &str,
+    wavelet: u32,
+    depth: u32,
 ) -> Result<(), Fail> {
-    let words = encode_words(alloc, &shape.words, &[wavelet, depth])?;
+    let words = shape_words(alloc, shape, wavelet, depth)?;
     let raw = noise(alloc, shape.bytes)?;
-    let mut source = MemSource::new(Vec::from_slice(alloc, &raw)?, 4096, Vec::new(alloc));
-    let mut out = MemSink::new(alloc, 4096, Vec::new(alloc));
-    let mut side = MemSink::new(alloc, 4096, Vec::new(alloc));
-    let ended = run(
-        rt,
-        alloc,
-        &words,
-        &mut source,
-        &mut out,
-        &mut side,
-        &OpenGate,
-    );
-    assert_eq!(rt; ended, Ended::Done);
-    assert_eq!(rt; side.taken().len(), raw.len());
-    if shape.lossless {
-        assert_eq!(rt; side.taken(), raw.as_slice());
+    let coded = tried(rt, alloc, &words, &raw, &pieces(4096))?;
+    assert_eq!(rt; coded.ended, Ended::Done);
+    assert_eq!(rt; coded.side.taken().len(), raw.len());
+    if shape.index == 0 {
+        assert_eq!(rt; coded.side.taken(), raw.as_slice());
     }
-    decodes_to(rt, alloc, out.taken(), side.taken())
+    let shown = decoded(rt, alloc, coded.out.taken(), &pieces(4096))?;
+    assert_eq!(rt; shown.ended, Ended::Done);
+    assert_eq!(rt; shown.out.taken(), coded.side.taken());
+    let tally = "pictures=2 references=2\n";
+    assert_eq!(rt; shown.side.taken(), tally.as_bytes());
+    Ok(())
+}
+
+// Every wavelet and depth.
+fn round_trips<R: Abort + Threads + Sync>(
+    rt: &R,
+    alloc: Global,
+    shape: &Shape,
+) -> Result<(), Fail> {
+    for wavelet in 0..7 {
+        for depth in 1..5 {
+            round_trip(rt, alloc, shape, wavelet, depth)?;
+        }
+    }
+    Ok(())
 }
 
 #[test]
 fn decodes_what_it_encodes(rt: HostRuntime) -> Result<(), Fail> {
     let alloc = rt.alloc();
-    for wavelet in WAVELETS {
-        for depth in DEPTHS {
-            for shape in &SHAPES {
-                round_trip(&rt, alloc, shape, wavelet, depth)?;
-            }
-        }
-    }
-    Ok(())
+    round_trips(&rt, alloc, &shape_of((1, 1), 0, 0, 1, 6))?;
+    round_trips(&rt, alloc, &shape_of((5, 3), 0, 0, 3, 90))?;
+    round_trips(&rt, alloc, &shape_of((12, 10), 0, 12, 3, 720))?;
+    round_trips(&rt, alloc, &shape_of((2, 1), 1, 0, 1, 8))?;
+    round_trips(&rt, alloc, &shape_of((6, 7), 1, 0, 3, 168))?;
+    round_trips(&rt, alloc, &shape_of((12, 10), 1, 12, 3, 480))?;
+    round_trips(&rt, alloc, &shape_of((2, 2), 2, 0, 1, 12))?;
+    round_trips(&rt, alloc, &shape_of((4, 6), 2, 0, 3, 72))?;
+    round_trips(&rt, alloc, &shape_of((12, 10), 2, 12, 3, 360))
 }

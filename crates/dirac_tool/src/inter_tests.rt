@@ -1,8 +1,6 @@
 use crate::ended::Ended;
-use crate::run::run;
-use crate::tests::{SMALL, STREAM, faulty, header, joined, shows};
-use crate::words::Words;
-use dirac_io::{MemSink, MemSource, OpenGate};
+use crate::tests::{SMALL, STREAM, decoded, faulty, header, joined, shows};
+use crate::tries::Outside;
 use dirac_types::Cause;
 use std::alloc::Global;
 use std::process::Abort;
@@ -194,23 +192,17 @@ fn stops_at_first<R: Abort + Threads + Sync>(
     writes: &[u64],
     answer: Ended,
 ) -> Result<(), Fail> {
-    let mut words = Words::new(alloc);
-    words.push("decode")?;
-    let bytes = Vec::from_slice(alloc, &STREAM)?;
-    let mut source = MemSource::new(bytes, 10, Vec::from_slice(alloc, reads)?);
-    let mut out = MemSink::new(alloc, 4096, Vec::from_slice(alloc, writes)?);
-    let mut side = MemSink::new(alloc, 4096, Vec::new(alloc));
-    let ended = run(
-        rt,
-        alloc,
-        &words,
-        &mut source,
-        &mut out,
-        &mut side,
-        &OpenGate,
-    );
-    assert_eq!(rt; ended, answer);
-    assert!(rt; out.taken().is_empty());
+    let outside = Outside {
+        read: 10,
+        write: 4096,
+        side: 4096,
+        reads,
+        writes,
+        sides: &[],
+    };
+    let left = decoded(rt, alloc, &STREAM, &outside)?;
+    assert_eq!(rt; left.ended, answer);
+    assert!(rt; left.out.taken().is_empty());
     Ok(())
 }
 

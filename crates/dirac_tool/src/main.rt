@@ -15,6 +15,8 @@ mod options;
 mod run;
 #[cfg(test)]
 mod tests;
+#[cfg(test)]
+mod tries;
 mod words;
 
 use crate::ended::{Ended, after_flushes, ended_text, status};

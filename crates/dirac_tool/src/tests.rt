@@ -1,5 +1,6 @@
 use crate::ended::{Ended, ended_text, status};
 use crate::run::run;
+use crate::tries::{Left, Outside, counts_its_fault, pieces, tried};
 use crate::words::Words;
 use dirac_io::{MemSink, MemSource, NullSink, OpenGate};
 use dirac_types::{BadSetting, Cause, Fault, Name};
@@ -30,24 +31,15 @@ fn runs<R: Abort + Threads + Sync>(
     answer: Ended,
     text: &str,
 ) -> Result<(), Fail> {
+    let mut list = Words::new(alloc);
+    for word in words {
+        list.push(word)?;
+    }
     for most in [1, 7, 4096] {
-        let mut list = Words::new(alloc);
-        for word in words {
-            list.push(word)?;
-        }
-        let mut source = MemSource::new(Vec::from_slice(alloc, bytes)?, most, Vec::new(alloc));
-        let mut out = MemSink::new(alloc, most, Vec::new(alloc));
-        let ended = run(
-            rt,
-            alloc,
-            &list,
-            &mut source,
-            &mut out,
-            &mut NullSink,
-            &OpenGate,
-        );
-        assert_eq!(rt; ended, answer, "pieces of {most}");
-        assert_eq!(rt; out.taken(), text.as_bytes(), "pieces of {most}");
+        let left = tried(rt, alloc, &list, bytes, &pieces(most))?;
+        assert_eq!(rt; left.ended, answer, "pieces of {most}");
+        assert_eq!(rt; left.out.taken(), text.as_bytes(), "pieces of {most}");
+        assert!(rt; left.side.taken().is_empty());
     }
     Ok(())
 }
@@ -252,6 +244,18 @@ fn changed(alloc: Global, place: usize, byte: u8) -> Result<Vec<u8>, Fail> {
     Ok(bytes)
 }
 
+// Decodes bytes, by calls that may fail.
+pub(crate) fn decoded<R: Threads + Sync>(
+    rt: &R,
+    alloc: Global,
+    bytes: &[u8],
+    outside: &Outside<'_>,
+) -> Result<Left, Fail> {
+    let mut words = Words::new(alloc);
+    words.push("decode")?;
+    tried(rt, alloc, &words, bytes, outside)
+}
+
 // Decodes bytes in pieces, and compares the answer, the samples that came out, all grey, and what was
 // said beside them.
 fn decodes<R: Abort + Threads + Sync>(
@@ -263,24 +267,11 @@ fn decodes<R: Abort + Threads + Sync>(
     line: &str,
 ) -> Result<(), Fail> {
     for most in [1, 7, 4096] {
-        let mut words = Words::new(alloc);
-        words.push("decode")?;
-        let mut source = MemSource::new(Vec::from_slice(alloc, bytes)?, most, Vec::new(alloc));
-        let mut out = MemSink::new(alloc, most, Vec::new(alloc));
-        let mut side = MemSink::new(alloc, most, Vec::new(alloc));
-        let ended = run(
-            rt,
-            alloc,
-            &words,
-            &mut source,
-            &mut out,
-            &mut side,
-            &OpenGate,
-        );
-        assert_eq!(rt; ended, answer, "pieces of {most}");
-        assert_eq!(rt; out.taken().len(), samples, "pieces of {most}");
-        assert!(rt; out.taken().iter().all(|byte| *byte == 0x80));
-        assert_eq!(rt; side.taken(), line.as_bytes(), "pieces of {most}");
+        let left = decoded(rt, alloc, bytes, &pieces(most))?;
+        assert_eq!(rt; left.ended, answer, "pieces of {most}");
+        assert_eq!(rt; left.out.taken().len(), samples, "pieces of {most}");
+        assert!(rt; left.out.taken().iter().all(|byte| *byte == 0x80));
+        assert_eq!(rt; left.side.taken(), line.as_bytes(), "pieces of {most}");
     }
     Ok(())
 }
@@ -375,23 +366,10 @@ pub(crate) fn shows<R: Abort + Threads + Sync>(
     line: &str,
 ) -> Result<(), Fail> {
     for most in [1, 7, 4096] {
-        let mut words = Words::new(alloc);
-        words.push("decode")?;
-        let mut source = MemSource::new(Vec::from_slice(alloc, bytes)?, most, Vec::new(alloc));
-        let mut out = MemSink::new(alloc, most, Vec::new(alloc));
-        let mut side = MemSink::new(alloc, most, Vec::new(alloc));
-        let ended = run(
-            rt,
-            alloc,
-            &words,
-            &mut source,
-            &mut out,
-            &mut side,
-            &OpenGate,
-        );
-        assert_eq!(rt; ended, answer, "pieces of {most}");
-        assert_eq!(rt; out.taken(), raw, "pieces of {most}");
-        assert_eq!(rt; side.taken(), line.as_bytes(), "pieces of {most}");
+        let left = decoded(rt, alloc, bytes, &pieces(most))?;
+        assert_eq!(rt; left.ended, answer, "pieces of {most}");
+        assert_eq!(rt; left.out.taken(), raw, "pieces of {most}");
+        assert_eq!(rt; left.side.taken(), line.as_bytes(), "pieces of {most}");
     }
     Ok(())
 }
@@ -444,30 +422,30 @@ fn fails_to_decode<R: Abort + Threads + Sync>(
     writes: &[u64],
     sides: &[u64],
 ) -> Result<Ended, Fail> {
-    let mut words = Words::new(alloc);
-    words.push("decode")?;
-    let mut source = MemSource::new(stream(alloc, &[&GREY])?, 10, Vec::from_slice(alloc, reads)?);
-    let mut out = MemSink::new(alloc, 4096, Vec::from_slice(alloc, writes)?);
-    let mut side = MemSink::new(alloc, 9, Vec::from_slice(alloc, sides)?);
-    let ended = run(
-        rt,
-        alloc,
-        &words,
-        &mut source,
-        &mut out,
-        &mut side,
-        &OpenGate,
-    );
+    let outside = Outside {
+        read: 10,
+        write: 4096,
+        side: 9,
+        reads,
+        writes,
+        sides,
+    };
+    let bytes = stream(alloc, &[&GREY])?;
+    let left = decoded(rt, alloc, &bytes, &outside)?;
+    let Left {
+        ended,
+        out,
+        side,
+        ..
+    } = &left;
     assert!(rt; out.taken().len() <= SAMPLES);
     assert!(rt; out.taken().iter().all(|byte| *byte == 0x80));
     assert!(rt; b"pictures=1 references=0\n".starts_with(side.taken()));
-    assert_eq!(rt; source.count(), u64::from(ended == Ended::ReadFault));
-    assert_eq!(rt; out.count(), u64::from(ended == Ended::WriteFault));
-    assert_eq!(rt; side.count(), u64::from(ended == Ended::SideFault));
-    if ended == Ended::SideFault {
+    assert!(rt; counts_its_fault(&left));
+    if *ended == Ended::SideFault {
         assert_eq!(rt; out.taken().len(), SAMPLES);
     }
-    Ok(ended)
+    Ok(left.ended)
 }
 
 #[test]

@@ -7,6 +7,7 @@ use Rattle.std.proofs.Math.Nat.{suc-mul}
 use Rattle.std.proofs.Math.Pow.{pow_mono}
 use Rattle.std.proofs.Math.IntN.{zero-*ℤ, suc_ℤ-*ℤ, pred_ℤ-*ℤ}
 use lib.Signed.{shr_z}
+use mir.Val.{SFits}
 use Rattle.dirac_types.proofs.Shifts.{shr_sum_is}
 use Rattle.dirac_upconvert.specs.HalfSamples.{IsSample}
 use Rattle.dirac_upconvert.specs.SubSamples.{IsRest, IsWithin, mixed, product, rounded}
@@ -128,3 +129,13 @@ rounded_is x m l h =
     ap (λ z. to_z w32 (of_z w32 (shr_z (to_z w32 (of_z w32 (to_z w32 (of_z w32 x) +ℤ to_z w32 (of_z w32 z)))) (2 ^ m)))) half
     ∙ shr_sum_is w32 x (pos (2 ^ m / 2)) (2 ^ m) (fits_signed_from_abs w32 x (omega arith)) (fits_signed_from_abs w32 (pos (2 ^ m / 2)) (omega arith))
     (fits_signed_from_abs w32 (x +ℤ pos (2 ^ m / 2)) (omega (arith, ints)))
+
+-- a product that is added, and the sum
+pub product_fits : (sum weight value : ℤ) → unsigned_abs sum + unsigned_abs weight * unsigned_abs value ≤ 2 ^ 20 → SFits w32 (weight *ℤ value)
+product_fits sum weight value l = fits_signed_from_abs w32 (weight *ℤ value) (omega (arith, l, unsigned_abs-mul weight value))
+
+pub product_is : (sum weight value : ℤ) → unsigned_abs sum + unsigned_abs weight * unsigned_abs value ≤ 2 ^ 20 → to_z w32 (of_z w32 (weight *ℤ value)) ≡ weight *ℤ value
+product_is sum weight value l = to_z-of_z w32 (weight *ℤ value) (product_fits sum weight value l)
+
+pub added_fits : (sum weight value : ℤ) → unsigned_abs sum + unsigned_abs weight * unsigned_abs value ≤ 2 ^ 20 → SFits w32 (sum +ℤ weight *ℤ value)
+added_fits sum weight value l = fits_signed_from_abs w32 (sum +ℤ weight *ℤ value) (omega (arith, ints, l, unsigned_abs-mul weight value))

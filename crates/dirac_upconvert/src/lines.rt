@@ -4,6 +4,17 @@ ghost use Rattle.dirac_upconvert.specs.HalfSamples.{IsSample, between, doubled_a
 
 use crate::half_sample::half_sample;
 
+/// The sample at place `k` of a line.
+#[inline(always)]
+fn sample_at(line: &[i16], k: usize) -> i16
+    requires inside { k < length line.now }
+    requires samples { All IsSample line.now }
+    ensures value { result ≡ slice_index_or line.now k (pos 0) }
+    ensures sample { IsSample result }
+{
+    line[k]
+}
+
 /// The half sample in column `x` between the rows `a0` and `b0`.
 #[inline(always)]
 fn half_in_column(
@@ -30,7 +41,16 @@ fn half_in_column(
     ensures value { result ≡ between (slice_index_or a3.now x (pos 0)) (slice_index_or a2.now x (pos 0)) (slice_index_or a1.now x (pos 0)) (slice_index_or a0.now x (pos 0)) (slice_index_or b0.now x (pos 0)) (slice_index_or b1.now x (pos 0)) (slice_index_or b2.now x (pos 0)) (slice_index_or b3.now x (pos 0)) }
     ensures sample { IsSample result }
 {
-    half_sample(a3[x], a2[x], a1[x], a0[x], b0[x], b1[x], b2[x], b3[x])
+    half_sample(
+        sample_at(a3, x),
+        sample_at(a2, x),
+        sample_at(a1, x),
+        sample_at(a0, x),
+        sample_at(b0, x),
+        sample_at(b1, x),
+        sample_at(b2, x),
+        sample_at(b3, x),
+    )
 }
 
 /// The half samples between the rows `a0` and `b0`.
@@ -71,14 +91,14 @@ fn half_clamped(line: &[i16], i: usize) -> i16
 {
     let last = line.len() - 1;
     half_sample(
-        line[i.saturating_sub(3)],
-        line[i.saturating_sub(2)],
-        line[i.saturating_sub(1)],
-        line[i],
-        line[(i + 1).min(last)],
-        line[(i + 2).min(last)],
-        line[(i + 3).min(last)],
-        line[(i + 4).min(last)],
+        sample_at(line, i.saturating_sub(3)),
+        sample_at(line, i.saturating_sub(2)),
+        sample_at(line, i.saturating_sub(1)),
+        sample_at(line, i),
+        sample_at(line, (i + 1).min(last)),
+        sample_at(line, (i + 2).min(last)),
+        sample_at(line, (i + 3).min(last)),
+        sample_at(line, (i + 4).min(last)),
     )
 }
 
@@ -91,14 +111,14 @@ fn half_inside(line: &[i16], i: usize) -> i16
     ensures { result ≡ half_behind (λ k. slice_index_or line.now k (pos 0)) (length line.now - 1) i }
 {
     half_sample(
-        line[i - 3],
-        line[i - 2],
-        line[i - 1],
-        line[i],
-        line[i + 1],
-        line[i + 2],
-        line[i + 3],
-        line[i + 4],
+        sample_at(line, i - 3),
+        sample_at(line, i - 2),
+        sample_at(line, i - 1),
+        sample_at(line, i),
+        sample_at(line, i + 1),
+        sample_at(line, i + 2),
+        sample_at(line, i + 3),
+        sample_at(line, i + 4),
     )
 }
 
