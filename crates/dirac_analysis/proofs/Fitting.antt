@@ -1,51 +1,39 @@
 -- The sizes of the bands, and how large their values become.
-use Rattle.std.proofs.Common.{◌≡◌, ℕ, zero, suc, ◌+◌, ◌-◌, ◌*◌, ◌/◌, ◌%◌, ◌^◌, ◌<◌, ◌≤◌, ℤ, pos, negsuc, List, [], ◌∷◌, ◌++◌, length, get_or, Some, refl, sym, ap, ◌∙◌, subst, arith, unsigned_abs, inl, inr, length-append}
+use Rattle.std.proofs.Common.{◌≡◌, ℕ, zero, suc, ◌+◌, ◌-◌, ◌*◌, ◌/◌, ◌%◌, ◌^◌, ◌<◌, ◌≤◌, ◌==◌, ℤ, pos, negsuc, Bool, true, false, if◌then◌else◌, List, [], ◌∷◌, ◌++◌, length, map, get_or, Some, refl, sym, ap, ◌∙◌, subst, arith, unsigned_abs, inl, inr, length-append}
 use Rattle.std.specs.Prelude.{slice_get, min}
 use Rattle.std.specs.List.{All}
-use Rattle.std.proofs.lemmas.Bool.{cases_lt}
+use Rattle.std.proofs.lemmas.Bool.{cases_eq, cases_lt}
 use Rattle.std.proofs.lemmas.Int.{ints}
+use Rattle.std.proofs.lemmas.List.{get_or-map, get_or_default, length-map}
+use Rattle.std.proofs.lemmas.Nat.{div-mul-add, div_below, mul-le, pow_pos}
 use Rattle.std.proofs.lemmas.Option.{slice_get_within}
 use Rattle.dirac_types.specs.Table.{Table, table_at}
 use Rattle.dirac_types.specs.Samples.{clip}
 use Rattle.dirac_types.proofs.Bounds.{all_weaker, told_bound, values_bound}
+use Rattle.dirac_quant.specs.Quantiser.{factor_of, reduced, with_sign_of}
+use Rattle.dirac_bands.specs.DcSum.{IsDcSum}
 use Rattle.dirac_bands.specs.Interleaving.{band_of}
-use Rattle.dirac_coeffs.specs.declared.spot.CodedBand.{CodedBand}
-use Rattle.dirac_analysis.specs.Fits.{AreCoded, AreSamples, IsCoded, IsDivisible, grown}
-use Rattle.dirac_analysis.specs.Analysis.{padded}
 use Rattle.dirac_bands.specs.Geometry.{padded_size}
-use Rattle.dirac_analysis.proofs.Undone.{front_get}
-
-power_next : (n : ℕ) → 2 ^ suc n ≡ 2 * 2 ^ n
-power_next n = omega arith
-
--- a size that is halved
-pub half_of : (size q depth : ℕ) → 1 ≤ depth → size ≡ q * 2 ^ depth → size / 2 ≡ q * 2 ^ (depth - 1)
-half_of size q depth some e =
-    let next : depth ≡ suc (depth - 1) = omega arith in
-    let power : 2 ^ depth ≡ 2 * 2 ^ (depth - 1) = ap (λ n. 2 ^ n) next ∙ power_next (depth - 1) in
-    let twice : q * 2 ^ depth ≡ q * (2 * 2 ^ (depth - 1)) = ap (λ p. q * p) power in
-    omega (arith, e, twice)
-
-pub even_of : (size q depth : ℕ) → 1 ≤ depth → size ≡ q * 2 ^ depth → size % 2 ≡ 0
-even_of size q depth some e =
-    let next : depth ≡ suc (depth - 1) = omega arith in
-    let power : 2 ^ depth ≡ 2 * 2 ^ (depth - 1) = ap (λ n. 2 ^ n) next ∙ power_next (depth - 1) in
-    let twice : q * 2 ^ depth ≡ q * (2 * 2 ^ (depth - 1)) = ap (λ p. q * p) power in
-    omega (arith, e, twice)
-
-pub low_divisible : (depth : ℕ) (t low : Table) → 1 ≤ depth → low.width ≡ t.width / 2 → low.height ≡ t.height / 2 → IsDivisible depth t → IsDivisible (depth - 1) low
-low_divisible depth t low some w h is = record {
-  across = is.across;
-  down = is.down;
-  width = w ∙ half_of t.width is.across depth some is.width;
-  height = h ∙ half_of t.height is.down depth some is.height;
-}
+use Rattle.dirac_bands.proofs.Predictions.{DifferencesFrom, differences_bound}
+use Rattle.dirac_coeffs.specs.declared.spot.CodedBand.{CodedBand}
+use Rattle.dirac_coeffs.specs.Written.{is_zero_band}
+use Rattle.dirac_lift.specs.Level.{analysed}
+use Rattle.dirac_analysis.specs.Analysis.{coded, coded_bands, differences, padded, reduced_values}
+use Rattle.dirac_analysis.specs.Fits.{AreCoded, AreSamples, IsCoded, IsDivisible, grown}
+use Rattle.dirac_analysis.specs.Laws.{PlanesFit}
+use Rattle.dirac_analysis.proofs.OneLevel.{length-filled, level_grows, low_divisible, padded_divisible}
+use Rattle.dirac_analysis.proofs.Undone.{differences_sum, front_get}
 
 pub min_below : (x n : ℕ) → 1 ≤ n → min x (n - 1) < n
 min_below x n some = omega arith
 
--- values after so many levels
-grown_three : (n : ℕ) → n ≤ 3 → grown n ≤ 2 ^ 29
+-- ---- how large values are
+
+pub all_under : (a b : ℕ) (xs : List ℤ) → a < b → All (λ v. unsigned_abs v ≤ a) xs → All (λ v. unsigned_abs v < b) xs
+all_under a b xs l all k d i = omega (arith, l, all k d i)
+
+-- after so many levels
+grown_three : (n : ℕ) → n ≤ 3 → grown n < 2 ^ 29
 unfolding grown
 grown_three zero few = omega arith
 grown_three (suc zero) few = omega arith
@@ -53,66 +41,47 @@ grown_three (suc (suc zero)) few = omega arith
 grown_three (suc (suc (suc zero))) few = omega arith
 grown_three (suc (suc (suc (suc n)))) few = absurd (omega arith)
 
-pub grown_below : (depth : ℕ) (xs : List ℤ) → 1 ≤ depth → depth ≤ 4 → All (λ v. unsigned_abs v ≤ grown (4 - depth)) xs → All (λ v. unsigned_abs v ≤ 2 ^ 29) xs
-grown_below depth xs some few all = all_weaker (grown (4 - depth)) (2 ^ 29) xs (grown_three (4 - depth) (omega arith)) all
-
-pub grown_last : (depth : ℕ) (xs : List ℤ) → depth ≡ 0 → All (λ v. unsigned_abs v ≤ grown (4 - depth)) xs → All (λ v. unsigned_abs v ≤ 2 ^ 36) xs
+grown_four : (n : ℕ) → n ≤ 4 → grown n ≤ 2 ^ 36
 unfolding grown
-grown_last depth xs none all =
-    let four : 4 - depth ≡ 4 = omega arith in
-    let most : grown (4 - depth) ≤ 2 ^ 36 = rw four (omega arith) in
-    all_weaker (grown (4 - depth)) (2 ^ 36) xs most all
+grown_four zero few = omega arith
+grown_four (suc n) few = omega (arith, grown_three n (omega arith))
 
-pub grown_more : (depth : ℕ) (xs : List ℤ) → 1 ≤ depth → depth ≤ 4 → All (λ v. unsigned_abs v ≤ 128 * grown (4 - depth) + 32) xs → All (λ v. unsigned_abs v ≤ grown (4 - (depth - 1))) xs
-unfolding grown
-grown_more depth xs some few all =
-    let next : suc (4 - depth) ≡ 4 - (depth - 1) = omega arith in
-    let same : 128 * grown (4 - depth) + 32 ≡ grown (4 - (depth - 1)) = ap grown next in
-    subst (λ (b : ℕ). All (λ v. unsigned_abs v ≤ b) xs) same all
+pub small_lowest : (n : ℕ) (xs : List ℤ) → n ≤ 4 → All (λ v. unsigned_abs v ≤ grown n) xs → All (λ v. unsigned_abs v ≤ 2 ^ 36) xs
+small_lowest n xs few all = all_weaker (grown n) (2 ^ 36) xs (grown_four n few) all
 
-pub all_under : (a b : ℕ) (xs : List ℤ) → a < b → All (λ v. unsigned_abs v ≤ a) xs → All (λ v. unsigned_abs v < b) xs
-all_under a b xs l all k d i = omega (arith, l, all k d i)
-
--- the values of a band are among those of the plane
-pub band_bound : (b right below : ℕ) (t : Table) → All (λ v. unsigned_abs v ≤ b) t.values → All (λ v. unsigned_abs v ≤ b) (band_of t right below).values
-band_bound b right below t all =
-    told_bound b (t.width / 2) (t.height / 2) (λ x y. table_at t (2 * x + right) (2 * y + below)) (λ x y. values_bound b t.values all ((2 * y + below) * t.width + (2 * x + right)))
-
-pub band_under : (b right below : ℕ) (t band : Table) → b < 2 ^ 38 → band ≡ band_of t right below → All (λ v. unsigned_abs v ≤ b) t.values → All (λ v. unsigned_abs v < 2 ^ 38) band.values
-band_under b right below t band few is all = all_under b (2 ^ 38) band.values few (rw is (band_bound b right below t all))
-
-pub low_bound : (b : ℕ) (t band : Table) → band ≡ band_of t 0 0 → All (λ v. unsigned_abs v ≤ b) t.values → All (λ v. unsigned_abs v ≤ b) band.values
-low_bound b t band is all = rw is (band_bound b 0 0 t all)
-
--- samples are small
-sample_small : (v : ℤ) → clip v ≡ v → unsigned_abs v ≤ 128
-sample_small (pos n) is = grind (arith, ints)
-sample_small (negsuc n) is = grind (arith, ints)
+pub small_above : (n : ℕ) (xs : List ℤ) → n ≤ 3 → All (λ v. unsigned_abs v ≤ grown n) xs → All (λ v. unsigned_abs v ≤ 2 ^ 29) xs
+small_above n xs few all = all_weaker (grown n) (2 ^ 29) xs (omega (arith, grown_three n few)) all
 
 grown_least : (n : ℕ) → 128 ≤ grown n
 unfolding grown
 grown_least zero = omega arith
 grown_least (suc n) = omega (arith, grown_least n)
 
+-- samples are small
+sample_small : (v : ℤ) → clip v ≡ v → unsigned_abs v ≤ 128
+sample_small (pos n) is = grind (arith, ints)
+sample_small (negsuc n) is = grind (arith, ints)
+
 samples_small : (xs : List ℤ) → AreSamples xs → All (λ v. unsigned_abs v ≤ 128) xs
 samples_small xs all k d l = sample_small (get_or xs k d) (all k d l)
 
 -- and so is what is padded
-pub padded_small : (n depth : ℕ) (t table : Table) → table ≡ padded depth t → AreSamples t.values → All (λ v. unsigned_abs v ≤ grown n) table.values
-padded_small n depth t table is all =
+pub padded_small : (n depth : ℕ) (t : Table) → AreSamples t.values → All (λ v. unsigned_abs v ≤ grown n) (padded depth t).values
+padded_small n depth t all =
     let small = samples_small t.values all in
     let told : All (λ v. unsigned_abs v ≤ 128) (padded depth t).values = told_bound 128 (padded_size t.width depth) (padded_size t.height depth) (λ x y. table_at t (min x (t.width - 1)) (min y (t.height - 1)))
     (λ x y. values_bound 128 t.values small (min y (t.height - 1) * t.width + min x (t.width - 1))) in
-    all_weaker 128 (grown n) table.values (grown_least n) (rw is told)
+    all_weaker 128 (grown n) (padded depth t).values (grown_least n) told
 
--- a band that is coded has half the plane's sizes
-pub half_coded : (t band plane : Table) (right below : ℕ) (b : CodedBand) → band ≡ band_of t right below → t.width ≡ plane.width → t.height ≡ plane.height → IsCoded band.width band.height b → IsCoded (plane.width / 2) (plane.height / 2) b
-half_coded t band plane right below b is w h fits =
-    let across : band.width ≡ plane.width / 2 = ap (λ (u : Table). u.width) is ∙ ap (λ n. n / 2) w in
-    let down : band.height ≡ plane.height / 2 = ap (λ (u : Table). u.height) is ∙ ap (λ n. n / 2) h in
-    rw (← across, ← down) fits
+-- the values of a band are among those of the plane
+band_bound : (b right below : ℕ) (t : Table) → All (λ v. unsigned_abs v ≤ b) t.values → All (λ v. unsigned_abs v ≤ b) (band_of t right below).values
+band_bound b right below t all =
+    told_bound b (t.width / 2) (t.height / 2) (λ x y. table_at t (2 * x + right) (2 * y + below)) (λ x y. values_bound b t.values all ((2 * y + below) * t.width + (2 * x + right)))
 
--- ---- the bands
+pub band_under : (b right below : ℕ) (t band : Table) → b < 2 ^ 38 → band ≡ band_of t right below → All (λ v. unsigned_abs v ≤ b) t.values → All (λ v. unsigned_abs v < 2 ^ 38) band.values
+band_under b right below t band few is all = all_under b (2 ^ 38) band.values few (rw is (band_bound b right below t all))
+
+-- ---- a list of bands
 
 -- what is asked of band n
 Asked : ℕ → ℕ → ℕ → CodedBand → Type 0
@@ -127,16 +96,15 @@ found_single : (b x : CodedBand) (n : ℕ) → slice_get (b ∷ []) n ≡ Some x
 found_single b x zero is = (refl, cc)
 found_single b x (suc n) is = absurd (omega (arith, slice_get_within {A = CodedBand} [] n x is))
 
-pub one_coded : (across down depth : ℕ) (bs : List CodedBand) (b : CodedBand) (w h : ℕ) → depth ≡ 0 → bs ≡ b ∷ [] → w ≡ across * 2 ^ depth → h ≡ down * 2 ^ depth → IsCoded w h b → AreCoded across down depth bs
+one_coded : (across down : ℕ) (b : CodedBand) (w h : ℕ) → w ≡ across * 2 ^ 0 → h ≡ down * 2 ^ 0 → IsCoded w h b → AreCoded across down 0 (b ∷ [])
 unfolding Asked
-one_coded across down depth bs b w h none is ew eh fits =
-    record {
-      count = ap length is ∙ omega (arith, none);
-      each = λ n x there.
-          let found = found_single b x n (subst (λ (l : List CodedBand). slice_get l n ≡ Some x) is there) in
-          let level : (n - 1) / 3 ≡ depth = omega (arith, found.0, none) in
-          subst (Asked across down n) found.1 (asked_here across down depth n b w h level ew eh fits);
-    }
+one_coded across down b w h ew eh fits = record {
+  count = refl;
+  each = λ n x there.
+      let found = found_single b x n there in
+      let level : (n - 1) / 3 ≡ 0 = omega (arith, found.0) in
+      subst (Asked across down n) found.1 (asked_here across down 0 n b w h level ew eh fits);
+}
 
 -- one of three, behind others
 found_three : (xs : List CodedBand) (h l d x : CodedBand) (n : ℕ) (P : CodedBand → Type 0) → slice_get (xs ++ h ∷ l ∷ d ∷ []) n ≡ Some x → length xs ≤ n → P h → P l → P d → P x
@@ -153,20 +121,123 @@ found_three [] h l d x (suc (suc (suc n))) P is past ph pl pd = absurd (omega (a
 found_three (y ∷ xs) h l d x zero P is past ph pl pd = absurd (omega arith)
 found_three (y ∷ xs) h l d x (suc n) P is past ph pl pd = found_three xs h l d x n P is (omega arith) ph pl pd
 
-pub more_coded : (across down depth : ℕ) (xs bs : List CodedBand) (h l d : CodedBand) (w v : ℕ) → 1 ≤ depth → bs ≡ xs ++ h ∷ l ∷ d ∷ [] → w ≡ across * 2 ^ (depth - 1) → v ≡ down * 2 ^ (depth - 1)
-    → AreCoded across down (depth - 1) xs → IsCoded w v h → IsCoded w v l → IsCoded w v d → AreCoded across down depth bs
+more_coded : (across down depth : ℕ) (xs : List CodedBand) (h l d : CodedBand) (w v : ℕ) → w ≡ across * 2 ^ depth → v ≡ down * 2 ^ depth
+    → AreCoded across down depth xs → IsCoded w v h → IsCoded w v l → IsCoded w v d → AreCoded across down (suc depth) (xs ++ h ∷ l ∷ d ∷ [])
 unfolding Asked
-more_coded across down depth xs bs h l d w v some is ew eh fits fh fl fd =
+more_coded across down depth xs h l d w v ew eh fits fh fl fd =
+    let three : List CodedBand = h ∷ l ∷ d ∷ [] in
     record {
-      count = ap length is ∙ length-append xs (h ∷ l ∷ d ∷ []) ∙ omega (arith, fits.count, some);
-      each = λ n x there.
-          let listed = subst (λ (all : List CodedBand). slice_get all n ≡ Some x) is there in
-          elim (cases_lt n (length xs)) [
-            | inl before ↦ fits.each n x (sym (front_get xs (h ∷ l ∷ d ∷ []) n before) ∙ listed)
-            | inr behind ↦
-                let within : n < length (xs ++ h ∷ l ∷ d ∷ []) = slice_get_within (xs ++ h ∷ l ∷ d ∷ []) n x listed in
-                let level : (n - 1) / 3 ≡ depth - 1 = omega (arith, fits.count, within, behind, length-append xs (h ∷ l ∷ d ∷ []), some) in
-                let here : (b : CodedBand) → IsCoded w v b → Asked across down n b = λ b. asked_here across down (depth - 1) n b w v level ew eh in
-                found_three xs h l d x n (Asked across down n) listed behind (here h fh) (here l fl) (here d fd)
-          ];
+      count = omega (arith, length-append xs three, fits.count);
+      each = λ n x there. elim (cases_lt n (length xs)) [
+        | inl before ↦ fits.each n x (sym (front_get xs three n before) ∙ there)
+        | inr behind ↦
+            let within : n < length (xs ++ three) = slice_get_within (xs ++ three) n x there in
+            let level : (n - 1) / 3 ≡ depth = omega (arith, fits.count, within, behind, length-append xs three) in
+            let here : (b : CodedBand) → IsCoded w v b → Asked across down n b = λ b. asked_here across down depth n b w v level ew eh in
+            found_three xs h l d x n (Asked across down n) there behind (here h fh) (here l fl) (here d fd)
+      ];
     }
+
+-- ---- one band
+
+-- a step is at least 1: a coded number is no larger than the value
+quarter_least : (a b c : Bool) (p : ℕ) → 0 < p → 4 ≤ (if a then 4 * p else if b then (503829 * p + 52958) / 105917 else if c then (665857 * p + 58854) / 117708 else (440253 * p + 32722) / 65444)
+quarter_least true b c p some = omega arith
+quarter_least false true c p some = omega arith
+quarter_least false false true p some = omega arith
+quarter_least false false false p some = omega arith
+
+steps_within : (m f : ℕ) → 4 ≤ f → 4 * m / f ≤ m
+steps_within m f least =
+    let quotient : 4 * m / f < m + 1 = div_below (4 * m) f (m + 1) (omega arith) (omega (arith, mul-le (m + 1) 4 (m + 1) f (omega arith) least)) in
+    omega (arith, quotient)
+
+signed_within : (v : ℤ) (m : ℕ) → m ≤ unsigned_abs v → unsigned_abs (with_sign_of v m) ≤ unsigned_abs v
+signed_within (pos n) m l = l
+signed_within (negsuc n) zero l = omega arith
+signed_within (negsuc n) (suc m) l = l
+
+reduced_within : (v : ℤ) (index : ℕ) → unsigned_abs (reduced v index) ≤ unsigned_abs v
+reduced_within v index =
+    let least : 4 ≤ factor_of index = quarter_least (index % 4 == 0) (index % 4 == 1) (index % 4 == 2) (2 ^ (index / 4)) (pow_pos (index / 4)) in
+    signed_within v (4 * unsigned_abs v / factor_of index) (steps_within (unsigned_abs v) (factor_of index) least)
+
+all_no_larger : (b : ℕ) (f : ℤ → ℤ) (xs : List ℤ) → ((v : ℤ) → unsigned_abs (f v) ≤ unsigned_abs v) → All (λ v. unsigned_abs v < b) xs → All (λ v. unsigned_abs v < b) (map f xs)
+all_no_larger b f xs within all k d l =
+    let inside : k < length xs = omega (arith, l, length-map xs f) in
+    rw (get_or_default (map f xs) k d (pos 0) l, get_or-map f xs k (pos 0) (pos 0) inside) (omega (arith, within (get_or xs k (pos 0)), all k (pos 0) inside))
+
+index_most : (z : Bool) (index : ℕ) → index ≤ 99 → (if z then 0 else index) ≤ 99
+index_most true index few = omega arith
+index_most false index few = few
+
+-- a table that is coded
+coded_fits : (index : ℕ) (t : Table) → index ≤ 99 → length t.values ≡ t.width * t.height → All (λ v. unsigned_abs v < 2 ^ 38) t.values → IsCoded t.width t.height (coded index t)
+coded_fits index t few len small = record {
+  index = index_most (is_zero_band (reduced_values index t)) index few;
+  across = refl;
+  down = refl;
+  len = length-map t.values (λ v. reduced v index) ∙ len;
+  small = all_no_larger (2 ^ 38) (λ v. reduced v index) t.values (λ v. reduced_within v index) small;
+  zeros = λ e. ap (λ z. if z then 0 else index) e;
+}
+
+-- the differences of a table
+differences_small : (b : ℕ) (t : Table) → length t.values ≡ t.width * t.height → All (λ v. unsigned_abs v ≤ b) t.values → All (λ v. unsigned_abs v ≤ 2 * b) (differences t).values
+differences_small b t len all =
+    let sums : IsDcSum (differences t) t = differences_sum t len in
+    elim (cases_eq t.width 0) [
+      | inl none ↦ λ i d inside. absurd (omega (arith, inside, sums.len, len, ap (λ w. w * t.height) none))
+      | inr some ↦
+          let all_from : DifferencesFrom t.width t.values (differences t).values 0 = record {
+            len = sym sums.len;
+            done = λ x y l _ inside. sums.each x y l (omega (arith, div-mul-add y t.width x l, div_below (y * t.width + x) t.width t.height (omega (arith, some)) (omega (arith, inside, len))));
+            rest = λ q l. absurd (omega (arith, l));
+          } in
+          differences_bound b t.width t.values (differences t).values 0 all_from (omega (arith, some)) all
+    ]
+
+lowest_coded : (t : Table) → length t.values ≡ t.width * t.height → All (λ v. unsigned_abs v ≤ 2 ^ 36) t.values → IsCoded t.width t.height (coded 0 (differences t))
+lowest_coded t len small =
+    coded_fits 0 (differences t) (omega arith) (sym (differences_sum t len).len ∙ len)
+    (all_under (2 * 2 ^ 36) (2 ^ 38) (differences t).values (omega arith) (differences_small (2 ^ 36) t len small))
+
+-- ---- the bands as they are defined
+
+-- what is left to analyse
+low_small : (wavelet n depth : ℕ) (t : Table) → wavelet ≤ 6 → IsDivisible (suc depth) t → All (λ v. unsigned_abs v ≤ grown n) t.values → All (λ v. unsigned_abs v ≤ grown (suc n)) (band_of (analysed wavelet t) 0 0).values
+unfolding grown
+low_small wavelet n depth t l is all =
+    band_bound (128 * grown n + 32) 0 0 (analysed wavelet t) (level_grows wavelet (grown n) depth t l is all)
+
+pub low_ready : (wavelet depth n : ℕ) (t low : Table) → wavelet ≤ 6 → depth ≡ suc n → depth ≤ 4 → low ≡ band_of (analysed wavelet t) 0 0 → t.width ≤ 8192 → t.height ≤ 8192 → IsDivisible depth t → All (λ v. unsigned_abs v ≤ grown (4 - depth)) t.values
+    → (low.width ≤ 8192) × ((low.height ≤ 8192) × (IsDivisible n low × All (λ v. unsigned_abs v ≤ grown (4 - n)) low.values))
+low_ready wavelet depth n t low l next few is_low across down is all =
+    let whole : IsDivisible (suc n) t = subst (λ (m : ℕ). IsDivisible m t) next is in
+    let more : suc (4 - depth) ≡ 4 - n = omega arith in
+    let small : All (λ v. unsigned_abs v ≤ grown (4 - n)) (band_of (analysed wavelet t) 0 0).values =
+    subst (λ (m : ℕ). All (λ v. unsigned_abs v ≤ grown m) (band_of (analysed wavelet t) 0 0).values) more (low_small wavelet (4 - depth) n t l whole all) in
+    rw is_low (omega arith, (omega arith, (low_divisible wavelet n t whole, small)))
+
+-- a band of HL, LH or HH
+high_coded : (wavelet index depth right below : ℕ) (t : Table) → wavelet ≤ 6 → index ≤ 99 → IsDivisible (suc depth) t → All (λ v. unsigned_abs v ≤ 2 ^ 29) t.values → IsCoded (t.width / 2) (t.height / 2) (coded index (band_of (analysed wavelet t) right below))
+high_coded wavelet index depth right below t l few is small =
+    let grows : All (λ v. unsigned_abs v ≤ 128 * 2 ^ 29 + 32) (analysed wavelet t).values = level_grows wavelet (2 ^ 29) depth t l is small in
+    coded_fits index (band_of (analysed wavelet t) right below) few (length-filled (t.width / 2) (t.height / 2) (λ x y. table_at (analysed wavelet t) (2 * x + right) (2 * y + below)))
+    (band_under (128 * 2 ^ 29 + 32) right below (analysed wavelet t) (band_of (analysed wavelet t) right below) (omega arith) refl grows)
+
+bands_coded : (wavelet index n depth : ℕ) (t : Table) → wavelet ≤ 6 → index ≤ 99 → n + depth ≤ 4 → (is : IsDivisible depth t) → All (λ v. unsigned_abs v ≤ grown n) t.values → AreCoded is.across is.down depth (coded_bands wavelet index t depth)
+unfolding coded_bands
+bands_coded wavelet index n zero t l few levels is all =
+    one_coded is.across is.down (coded 0 (differences t)) t.width t.height is.width is.height (lowest_coded t is.len (small_lowest n t.values (omega arith) all))
+bands_coded wavelet index n (suc depth) t l few levels is all =
+    let mid : Table = analysed wavelet t in
+    let low : IsDivisible depth (band_of mid 0 0) = low_divisible wavelet depth t is in
+    let small : All (λ v. unsigned_abs v ≤ 2 ^ 29) t.values = small_above n t.values (omega arith) all in
+    more_coded is.across is.down depth (coded_bands wavelet index (band_of mid 0 0) depth) (coded index (band_of mid 1 0)) (coded index (band_of mid 0 1)) (coded index (band_of mid 1 1)) (t.width / 2) (t.height / 2)
+    low.width low.height (bands_coded wavelet index (suc n) depth (band_of mid 0 0) l few (omega arith) low (low_small wavelet n depth t l is all))
+    (high_coded wavelet index depth 1 0 t l few is small) (high_coded wavelet index depth 0 1 t l few is small) (high_coded wavelet index depth 1 1 t l few is small)
+
+pub planes_fit : PlanesFit
+planes_fit wavelet depth index t l levels few samples =
+    bands_coded wavelet index 0 depth (padded depth t) l few (omega arith) (padded_divisible depth t) (padded_small 0 depth t samples)

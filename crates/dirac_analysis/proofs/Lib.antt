@@ -1,2 +1,3 @@
+pub mod OneLevel
 pub mod Undone
 pub mod Fitting

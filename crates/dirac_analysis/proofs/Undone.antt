@@ -1,23 +1,27 @@
 -- At index 0 nothing is lost.
-use Rattle.std.proofs.Common.{◌≡◌, ℕ, zero, suc, ℤ, pos, negsuc, neg_ℤ, ◌+◌, ◌-◌, ◌*◌, ◌/◌, ◌<◌, ◌≤◌, ◌+ℤ◌, ◌-ℤ◌, if◌then◌else◌, Bool, true, false, List, [], ◌∷◌, ◌++◌, length, map, refl, sym, ap, ap₂, ◌∙◌, arith, length-append}
+use Rattle.std.proofs.Common.{◌≡◌, ℕ, zero, suc, ℤ, pos, negsuc, neg_ℤ, ◌+◌, ◌-◌, ◌*◌, ◌/◌, ◌<◌, ◌≤◌, ◌+ℤ◌, ◌-ℤ◌, if◌then◌else◌, Bool, true, false, List, [], ◌∷◌, ◌++◌, length, map, refl, sym, ap, ap₂, ◌∙◌, arith, inl, inr, length-append}
 use Rattle.std.specs.Prelude.{slice_get, min}
-use Rattle.std.proofs.Math.IntN.{+ℤ-neg_ℤ_cancel}
-use Rattle.std.proofs.lemmas.Bool.{ne_eqb}
+use Rattle.std.proofs.lemmas.Bool.{cases_eq, ne_eqb}
+use Rattle.std.proofs.lemmas.Int.{ints}
+use Rattle.std.proofs.lemmas.List.{ext_get_or}
 use Rattle.dirac_types.specs.declared.formats.Kind.TheVariants.{Intra}
 use Rattle.dirac_types.specs.Table.{Table, table_at}
 use Rattle.dirac_types.proofs.Rows.{filled_at}
 use Rattle.dirac_quant.specs.Quantiser.{factor_of, reduced, restored, restored_magnitude}
 use Rattle.dirac_bands.specs.DcSum.{dc_sum, prediction, IsDcSum}
-use Rattle.dirac_bands.specs.Interleaving.{band_of, joined}
+use Rattle.dirac_bands.specs.Interleaving.{band_of}
+use Rattle.dirac_bands.specs.Geometry.{padded_size}
 use Rattle.dirac_bands.proofs.Predictions.{is_sums, sums_determined}
 use Rattle.dirac_bands.proofs.Undoing.{table_is}
-use Rattle.dirac_bands.specs.Geometry.{padded_size}
-use Rattle.dirac_residual.proofs.Sizes.{size_within}
 use Rattle.dirac_coeffs.specs.declared.spot.CodedBand.{CodedBand}
 use Rattle.dirac_coeffs.specs.Written.{is_zero_band}
-use Rattle.dirac_lift.specs.Level.{analysed, level, synthesised}
-use Rattle.dirac_residual.specs.Residual.{after_levels, cut, residual, restored_among, restored_at, restored_band}
-use Rattle.dirac_analysis.specs.Analysis.{coded, coded_bands, coded_level, differences, padded, reduced_values}
+use Rattle.dirac_lift.specs.Level.{analysed, level}
+use Rattle.dirac_residual.specs.Residual.{after_levels, cut, restored_among, restored_band}
+use Rattle.dirac_residual.proofs.Sizes.{size_within}
+use Rattle.dirac_analysis.specs.Analysis.{coded, coded_bands, coded_level, differences, padded, plane_bands, reduced_values}
+use Rattle.dirac_analysis.specs.Fits.{IsDivisible}
+use Rattle.dirac_analysis.specs.Laws.{PlanesAreKept}
+use Rattle.dirac_analysis.proofs.OneLevel.{length-filled, level_back, low_divisible, padded_divisible, sizes_even}
 
 -- ---- one value
 
@@ -43,7 +47,7 @@ nought true = refl
 nought false = refl
 
 -- a band coded at index 0
-pub band_again : (t : Table) → restored_band Intra (coded 0 t) ≡ t
+band_again : (t : Table) → restored_band Intra (coded 0 t) ≡ t
 band_again t =
     let told : ℕ → List ℤ → Table = λ index xs. record { width = t.width; height = t.height; values = map (λ v. restored v index Intra) xs } in
     ap (λ index. told index (reduced_values 0 t)) (nought (is_zero_band (reduced_values 0 t)))
@@ -51,19 +55,34 @@ band_again t =
 
 -- ---- the LL band
 
+-- a difference and what was taken away
+again : (v p : ℤ) → v ≡ (v -ℤ p) +ℤ p
+again v p = omega (arith, ints)
+
+-- a table is the sum of its differences
+pub differences_sum : (t : Table) → length t.values ≡ t.width * t.height → IsDcSum (differences t) t
+differences_sum t len =
+    let told : ℕ → ℕ → ℤ = λ x y. table_at t x y -ℤ prediction t x y in
+    record {
+      width = refl;
+      height = refl;
+      len = len ∙ sym (length-filled t.width t.height told);
+      each = λ x y l k. again (table_at t x y) (prediction t x y) ∙ ap (λ v. v +ℤ prediction t x y) (sym (filled_at told t.width t.height x y l k));
+    }
+
+sums_again : (t : Table) → 1 ≤ t.width → length t.values ≡ t.width * t.height → dc_sum (differences t) ≡ t
+sums_again t some len =
+    let sums : IsDcSum (differences t) t = differences_sum t len in
+    sums_determined (differences t) t (dc_sum (differences t)) some len sums (is_sums (differences t) (sym sums.len ∙ len))
+
 moved_over : (a b c : ℤ) → a ≡ b +ℤ c → b ≡ a -ℤ c
-moved_over a b c e = sym (+ℤ-neg_ℤ_cancel b c) ∙ ap (λ x. x -ℤ c) (sym e)
+moved_over a b c e = omega (arith, ints)
 
 -- what was subtracted from
 pub differences_are : (old new : Table) → 1 ≤ new.width → length new.values ≡ new.width * new.height → IsDcSum new old → new ≡ differences old
 differences_are old new some len sums =
     table_is (λ x y. table_at old x y -ℤ prediction old x y) new old.width old.height (sym sums.width) (sym sums.height) (omega (arith, sums.width)) len
     (λ x y p q. moved_over (table_at old x y) (table_at new x y) (prediction old x y) (sums.each x y (omega (arith, p, sums.width)) (omega (arith, q, sums.height))))
-
-pub sums_again : (old new : Table) → 1 ≤ new.width → length new.values ≡ new.width * new.height → IsDcSum new old → dc_sum new ≡ old
-sums_again old new some len sums =
-    let size : new.width * new.height ≡ old.width * old.height = ap₂ (λ (a b : ℕ). a * b) (sym sums.width) (sym sums.height) in
-    sums_determined new old (dc_sum new) (omega (arith, sums.width)) (sums.len ∙ len ∙ size) sums (is_sums new len)
 
 -- ---- the levels
 
@@ -82,10 +101,7 @@ levels_front : (wavelet : ℕ) (xs ys : List CodedBand) (n : ℕ) → 3 * n + 1 
 unfolding after_levels
 levels_front wavelet xs ys zero few = ap (λ o. dc_sum (restored_among Intra o)) (front_get xs ys 0 (omega arith))
 levels_front wavelet xs ys (suc n) few =
-    ap (λ low. level wavelet low (restored_at Intra (xs ++ ys) (3 * n + 1)) (restored_at Intra (xs ++ ys) (3 * n + 2)) (restored_at Intra (xs ++ ys) (3 * n + 3))) (levels_front wavelet xs ys n (omega arith))
-    ∙ ap (λ o. level wavelet (after_levels wavelet Intra xs n) (restored_among Intra o) (restored_at Intra (xs ++ ys) (3 * n + 2)) (restored_at Intra (xs ++ ys) (3 * n + 3))) (front_get xs ys (3 * n + 1) (omega arith))
-    ∙ ap (λ o. level wavelet (after_levels wavelet Intra xs n) (restored_at Intra xs (3 * n + 1)) (restored_among Intra o) (restored_at Intra (xs ++ ys) (3 * n + 3))) (front_get xs ys (3 * n + 2) (omega arith))
-    ∙ ap (λ o. level wavelet (after_levels wavelet Intra xs n) (restored_at Intra xs (3 * n + 1)) (restored_at Intra xs (3 * n + 2)) (restored_among Intra o)) (front_get xs ys (3 * n + 3) (omega arith))
+    rw (levels_front wavelet xs ys n (omega arith), front_get xs ys (3 * n + 1) (omega arith), front_get xs ys (3 * n + 2) (omega arith), front_get xs ys (3 * n + 3) (omega arith)) refl
 
 -- one level more
 level_more : (wavelet : ℕ) (xs : List CodedBand) (h l d : CodedBand) (n : ℕ) → length xs ≡ 3 * n + 1
@@ -93,56 +109,22 @@ level_more : (wavelet : ℕ) (xs : List CodedBand) (h l d : CodedBand) (n : ℕ)
 unfolding after_levels
 level_more wavelet xs h l d n len =
     let ys : List CodedBand = h ∷ l ∷ d ∷ [] in
-    let low = after_levels wavelet Intra xs n in
-    ap (λ low. level wavelet low (restored_at Intra (xs ++ ys) (3 * n + 1)) (restored_at Intra (xs ++ ys) (3 * n + 2)) (restored_at Intra (xs ++ ys) (3 * n + 3))) (levels_front wavelet xs ys n (omega arith))
-    ∙ ap (λ o. level wavelet low (restored_among Intra o) (restored_at Intra (xs ++ ys) (3 * n + 2)) (restored_at Intra (xs ++ ys) (3 * n + 3))) (back_get xs ys 0 (3 * n + 1) (omega arith))
-    ∙ ap (λ o. level wavelet low (restored_band Intra h) (restored_among Intra o) (restored_at Intra (xs ++ ys) (3 * n + 3))) (back_get xs ys 1 (3 * n + 2) (omega arith))
-    ∙ ap (λ o. level wavelet low (restored_band Intra h) (restored_band Intra l) (restored_among Intra o)) (back_get xs ys 2 (3 * n + 3) (omega arith))
-
-pub levels_undone : (wavelet depth index : ℕ) (xs bs : List CodedBand) (h l d : CodedBand) (low plane : Table) → 1 ≤ depth → length xs ≡ 3 * (depth - 1) + 1 → bs ≡ xs ++ h ∷ l ∷ d ∷ []
-    → (index ≡ 0 → after_levels wavelet Intra xs (depth - 1) ≡ low) → (index ≡ 0 → level wavelet low (restored_band Intra h) (restored_band Intra l) (restored_band Intra d) ≡ plane)
-    → index ≡ 0 → after_levels wavelet Intra bs depth ≡ plane
-levels_undone wavelet depth index xs bs h l d low plane some len is lower here none =
-    let next : depth ≡ suc (depth - 1) = omega arith in
-    ap (after_levels wavelet Intra bs) next ∙ ap (λ all. after_levels wavelet Intra all (suc (depth - 1))) is ∙ level_more wavelet xs h l d (depth - 1) len
-    ∙ ap (λ t. level wavelet t (restored_band Intra h) (restored_band Intra l) (restored_band Intra d)) (lower none) ∙ here none
-
-pub lowest_undone : (wavelet : ℕ) (bs : List CodedBand) (b : CodedBand) (plane : Table) → bs ≡ b ∷ [] → dc_sum (restored_band Intra b) ≡ plane → after_levels wavelet Intra bs 0 ≡ plane
-unfolding after_levels
-lowest_undone wavelet bs b plane is sums = ap (λ all. after_levels wavelet Intra all 0) is ∙ sums
-
--- a level that was split
-pub split_undone : (wavelet index : ℕ) (ll hl lh hh mid plane : Table) (a b d : CodedBand) → a ≡ coded index hl → b ≡ coded index lh → d ≡ coded index hh → joined ll hl lh hh ≡ mid → synthesised wavelet mid ≡ plane
-    → index ≡ 0 → level wavelet ll (restored_band Intra a) (restored_band Intra b) (restored_band Intra d) ≡ plane
-split_undone wavelet index ll hl lh hh mid plane a b d ea eb ed whole back none =
-    let again : (t : Table) (x : CodedBand) → x ≡ coded index t → restored_band Intra x ≡ t = λ t x e. ap (restored_band Intra) (e ∙ ap (λ i. coded i t) none) ∙ band_again t in
-    ap (λ t. level wavelet ll t (restored_band Intra b) (restored_band Intra d)) (again hl a ea)
-    ∙ ap (λ t. level wavelet ll hl t (restored_band Intra d)) (again lh b eb)
-    ∙ ap (λ t. level wavelet ll hl lh t) (again hh d ed)
-    ∙ ap (synthesised wavelet) whole ∙ back
+    rw (levels_front wavelet xs ys n (omega arith), back_get xs ys 0 (3 * n + 1) (omega arith), back_get xs ys 1 (3 * n + 2) (omega arith), back_get xs ys 2 (3 * n + 3) (omega arith)) refl
 
 -- ---- the bands as they are defined
 
-pub length-coded_bands : (wavelet index : ℕ) (t : Table) (depth : ℕ) → length (coded_bands wavelet index t depth) ≡ 3 * depth + 1
+length-coded_bands : (wavelet index : ℕ) (t : Table) (depth : ℕ) → length (coded_bands wavelet index t depth) ≡ 3 * depth + 1
 unfolding coded_bands
 length-coded_bands wavelet index t zero = refl
 length-coded_bands wavelet index t (suc depth) =
     omega (arith, length-append (coded_bands wavelet index (band_of (analysed wavelet t) 0 0) depth) (coded_level index (analysed wavelet t)), length-coded_bands wavelet index (band_of (analysed wavelet t) 0 0) depth)
 
-pub levels_are : (wavelet index depth : ℕ) (xs bs : List CodedBand) (h l d : CodedBand) (low plane : Table) → 1 ≤ depth → bs ≡ xs ++ h ∷ l ∷ d ∷ [] → xs ≡ coded_bands wavelet index low (depth - 1)
+pub levels_are : (wavelet index depth n : ℕ) (xs bs : List CodedBand) (h l d : CodedBand) (low plane : Table) → depth ≡ suc n → bs ≡ xs ++ h ∷ l ∷ d ∷ [] → xs ≡ coded_bands wavelet index low n
     → low ≡ band_of (analysed wavelet plane) 0 0 → h ≡ coded index (band_of (analysed wavelet plane) 1 0) → l ≡ coded index (band_of (analysed wavelet plane) 0 1) → d ≡ coded index (band_of (analysed wavelet plane) 1 1)
     → bs ≡ coded_bands wavelet index plane depth
 unfolding coded_bands
-levels_are wavelet index depth xs bs h l d low plane some is below low_is h_is l_is d_is =
-    let next : suc (depth - 1) ≡ depth = omega arith in
-    let bands : List CodedBand → CodedBand → CodedBand → CodedBand → List CodedBand = λ ys a b c. ys ++ a ∷ b ∷ c ∷ [] in
-    let a = coded index (band_of (analysed wavelet plane) 1 0) in
-    let b = coded index (band_of (analysed wavelet plane) 0 1) in
-    is ∙ ap (λ ys. bands ys h l d) (below ∙ ap (λ t. coded_bands wavelet index t (depth - 1)) low_is)
-    ∙ ap (λ x. bands (coded_bands wavelet index (band_of (analysed wavelet plane) 0 0) (depth - 1)) x l d) h_is
-    ∙ ap (λ x. bands (coded_bands wavelet index (band_of (analysed wavelet plane) 0 0) (depth - 1)) a x d) l_is
-    ∙ ap (λ x. bands (coded_bands wavelet index (band_of (analysed wavelet plane) 0 0) (depth - 1)) a b x) d_is
-    ∙ ap (coded_bands wavelet index plane) next
+levels_are wavelet index depth n xs bs h l d low plane next is below low_is h_is l_is d_is =
+    is ∙ rw (below, low_is, h_is, l_is, d_is) refl ∙ ap (coded_bands wavelet index plane) (sym next)
 
 pub lowest_are : (wavelet index : ℕ) (bs : List CodedBand) (b : CodedBand) (plane : Table) → bs ≡ b ∷ [] → b ≡ coded 0 (differences plane) → bs ≡ coded_bands wavelet index plane 0
 unfolding coded_bands
@@ -151,7 +133,7 @@ lowest_are wavelet index bs b plane is one = is ∙ ap (λ x. x ∷ []) one
 -- ---- padding
 
 -- what was padded is cut off
-pub cut_again : (depth : ℕ) (t : Table) → 1 ≤ t.width → length t.values ≡ t.width * t.height → cut t.width t.height (padded depth t) ≡ t
+cut_again : (depth : ℕ) (t : Table) → 1 ≤ t.width → length t.values ≡ t.width * t.height → cut t.width t.height (padded depth t) ≡ t
 cut_again depth t some len =
     let f : ℕ → ℕ → ℤ = λ x y. table_at t (min x (t.width - 1)) (min y (t.height - 1)) in
     sym (table_is (table_at (padded depth t)) t t.width t.height refl refl some len (λ x y p q.
@@ -160,6 +142,29 @@ cut_again depth t some len =
     let here : table_at (padded depth t) x y ≡ f x y = filled_at f (padded_size t.width depth) (padded_size t.height depth) x y (omega (arith, size_within t.width depth)) (omega (arith, size_within t.height depth)) in
     sym (here ∙ ap (λ a. table_at t a (min y (t.height - 1))) column ∙ ap (table_at t x) row)))
 
-pub plane_again : (wavelet depth : ℕ) (bands : List CodedBand) (t : Table) → 1 ≤ t.width → length t.values ≡ t.width * t.height → after_levels wavelet Intra bands depth ≡ padded depth t
-    → residual wavelet depth Intra bands t.width t.height ≡ t
-plane_again wavelet depth bands t some len e = ap (cut t.width t.height) e ∙ cut_again depth t some len
+-- a table without columns is cut from any
+empty_again : (t u : Table) → t.width ≡ 0 → length t.values ≡ t.width * t.height → cut t.width t.height u ≡ t
+empty_again t u none len =
+    let told : length (cut t.width t.height u).values ≡ t.width * t.height = length-filled t.width t.height (table_at u) in
+    ap (λ (vs : List ℤ). record t { values = vs }) (ext_get_or (pos 0) (cut t.width t.height u).values t.values (told ∙ sym len) (λ i l. absurd (omega (arith, l, told, ap (λ w. w * t.height) none))))
+
+-- ---- a plane
+
+-- the bands at index 0 hold the table
+bands_kept : (wavelet depth : ℕ) (t : Table) → wavelet ≤ 6 → 1 ≤ t.width → IsDivisible depth t → after_levels wavelet Intra (coded_bands wavelet 0 t depth) depth ≡ t
+unfolding after_levels coded_bands
+bands_kept wavelet zero t l some is = ap dc_sum (band_again (differences t)) ∙ sums_again t some is.len
+bands_kept wavelet (suc depth) t l some is =
+    let mid : Table = analysed wavelet t in
+    let low : Table = band_of mid 0 0 in
+    level_more wavelet (coded_bands wavelet 0 low depth) (coded 0 (band_of mid 1 0)) (coded 0 (band_of mid 0 1)) (coded 0 (band_of mid 1 1)) depth (length-coded_bands wavelet 0 low depth)
+    ∙ rw (bands_kept wavelet depth low l (omega (arith, (sizes_even (suc depth) depth t refl is).0)) (low_divisible wavelet depth t is), band_again (band_of mid 1 0), band_again (band_of mid 0 1), band_again (band_of mid 1 1))
+    (level_back wavelet depth t l some is)
+
+pub planes_kept : PlanesAreKept
+planes_kept wavelet depth t l len = elim (cases_eq t.width 0) [
+  | inl none ↦ empty_again t (after_levels wavelet Intra (plane_bands wavelet depth 0 t) depth) none len
+  | inr some ↦
+      ap (cut t.width t.height) (bands_kept wavelet depth (padded depth t) l (omega (arith, some, size_within t.width depth)) (padded_divisible depth t))
+      ∙ cut_again depth t (omega (arith, some)) len
+]

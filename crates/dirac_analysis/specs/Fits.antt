@@ -22,6 +22,7 @@ pub record IsDivisible (depth : ℕ) (t : Table) : Type 0 where
   pub down : ℕ
   pub width : t.width ≡ across * 2 ^ depth
   pub height : t.height ≡ down * 2 ^ depth
+  pub len : length t.values ≡ t.width * t.height
 
 -- a coded band of these sizes
 pub record IsCoded (width height : ℕ) (b : CodedBand) : Type 0 where

@@ -1,2 +1,3 @@
 pub mod Analysis
 pub mod Fits
+pub mod Laws

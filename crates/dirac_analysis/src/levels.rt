@@ -1,12 +1,9 @@
-ghost use Rattle.std.specs.Prelude.{◌≡◌, ℕ, ◌-◌, ◌+◌, ◌*◌, ◌/◌, ◌%◌, ◌≤◌, ◌<◌, ◌^◌, [], ◌∷◌, ◌++◌, length, map, unsigned_abs, IfOk};
+ghost use Rattle.std.specs.Prelude.{◌≡◌, ◌-◌, ◌%◌, ◌≤◌, ◌^◌, [], ◌∷◌, ◌++◌, unsigned_abs, IfOk};
 ghost use Rattle.std.specs.List.{All};
-ghost use Rattle.dirac_types.specs.declared.formats.Kind.TheVariants.{Intra};
-ghost use Rattle.dirac_bands.specs.DcSum.{dc_sum};
 ghost use Rattle.dirac_bands.specs.Interleaving.{band_of};
-ghost use Rattle.dirac_lift.specs.Level.{analysed, level};
-ghost use Rattle.dirac_residual.specs.Residual.{after_levels, restored_band};
+ghost use Rattle.dirac_lift.specs.Level.{analysed};
 ghost use Rattle.dirac_analysis.specs.Analysis.{coded, coded_bands, differences};
-ghost use Rattle.dirac_analysis.specs.Fits.{AreCoded, IsCoded, IsDivisible, grown};
+ghost use Rattle.dirac_analysis.specs.Fits.{IsDivisible, grown};
 
 use crate::coded::code_band;
 use dirac_bands::{dc_subtract, split_bands};
@@ -30,9 +27,7 @@ fn code_lowest(alloc: Global, mut low: Wide) -> Result<CodedBand, NoMemory>
     requires across { low.width ≤ 8192 }
     requires down { low.height ≤ 8192 }
     requires small { All (λ v. unsigned_abs v ≤ 2 ^ 36) low.values }
-    ensures value { IfOk result (λ b. b ≡ coded 0 (differences low)) }
-    ensures fits { IfOk result (IsCoded low.width low.height) }
-    ensures undone { IfOk result (λ b. dc_sum (restored_band Intra b) ≡ low) }
+    ensures { IfOk result (λ b. b ≡ coded 0 (differences low)) }
 {
     dc_subtract(&mut low);
     prove!(low.width() >= 1);
@@ -50,11 +45,6 @@ fn split_level(alloc: Global, mut plane: Wide, wavelet: u8, index: u8) -> Result
     ensures hl { IfOk result (λ l. l.hl ≡ coded index (band_of (analysed wavelet plane) 1 0)) }
     ensures lh { IfOk result (λ l. l.lh ≡ coded index (band_of (analysed wavelet plane) 0 1)) }
     ensures hh { IfOk result (λ l. l.hh ≡ coded index (band_of (analysed wavelet plane) 1 1)) }
-    ensures growth { IfOk result (λ l. (b : ℕ) → All (λ v. unsigned_abs v ≤ b) plane.values → All (λ v. unsigned_abs v ≤ 128 * b + 32) l.low.values) }
-    ensures hl_fits { IfOk result (λ l. IsCoded (plane.width / 2) (plane.height / 2) l.hl) }
-    ensures lh_fits { IfOk result (λ l. IsCoded (plane.width / 2) (plane.height / 2) l.lh) }
-    ensures hh_fits { IfOk result (λ l. IsCoded (plane.width / 2) (plane.height / 2) l.hh) }
-    ensures undone { IfOk result (λ l. index ≡ 0 → level wavelet l.low (restored_band Intra l.hl) (restored_band Intra l.lh) (restored_band Intra l.hh) ≡ plane) }
 {
     analyse_level(wavelet, &mut plane);
     let bands = split_bands(alloc, &plane)?;
@@ -84,9 +74,7 @@ pub(crate) fn code_levels(
     requires down { plane.height ≤ 8192 }
     requires whole { IsDivisible depth plane }
     requires small { All (λ v. unsigned_abs v ≤ grown (4 - depth)) plane.values }
-    ensures value { IfOk result (λ b. b ≡ coded_bands wavelet index plane depth) }
-    ensures fits { IfOk result (λ b. (across down : ℕ) → plane.width ≡ across * 2 ^ depth → plane.height ≡ down * 2 ^ depth → AreCoded across down depth b) }
-    ensures undone { IfOk result (λ b. index ≡ 0 → after_levels wavelet Intra b depth ≡ plane) }
+    ensures { IfOk result (λ b. b ≡ coded_bands wavelet index plane depth) }
 {
     if depth == 0 {
         let lowest = code_lowest(alloc, plane)?;

@@ -2,8 +2,10 @@
 #![tactic(auto)]
 
 mod coded;
+mod laws;
 mod levels;
 mod padding;
 mod plane;
 
+pub use laws::planes_are_coded;
 pub use plane::analyse_plane;

@@ -1,24 +1,14 @@
 use Rattle.std.proofs.Common.{◌^◌, ◌*◌, ap, ◌∙◌, arith}
-use Rattle.dirac_types.specs.declared.formats.Kind.TheVariants.{Intra}
-use Rattle.dirac_bands.specs.DcSum.{dc_sum}
-use Rattle.dirac_residual.specs.Residual.{restored_band}
 use Rattle.dirac_residual.proofs.Maps.{ok_weaker}
 use Rattle.dirac_analysis.specs.Analysis.{coded}
-use Rattle.dirac_analysis.proofs.Undone.{differences_are, sums_again, band_again}
+use Rattle.dirac_analysis.proofs.Undone.{differences_are}
 use Rattle.dirac_analysis.proofs.Fitting.{all_under}
 use Rattle.dirac_analysis.proofs.levels.code_lowest.Goals as goal
 
 pub code_band-requires-clause-small : goal.code_band-requires-clause-small
 code_band-requires-clause-small c = all_under (2 * 2 ^ 36) (2 ^ 38) c.dc_subtract.new.ll.values (omega arith) (c.dc_subtract.ensures.growth (2 ^ 36) c.requires.small)
 
-pub returns-clause-value : goal.returns-clause-value
-returns-clause-value c =
+pub returns : goal.returns
+returns c =
     let new = c.dc_subtract.new.ll in
-    ok_weaker c.code_band.result (λ b e. e ∙ ap (coded 0) (differences_are c.args.low new (omega (arith, c.width.ensures.value, c.width.ensures.some)) c.width.ensures.whole c.dc_subtract.ensures.sums)) c.code_band.ensures.value
-
-pub returns-clause-undone : goal.returns-clause-undone
-returns-clause-undone c =
-    let new = c.dc_subtract.new.ll in
-    ok_weaker c.code_band.result
-    (λ b e. ap (λ x. dc_sum (restored_band Intra x)) e ∙ ap dc_sum (band_again new) ∙ sums_again c.args.low new (omega (arith, c.width.ensures.value, c.width.ensures.some)) c.width.ensures.whole c.dc_subtract.ensures.sums)
-    c.code_band.ensures.value
+    ok_weaker c.code_band.result (λ b e. e ∙ ap (coded 0) (differences_are c.args.low new (omega (arith, c.width.ensures.value, c.width.ensures.some)) c.width.ensures.whole c.dc_subtract.ensures.sums)) c.code_band.ensures
