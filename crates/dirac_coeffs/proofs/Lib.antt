@@ -12,6 +12,7 @@ pub mod Found
 pub mod Read
 pub mod Writing
 pub mod ZeroTests
+pub mod BlockLengths
 pub mod SpelledBand
 pub mod Examples
 pub mod Going

@@ -1,15 +1,14 @@
 -- The bits of a band that is written spell it, so they are read as the same band.
-use Rattle.std.proofs.Common.{◌≡◌, ◌≢◌, ℕ, ℤ, pos, ◌+◌, ◌-◌, ◌*◌, ◌/◌, ◌%◌, ◌^◌, ◌<◌, ◌==◌, if◌then◌else◌, nat_le, Bool, true, false, List, [], ◌∷◌, ◌++◌, length, replicate, Ok, Err, refl, sym, ap, ap₂, ◌∙◌, subst, arith, inl, inr, lit<, append_assoc, append-nil, length-append, ne_eqb, le-leb}
+use Rattle.std.proofs.Common.{◌≡◌, ◌≢◌, ℕ, ℤ, pos, ◌+◌, ◌*◌, ◌/◌, ◌^◌, ◌<◌, ◌==◌, if◌then◌else◌, nat_le, Bool, true, false, List, [], ◌∷◌, ◌++◌, length, replicate, Ok, Err, refl, sym, ap, ap₂, ◌∙◌, subst, arith, inl, inr, lit<, append_assoc, append-nil, length-append, ne_eqb, le-leb}
 use Rattle.std.specs.List.{AllByRecursion}
 use Rattle.std.proofs.lemmas.Bool.{cases_Bool, and_from}
-use Rattle.std.proofs.lemmas.List.{length-replicate}
 use Rattle.dirac_types.specs.declared.faults.Cause.TheVariants.{QuantIndex, CodeWord}
 use Rattle.dirac_types.specs.Bits.{bits_of}
 use Rattle.dirac_types.specs.Numbers.{uint}
 use Rattle.dirac_arith.specs.Front.{front, first_bits}
 use Rattle.dirac_bits.specs.Spelling.{Spells, SpelledBehind}
 use Rattle.dirac_bits.specs.Syntax.{Syntax, done, refuse, block_then, align, here, between, ◌>>=◌}
-use Rattle.dirac_bits.specs.Writing.{gap, IsWhole, up_to_byte}
+use Rattle.dirac_bits.specs.Writing.{gap, up_to_byte}
 use Rattle.dirac_bits.proofs.Fields.{gap_length-at}
 use Rattle.dirac_arith.proofs.Encodings.{flush_bytes}
 use Rattle.dirac_coeffs.specs.declared.spot.BandSpot.{BandSpot}
@@ -19,12 +18,10 @@ use Rattle.dirac_coeffs.specs.Decisions.{band_decisions}
 use Rattle.dirac_coeffs.specs.Grammar.{band, coded_band, band_from, band_table, zero_band, IsCodedBand}
 use Rattle.dirac_coeffs.specs.Spots.{IsSpot}
 use Rattle.dirac_coeffs.specs.Written.{marks_of, block_of, is_zero_band, with_block, with_band}
+use Rattle.dirac_coeffs.proofs.BlockLengths.{block_short}
 use Rattle.dirac_coeffs.proofs.Found.{ones_read}
 use Rattle.dirac_coeffs.proofs.Writing.{written_read}
 use Rattle.dirac_coeffs.proofs.ZeroTests.{all_zeros}
-
-pub gap_whole : (bits : List Bool) → IsWhole (bits ++ gap bits)
-gap_whole bits = omega (arith, length-append {A = Bool} bits (gap bits), length-replicate {A = Bool} ((8 - length bits % 8) % 8) false)
 
 six_parts : (a b c d e f : List Bool) → ((((a ++ b) ++ c) ++ d) ++ e) ++ f ≡ a ++ (b ++ (c ++ (d ++ (e ++ f))))
 six_parts a b c d e f = simp append_assoc
@@ -121,14 +118,14 @@ block_spelled spot parent b bits spot_is is short =
       spells = (gap bits, uint len ++ rest, gap_length-at bits k refl, refl, (len, rest, short, refl, chosen));
     }
 
--- a band that is written is spelled
-pub band_spelled : (spot : BandSpot) (parent : List ℤ) (b : CodedBand) (bits : List Bool) → IsSpot spot → IsCodedBand spot b
-    → (is_zero_band b.table.values ≡ true → b.index ≡ 0) → (is_zero_band b.table.values ≡ false → length (block_of spot parent b.table.values) + 1 < 2 ^ 39)
-    → SpelledBehind (band spot parent) b bits (with_band spot parent b bits)
-band_spelled spot parent b bits spot_is is index short =
+-- a band that is written is spelled: its block is short
+pub band_spells : (spot : BandSpot) (parent : List ℤ) (b : CodedBand) (bits : List Bool) → IsSpot spot → IsCodedBand spot b
+    → (is_zero_band b.table.values ≡ true → b.index ≡ 0) → SpelledBehind (band spot parent) b bits (with_band spot parent b bits)
+band_spells spot parent b bits spot_is is index =
     elim (cases_Bool (is_zero_band b.table.values)) [
       | inl zeros ↦
           subst (λ (l : List Bool). SpelledBehind (band spot parent) b bits l) (sym (zeros_written spot parent b bits zeros)) (zeros_spelled spot parent b bits (zero_is spot b is (index zeros) zeros))
       | inr others ↦
-          subst (λ (l : List Bool). SpelledBehind (band spot parent) b bits l) (sym (block_written spot parent b bits others)) (block_spelled spot parent b bits spot_is is (short others))
+          subst (λ (l : List Bool). SpelledBehind (band spot parent) b bits l) (sym (block_written spot parent b bits others))
+          (block_spelled spot parent b bits spot_is is (block_short spot parent b.table.values spot_is))
     ]

@@ -9,9 +9,6 @@ use Rattle.dirac_coeffs.specs.Places.{SameWithin, KeptOutside, ZeroFrom}
 pub same_refl : (w : ℕ) (xs : List ℤ) (right bottom : ℕ) → SameWithin w xs xs right bottom
 same_refl w xs right bottom = record { each = λ x y p q r. refl }
 
-pub same_sym : (w : ℕ) (xs ys : List ℤ) (right bottom : ℕ) → SameWithin w xs ys right bottom → SameWithin w ys xs right bottom
-same_sym w xs ys right bottom s = record { each = λ x y p q r. sym (s.each x y p q r) }
-
 -- a smaller part
 pub same_less : (w : ℕ) (xs ys : List ℤ) (right bottom r b : ℕ) → r ≤ right → b ≤ bottom → SameWithin w xs ys right bottom → SameWithin w xs ys r b
 same_less w xs ys right bottom r b h k s = record { each = λ x y p q t. s.each x y p (omega arith) (omega arith) }

@@ -1,5 +1,5 @@
 -- The laws of this crate.
-use Rattle.std.specs.Prelude.{◌≡◌, ◌↔◌, ℕ, ℤ, List, Ok, Err}
+use Rattle.std.specs.Prelude.{◌≡◌, ◌↔◌, ◌+◌, ◌^◌, ◌<◌, ℕ, ℤ, List, length, Ok, Err}
 use Rattle.dirac_types.specs.declared.faults.Cause.TheVariants.{CodeWord, NumberTooLong}
 use Rattle.dirac_arith.specs.Front.{front}
 use Rattle.dirac_coeffs.specs.declared.spot.BandSpot.{BandSpot}
@@ -7,6 +7,7 @@ use Rattle.dirac_coeffs.specs.BandRead.{band_read}
 use Rattle.dirac_coeffs.specs.Carried.{CarriesBand, CarriesLong}
 use Rattle.dirac_coeffs.specs.Decisions.{Marks}
 use Rattle.dirac_coeffs.specs.Spots.{IsSpot}
+use Rattle.dirac_coeffs.specs.Written.{block_of}
 
 -- a block carries at most one band
 abbrev pub OneBandIsCarried : Type 0
@@ -53,3 +54,7 @@ abbrev pub OnesAreRefused : Type 0
 OnesAreRefused =
     (spot : BandSpot) (parent : List ℤ) (block : List ℕ) →
     (band_read spot parent block ≡ Err CodeWord) ↔ (front block 16 ≡ 65535)
+
+-- the block of a subband is short: its length can be spelt
+abbrev pub BlocksAreShort : Type 0
+BlocksAreShort = (spot : BandSpot) (parent xs : List ℤ) → IsSpot spot → length (block_of spot parent xs) + 1 < 2 ^ 39

@@ -1,4 +1,4 @@
-ghost use Rattle.std.specs.Prelude.{◌≡◌, ◌+◌, ◌*◌, ◌<◌, ◌≤◌, ◌^◌, length, true, OnOk};
+ghost use Rattle.std.specs.Prelude.{◌≡◌, ◌*◌, length, true, OnOk};
 ghost use Rattle.std.specs.Option.{ForSome};
 ghost use Rattle.dirac_bits.specs.Writing.{IsWhole};
 ghost use Rattle.dirac_bits.specs.Spelling.{SpelledBehind};
@@ -15,10 +15,8 @@ use dirac_bits::BitWriter;
 use dirac_types::{BandTable, NoMemory};
 use std::alloc::Global;
 
-/// No block is as long as this in bytes: its length couldn't be spelt.
-const BLOCK_LIMIT: u64 = (1 << 39) - 1;
-
 /// Writes the length of a subband's block, its quantiser index and the block.
+#[tactic(auto, using(crate::proofs::BlockLengths::block_short))]
 fn write_coded(
     alloc: Global,
     w: &mut BitWriter,
@@ -31,14 +29,9 @@ fn write_coded(
     requires len { length values.now ≡ spot.width * spot.height }
     requires small { AreSmall values.now }
     ensures exact { OnOk result (w.new ≡ with_block index (block_of spot parent.now values.now) w.old) }
-    ensures short { OnOk result (length (block_of spot parent.now values.now) + 1 < 2 ^ 39) }
 {
     let block = write_block(alloc, values, spot, parent)?;
-    let len = block.len() as u64;
-    if len >= BLOCK_LIMIT {
-        return Err(NoMemory);
-    }
-    w.uint(len)?;
+    w.uint(block.len() as u64)?;
     w.uint(u64::from(index))?;
     w.align()?;
     w.block(block.as_slice())

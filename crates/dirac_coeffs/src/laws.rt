@@ -1,5 +1,5 @@
 //! What holds of all subbands and blocks, each as the contract of a function that does nothing.
-ghost use Rattle.dirac_coeffs.specs.Laws.{OneBandIsCarried, NoBandBesideLong, OnesCarryNothing, BandIsRead, LongIsRefused, OnesAreRefused};
+ghost use Rattle.dirac_coeffs.specs.Laws.{OneBandIsCarried, NoBandBesideLong, OnesCarryNothing, BandIsRead, LongIsRefused, OnesAreRefused, BlocksAreShort};
 
 /// A block carries the decisions of one band at most, and none beside those of a number that is too long;
 /// one that begins with sixteen ones carries neither.
@@ -14,4 +14,9 @@ pub fn a_block_reads_to_its_band()
     ensures carried { BandIsRead }
     ensures long { LongIsRefused }
     ensures ones { OnesAreRefused }
+{}
+
+/// The length of a subband's block can be spelt.
+pub fn blocks_are_short()
+    ensures { BlocksAreShort }
 {}

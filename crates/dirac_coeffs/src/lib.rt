@@ -21,5 +21,5 @@ pub use band::read_band;
 pub use band_writer::write_band;
 pub use block::read_block;
 pub use block_writer::write_block;
-pub use laws::{a_block_reads_to_its_band, one_band_is_carried};
+pub use laws::{a_block_reads_to_its_band, blocks_are_short, one_band_is_carried};
 pub use spot::{BandSpot, CodedBand};

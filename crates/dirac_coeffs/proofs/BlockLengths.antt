@@ -1,0 +1,165 @@
+-- The block of a subband is never too long for its length to be spelt: each value takes at most 78 decisions, each
+-- decision at most sixteen doublings, and a byte is written for eight of these.
+use Rattle.std.proofs.Common.{◌≡◌, ℕ, zero, suc, ℤ, pos, negsuc, ◌+◌, ◌-◌, ◌*◌, ◌/◌, ◌^◌, ◌<◌, ◌≤◌, nat_lt, Bool, true, false, List, [], ◌∷◌, length, refl, sym, ap, ◌∙◌, arith, inl, inr, length-append}
+use Rattle.std.proofs.lemmas.Bool.{cases_Bool, cond-true, cond-false}
+use Rattle.std.proofs.lemmas.Nat.{mul-le}
+use Rattle.dirac_types.specs.Numbers.{digits_of}
+use Rattle.dirac_types.proofs.Digits.{digits_few}
+use Rattle.dirac_arith.specs.Interval.{Decision, Interval, least, doublings_for, kept, narrowed, narrowed_by, whole, interval_of}
+use Rattle.dirac_arith.specs.Spelling.{follow_at, opening, spelling, signed_spelling}
+use Rattle.dirac_arith.specs.Written.{block_length, flushed, flush}
+use Rattle.dirac_arith.proofs.Bytes.{length-bytes_of}
+use Rattle.dirac_bands.specs.Geometry.{edge_of}
+use Rattle.dirac_coeffs.specs.declared.spot.BandSpot.{BandSpot}
+use Rattle.dirac_coeffs.specs.Contexts.{value_at, left_of, above_of, corner_of, parent_of, follow_among, sign_of, sign_neighbour, bits_context}
+use Rattle.dirac_coeffs.specs.Decisions.{Frame, Mark, Marks, frame_of, value_part, row_part, rows_part, flagged_part, block_part, blocks_part, bands_part, band_decisions}
+use Rattle.dirac_coeffs.specs.Laws.{BlocksAreShort}
+use Rattle.dirac_coeffs.specs.Spots.{span_of, is_flagged}
+use Rattle.dirac_coeffs.specs.Written.{marks_of}
+use Rattle.dirac_coeffs.proofs.Edges.{edge_last, span_end}
+
+-- the least number that passes is at most the limit
+least_most : (p : ℕ → Bool) (limit : ℕ) → least p limit ≤ limit
+least_most p zero = omega arith
+least_most p (suc limit) =
+    let rest = least_most (λ i. p (suc i)) limit in
+    elim (cases_Bool (p 0)) [
+      | inl here ↦ omega (arith, cond-true (p 0) 0 (suc (least (λ i. p (suc i)) limit)) here)
+      | inr other ↦ omega (arith, cond-false (p 0) 0 (suc (least (λ i. p (suc i)) limit)) other)
+    ]
+
+-- a range needs at most sixteen doublings
+doublings_most : (range : ℕ) → doublings_for range ≤ 16
+unfolding doublings_for
+doublings_most range = least_most (λ j. nat_lt 0x4000 (range * 2 ^ j)) 16
+
+narrowed_most : (s : Interval) (context : ℕ) (truth : Bool) → (narrowed s (context, truth)).doublings ≤ s.doublings + 16
+narrowed_most s context true = omega (arith, doublings_most (kept s context true).range)
+narrowed_most s context false = omega (arith, doublings_most (kept s context false).range)
+
+narrowed_by_most : (s : Interval) (ds : List Decision) → (narrowed_by s ds).doublings ≤ s.doublings + 16 * length ds
+narrowed_by_most s [] = omega arith
+narrowed_by_most s (d ∷ ds) = omega (arith, narrowed_most s d.0 d.1, narrowed_by_most (narrowed s d) ds)
+
+-- the block for decisions has at most two bytes for each, and one more
+pub flush_most : (ds : List Decision) → length (flush ds) ≤ 2 * length ds + 1
+unfolding flushed
+flush_most [] = omega arith
+flush_most (d ∷ ds) =
+    let s = interval_of (d ∷ ds) in
+    let m = block_length s.doublings in
+    omega (arith, narrowed_by_most whole (d ∷ ds), length-bytes_of m ((s.low + s.range) / 2 ^ (16 + s.doublings - 8 * m) - 1))
+
+-- two decisions for each digit
+length-opening : (follow : List ℕ) (bits i : ℕ) (digits : List Bool) → length (opening follow bits i digits) ≡ 2 * length digits
+length-opening follow bits i [] = refl
+length-opening follow bits i (b ∷ bs) = omega (arith, length-opening follow bits (i + 1) bs)
+
+-- a number is spelt in at most 77 decisions, and a signed one in one more
+spelling_most : (follow : List ℕ) (bits v : ℕ) → length (spelling follow bits v) ≤ 77
+unfolding spelling
+spelling_most follow bits v =
+    let digits = digits_of v in
+    let last : Decision = (follow_at follow (length digits), true) in
+    omega (arith, length-append (opening follow bits 0 digits) (last ∷ []), length-opening follow bits 0 digits, digits_few v)
+
+pub signed_most : (follow : List ℕ) (bits sign : ℕ) (v : ℤ) → length (signed_spelling follow bits sign v) ≤ 78
+unfolding signed_spelling
+signed_most follow bits sign (pos zero) = omega (arith, spelling_most follow bits 0)
+signed_most follow bits sign (pos (suc n)) =
+    let last : Decision = (sign, false) in
+    omega (arith, length-append (spelling follow bits (suc n)) (last ∷ []), spelling_most follow bits (suc n))
+signed_most follow bits sign (negsuc n) =
+    let last : Decision = (sign, true) in
+    omega (arith, length-append (spelling follow bits (suc n)) (last ∷ []), spelling_most follow bits (suc n))
+
+value_most : (f : Frame) (xs : List ℤ) (x y : ℕ) → length (value_part f xs x y) ≤ 78
+value_most f xs x y =
+    let left = left_of f.width xs x y in
+    let above = above_of f.width xs x y in
+    signed_most (follow_among left above (corner_of f.width xs x y) (parent_of f.width f.parent x y)) bits_context (sign_of (sign_neighbour f.band left above)) (value_at f.width xs x y)
+
+row_most : (f : Frame) (xs : List ℤ) (y x n : ℕ) → length (row_part f xs y x n) ≤ 78 * n
+unfolding row_part
+row_most f xs y x zero = omega arith
+row_most f xs y x (suc n) = omega (arith, length-append (row_part f xs y x n) (value_part f xs (x + n) y), row_most f xs y x n, value_most f xs (x + n) y)
+
+rows_most : (f : Frame) (xs : List ℤ) (x count y n : ℕ) → length (rows_part f xs x count y n) ≤ 78 * (count * n)
+unfolding rows_part
+rows_most f xs x count y zero = omega arith
+rows_most f xs x count y (suc n) = omega (arith, length-append (rows_part f xs x count y n) (row_part f xs (y + n) x count), rows_most f xs x count y n, row_most f xs (y + n) x count)
+
+flagged_most : (flagged skipped : Bool) (ds : List Decision) → length (flagged_part flagged skipped ds) ≤ 1 + length ds
+flagged_most false skipped ds = omega arith
+flagged_most true true ds = omega arith
+flagged_most true false ds = omega arith
+
+-- a codeblock: its flag, and the values of its columns and rows
+block_most : (spot : BandSpot) (parent xs : List ℤ) (cy cx : ℕ) (mark : Mark)
+    → length (block_part spot parent xs cy cx mark) ≤ 1 + 78 * (span_of spot.width spot.across cx * span_of spot.height spot.down cy)
+block_most spot parent xs cy cx mark =
+    let f = frame_of spot parent in
+    let left = edge_of spot.width spot.across cx in
+    let columns = span_of spot.width spot.across cx in
+    let top = edge_of spot.height spot.down cy in
+    let rows = span_of spot.height spot.down cy in
+    omega (arith, flagged_most (is_flagged spot) mark.skipped (rows_part f xs left columns top rows), rows_most f xs left columns top rows)
+
+-- codeblocks of one row have the columns up to an edge
+joined : (all more n left span right rows : ℕ) → all ≤ n + 78 * (left * rows) → more ≤ 1 + 78 * (span * rows) → left + span ≡ right → all + more ≤ suc n + 78 * (right * rows)
+joined all more n left span right rows before here sum = rw (sym sum) (omega (arith, before, here))
+
+blocks_most : (spot : BandSpot) (parent xs : List ℤ) (marks : ℕ → Mark) (cy n : ℕ) → 0 < spot.across
+    → length (blocks_part spot parent xs marks cy n) ≤ n + 78 * (edge_of spot.width spot.across n * span_of spot.height spot.down cy)
+unfolding blocks_part
+blocks_most spot parent xs marks cy zero some = omega arith
+blocks_most spot parent xs marks cy (suc n) some =
+    let w = spot.width in
+    let next : n + 1 ≡ suc n = omega arith in
+    let sum : edge_of w spot.across n + span_of w spot.across n ≡ edge_of w spot.across (suc n) = span_end w spot.across n some ∙ ap (λ c. edge_of w spot.across c) next in
+    rw (length-append (blocks_part spot parent xs marks cy n) (block_part spot parent xs cy n (marks n)))
+    (joined (length (blocks_part spot parent xs marks cy n)) (length (block_part spot parent xs cy n (marks n))) n
+    (edge_of w spot.across n) (span_of w spot.across n) (edge_of w spot.across (suc n)) (span_of spot.height spot.down cy)
+    (blocks_most spot parent xs marks cy n some) (block_most spot parent xs cy n (marks n)) sum)
+
+-- a row of codeblocks has the band's columns
+row_of_blocks_most : (spot : BandSpot) (parent xs : List ℤ) (marks : ℕ → Mark) (cy : ℕ) → 0 < spot.across
+    → length (blocks_part spot parent xs marks cy spot.across) ≤ spot.across + 78 * (spot.width * span_of spot.height spot.down cy)
+row_of_blocks_most spot parent xs marks cy some =
+    let last : edge_of spot.width spot.across spot.across ≡ spot.width = edge_last spot.width spot.across some in
+    let most = blocks_most spot parent xs marks cy spot.across some in
+    rw last at most
+
+-- rows of codeblocks have the rows up to an edge
+stacked : (all more n across width top span bottom : ℕ) → all ≤ n * across + 78 * (width * top) → more ≤ across + 78 * (width * span) → top + span ≡ bottom
+    → all + more ≤ suc n * across + 78 * (width * bottom)
+stacked all more n across width top span bottom before here sum = rw (sym sum) (omega (arith, before, here))
+
+bands_most : (spot : BandSpot) (parent xs : List ℤ) (marks : Marks) (n : ℕ) → 0 < spot.across → 0 < spot.down
+    → length (bands_part spot parent xs marks n) ≤ n * spot.across + 78 * (spot.width * edge_of spot.height spot.down n)
+unfolding bands_part
+bands_most spot parent xs marks zero some rows = omega arith
+bands_most spot parent xs marks (suc n) some rows =
+    let h = spot.height in
+    let next : n + 1 ≡ suc n = omega arith in
+    let sum : edge_of h spot.down n + span_of h spot.down n ≡ edge_of h spot.down (suc n) = span_end h spot.down n rows ∙ ap (λ c. edge_of h spot.down c) next in
+    rw (length-append (bands_part spot parent xs marks n) (blocks_part spot parent xs (marks n) n spot.across))
+    (stacked (length (bands_part spot parent xs marks n)) (length (blocks_part spot parent xs (marks n) n spot.across)) n spot.across spot.width
+    (edge_of h spot.down n) (span_of h spot.down n) (edge_of h spot.down (suc n))
+    (bands_most spot parent xs marks n some rows) (row_of_blocks_most spot parent xs (marks n) n some) sum)
+
+-- a band: a flag for each codeblock, and its values
+pub decisions_most : (spot : BandSpot) (parent xs : List ℤ) (marks : Marks) → 0 < spot.across → 0 < spot.down
+    → length (band_decisions spot parent xs marks) ≤ spot.down * spot.across + 78 * (spot.width * spot.height)
+decisions_most spot parent xs marks some rows =
+    let last : edge_of spot.height spot.down spot.down ≡ spot.height = edge_last spot.height spot.down rows in
+    let most = bands_most spot parent xs marks spot.down some rows in
+    rw last at most
+
+-- the block of a subband is short: its length can be spelt
+pub block_short : BlocksAreShort
+block_short spot parent xs is =
+    let ds = band_decisions spot parent xs (marks_of spot xs) in
+    let flags = mul-le spot.down spot.across 8192 8192 is.down.1 is.across.1 in
+    let values = mul-le spot.width spot.height 8192 8192 is.width.1 is.height.1 in
+    omega (arith, flush_most ds, decisions_most spot parent xs (marks_of spot xs) (omega (arith, is.across)) (omega (arith, is.down)), flags, values)
