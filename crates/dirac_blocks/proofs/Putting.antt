@@ -9,15 +9,6 @@ use Rattle.dirac_blocks.specs.Puts.{RowPut, RowsPut, IsPut}
 use Rattle.dirac_blocks.specs.Tables.{BlockTable, IsBlock, IsBlockTable, grey, split_at, block_in, unit_size, unit_of, first_of}
 use Rattle.dirac_blocks.proofs.Units.{column_fits, first_below, first_alike}
 
-pub row_none : (start split : ℕ) (units : List Block) (from : ℕ) (xs : List Block) → RowPut start split units from 0 xs xs
-row_none start split units from xs =
-    record {
-      len = refl;
-      done = λ i l. absurd (omega arith);
-      before = λ k l. refl;
-      after = λ k l. refl;
-    }
-
 -- one block more
 pub row_more : (start split : ℕ) (units : List Block) (from n : ℕ) (old mid : List Block) (b : Block)
     → start + n < length mid → b ≡ get_or units (from + n / unit_size split) grey

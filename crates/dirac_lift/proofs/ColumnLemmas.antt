@@ -78,14 +78,6 @@ part_more s w h xs ys n p v c fit len l k e =
           subst (λ zs. LiftedBelow s (column xs w h x) zs n) (sym (column-set_other ys w h p (own s.parity n) x v l i (λ f. omega (arith, f, j)))) (c.right x i (omega (arith, j)));
     }
 
--- a row of pairs is whole
-pub part_row : (s : Step) (w h : ℕ) (xs ys : List ℤ) (n p : ℕ) → ColumnsPart s w h xs ys n p → w ≤ p → ColumnsPart s w h xs ys (n + 1) 0
-part_row s w h xs ys n p c all = record {
-  len = c.len;
-  left = λ x l k. absurd (omega (arith, k));
-  right = λ x l k. c.left x l (omega (arith, l, all));
-}
-
 pub part_end : (s : Step) (w h : ℕ) (xs ys : List ℤ) (n : ℕ) → ColumnsPart s w h xs ys n 0 → n ≡ h / 2 → s.parity ≤ 1 → h % 2 ≡ 0 → ColumnsBecome (lift s) w h xs ys
 part_end s w h xs ys n c all fit even = record {
   len = c.len;

@@ -53,9 +53,6 @@ rows_more f w h xs ys n k ws r len l ek ew e =
           ∙ r.rest y (omega (arith, b));
     }
 
-pub rows_end : (f : List ℤ → List ℤ) (w h : ℕ) (xs ys : List ℤ) (n : ℕ) → RowsBelow f w xs ys n → h ≤ n → RowsBecome f w h xs ys
-rows_end f w h xs ys n r all = record { len = r.len; each = λ y l. r.done y (omega (arith, l, all)) }
-
 -- the values of a plane by its rows
 pub rows_values : (f : List ℤ → List ℤ) (w h : ℕ) (xs ys : List ℤ) → RowsBecome f w h xs ys → length xs ≡ w * h → 0 < w → ys ≡ filled w h (λ x y. get_or (f (row_in xs w y)) x (pos 0))
 unfolding filled

@@ -1,5 +1,5 @@
 -- Tables of predictions.
-use Rattle.std.proofs.Common.{◌≡◌, ℕ, ℤ, pos, negsuc, ◌+◌, ◌-◌, ◌*◌, ◌/◌, ◌%◌, ◌^◌, ◌<◌, ◌≤◌, ◌+ℤ◌, unsigned_abs, replicate, arith, ap, ◌∙◌}
+use Rattle.std.proofs.Common.{◌≡◌, ℕ, ℤ, pos, negsuc, ◌+◌, ◌-◌, ◌*◌, ◌/◌, ◌%◌, ◌^◌, ◌<◌, ◌≤◌, ◌+ℤ◌, unsigned_abs, replicate, arith}
 use Rattle.std.specs.Prelude.{◌≤ℤ◌}
 use Rattle.std.specs.Int.{int_shr}
 use Rattle.std.proofs.Math.Nat.{mul_comm}
@@ -7,10 +7,10 @@ use Rattle.std.specs.List.{All}
 use Rattle.std.proofs.lemmas.Int.{ints}
 use Rattle.std.proofs.lemmas.List.FromFn.{get_or-map-range_with_len, length-map-range_with_len}
 use Rattle.std.proofs.lemmas.Nat.{mod_below, div_below}
-use Rattle.dirac_types.specs.Table.{Table, filled, table_of}
+use Rattle.dirac_types.specs.Table.{Table, filled}
 use Rattle.std.proofs.lemmas.List.{length-replicate}
 use Rattle.dirac_types.proofs.Rows.{RowsFilled}
-use Rattle.dirac_obmc.specs.Compensation.{Compensation, IsMotion, blended, blocks_down, predicted_at, predicted_plane, predicted_rows}
+use Rattle.dirac_obmc.specs.Compensation.{Compensation, IsMotion, blended, blocks_down, predicted_at, predicted_rows}
 use Rattle.dirac_obmc.specs.Directions.{IsSound}
 use Rattle.dirac_obmc.proofs.Bounds.{rows_small}
 
@@ -42,14 +42,6 @@ pub rows_are_small : (m : Compensation) (t : Table) (first end : ℕ) → IsMoti
 rows_are_small m t first end h s inside e =
     rw e (filled_small (λ x y. predicted_at m x (first + y)) m.width (end - first) (2 ^ 15) (omega (arith, h.some_across))
     (λ x y l k. predicted_small m x (first + y) h s l (omega arith)))
-
--- all rows are the plane
-pub plane_is : (m : Compensation) → predicted_rows m 0 m.height ≡ predicted_plane m
-plane_is m =
-    ap (λ n. table_of m.width n (λ x y. predicted_at m x (0 + y))) (omega arith)
-    ∙ ap (table_of m.width m.height) (λ i x y. predicted_at m x (from_first y i)) where
-      from_first : (y : ℕ) → 0 + y ≡ y
-      from_first y = omega arith
 
 -- no row is told yet
 pub rows_none : (f : ℕ → ℕ → ℤ) (t : Table) (w h n : ℕ) → t ≡ record { width = w; height = h; values = replicate (w * h) (pos 0) } → n ≡ 0 → RowsFilled f t.width t.height t.values n

@@ -34,7 +34,3 @@ bands_more t width height bands b all one n x is =
           let here : IsCodedBand (spot_of t width height n) b = subst (λ k. IsCodedBand (spot_of t width height k) b) (sym last.0) one in
           subst (λ y. IsCodedBand (spot_of t width height n) y) last.1 here
     ]
-
--- no band yet
-pub no_bands : (t : Transform) (width height : ℕ) → AreBands t width height []
-no_bands t width height n x is = absurd (omega (arith, slice_get_within {A = CodedBand} [] n x is))
