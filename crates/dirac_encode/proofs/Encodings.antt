@@ -31,6 +31,10 @@ pub first_long_parts : (t : Settings) (ps qs : List Picture) → AreShort t ps �
 first_long_parts t [] qs all = refl
 first_long_parts t (p ∷ ps) qs all = rw all.0 (first_long_parts t ps qs all.1)
 
+pub none_long : (t : Settings) (ps : List Picture) → AreShort t ps → first_long t ps ≡ None
+none_long t [] all = refl
+none_long t (p ∷ ps) all = rw all.0 (none_long t ps all.1)
+
 pub before_long_parts : (t : Settings) (ps qs : List Picture) → AreShort t ps → before_long t (ps ++ qs) ≡ ps ++ before_long t qs
 before_long_parts t [] qs all = refl
 before_long_parts t (p ∷ ps) qs all = rw all.0 (ap (λ l. p ∷ l) (before_long_parts t ps qs all.1))
@@ -243,6 +247,6 @@ pub ends_whole : (t : Settings) (answer : Encoded) (ps : List Picture) → AreSh
     → encoding_by t answer ps (first_long t ps)
     ≡ record { answer = answer; stream = units_of t 0 ps ++ last_units (sequence_payload t) (length ps) (last_length t 0 ps); shown = (pushed_now t ps).gone ++ flushed (pushed_now t ps).waiting }
 ends_whole t answer ps short numbered few =
-    let found : first_long t ps ≡ None = ap (first_long t) (sym (append-nil ps)) ∙ first_long_parts t ps [] short in
+    let found = none_long t ps short in
     let make : List ℕ → List Picture → Encoding = λ s l. record { answer = answer; stream = s; shown = l } in
     ap (encoding_by t answer ps) found ∙ ap₂ make (stream_parts t ps) (all_leave t ps numbered few)

@@ -1,8 +1,6 @@
 -- The bytes of a sequence header are few, and are read as the sequence of its settings.
-use Rattle.std.proofs.Common.{Ok, eq-eqb, ◌∙◌, ◌≡◌, ℕ, zero, suc, ◌+◌, ◌*◌, ◌/◌, ◌<◌, ◌≤◌, ◌^◌, Bool, true, false, List, [], ◌∷◌, ◌++◌, length, drop, refl, ap, arith, ◌-◌, ◌%◌, ◌==◌, length-append}
+use Rattle.std.proofs.Common.{Ok, ◌≡◌, ℕ, zero, suc, ◌+◌, ◌*◌, ◌/◌, ◌<◌, ◌≤◌, ◌^◌, Bool, true, false, List, [], ◌∷◌, ◌++◌, length, drop, refl, ap, arith, ◌-◌, ◌%◌, ◌==◌, length-append}
 use Rattle.std.proofs.lemmas.List.{length-replicate}
-use Rattle.std.proofs.lemmas.Bool.{ne_eqb}
-use Rattle.dirac_types.specs.Bits.{bit_value, bits_of, byte_bits, number_from}
 use Rattle.dirac_types.specs.Settings.{IsAccepted}
 use Rattle.dirac_bits.proofs.Whole.{whole_read}
 use Rattle.dirac_sequence.specs.Grammar.{sequence, sequence_read}
@@ -15,6 +13,7 @@ use Rattle.dirac_types.specs.Numbers.{digits_of, digits_within, followed, uint}
 use Rattle.dirac_bits.specs.Writing.{gap}
 use Rattle.dirac_sequence.specs.Written.{base_bits, custom_bits, frames_bits, is_own_chroma, is_own_rate, is_own_signal, is_own_size, samples_bits, sequence_bits, sequence_of, sequence_payload, up_to_byte, whole_area_bits}
 use Rattle.dirac_encode.specs.Stream.{header_length}
+use Rattle.dirac_encode.proofs.InBytes.{bytes_again}
 
 digits_few : (most n : ℕ) → length (digits_within most n) ≤ most
 unfolding digits_within
@@ -97,58 +96,9 @@ header_short t = omega (arith, header_few t)
 
 -- ---- the header is read
 
-bit_small : (b : Bool) → bit_value b ≤ 1
-bit_small true = omega arith
-bit_small false = omega arith
-
-set_is : (b : Bool) (n : ℕ) → n ≡ bit_value b → (n == 1) ≡ b
-set_is true n e = eq-eqb n 1 e
-set_is false n e = ne_eqb n 1 (λ one. omega (arith, e, one))
-
--- the bits of the byte of eight bits
-eight_again : (b0 b1 b2 b3 b4 b5 b6 b7 : Bool) (rest : List Bool) → byte_bits (number_from 0 (b0 ∷ b1 ∷ b2 ∷ b3 ∷ b4 ∷ b5 ∷ b6 ∷ b7 ∷ [])) rest ≡ b0 ∷ b1 ∷ b2 ∷ b3 ∷ b4 ∷ b5 ∷ b6 ∷ b7 ∷ rest
-eight_again b0 b1 b2 b3 b4 b5 b6 b7 rest =
-    let n = number_from 0 (b0 ∷ b1 ∷ b2 ∷ b3 ∷ b4 ∷ b5 ∷ b6 ∷ b7 ∷ []) in
-    let s0 = bit_small b0 in
-    let s1 = bit_small b1 in
-    let s2 = bit_small b2 in
-    let s3 = bit_small b3 in
-    let s4 = bit_small b4 in
-    let s5 = bit_small b5 in
-    let s6 = bit_small b6 in
-    let s7 = bit_small b7 in
-    rw (
-      set_is b0 (n / 2 ^ 7 % 2) (omega (arith, s0, s1, s2, s3, s4, s5, s6, s7)),
-      set_is b1 (n / 2 ^ 6 % 2) (omega (arith, s0, s1, s2, s3, s4, s5, s6, s7)),
-      set_is b2 (n / 2 ^ 5 % 2) (omega (arith, s0, s1, s2, s3, s4, s5, s6, s7)),
-      set_is b3 (n / 2 ^ 4 % 2) (omega (arith, s0, s1, s2, s3, s4, s5, s6, s7)),
-      set_is b4 (n / 2 ^ 3 % 2) (omega (arith, s0, s1, s2, s3, s4, s5, s6, s7)),
-      set_is b5 (n / 2 ^ 2 % 2) (omega (arith, s0, s1, s2, s3, s4, s5, s6, s7)),
-      set_is b6 (n / 2 ^ 1 % 2) (omega (arith, s0, s1, s2, s3, s4, s5, s6, s7)),
-      set_is b7 (n / 2 ^ 0 % 2) (omega (arith, s0, s1, s2, s3, s4, s5, s6, s7)),
-    ) refl
-
--- bits that are those of so many bytes
-bits_again : (n : ℕ) (bits : List Bool) → length bits ≡ 8 * n → bits_of (bytes_in n bits) ≡ bits
-unfolding bytes_in
-bits_again zero [] e = refl
-bits_again zero (b ∷ bits) e = absurd (omega (arith, e))
-bits_again (suc n) (b0 ∷ b1 ∷ b2 ∷ b3 ∷ b4 ∷ b5 ∷ b6 ∷ b7 ∷ bits) e =
-    eight_again b0 b1 b2 b3 b4 b5 b6 b7 (bits_of (bytes_in n bits)) ∙ ap (λ l. b0 ∷ b1 ∷ b2 ∷ b3 ∷ b4 ∷ b5 ∷ b6 ∷ b7 ∷ l) (bits_again n bits (omega (arith, e)))
-bits_again (suc n) [] e = absurd (omega (arith, e))
-bits_again (suc n) (b0 ∷ []) e = absurd (omega (arith, e))
-bits_again (suc n) (b0 ∷ b1 ∷ []) e = absurd (omega (arith, e))
-bits_again (suc n) (b0 ∷ b1 ∷ b2 ∷ []) e = absurd (omega (arith, e))
-bits_again (suc n) (b0 ∷ b1 ∷ b2 ∷ b3 ∷ []) e = absurd (omega (arith, e))
-bits_again (suc n) (b0 ∷ b1 ∷ b2 ∷ b3 ∷ b4 ∷ []) e = absurd (omega (arith, e))
-bits_again (suc n) (b0 ∷ b1 ∷ b2 ∷ b3 ∷ b4 ∷ b5 ∷ []) e = absurd (omega (arith, e))
-bits_again (suc n) (b0 ∷ b1 ∷ b2 ∷ b3 ∷ b4 ∷ b5 ∷ b6 ∷ []) e = absurd (omega (arith, e))
-
 pub header_read : (t : Settings) → IsAccepted t → sequence_read (sequence_payload t) ≡ Ok (sequence_of t)
 unfolding sequence_payload
 header_read t accepted =
     let bits = sequence_bits t in
-    let all = up_to_byte bits in
-    let whole : length all ≡ 8 * (length all / 8) = omega (arith, length-append bits (gap bits), length-replicate ((8 - length bits % 8) % 8) false) in
-    let again : bits_of (bytes_of all) ≡ bits ++ gap bits = bits_again (length all / 8) all whole in
-    whole_read sequence (sequence_of t) (bytes_of all) (starts sequence (sequence_of t) bits (gap bits) (bytes_of all) (sequence_spelled t 0 (writable t accepted)) again)
+    let bytes = bytes_of (up_to_byte bits) in
+    whole_read sequence (sequence_of t) bytes (starts sequence (sequence_of t) bits (gap bits) bytes (sequence_spelled t 0 (writable t accepted)) (bytes_again bits))

@@ -10,10 +10,14 @@ pub mod Showing
 pub mod Raws
 pub mod Sources
 pub mod Encodings
+pub mod InBytes
 pub mod Headers
+pub mod Written
 pub mod RawBytes
 pub mod FilledFront
 pub mod Waiting
 pub mod Accepted
 pub mod Stepping
 pub mod Streams
+pub mod Sourced
+pub mod Recovered

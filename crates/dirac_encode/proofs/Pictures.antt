@@ -1,11 +1,10 @@
 -- An intra picture's fields, spelled one after another.
-use Rattle.std.proofs.Common.{◌≡◌, ℕ, ◌++◌, if◌then◌else◌, Bool, List, Some, Option, None, subst, ◌/◌}
+use Rattle.std.proofs.Common.{◌≡◌, ℕ, ◌++◌, if◌then◌else◌, Bool, List, Some, Option, None}
 use Rattle.dirac_types.specs.declared.faults.Cause.TheVariants.{MissingReference}
 use Rattle.dirac_types.specs.declared.picture.Picture.{Picture}
 use Rattle.dirac_bits.specs.Syntax.{Syntax, done, align, refuse, ◌>>=◌}
 use Rattle.dirac_bits.specs.Writing.{gap}
 use Rattle.dirac_sequence.specs.declared.sequence.Sequence.{Sequence}
-use Rattle.dirac_sequence.specs.Ratios.{ratio_across, ratio_down}
 use Rattle.dirac_header.specs.Header.{header}
 use Rattle.dirac_header.specs.Transform.{transform}
 use Rattle.dirac_header.specs.Written.{SpelledBehind}
@@ -49,10 +48,3 @@ picture_spelled s refs number r old head aligned new first gapped rest =
     behind_then align after_gap tt coded head aligned new (behind_gap head aligned gapped)
     (behind_then (residual s >>= some) make (Some r) coded aligned new new all (behind_done coded new)) in
     behind_then (header 0x0C) (λ x. if are_listed refs x then body 0x0C s x else refuse 0 MissingReference) h coded old head new first behind_head
-
--- a chroma plane by its sizes
-pub chroma_spelled : (s : Sequence) (r : CodedResidual) (bands : List CodedBand) (old new : List Bool) (a d : ℕ) → a ≡ ratio_across s.chroma → d ≡ ratio_down s.chroma
-    → SpelledBehind (plane_bands r.transform (s.width / a) (s.height / d)) bands old new → SpelledBehind (plane_bands r.transform (chroma_width s) (chroma_height s)) bands old new
-chroma_spelled s r bands old new a d ea ed spelled =
-    subst (λ n. SpelledBehind (plane_bands r.transform (s.width / n) (chroma_height s)) bands old new) ea
-    (subst (λ n. SpelledBehind (plane_bands r.transform (s.width / a) (s.height / n)) bands old new) ed spelled)

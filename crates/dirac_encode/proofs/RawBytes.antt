@@ -12,12 +12,12 @@ bytes_again : (xs : List ℕ) → AllByRecursion (λ b. b < 2 ^ 8) xs → map by
 bytes_again [] all = refl
 bytes_again (x ∷ xs) all = ap₂ (λ (y : ℕ) (ys : List ℕ). y ∷ ys) (byte_again x all.0) (bytes_again xs all.1)
 
-below_take : (n : ℕ) (xs : List ℕ) → AllByRecursion (λ b. b < 2 ^ 8) xs → AllByRecursion (λ b. b < 2 ^ 8) (take n xs)
+pub below_take : (n : ℕ) (xs : List ℕ) → AllByRecursion (λ b. b < 2 ^ 8) xs → AllByRecursion (λ b. b < 2 ^ 8) (take n xs)
 below_take zero xs all = tt
 below_take (suc n) [] all = tt
 below_take (suc n) (x ∷ xs) all = (all.0, below_take n xs all.1)
 
-below_drop : (n : ℕ) (xs : List ℕ) → AllByRecursion (λ b. b < 2 ^ 8) xs → AllByRecursion (λ b. b < 2 ^ 8) (drop n xs)
+pub below_drop : (n : ℕ) (xs : List ℕ) → AllByRecursion (λ b. b < 2 ^ 8) xs → AllByRecursion (λ b. b < 2 ^ 8) (drop n xs)
 below_drop zero xs all = all
 below_drop (suc n) [] all = tt
 below_drop (suc n) (x ∷ xs) all = below_drop n xs all.1

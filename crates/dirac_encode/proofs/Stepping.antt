@@ -1,5 +1,5 @@
 -- One picture: written and delivered, or not.
-use Rattle.std.proofs.Common.{◌≡◌, ℕ, ◌+◌, ◌<◌, ◌≤◌, ◌^◌, List, [], ◌∷◌, ◌++◌, length, refl, sym, ap, ◌∙◌, subst, arith, Option, None, Some, inr, Result, Ok, Err}
+use Rattle.std.proofs.Common.{◌≡◌, ℕ, ◌+◌, ◌<◌, ◌≤◌, ◌^◌, List, [], ◌∷◌, ◌++◌, length, refl, ap, ◌∙◌, subst, arith, Option, None, Some, inr, Result, Ok, Err}
 use Rattle.std.specs.Prelude.{IfErr, IfSome, OnOk}
 use Rattle.std.specs.Io.KnownBytes.{Appends}
 use Rattle.std.proofs.KnownBytes.{Appends-trans, Keeps-refl}
@@ -7,17 +7,15 @@ use Rattle.std.proofs.lemmas.Bool.{le-leb, lt-leb}
 use Rattle.dirac_types.specs.declared.picture.Picture.{Picture}
 use Rattle.dirac_types.specs.declared.settings.Settings.{Settings}
 use Rattle.dirac_io.specs.Writing.{AppendsFront}
-use Rattle.dirac_sequence.specs.Written.{sequence_of, sequence_payload}
+use Rattle.dirac_sequence.specs.Written.{sequence_payload}
 use Rattle.dirac_refs.specs.Delivery.{delivered, key_of}
-use Rattle.dirac_picture.specs.Grammar.{picture_read}
 use Rattle.dirac_decode.proofs.Rows.{behind_front}
 use Rattle.dirac_decode.specs.Raw.{raws}
 use Rattle.dirac_encode.specs.declared.answers.Encoded.{Encoded}
 use Rattle.dirac_encode.specs.declared.answers.Encoded.TheVariants as encoded
 use Rattle.dirac_encode.specs.declared.progress.Progress.{Progress}
-use Rattle.dirac_encode.specs.Coded.{coded_intra}
 use Rattle.dirac_encode.specs.Payload.{payload_of}
-use Rattle.dirac_encode.specs.Steps.{BreaksOff, IsCoded, IsFault, IsKnown, IsTooLong, StopsPicture, header_unit}
+use Rattle.dirac_encode.specs.Steps.{BreaksOff, IsCoded, IsFault, IsTooLong, StopsPicture, header_unit}
 use Rattle.dirac_encode.specs.Stream.{header_length, picture_length, shown_of, unit}
 use Rattle.dirac_encode.proofs.Headers.{header_few}
 
@@ -30,16 +28,6 @@ pub record Parts (t : Settings) (p : Picture) (header payload : List ℕ) (shown
 pub header_fits : (t : Settings) (header : List ℕ) → header ≡ sequence_payload t → 13 + length header < 2 ^ 32
 header_fits t header is = omega (arith, ap length is, header_few t)
 
-known_of : (t : Settings) (p : Picture) (header payload : List ℕ) (shown : Picture) → Parts t p header payload shown → 13 + length payload < 2 ^ 32
-    → ((refs : List Picture) → picture_read 0x0C (sequence_of t) refs payload ≡ Ok (coded_intra t p)) → (t.index ≡ 0 → shown ≡ p) → IsKnown t p
-known_of t p header payload shown is fits read lossless = record {
-  read = record {
-    short = omega (arith, fits, ap length is.payload_is);
-    read = λ refs. ap (picture_read 0x0C (sequence_of t) refs) (sym is.payload_is) ∙ read refs;
-  };
-  lossless = λ none. sym is.shown_is ∙ lossless none;
-}
-
 header_of : (t : Settings) (p : Picture) (header payload : List ℕ) (shown : Picture) (previous : ℕ) (out mid : Option (List ℕ)) → Parts t p header payload shown → Appends out mid (unit 0x00 previous header) → Appends out mid (header_unit t previous)
 header_of t p header payload shown previous out mid is = subst (λ (l : List ℕ). Appends out mid (unit 0x00 previous l)) is.header_is
 
@@ -48,15 +36,13 @@ same_unit t p header payload shown is =
     ap (λ (l : List ℕ). unit 0x0C (13 + length l) payload) is.header_is ∙ ap (unit 0x0C (header_length t)) is.payload_is
 
 pub step_coded : (t : Settings) (p : Picture) (old new : Progress) (header payload : List ℕ) (shown : Picture) (out mid out' side side' : Option (List ℕ)) → Parts t p header payload shown
-    → ((refs : List Picture) → picture_read 0x0C (sequence_of t) refs payload ≡ Ok (coded_intra t p)) → (t.index ≡ 0 → shown ≡ p)
-    → 13 + length payload ≤ t.unit_bytes → 13 + length payload < 2 ^ 32 → new.count ≡ old.count + 1 → new.previous ≡ 13 + length payload → new.delivery ≡ (delivered (old.delivery ++ record { key = key_of 0 p.number; picture = shown } ∷ [])).waiting
+    → 13 + length payload ≤ t.unit_bytes → new.count ≡ old.count + 1 → new.previous ≡ 13 + length payload → new.delivery ≡ (delivered (old.delivery ++ record { key = key_of 0 p.number; picture = shown } ∷ [])).waiting
     → Appends out mid (unit 0x00 old.previous header) → Appends mid out' (unit 0x0C (13 + length header) payload) → Appends side side' (raws (delivered (old.delivery ++ record { key = key_of 0 p.number; picture = shown } ∷ [])).gone)
     → IsCoded t p old new out out' side side'
-step_coded t p old new header payload shown out mid out' side side' is read lossless short fits count previous waiting first second third =
+step_coded t p old new header payload shown out mid out' side side' is short count previous waiting first second third =
     let len : length payload ≡ length (payload_of t p) = ap length is.payload_is in
     record {
       short = le-leb (picture_length t p) t.unit_bytes (omega (arith, len, short));
-      known = known_of t p header payload shown is fits read lossless;
       count = count;
       previous = omega (arith, previous, len);
       waiting = waiting ∙ ap (λ (q : Picture). (delivered (old.delivery ++ record { key = key_of 0 p.number; picture = q } ∷ [])).waiting) is.shown_is;

@@ -1,9 +1,7 @@
 -- What is written of a stream while its pictures come, and what is answered.
-use Rattle.std.proofs.Common.{◌≡◌, ℕ, zero, suc, ◌+◌, ◌-◌, ◌*◌, ◌/◌, ◌<◌, ◌≤◌, ◌^◌, ◌==◌, if◌then◌else◌, Bool, true, false, List, [], ◌∷◌, ◌++◌, length, take, drop, refl, sym, ap, ap₂, ◌∙◌, subst, arith, append_assoc, append-nil, length-append, length-drop, Option, None, Some, inl, inr}
+use Rattle.std.proofs.Common.{◌≡◌, ℕ, zero, suc, ◌+◌, ◌-◌, ◌*◌, ◌/◌, ◌<◌, ◌≤◌, ◌^◌, ◌==◌, if◌then◌else◌, Bool, true, false, List, [], ◌∷◌, ◌++◌, length, take, drop, refl, sym, ap, ◌∙◌, subst, arith, append_assoc, append-nil, length-append, length-drop, Option, None, Some, inl, inr}
 use Rattle.std.specs.Prelude.{min, IfSome}
-use Rattle.std.specs.List.{AllByRecursion}
 use Rattle.std.specs.Io.KnownBytes.{Appends, Consumes, IsAtEnd, Keeps}
-use Rattle.dirac_decode.specs.Shown.{Outcome, IsShown}
 use Rattle.std.proofs.lemmas.List.{length-take-le}
 use Rattle.std.proofs.KnownBytes.{Appends-kept, Appends-nil, Appends-trans}
 use Rattle.std.proofs.lemmas.Bool.{le-leb, lt-leb}
@@ -12,19 +10,19 @@ use Rattle.dirac_types.specs.declared.picture.Picture.{Picture}
 use Rattle.dirac_types.specs.declared.settings.Settings.{Settings}
 use Rattle.dirac_types.specs.Settings.{IsAccepted}
 use Rattle.dirac_io.specs.Writing.{AppendsFront}
-use Rattle.dirac_units.specs.Cut.{IsCut, start}
 use Rattle.dirac_sequence.specs.Written.{sequence_payload}
 use Rattle.dirac_refs.specs.Delivery.{flushed}
 use Rattle.dirac_decode.specs.Raw.{raw, raws}
 use Rattle.dirac_encode.specs.declared.answers.Encoded.{Encoded}
 use Rattle.dirac_encode.specs.declared.answers.Encoded.TheVariants as encoded
 use Rattle.dirac_encode.specs.declared.progress.Progress.{Progress}
-use Rattle.dirac_encode.specs.Encoding.{EndsStream, AnswersEncode, Encoding, IsRecovered, WritesAll, WritesFront, behind, encoding, encoding_by, ending, first_long, is_short}
+use Rattle.dirac_encode.specs.Encoding.{AnswersEncode, Encoding, IsRecovered, WritesAll, WritesFront, behind, encoding, encoding_by, ending, first_long, is_short}
 use Rattle.dirac_encode.specs.Raw.{left_over, picture_from, pictures_in, raw_length, sources, whole_pictures}
-use Rattle.dirac_encode.specs.Steps.{BreaksOff, EndsEarly, IsCoded, IsEnded, IsFault, IsKnown, IsTooLong, StopsPicture, header_unit, last_units, leaving, picture_units}
-use Rattle.dirac_encode.specs.Stream.{AreCoded, IsRead, StreamsAreCut, StreamsShowTheirPictures, last_length, picture_length, reconstructions, stream_of, stream_units, units_of, AreNumbered}
-use Rattle.dirac_encode.proofs.Encodings.{AreShort, ahead, ahead_next, all_more, ends_long, ends_whole, gone_more, last_parts, pushed_now, units_more, waiting_more}
-use Rattle.dirac_encode.proofs.Sources.{front_more, left_count, length-pictures_in, numbered_in, picture_more, pictures_parts, raws_more, rest_more, whole_count, whole_more}
+use Rattle.dirac_encode.specs.Steps.{BreaksOff, EndsEarly, IsCoded, IsEnded, IsFault, IsTooLong, StopsPicture, header_unit, last_units, leaving, picture_units}
+use Rattle.dirac_encode.specs.Stream.{StreamsAreCut, StreamsShowTheirPictures, last_length, units_of, AreNumbered}
+use Rattle.dirac_encode.proofs.Encodings.{AreShort, ahead, ahead_next, all_more, ends_long, ends_whole, gone_more, none_long, last_parts, pushed_now, units_more, waiting_more}
+use Rattle.dirac_encode.proofs.Recovered.{AreBytes, below_more, recovered}
+use Rattle.dirac_encode.proofs.Sources.{front_more, left_count, length-pictures_in, numbered_in, picture_more, pictures_parts, rest_more, whole_count, whole_more}
 
 -- ---- fronts of what two sinks took
 
@@ -56,8 +54,7 @@ pub record Runs (t : Settings) (bytes : List ℕ) (coding : Progress) (held out0
   pub written : Appends out0 out (units_of t 0 (first_pictures t bytes coding.count))
   pub delivered : Appends side0 side (raws (pushed_now t (first_pictures t bytes coding.count)).gone)
   pub short : AreShort t (first_pictures t bytes coding.count)
-  pub known : AllByRecursion (IsKnown t) (first_pictures t bytes coding.count)
-  pub raw : raws (first_pictures t bytes coding.count) ≡ take (coding.count * raw_length t) bytes
+  pub small : AreBytes (take (coding.count * raw_length t) bytes)
 
 -- where the source tells what it held at first
 abbrev pub SoFar : Settings → Option (List ℕ) → Progress → Option (List ℕ) → Option (List ℕ) → Option (List ℕ) → Option (List ℕ) → Option (List ℕ) → Type 0
@@ -82,8 +79,7 @@ so_far_none t (Some bytes) coding out side count previous waiting =
       written = subst (λ (ps : List Picture). Appends out out (units_of t 0 ps)) (sym no_picture) (Appends-nil out);
       delivered = subst (λ (ps : List Picture). Appends side side (raws (pushed_now t ps).gone)) (sym no_picture) (Appends-nil side);
       short = subst (AreShort t) (sym no_picture) tt;
-      known = subst (AllByRecursion (IsKnown t)) (sym no_picture) tt;
-      raw = ap raws no_picture ∙ ap (λ k. take k bytes) (sym none);
+      small = subst (λ (k : ℕ). AreBytes (take k bytes)) (sym none) tt;
     }
 
 -- what a source gave of the bytes that it held
@@ -93,7 +89,7 @@ gave bytes held (Some left) rest chunk is got = (left, refl, subst (λ (h : Opti
 
 -- one picture more
 pub so_far_more : (t : Settings) (first : Option (List ℕ)) (old new : Progress) (held held' out0 out out' side0 side side' : Option (List ℕ)) (chunk : List ℕ) → SoFar t first old held out0 out side0 side
-    → Consumes held held' chunk → length chunk ≡ raw_length t → IsCoded t (picture_from t old.count chunk) old new out out' side side' → raw (picture_from t old.count chunk) ≡ chunk
+    → Consumes held held' chunk → length chunk ≡ raw_length t → IsCoded t (picture_from t old.count chunk) old new out out' side side' → AreBytes chunk
     → SoFar t first new held' out0 out' side0 side'
 so_far_more t None old new held held' out0 out out' side0 side side' chunk so got whole coded bytes_are = tt
 so_far_more t (Some bytes) old new held held' out0 out out' side0 side side' chunk so got whole coded bytes_are =
@@ -119,9 +115,7 @@ so_far_more t (Some bytes) old new held held' out0 out out' side0 side side' chu
           ∙ ap (λ ws. raws (pushed_now t ps).gone ++ raws (leaving t p ws).gone) (sym so.waiting)))
           (Appends-trans side0 side side' (raws (pushed_now t ps).gone) (raws (leaving t p old.delivery).gone) so.delivered coded.delivered);
       short = subst (AreShort t) (sym more) (all_more (λ q. is_short t q ≡ true) ps p so.short coded.short);
-      known = subst (AllByRecursion (IsKnown t)) (sym more) (all_more (IsKnown t) ps p so.known coded.known);
-      raw =
-          ap raws more ∙ raws_more ps p ∙ ap (λ l. raws ps ++ l) bytes_are ∙ ap (λ l. l ++ chunk) so.raw ∙ sym (front_more n r (new.count * r) bytes chunk rest.0 rest.2 whole place);
+      small = subst AreBytes (sym (front_more n r (new.count * r) bytes chunk rest.0 rest.2 whole place)) (below_more (take (n * r) bytes) chunk so.small bytes_are);
     }
 
 -- ---- the encoding, of which so much is written
@@ -299,33 +293,10 @@ ended_early t bytes coding held out0 out out' side0 side side' answer so closes 
       front_behind side0 side side' (raws gone) (raws (flushed coding.delivery)) [] (raws (gone ++ flushed coding.delivery)) (flat_map-append raw gone (flushed coding.delivery) ∙ sym (append-nil (raws gone ++ raws (flushed coding.delivery)))) so.delivered early.delivered,
     )
 
--- what is shown of a whole stream
-shown_again : (t : Settings) (ps : List Picture) → t.index ≡ 0 → AllByRecursion (IsKnown t) ps → reconstructions t ps ≡ ps
-shown_again t [] none all = refl
-shown_again t (p ∷ ps) none all = ap₂ (λ (q : Picture) (qs : List Picture). q ∷ qs) (all.0.lossless none) (shown_again t ps none all.1)
-
-each_read : (t : Settings) (ps : List Picture) → AllByRecursion (IsKnown t) ps → AllByRecursion (IsRead t) ps
-each_read t [] all = tt
-each_read t (p ∷ ps) all = (all.0.read, each_read t ps all.1)
-
-each_unit_short : (t : Settings) (ps : List Picture) → AllByRecursion (IsKnown t) ps → AllByRecursion (λ p. picture_length t p < 2 ^ 32) ps
-each_unit_short t [] all = tt
-each_unit_short t (p ∷ ps) all = (all.0.read.short, each_unit_short t ps all.1)
-
 recovers : StreamsShowTheirPictures → StreamsAreCut → (t : Settings) (bytes : List ℕ) (coding : Progress) (held out0 out side0 side : Option (List ℕ)) (answer : Encoded) → Runs t bytes coding held out0 out side0 side → Closes t bytes coding.count answer
-    → coding.count ≤ t.pictures → t.pictures ≤ 2147483647 → IsAccepted t → IsRecovered t bytes
-recovers law cuts t bytes coding held out0 out side0 side answer so closes few most accepted =
-    let n = coding.count in
-    let ps = first_pictures t bytes n in
-    let count = length-pictures_in t n 0 bytes in
-    let coded : AreCoded t ps = record { accepted = accepted; numbered = numbered_in t n 0 bytes; few = omega (arith, count, few, most); each = each_read t ps so.known } in
-    let all : IsRecovered t bytes = record {
-      cut = subst (λ (l : List Picture). IsCut start (stream_of t l) (stream_units t l) None) (sym closes.all) (cuts t ps (each_unit_short t ps so.known));
-      shows = subst (λ (l : List Picture). (o : Outcome) × IsShown (stream_of t l) o × (o.shown ≡ reconstructions t l) × (o.end ≡ None)) (sym closes.all) (law t ps coded);
-      lossless = λ none. subst (λ (l : List Picture). reconstructions t l ≡ l) (sym closes.all) (shown_again t ps none so.known);
-      raw = subst (λ (l : List Picture). raws l ≡ take (length l * raw_length t) bytes) (sym closes.all) (so.raw ∙ ap (λ k. take (k * raw_length t) bytes) (sym count));
-    } in
-    all
+    → coding.count ≤ t.pictures → IsAccepted t → IsRecovered t bytes
+recovers law cuts t bytes coding held out0 out side0 side answer so closes few accepted =
+    recovered law cuts t coding.count bytes accepted so.some few so.small closes.all (ap (first_long t) closes.all ∙ none_long t (first_pictures t bytes coding.count) so.short)
 
 -- the source ended behind whole pictures
 closes_part : (t : Settings) (bytes : List ℕ) (n : ℕ) (chunk left : List ℕ) → drop (n * raw_length t) bytes ≡ chunk ++ left → left ≡ [] → length chunk < raw_length t → n * raw_length t ≤ length bytes → n ≤ t.pictures
@@ -371,26 +342,6 @@ answers_fault encoded.TooManyPictures e out out' side side' is front = absurd is
 answers_fault encoded.ReadFault e out out' side side' is front = absurd is
 
 -- a fault is behind no whole stream
-pub fault_ends_none : (fault : Encoded) → IsFault fault → EndsStream fault → ⊥
-fault_ends_none encoded.WriteFault is ends = ends
-fault_ends_none encoded.SideFault is ends = ends
-fault_ends_none encoded.NoMemory is ends = ends
-fault_ends_none encoded.Done is ends = is
-fault_ends_none (encoded.PartialPicture n) is ends = is
-fault_ends_none (encoded.UnitTooLong n) is ends = is
-fault_ends_none encoded.TooManyPictures is ends = is
-fault_ends_none encoded.ReadFault is ends = is
-
-pub stop_ends_none : (t : Settings) (p : Picture) (coding : Progress) (answer : Encoded) (out out' side side' : Option (List ℕ)) → StopsPicture t p coding answer out out' side side' → EndsStream answer → ⊥
-stop_ends_none t p coding (encoded.UnitTooLong n) out out' side side' is ends = ends
-stop_ends_none t p coding encoded.WriteFault out out' side side' is ends = ends
-stop_ends_none t p coding encoded.SideFault out out' side side' is ends = ends
-stop_ends_none t p coding encoded.NoMemory out out' side side' is ends = ends
-stop_ends_none t p coding encoded.Done out out' side side' is ends = is
-stop_ends_none t p coding (encoded.PartialPicture n) out out' side side' is ends = is
-stop_ends_none t p coding encoded.TooManyPictures out out' side side' is ends = is
-stop_ends_none t p coding encoded.ReadFault out out' side side' is ends = is
-
 -- what is known where the source ended behind so many bytes of a buffer
 part : (t : Settings) (bytes : List ℕ) (coding : Progress) (held held' out0 out side0 side : Option (List ℕ)) (buf : List ℕ) (k : ℕ) → Runs t bytes coding held out0 out side0 side
     → Consumes held held' (take k buf) → IsAtEnd held' → k < length buf → length buf ≡ raw_length t → coding.count ≤ t.pictures → Closes t bytes coding.count (behind k)
@@ -419,12 +370,11 @@ part_early t (Some bytes) coding held held' out0 out out' side0 side side' buf k
     answers_fault fault (encoding t bytes) out0 out' side0 side' is (ended_early t bytes coding held out0 out out' side0 side side' (behind k) so closes few most early)
 
 pub part_recovers : StreamsShowTheirPictures → StreamsAreCut → (t : Settings) (first : Option (List ℕ)) (coding : Progress) (held held' out0 out side0 side : Option (List ℕ)) (buf : List ℕ) (k : ℕ) → SoFar t first coding held out0 out side0 side
-    → Consumes held held' (take k buf) → IsAtEnd held' → k < length buf → length buf ≡ raw_length t → coding.count ≤ t.pictures → t.pictures ≤ 2147483647
-    → IsAccepted t → IfSome first (λ bytes. IsRecovered t bytes)
-part_recovers law cuts t None coding held held' out0 out side0 side buf k so got end short whole few most accepted = tt
-part_recovers law cuts t (Some bytes) coding held held' out0 out side0 side buf k so got end short whole few most accepted =
+    → Consumes held held' (take k buf) → IsAtEnd held' → k < length buf → length buf ≡ raw_length t → coding.count ≤ t.pictures → IsAccepted t → IfSome first (λ bytes. IsRecovered t bytes)
+part_recovers law cuts t None coding held held' out0 out side0 side buf k so got end short whole few accepted = tt
+part_recovers law cuts t (Some bytes) coding held held' out0 out side0 side buf k so got end short whole few accepted =
     let closes = part t bytes coding held held' out0 out side0 side buf k so got end short whole few in
-    recovers law cuts t bytes coding held out0 out side0 side (behind k) so closes few most accepted
+    recovers law cuts t bytes coding held out0 out side0 side (behind k) so closes few accepted
 
 -- what is known where one more picture is whole than the settings allow
 many : (t : Settings) (bytes : List ℕ) (coding : Progress) (held held' out0 out side0 side : Option (List ℕ)) (chunk : List ℕ) → Runs t bytes coding held out0 out side0 side
@@ -451,12 +401,12 @@ many_early t (Some bytes) coding held held' out0 out out' side0 side side' chunk
     answers_fault fault (encoding t bytes) out0 out' side0 side' is (ended_early t bytes coding held out0 out out' side0 side side' encoded.TooManyPictures so closes (omega (arith, all)) most early)
 
 pub many_recovers : StreamsShowTheirPictures → StreamsAreCut → (t : Settings) (first : Option (List ℕ)) (coding : Progress) (held held' out0 out side0 side : Option (List ℕ)) (chunk : List ℕ) → SoFar t first coding held out0 out side0 side
-    → Consumes held held' chunk → length chunk ≡ raw_length t → 1 ≤ raw_length t → coding.count ≡ t.pictures → t.pictures ≤ 2147483647
-    → IsAccepted t → IfSome first (λ bytes. IsRecovered t bytes)
-many_recovers law cuts t None coding held held' out0 out side0 side chunk so got whole some all most accepted = tt
-many_recovers law cuts t (Some bytes) coding held held' out0 out side0 side chunk so got whole some all most accepted =
+    → Consumes held held' chunk → length chunk ≡ raw_length t → 1 ≤ raw_length t → coding.count ≡ t.pictures → IsAccepted t
+    → IfSome first (λ bytes. IsRecovered t bytes)
+many_recovers law cuts t None coding held held' out0 out side0 side chunk so got whole some all accepted = tt
+many_recovers law cuts t (Some bytes) coding held held' out0 out side0 side chunk so got whole some all accepted =
     let closes = many t bytes coding held held' out0 out side0 side chunk so got whole some all in
-    recovers law cuts t bytes coding held out0 out side0 side encoded.TooManyPictures so closes (omega (arith, all)) most accepted
+    recovers law cuts t bytes coding held out0 out side0 side encoded.TooManyPictures so closes (omega (arith, all)) accepted
 
 -- what a partial picture is not
 IsPart : Encoded → Type 0

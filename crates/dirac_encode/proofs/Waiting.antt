@@ -1,7 +1,7 @@
 -- Pictures that wait, written one after another.
-use Rattle.std.proofs.Common.{◌≡◌, ℕ, suc, ◌+◌, List, [], ◌∷◌, ◌++◌, length, refl, sym, ap, ◌∙◌, subst, arith, append_assoc, append-nil, Option}
+use Rattle.std.proofs.Common.{◌≡◌, ℕ, suc, ◌+◌, List, [], ◌∷◌, ◌++◌, length, sym, ap, ◌∙◌, subst, arith, append_assoc, append-nil, Option}
 use Rattle.std.specs.Io.KnownBytes.{Appends}
-use Rattle.std.proofs.KnownBytes.{Appends-nil, Appends-trans}
+use Rattle.std.proofs.KnownBytes.{Appends-trans}
 use Rattle.std.proofs.lemmas.Grind.{flat_map-append}
 use Rattle.dirac_types.specs.declared.picture.Picture.{Picture}
 use Rattle.dirac_io.specs.Writing.{AppendsFront}
@@ -15,9 +15,6 @@ pub record Flushes (first now : List Waiting) (side0 side : Option (List ℕ)) :
   pub given : List Picture
   pub all : flushed first ≡ given ++ flushed now
   pub written : Appends side0 side (raws given)
-
-pub flushes_none : (ws : List Waiting) (side : Option (List ℕ)) → Flushes ws ws side side
-flushes_none ws side = record { given = []; all = refl; written = Appends-nil side }
 
 -- one leaves
 flush_next : (old new : List Waiting) (p : Picture) → p ∷ [] ≡ least old → new ≡ others old → length new + 1 ≡ length old → flushed old ≡ p ∷ flushed new
@@ -33,15 +30,6 @@ flushes_more first old new p side0 side side' so is rest count written = record 
   written = subst (λ (l : List ℕ). Appends side0 side' l) (sym (raws_more so.given p)) (Appends-trans side0 side side' (raws so.given) (raw p) so.written written);
 }
 
--- none waits any more
-pub flushes_all : (first now : List Waiting) (side0 side : Option (List ℕ)) → Flushes first now side0 side → length now ≡ 0 → Appends side0 side (raws (flushed first))
-flushes_all first now side0 side so none =
-    let last : flushed now ≡ [] = ap (λ n. flushed_by n now) none in
-    subst (λ (l : List Picture). Appends side0 side (raws l)) (sym (so.all ∙ ap (λ l. so.given ++ l) last ∙ append-nil so.given)) so.written
-
-pub flushes_front : (first now : List Waiting) (side0 side : Option (List ℕ)) → Flushes first now side0 side → AppendsFront side0 side (raws (flushed first))
-flushes_front first now side0 side so = (raws so.given, raws (flushed now), ap raws so.all ∙ flat_map-append raw so.given (flushed now), so.written)
-
 -- a picture is written in part
 pub flushes_part : (first old new : List Waiting) (p : Picture) (side0 side side' : Option (List ℕ)) → Flushes first old side0 side → p ∷ [] ≡ least old → new ≡ others old → length new + 1 ≡ length old
     → AppendsFront side side' (raw p) → AppendsFront side0 side' (raws (flushed first))
@@ -53,8 +41,5 @@ flushes_part first old new p side0 side side' so is rest count front =
     (raws so.given ++ front.0, front.1 ++ raws (flushed new), text, Appends-trans side0 side side' (raws so.given) front.0 so.written front.3)
 
 -- one picture alone
-pub one_raw : (side side' : Option (List ℕ)) (p : Picture) (ps : List Picture) → p ∷ [] ≡ ps → Appends side side' (raw p) → Appends side side' (raws ps)
-one_raw side side' p ps is written = subst (λ (l : List Picture). Appends side side' (raws l)) is (subst (λ (l : List ℕ). Appends side side' l) (sym (append-nil (raw p))) written)
-
 pub one_front : (side side' : Option (List ℕ)) (p : Picture) (ps : List Picture) → p ∷ [] ≡ ps → AppendsFront side side' (raw p) → AppendsFront side side' (raws ps)
 one_front side side' p ps is front = subst (λ (l : List Picture). AppendsFront side side' (raws l)) is (subst (λ (l : List ℕ). AppendsFront side side' l) (sym (append-nil (raw p))) front)

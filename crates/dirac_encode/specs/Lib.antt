@@ -5,3 +5,4 @@ pub mod Stream
 pub mod Raw
 pub mod Encoding
 pub mod Steps
+pub mod Sources

@@ -14,7 +14,7 @@ use Rattle.dirac_encode.specs.declared.answers.Encoded.TheVariants as encoded
 use Rattle.dirac_encode.specs.declared.progress.Progress.{Progress}
 use Rattle.dirac_encode.specs.Encoding.{is_short, waiting_of}
 use Rattle.dirac_encode.specs.Payload.{payload_of}
-use Rattle.dirac_encode.specs.Stream.{IsRead, end_unit, header_length, picture_length, shown_of, unit}
+use Rattle.dirac_encode.specs.Stream.{end_unit, header_length, picture_length, unit}
 
 -- the unit of a sequence header behind a unit of this length
 abbrev pub header_unit : Settings → ℕ → List ℕ
@@ -32,15 +32,9 @@ last_units header count previous = if count == 0 then unit 0x00 previous header 
 abbrev pub leaving : Settings → Picture → List Waiting → Leaving
 leaving t p waiting = delivery.delivered (waiting ++ waiting_of t p ∷ [])
 
--- what is written is read again, and nothing is lost at index 0
-pub record IsKnown (t : Settings) (p : Picture) : Type 0 where
-  pub read : IsRead t p
-  pub lossless : t.index ≡ 0 → shown_of t p ≡ p
-
 -- a picture was coded: both its units are written, and what left is delivered
 pub record IsCoded (t : Settings) (p : Picture) (old new : Progress) (out out' side side' : Option (List ℕ)) : Type 0 where
   pub short : is_short t p ≡ true
-  pub known : IsKnown t p
   pub count : new.count ≡ old.count + 1
   pub previous : new.previous ≡ picture_length t p
   pub waiting : new.delivery ≡ (leaving t p old.delivery).waiting

@@ -3,11 +3,9 @@
 ghost use Rattle.std.specs.Prelude.{◌≡◌, ◌<◌, ◌≤◌, ◌+◌, ◌*◌, [], take, length, slice_get, ℕ, Some, true, OnOk, IfSome};
 ghost use Rattle.std.specs.Option.{ForSome};
 ghost use Rattle.dirac_coeffs.specs.declared.spot.CodedBand.{CodedBand as TheBand};
-ghost use Rattle.dirac_coeffs.specs.Grammar.{band, values_of_parent};
+ghost use Rattle.dirac_coeffs.specs.Grammar.{values_of_parent};
 ghost use Rattle.dirac_coeffs.specs.Written.{with_band, is_zero_band};
-ghost use Rattle.dirac_header.specs.Written.{SpelledBehind};
 ghost use Rattle.dirac_picture.specs.Bands as places;
-ghost use Rattle.dirac_picture.specs.Grammar as grammar;
 ghost use Rattle.dirac_picture.specs.Fits.{AreBandsOf, IsLayout, IsPlaneSize};
 ghost use Rattle.dirac_encode.specs.Payload.{with_plane};
 ghost use Rattle.dirac_encode.specs.Writable.{HaveNoughts};
@@ -47,8 +45,7 @@ fn write_next(
     requires bands { AreBandsOf transform.now width height bands.now }
     requires noughts { HaveNoughts bands.now }
     requires there { n < length bands.now }
-    ensures exact { (b : TheBand) → slice_get bands.now n ≡ Some b → OnOk result (w.new ≡ with_band (places.spot_of transform.now width height n) (places.parent_values (take n bands.now)) b w.old) }
-    ensures spelled { (b : TheBand) → slice_get bands.now n ≡ Some b → OnOk result (SpelledBehind (band (places.spot_of transform.now width height n) (places.parent_values (take n bands.now))) b w.old w.new) }
+    ensures { (b : TheBand) → slice_get bands.now n ≡ Some b → OnOk result (w.new ≡ with_band (places.spot_of transform.now width height n) (places.parent_values (take n bands.now)) b w.old) }
 {
     let place = spot(transform, width, height, n);
     write_band(alloc, w, place, parent(bands, n), bands.at(n))
@@ -67,8 +64,7 @@ pub(crate) fn write_plane(
     requires size { IsPlaneSize width height }
     requires bands { AreBandsOf transform.now width height bands.now }
     requires noughts { HaveNoughts bands.now }
-    ensures exact { OnOk result (w.new ≡ with_plane transform.now width height bands.now w.old) }
-    ensures spelled { OnOk result (SpelledBehind (grammar.plane_bands transform.now width height) bands.now w.old w.new) }
+    ensures { OnOk result (w.new ≡ with_plane transform.now width height bands.now w.old) }
 {
     let count = 3 * u32::from(transform.depth) + 1;
     'bands: for n in 0..count {

@@ -1,4 +1,5 @@
 ghost use Rattle.dirac_encode.specs.Encoding.{PicturesLeaveInOrder};
+ghost use Rattle.dirac_encode.specs.Sources.{RawPicturesAreRecovered, SourcesComeBack, SourcesAreShown};
 ghost use Rattle.dirac_encode.specs.Stream.{HeadersAreRead, StreamsAreCut, StreamsShowTheirPictures};
 
 use dirac_units::infos_are_read_as_written;
@@ -13,6 +14,12 @@ pub fn streams_show_their_pictures()
     ensures order { PicturesLeaveInOrder }
     // The stream of pictures whose payloads are read as they were coded shows what they become.
     ensures shown { StreamsShowTheirPictures }
+    // A source's payload is read again as it was coded; its coefficients stay below 2^38, and at index 0 it is shown again.
+    ensures sources { SourcesComeBack }
+    // The stream of sources has no fault, and shows their reconstructions in order.
+    ensures sources_shown { SourcesAreShown }
+    // Raw pictures whose units are short enough are recovered from their stream.
+    ensures recovered { RawPicturesAreRecovered }
 {
     infos_are_read_as_written();
 }

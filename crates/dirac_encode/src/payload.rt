@@ -1,11 +1,9 @@
 //! The payload of an intra picture, written.
 
 ghost use Rattle.std.specs.Prelude.{◌≡◌, ◌<◌, ◌≤◌, ◌^◌, List, OnOk};
-ghost use Rattle.dirac_types.specs.declared.picture.Picture.{Picture as ThePicture};
 ghost use Rattle.dirac_sequence.specs.Lawful.{IsSequence};
-ghost use Rattle.dirac_header.specs.Written.{SpelledBehind, transform_bits};
-ghost use Rattle.dirac_picture.specs.Grammar as grammar;
-ghost use Rattle.dirac_encode.specs.Coded.{coded_from, intra_header as header_of};
+ghost use Rattle.dirac_header.specs.Written.{transform_bits};
+ghost use Rattle.dirac_encode.specs.Coded.{intra_header as header_of};
 ghost use Rattle.dirac_encode.specs.Payload.{with_picture, with_planes, with_residual};
 ghost use Rattle.dirac_encode.specs.Writable.{IsWritten};
 
@@ -38,8 +36,7 @@ fn write_planes(
 ) -> Result<(), NoMemory>
     requires sequence { IsSequence sequence.now }
     requires written { IsWritten sequence.now residual.now }
-    ensures exact { OnOk result (w.new ≡ with_planes sequence.now residual.now w.old) }
-    ensures spelled { OnOk result (SpelledBehind (grammar.planes sequence.now residual.now.transform) residual.now w.old w.new) }
+    ensures { OnOk result (w.new ≡ with_planes sequence.now residual.now w.old) }
 {
     let transform = &residual.transform;
     let width = sequence.width / ratio_across(sequence.chroma);
@@ -66,8 +63,7 @@ fn write_residual(
 ) -> Result<(), NoMemory>
     requires sequence { IsSequence sequence.now }
     requires written { IsWritten sequence.now residual.now }
-    ensures exact { OnOk result (w.new ≡ with_residual sequence.now residual.now w.old) }
-    ensures spelled { OnOk result (SpelledBehind (grammar.residual sequence.now) residual.now w.old w.new) }
+    ensures { OnOk result (w.new ≡ with_residual sequence.now residual.now w.old) }
 {
     write_transform(w, &residual.transform)?;
     write_planes(alloc, w, sequence, residual)?;
@@ -84,8 +80,7 @@ pub(crate) fn write_picture(
 ) -> Result<(), NoMemory>
     requires sequence { IsSequence sequence.now }
     requires written { IsWritten sequence.now residual.now }
-    ensures exact { OnOk result (w.new ≡ with_picture sequence.now (header_of number) residual.now w.old) }
-    ensures spelled { (refs : List ThePicture) → OnOk result (SpelledBehind (grammar.picture 0x0C sequence.now refs) (coded_from number residual.now) w.old w.new) }
+    ensures { OnOk result (w.new ≡ with_picture sequence.now (header_of number) residual.now w.old) }
 {
     write_header(w, &intra_header(number), 0x0C)?;
     w.align()?;

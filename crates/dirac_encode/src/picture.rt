@@ -3,22 +3,20 @@
 ghost use Rattle.std.specs.Prelude.{◌≡◌, ◌+◌, ◌≤◌, ◌<◌, ◌^◌, [], List, Ok, IfOk};
 ghost use Rattle.std.specs.List.{AllByRecursion};
 ghost use Rattle.dirac_types.specs.Bits.{bits_of};
-ghost use Rattle.dirac_bits.specs.Laws.{StartsWith};
 ghost use Rattle.dirac_coeffs.specs.Written.{up_to_byte};
 ghost use Rattle.dirac_sequence.specs.Lawful.{IsSequence};
 ghost use Rattle.dirac_types.specs.declared.formats.Kind.TheVariants.{Intra};
 ghost use Rattle.dirac_types.specs.declared.picture.Picture.{Picture as ThePicture};
 ghost use Rattle.dirac_types.specs.Settings.{IsAccepted};
 ghost use Rattle.dirac_sequence.specs.Written.{sequence_of as sequence_for};
-ghost use Rattle.dirac_picture.specs.Fits.{AreBandsOf};
-ghost use Rattle.dirac_picture.specs.Grammar.{picture, picture_read};
+ghost use Rattle.dirac_picture.specs.Grammar.{picture_read};
 ghost use Rattle.dirac_residual.specs.Residual.{clipped, residual};
 ghost use Rattle.dirac_analysis.specs.Fits.{AreSamples};
 ghost use Rattle.dirac_decode.specs.Content.{rebuilt};
 ghost use Rattle.dirac_encode.specs.Coded as coding;
 ghost use Rattle.dirac_plan.specs.Plan.{opening};
 ghost use Rattle.dirac_encode.specs.Payload.{payload_of, with_picture};
-ghost use Rattle.dirac_encode.specs.Writable.{AreSmall, HaveNoughts, HaveSmall, IsCodable, IsWritten};
+ghost use Rattle.dirac_encode.specs.Writable.{AreSmall, IsCodable, IsWritten};
 
 use crate::payload::{intra_header, write_picture};
 use crate::transform::transform_of;
@@ -47,9 +45,6 @@ fn code_plane(alloc: Global, plane: &Plane, settings: &Settings) -> Result<Plane
     requires down { plane.now.height ≤ 4096 }
     requires samples { AreSamples plane.now.values }
     ensures value { IfOk result (λ b. b ≡ coding.bands_of settings.now plane.now) }
-    ensures fits { IfOk result (AreBandsOf (coding.transform_of settings.now) plane.now.width plane.now.height) }
-    ensures noughts { IfOk result HaveNoughts }
-    ensures small { IfOk result HaveSmall }
     ensures lossless { IfOk result (λ b. settings.now.index ≡ 0 → clipped (residual settings.now.wavelet settings.now.depth Intra b plane.now.width plane.now.height) ≡ plane.now) }
 {
     analyse_plane(
@@ -71,7 +66,6 @@ fn code_planes(
     requires source { coding.IsSource settings.now source.now }
     ensures value { IfOk result (λ r. r ≡ coding.residual_of settings.now source.now) }
     ensures written { IfOk result (IsWritten (sequence_for settings.now)) }
-    ensures small { IfOk result AreSmall }
     ensures lossless { IfOk result (λ r. settings.now.index ≡ 0 → rebuilt (sequence_for settings.now) [] (coding.coded_from source.now.number r) ≡ source.now) }
 {
     let y = code_plane(alloc, &source.y, settings)?;
@@ -94,8 +88,7 @@ fn payload_bytes(
 ) -> Result<Vec<u8>, NoMemory>
     requires sequence { IsSequence sequence.now }
     requires written { IsWritten sequence.now residual.now }
-    ensures bits { IfOk result (λ v. bits_of v.items ≡ up_to_byte (with_picture sequence.now (coding.intra_header number) residual.now [])) }
-    ensures starts { (refs : List ThePicture) → IfOk result (λ v. StartsWith (picture 0x0C sequence.now refs) (coding.coded_from number residual.now) v.items) }
+    ensures { IfOk result (λ v. bits_of v.items ≡ up_to_byte (with_picture sequence.now (coding.intra_header number) residual.now [])) }
 {
     let mut w = BitWriter::new(alloc);
     write_picture(alloc, &mut w, sequence, number, residual)?;
@@ -105,7 +98,7 @@ fn payload_bytes(
 }
 
 /// Bytes are below 256.
-fn are_bytes(bytes: &[u8])
+pub(crate) fn are_bytes(bytes: &[u8])
     ensures { AllByRecursion (λ b. b < 2 ^ 8) bytes.now }
 {}
 
@@ -141,9 +134,8 @@ fn code_intra(alloc: Global, source: &Picture, settings: &Settings) -> Result<Co
     requires accepted { IsAccepted settings.now }
     requires source { coding.IsSource settings.now source.now }
     ensures payload { IfOk result (λ c. c.payload.items ≡ payload_of settings.now source.now) }
-    ensures shown { IfOk result (λ c. c.shown ≡ rebuilt (sequence_for settings.now) [] (coding.coded_intra settings.now source.now)) }
     ensures read { (refs : List ThePicture) → IfOk result (λ c. picture_read 0x0C (sequence_for settings.now) refs c.payload.items ≡ Ok (coding.coded_intra settings.now source.now)) }
-    ensures small { IfOk result (λ c. AreSmall (coding.residual_of settings.now source.now)) }
+    ensures shown { IfOk result (λ c. c.shown ≡ rebuilt (sequence_for settings.now) [] (coding.coded_intra settings.now source.now)) }
     ensures lossless { IfOk result (λ c. settings.now.index ≡ 0 → c.shown ≡ source.now) }
 {
     let sequence = sequence_of(settings);

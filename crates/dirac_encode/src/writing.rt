@@ -2,20 +2,21 @@
 
 ghost use Rattle.std.specs.Prelude.{◌≡◌, ◌≤◌, ◌<◌, ◌+◌, ◌^◌, ◌++◌, ◌∷◌, [], length, Ok, Err, OnOk, IfErr, Some};
 ghost use Rattle.std.specs.Io.KnownBytes.{Appends};
+ghost use Rattle.std.specs.List.{AllByRecursion};
 ghost use Rattle.std.specs.Option.{option_to_list};
 ghost use Rattle.dirac_io.specs.Faults.{Rose};
 ghost use Rattle.dirac_io.specs.Writing.{AppendsFront};
 ghost use Rattle.dirac_types.specs.Settings.{IsAccepted};
 ghost use Rattle.dirac_sequence.specs.Written.{sequence_payload};
 ghost use Rattle.dirac_refs.specs.Delivery.{delivered, flushed, key_of};
-ghost use Rattle.dirac_decode.specs.Raw.{raw as raw_of, raws};
+ghost use Rattle.dirac_decode.specs.Raw.{raws};
 ghost use Rattle.dirac_encode.specs.Coded.{IsSource};
 ghost use Rattle.dirac_encode.specs.Raw.{picture_from, raw_length};
 ghost use Rattle.dirac_encode.specs.Steps.{EndsEarly, IsCoded, IsEnded, IsFault, StopsPicture};
 ghost use Rattle.dirac_encode.specs.Stream.{unit};
 
 use crate::answers::Encoded;
-use crate::picture::{Coded, code_picture};
+use crate::picture::{Coded, are_bytes, code_picture};
 use crate::progress::Progress;
 use crate::raw::picture_of;
 use crate::units::{put_end_units, put_unit};
@@ -180,13 +181,14 @@ pub(crate) fn put_next<R: Threads + Sync, K: Sink, N: Sink, G: RowGate>(
     requires bytes { length bytes.now ≡ raw_length settings.now }
     requires few { coding.old.count + 1 < 2 ^ 32 }
     ensures coded { OnOk result (IsCoded settings.now (picture_from settings.now coding.old.count bytes.now) coding.old coding.new (K.taken out.old) (K.taken out.new) (N.taken side.old) (N.taken side.new)) }
-    ensures raw { OnOk result (raw_of (picture_from settings.now coding.old.count bytes.now) ≡ bytes.now) }
+    ensures bytes { AllByRecursion (λ b. b < 2 ^ 8) bytes.now }
     ensures stopped { IfErr result (λ answer. StopsPicture settings.now (picture_from settings.now coding.old.count bytes.now) coding.old answer (K.taken out.old) (K.taken out.new) (N.taken side.old) (N.taken side.new)) }
     ensures write_fault { result ≡ Err Encoded.WriteFault → Rose (K.faults out.old) (K.faults out.new) }
     ensures side_fault { result ≡ Err Encoded.SideFault → Rose (N.faults side.old) (N.faults side.new) }
     ensures writes { K.faults out.old ≤ K.faults out.new }
     ensures sides { N.faults side.old ≤ N.faults side.new }
 {
+    are_bytes(bytes);
     let Ok(source) = picture_of(alloc, settings, coding.count, bytes) else {
         return Err(Encoded::NoMemory);
     };

@@ -1,4 +1,5 @@
-use Rattle.dirac_encode.proofs.Coding.{is_written, picture_again, luma_few, chroma_few}
+use Rattle.dirac_encode.proofs.Coding.{picture_again, luma_few, chroma_few}
+use Rattle.dirac_encode.proofs.Sourced.{made_written}
 use Rattle.dirac_encode.proofs.picture.code_planes.Goals as goal
 
 pub code_plane-requires-clause-across : goal.code_plane-requires-clause-across
@@ -21,8 +22,7 @@ code_plane-requires-3-clause-down c = (chroma_few c.args.settings.now c.args.sou
 
 pub returns-clause-written : goal.returns-clause-written
 returns-clause-written c =
-    is_written c.args.settings.now c.args.source.now _ c.requires.codable c.requires.source c.transform_of.ensures c.in_ok-y.ensures.fits c.in_ok-u.ensures.fits c.in_ok-v.ensures.fits
-    c.in_ok-y.ensures.noughts c.in_ok-u.ensures.noughts c.in_ok-v.ensures.noughts
+    made_written c.args.settings.now c.args.source.now _ _ _ _ c.requires.codable c.requires.source c.transform_of.ensures c.in_ok-y.ensures.value c.in_ok-u.ensures.value c.in_ok-v.ensures.value
 
 pub returns-clause-lossless : goal.returns-clause-lossless
 returns-clause-lossless c none =

@@ -64,7 +64,7 @@ returns-in-Part-clause-recovered g c =
     (part_recovers c.streams_show_their_pictures.ensures.shown c.streams_show_their_pictures.ensures.cut t first c.pictures.coding (g.S.Source.held c.pictures.source) (g.S.Source.held c.fill.new.source)
     (g.K.Sink.taken c.args.out.now) (g.K.Sink.taken c.pictures.out) (g.N.Sink.taken c.args.side.now) (g.N.Sink.taken c.pictures.side)
     c.fill.new.buf c.in-Part.n c.pictures.invariant.so_far (c.in-Part.ensures.part c.in-Part.n refl) (c.in-Part.ensures.end c.in-Part.n refl)
-    (omega (arith, c.in-Part.ensures.short c.in-Part.n refl, c.fill.ensures.size)) (c.fill.ensures.size ∙ c.pictures.invariant.size) c.pictures.invariant.few (most_pictures t c.requires.accepted) c.requires.accepted)
+    (omega (arith, c.in-Part.ensures.short c.in-Part.n refl, c.fill.ensures.size)) (c.fill.ensures.size ∙ c.pictures.invariant.size) c.pictures.invariant.few c.requires.accepted)
 
 pub put_last-requires-then-coding-settings : goal.put_last-requires-then-coding-settings
 put_last-requires-then-coding-settings g c = record { fits = header_fits c.args.settings.now c.args.header.now c.requires.header }
@@ -101,7 +101,7 @@ returns-then-coding-settings-clause-recovered g c =
     (many_recovers c.streams_show_their_pictures.ensures.shown c.streams_show_their_pictures.ensures.cut t first c.pictures.coding (g.S.Source.held c.pictures.source) (g.S.Source.held c.fill.new.source)
     (g.K.Sink.taken c.args.out.now) (g.K.Sink.taken c.pictures.out) (g.N.Sink.taken c.args.side.now) (g.N.Sink.taken c.pictures.side)
     c.fill.new.buf c.pictures.invariant.so_far (c.in-Whole.ensures.whole refl) (c.fill.ensures.size ∙ c.pictures.invariant.size) (raw_some t c.requires.accepted)
-    (omega (arith, c.if-coding-settings.true)) (most_pictures t c.requires.accepted) c.requires.accepted)
+    (omega (arith, c.if-coding-settings.true)) c.requires.accepted)
 
 pub returns-in-Err-put_next-clause-encoded : goal.returns-in-Err-put_next-clause-encoded
 returns-in-Err-put_next-clause-encoded g c =
@@ -118,7 +118,7 @@ pictures-preserved g c =
     record {
       so_far = so_far_more t (g.S.Source.held c.args.source.now) c.pictures.coding c.put_next.new.coding (g.S.Source.held c.pictures.source) (g.S.Source.held c.fill.new.source)
           (g.K.Sink.taken c.args.out.now) (g.K.Sink.taken c.pictures.out) (g.K.Sink.taken c.put_next.new.out) (g.N.Sink.taken c.args.side.now) (g.N.Sink.taken c.pictures.side) (g.N.Sink.taken c.put_next.new.side)
-          c.fill.new.buf c.pictures.invariant.so_far (c.in-Whole.ensures.whole refl) (c.fill.ensures.size ∙ c.pictures.invariant.size) coded c.in_default-put_next.ensures.raw;
+          c.fill.new.buf c.pictures.invariant.so_far (c.in-Whole.ensures.whole refl) (c.fill.ensures.size ∙ c.pictures.invariant.size) coded c.in_default-put_next.ensures.bytes;
       few = omega (arith, coded.count, c.if-coding-settings.false, c.pictures.invariant.few);
       size = c.fill.ensures.size ∙ c.pictures.invariant.size;
       reads = omega (arith, c.pictures.invariant.reads, c.fill.ensures.count);

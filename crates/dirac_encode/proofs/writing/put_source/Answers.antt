@@ -1,4 +1,4 @@
-use Rattle.std.proofs.Common.{◌+◌, ◌<◌, ◌≤◌, ◌^◌, length, refl, arith}
+use Rattle.std.proofs.Common.{◌+◌, ◌≤◌, length, refl, arith}
 use Rattle.dirac_encode.proofs.Accepted.{most_bytes}
 use Rattle.dirac_encode.proofs.Stepping.{header_fits, if_err, on_ok_five, step_coded, step_long, step_stopped}
 use Rattle.dirac_encode.proofs.writing.put_source.Goals as goal
@@ -25,11 +25,10 @@ pub returns-clause-coded : goal.returns-clause-coded
 returns-clause-coded g c =
     let coded = c.in-Ok.coded in
     let short : 13 + length coded.payload.items ≤ c.args.settings.now.unit_bytes = omega (arith, c.if-len-from.false) in
-    let fits : 13 + length coded.payload.items < 2 ^ 32 = omega (arith, short, most_bytes c.args.settings.now c.requires.accepted) in
     on_ok_five c.put_coded.result (λ count previous waiting out side.
     step_coded c.args.settings.now c.args.source.now c.args.coding.now c.put_coded.new.coding c.args.header.now coded.payload.items coded.shown
     (g.K.Sink.taken c.args.out.now) (g.K.Sink.taken c.put_unit.new.out) (g.K.Sink.taken c.put_coded.new.out) (g.N.Sink.taken c.args.side.now) (g.N.Sink.taken c.put_coded.new.side)
-    (record { header_is = c.requires.header; payload_is = c.in-Ok.ensures.payload; shown_is = c.in-Ok.ensures.shown }) c.in-Ok.ensures.read c.in-Ok.ensures.lossless short fits
+    (record { header_is = c.requires.header; payload_is = c.in-Ok.ensures.payload; shown_is = c.in-Ok.ensures.shown }) short
     count previous waiting (c.in-All.ensures.all refl) out side)
     c.put_coded.ensures.count c.put_coded.ensures.previous c.put_coded.ensures.waiting c.put_coded.ensures.out c.put_coded.ensures.side
 
