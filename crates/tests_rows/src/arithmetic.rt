@@ -3,16 +3,21 @@ use dirac_types::{Cause, NoMemory};
 use std::alloc::Global;
 use std::process::Abort;
 
+/// Decides once in context 0, and compares the truth and the probability that is left.
+fn decides<R: Abort>(rt: &R, block: &[u8], truth: bool, probability: u16) {
+    let mut decoder = Decoder::new(block);
+    assert_eq!(rt; decoder.decision(0), Ok(truth));
+    assert_eq!(rt; decoder.context(0), probability);
+}
+
 #[test]
 fn decisions(rt: HostRuntime) {
-    let block = [0xFEu8];
-    let mut decoder = Decoder::new(block.as_slice());
-    assert_eq!(rt; decoder.decision(0), Ok(true));
-    assert_eq!(rt; decoder.context(0), 30833);
-    let block = [0x7Eu8];
-    let mut decoder = Decoder::new(block.as_slice());
-    assert_eq!(rt; decoder.decision(0), Ok(false));
-    assert_eq!(rt; decoder.context(0), 34688);
+    decides(&rt, &[0xFE], true, 30833);
+    decides(&rt, &[0x7E], false, 34688);
+}
+
+#[test]
+fn two_decisions(rt: HostRuntime) {
     let block = [0xBBu8];
     let mut decoder = Decoder::new(block.as_slice());
     assert_eq!(rt; decoder.decision(0), Ok(true));
@@ -55,17 +60,25 @@ fn written<R: Abort>(rt: &R, alloc: Global, decisions: &[(u8, bool)]) -> Result<
     encoder.finish()
 }
 
+/// Writes these decisions, and compares the block.
+fn writes<R: Abort>(
+    rt: &R,
+    alloc: Global,
+    decisions: &[(u8, bool)],
+    block: &[u8],
+) -> Result<(), NoMemory> {
+    let bytes = written(rt, alloc, decisions)?;
+    assert!(rt; bytes.as_slice() == block);
+    Ok(())
+}
+
 #[test]
 fn written_decisions(rt: HostRuntime) -> Result<(), NoMemory> {
     let alloc = rt.alloc();
-    let none: [(u8, bool); 0] = [];
-    assert!(rt; written(&rt, alloc, none.as_slice())?.is_empty());
-    let one = [(0u8, true)];
-    assert!(rt; written(&rt, alloc, one.as_slice())?.as_slice() == [0xFEu8].as_slice());
-    let one = [(0u8, false)];
-    assert!(rt; written(&rt, alloc, one.as_slice())?.as_slice() == [0x7Eu8].as_slice());
-    let two = [(0u8, true), (0, false)];
-    assert!(rt; written(&rt, alloc, two.as_slice())?.as_slice() == [0xBBu8].as_slice());
+    writes(&rt, alloc, &[], &[])?;
+    writes(&rt, alloc, &[(0, true)], &[0xFE])?;
+    writes(&rt, alloc, &[(0, false)], &[0x7E])?;
+    writes(&rt, alloc, &[(0, true), (0, false)], &[0xBB])?;
     let five = [
         (19u8, true),
         (0, false),
@@ -73,6 +86,5 @@ fn written_decisions(rt: HostRuntime) -> Result<(), NoMemory> {
         (4, true),
         (15, false),
     ];
-    assert!(rt; written(&rt, alloc, five.as_slice())?.as_slice() == [0x96u8].as_slice());
-    Ok(())
+    writes(&rt, alloc, five.as_slice(), &[0x96])
 }

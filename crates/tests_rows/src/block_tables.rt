@@ -5,17 +5,35 @@ use dirac_types::{NoMemory, Vector};
 use std::alloc::Global;
 use std::process::Abort;
 
-/// A table of all splits, read from random bytes: each list is a block of 255 of them.
-fn table<R: Abort>(
+/// The block table that these bytes hold.
+fn read_table<R: Abort>(
     rt: &R,
     alloc: Global,
+    bytes: &[u8],
     across: u32,
     down: u32,
     refs: u8,
 ) -> Result<BlockData, NoMemory> {
     assert!(rt; 1 <= across && across <= 8 && 1 <= down && down <= 8 && 1 <= refs && refs <= 2);
+    let mut reader = BitReader::new(bytes);
+    let Ok(table) = read_blocks(alloc, &mut reader, across, down, refs) else {
+        panic!(rt; "bytes that hold no table");
+    };
+    Ok(table)
+}
+
+/// The bytes that hold this table.
+fn written(alloc: Global, table: &BlockData) -> Result<Vec<u8>, NoMemory> {
+    let mut writer = BitWriter::new(alloc);
+    write_blocks(alloc, &mut writer, table)?;
+    writer.align()?;
+    writer.finish()
+}
+
+/// Nine lists of random bytes: each is a block of 255 of them.
+fn random_lists(alloc: Global, seed: u32) -> Result<Vec<u8>, NoMemory> {
     let mut bytes = Vec::new(alloc);
-    let mut seed = across;
+    let mut seed = seed;
     for _list in 0..9 {
         // the length, 255
         bytes.push(0u8)?;
@@ -26,13 +44,14 @@ fn table<R: Abort>(
             bytes.push((seed >> 24) as u8)?;
         }
     }
-    let mut reader = BitReader::new(bytes.as_slice());
-    let Ok(table) = read_blocks(alloc, &mut reader, across, down, refs) else {
-        panic!(rt; "random bytes that carry no table");
-    };
+    Ok(bytes)
+}
+
+/// Whether superblocks of each split are among those of a table.
+fn has_all_splits(table: &BlockData) -> bool {
     let (mut whole, mut quarters, mut sixteenths) = (false, false, false);
-    for sy in 0..down {
-        for sx in 0..across {
+    for sy in 0..table.down() {
+        for sx in 0..table.across() {
             match table.split(sx, sy) {
                 0 => whole = true,
                 1 => quarters = true,
@@ -40,40 +59,47 @@ fn table<R: Abort>(
             }
         }
     }
-    assert!(rt; whole && quarters && sixteenths);
-    Ok(table)
+    whole && quarters && sixteenths
 }
 
-/// Writes a table, reads it back, and compares every split and every block.
-fn comes_back<R: Abort>(rt: &R, alloc: Global, written: &BlockData) -> Result<(), NoMemory> {
-    let (across, down, refs) = (written.across(), written.down(), written.refs());
-    assert!(rt; 1 <= across && across <= 8 && 1 <= down && down <= 8 && 1 <= refs && refs <= 2);
-    let mut writer = BitWriter::new(alloc);
-    write_blocks(alloc, &mut writer, written)?;
-    writer.align()?;
-    let bytes = writer.finish()?;
-    let mut reader = BitReader::new(bytes.as_slice());
-    let Ok(read) = read_blocks(alloc, &mut reader, across, down, refs) else {
-        panic!(rt; "a table that was written");
-    };
-    for sy in 0..down {
-        for sx in 0..across {
-            assert_eq!(rt; read.split(sx, sy), written.split(sx, sy));
+/// Compares every split and every block of two tables.
+fn are_same<R: Abort>(rt: &R, read: &BlockData, table: &BlockData) {
+    assert_eq!(rt; read.across(), table.across());
+    assert_eq!(rt; read.down(), table.down());
+    for sy in 0..table.down() {
+        for sx in 0..table.across() {
+            assert_eq!(rt; read.split(sx, sy), table.split(sx, sy));
         }
     }
-    for j in 0..4 * down {
-        for i in 0..4 * across {
-            assert!(rt; read.at(i, j) == written.at(i, j), "block {i} of row {j}");
+    for j in 0..4 * table.down() {
+        for i in 0..4 * table.across() {
+            assert!(rt; read.at(i, j) == table.at(i, j), "block {i} of row {j}");
         }
     }
+}
+
+/// Reads a table of all splits from random bytes, writes it, and reads it back.
+fn comes_back<R: Abort>(
+    rt: &R,
+    alloc: Global,
+    across: u32,
+    down: u32,
+    refs: u8,
+) -> Result<(), NoMemory> {
+    let random = random_lists(alloc, across)?;
+    let table = read_table(rt, alloc, random.as_slice(), across, down, refs)?;
+    assert!(rt; has_all_splits(&table));
+    let bytes = written(alloc, &table)?;
+    let read = read_table(rt, alloc, bytes.as_slice(), across, down, refs)?;
+    are_same(rt, &read, &table);
     Ok(())
 }
 
 #[test]
 fn tables_written_are_read(rt: HostRuntime) -> Result<(), NoMemory> {
     let alloc = rt.alloc();
-    comes_back(&rt, alloc, &table(&rt, alloc, 5, 4, 1)?)?;
-    comes_back(&rt, alloc, &table(&rt, alloc, 4, 7, 2)?)
+    comes_back(&rt, alloc, 5, 4, 1)?;
+    comes_back(&rt, alloc, 4, 7, 2)
 }
 
 // One superblock that isn't split, all of it from reference 1 with the vector 0.
@@ -81,13 +107,9 @@ const STILL: [u8; 11] = [
     0x20, 0xFE, 0x20, 0xFE, 0x20, 0xFE, 0x20, 0xFE, 0x80, 0x80, 0x80,
 ];
 
-#[test]
-fn still_block_table(rt: HostRuntime) -> Result<(), NoMemory> {
-    let alloc = rt.alloc();
-    let mut reader = BitReader::new(STILL.as_slice());
-    let Ok(table) = read_blocks(alloc, &mut reader, 1, 1, 1) else {
-        panic!(rt; "a block table");
-    };
+/// All blocks are that one.
+fn is_still<R: Abort>(rt: &R, table: &BlockData) {
+    assert!(rt; table.across() == 1 && table.down() == 1);
     assert_eq!(rt; table.split(0, 0), 0);
     let still = Block {
         ref1: true,
@@ -103,14 +125,16 @@ fn still_block_table(rt: HostRuntime) -> Result<(), NoMemory> {
             assert!(rt; table.at(i, j) == still);
         }
     }
+}
+
+#[test]
+fn still_block_table(rt: HostRuntime) -> Result<(), NoMemory> {
+    let alloc = rt.alloc();
+    let table = read_table(&rt, alloc, STILL.as_slice(), 1, 1, 1)?;
+    is_still(&rt, &table);
     let copy = table.try_copy(alloc)?;
-    for n in 0..4u32 {
-        assert!(rt; copy.at(n, 3 - n) == still);
-    }
-    let mut writer = BitWriter::new(alloc);
-    write_blocks(alloc, &mut writer, &copy)?;
-    writer.align()?;
-    assert!(rt; writer.finish()?.as_slice() == STILL.as_slice());
+    is_still(&rt, &copy);
+    assert!(rt; written(alloc, &copy)?.as_slice() == STILL.as_slice());
     Ok(())
 }
 

@@ -41,20 +41,53 @@ fn upconverted<R: Abort>(rt: &R, alloc: Global, plane: &Plane) -> Result<UpPlane
     upconvert(alloc, plane)
 }
 
+/// Compares the values at positions of the half samples of a plane: precision, column, row and value.
+fn shows<R: Abort>(
+    rt: &R,
+    alloc: Global,
+    size: (u32, u32),
+    samples: &[i16],
+    rows: &[(u8, i64, i64, i16)],
+) -> Result<(), NoMemory> {
+    let (width, height) = size;
+    let up = upconverted(rt, alloc, &plane(rt, alloc, width, height, samples)?)?;
+    for (precision, x, y, wanted) in rows {
+        assert!(rt; *precision <= 3 && -1000 < *x && *x < 1000 && -1000 < *y && *y < 1000);
+        assert_eq!(rt;
+            up.at(*precision, *x, *y),
+            *wanted,
+            "precision {precision} at {x}, {y}"
+        );
+    }
+    Ok(())
+}
+
 #[test]
 fn rows_of_samples(rt: HostRuntime) -> Result<(), NoMemory> {
     let alloc = rt.alloc();
-    let row = plane(&rt, alloc, 2, 1, [0i16, 32].as_slice())?;
-    assert_eq!(rt; row.clamped(-3, 9), 0);
-    let up = upconverted(&rt, alloc, &row)?;
-    assert!(rt; up.at(1, 0, 0) == 0 && up.at(1, 1, 0) == 16 && up.at(1, 2, 0) == 32);
-    assert_eq!(rt; up.at(2, 1, 0), 8);
-    let row = plane(&rt, alloc, 2, 1, [-128i16, 127].as_slice())?;
-    let up = upconverted(&rt, alloc, &row)?;
-    assert!(rt; up.at(1, 0, 0) == -128 && up.at(1, 1, 0) == 0 && up.at(1, 2, 0) == 127);
+    let rows = [
+        (1u8, 0i64, 0i64, 0i16),
+        (1, 1, 0, 16),
+        (1, 2, 0, 32),
+        (2, 1, 0, 8),
+    ];
+    shows(&rt, alloc, (2, 1), &[0, 32], rows.as_slice())?;
+    let rows = [(1u8, 0i64, 0i64, -128i16), (1, 1, 0, 0), (1, 2, 0, 127)];
+    shows(&rt, alloc, (2, 1), &[-128, 127], rows.as_slice())?;
     // the middle half sample is 207 before it is clipped
-    let row = plane(&rt, alloc, 4, 1, [-128i16, 127, 127, -128].as_slice())?;
-    assert_eq!(rt; upconverted(&rt, alloc, &row)?.at(1, 3, 0), 127);
+    shows(
+        &rt,
+        alloc,
+        (4, 1),
+        &[-128, 127, 127, -128],
+        &[(1, 3, 0, 127)],
+    )
+}
+
+#[test]
+fn samples_past_the_edges(rt: HostRuntime) -> Result<(), NoMemory> {
+    let row = plane(&rt, rt.alloc(), 2, 1, &[0, 32])?;
+    assert_eq!(rt; row.clamped(-3, 9), 0);
     Ok(())
 }
 
@@ -62,10 +95,7 @@ fn rows_of_samples(rt: HostRuntime) -> Result<(), NoMemory> {
 fn positions_of_three_by_two(rt: HostRuntime) -> Result<(), NoMemory> {
     let alloc = rt.alloc();
     // columns first would give 1
-    let square = plane(&rt, alloc, 2, 2, [1i16, -1, 2, 2].as_slice())?;
-    assert_eq!(rt; upconverted(&rt, alloc, &square)?.at(1, 1, 1), 2);
-    let table = plane(&rt, alloc, 3, 2, [10i16, -20, 30, 40, -50, 60].as_slice())?;
-    let up = upconverted(&rt, alloc, &table)?;
+    shows(&rt, alloc, (2, 2), &[1, -1, 2, 2], &[(1, 1, 1, 2)])?;
     let rows = [
         (0u8, -1i64, 5i64, 40i16),
         (1, 1, 1, -17),
@@ -78,13 +108,11 @@ fn positions_of_three_by_two(rt: HostRuntime) -> Result<(), NoMemory> {
         (3, 6, 5, -28),
         (3, 17, 100, 60),
     ];
-    for (precision, x, y, wanted) in rows {
-        assert!(rt; precision <= 3 && -1000 < x && x < 1000 && -1000 < y && y < 1000);
-        assert_eq!(rt;
-            up.at(precision, x, y),
-            wanted,
-            "precision {precision} at {x}, {y}"
-        );
-    }
-    Ok(())
+    shows(
+        &rt,
+        alloc,
+        (3, 2),
+        &[10, -20, 30, 40, -50, 60],
+        rows.as_slice(),
+    )
 }

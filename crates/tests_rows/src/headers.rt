@@ -5,7 +5,7 @@ use dirac_types::{Band, BlockGrid, Cause, Chroma, NoMemory, Refusal, Stop};
 use std::alloc::Global;
 
 #[test]
-fn written_bits(rt: HostRuntime) -> Result<(), NoMemory> {
+fn the_largest_number_written(rt: HostRuntime) -> Result<(), NoMemory> {
     let mut writer = BitWriter::new(rt.alloc());
     writer.uint(549_755_813_886)?;
     writer.align()?;
@@ -13,6 +13,11 @@ fn written_bits(rt: HostRuntime) -> Result<(), NoMemory> {
         writer.finish()?.as_slice()
             == [0x55u8, 0x55, 0x55, 0x55, 0x55, 0x55, 0x55, 0x55, 0x55, 0x58].as_slice()
     );
+    Ok(())
+}
+
+#[test]
+fn numbers_and_flags_written(rt: HostRuntime) -> Result<(), NoMemory> {
     // versions 2 and 2, profile 0, level 0, base 2, no custom flag, frames
     let mut writer = BitWriter::new(rt.alloc());
     for number in [2u64, 2, 0, 0, 2] {
@@ -25,6 +30,11 @@ fn written_bits(rt: HostRuntime) -> Result<(), NoMemory> {
     writer.sint(0)?;
     writer.align()?;
     assert!(rt; writer.finish()?.as_slice() == [0x6Fu8, 0x60, 0x10].as_slice());
+    Ok(())
+}
+
+#[test]
+fn a_literal_and_a_block_written(rt: HostRuntime) -> Result<(), NoMemory> {
     let mut writer = BitWriter::new(rt.alloc());
     writer.sint(-1)?;
     writer.align()?;
@@ -45,7 +55,7 @@ fn prediction_parameters_written(rt: HostRuntime) -> Result<(), NoMemory> {
 }
 
 #[test]
-fn picture_headers(rt: HostRuntime) {
+fn an_intra_header(rt: HostRuntime) {
     let bytes = [0u8, 0, 0, 0, 0x80];
     let mut reader = BitReader::new(bytes.as_slice());
     let Ok(header) = read_header(&mut reader, 0x0C) else {
@@ -53,8 +63,12 @@ fn picture_headers(rt: HostRuntime) {
     };
     assert_eq!(rt; header.number, 0);
     assert_eq!(rt; header.retire, None);
-    // one reference: number 1, the picture before it, none retired; then block sizes 2, precision 2, default weights
-    let bytes = [0u8, 0, 0, 1, 0x38, 0x6D, 0x00];
+}
+
+#[test]
+fn an_inter_header(rt: HostRuntime) {
+    // one reference: number 1, the picture before it, none retired
+    let bytes = [0u8, 0, 0, 1, 0x38];
     let mut reader = BitReader::new(bytes.as_slice());
     let Ok(header) = read_header(&mut reader, 0x0D) else {
         panic!(rt; "an inter reference header");
@@ -63,6 +77,13 @@ fn picture_headers(rt: HostRuntime) {
     assert_eq!(rt; header.ref1, Some(0));
     assert_eq!(rt; header.ref2, None);
     assert_eq!(rt; header.retire, None);
+}
+
+#[test]
+fn prediction_parameters(rt: HostRuntime) {
+    // block sizes 2, precision 2, default weights
+    let bytes = [0x6Du8, 0x00];
+    let mut reader = BitReader::new(bytes.as_slice());
     let Ok(prediction) = read_prediction(&mut reader, 0x0D, Chroma::C420) else {
         panic!(rt; "prediction parameters");
     };
