@@ -16,7 +16,7 @@ unfoldable pub grown : ℕ → ℕ
 grown zero = 128
 grown (suc levels) = 128 * grown levels + 32
 
--- a table that can be analysed so often
+-- a table with all its values that can be analysed so often: its sizes are multiples of 2 ^ depth
 pub record IsDivisible (depth : ℕ) (t : Table) : Type 0 where
   pub across : ℕ
   pub down : ℕ

@@ -19,7 +19,7 @@ use Rattle.dirac_analysis.specs.Fits.{AreSamples}
 use Rattle.dirac_encode.specs.Coded.{IsSource}
 use Rattle.dirac_encode.specs.Encoding.{IsRecovered, first_long, is_short}
 use Rattle.dirac_encode.specs.Raw.{chroma_bytes, luma_bytes, picture_from, pictures_in, raw_length, sample_of, sources, whole_pictures}
-use Rattle.dirac_encode.specs.Sources.{IsWhole, RawPicturesAreRecovered, SourcesAreShown}
+use Rattle.dirac_encode.specs.Sources.{IsWhole, RawPicturesAreRecovered, SourcesShowReconstructions}
 use Rattle.dirac_encode.specs.Stream.{AreNumbered, IsRead, StreamsAreCut, StreamsShowTheirPictures, picture_length, reconstructions, stream_of, stream_units}
 use Rattle.dirac_encode.specs.Writable.{IsCodable}
 use Rattle.dirac_encode.proofs.Accepted.{most_pictures}
@@ -39,7 +39,7 @@ each_read t n [] accepted numbered few each short = tt
 each_read t n (p ∷ ps) accepted numbered few each short =
     (short_read t p accepted each.0 (small_number n (length (p ∷ ps)) p numbered.0 few) short.0, each_read t (n + 1) ps accepted numbered.1 (omega arith) each.1 short.1)
 
-pub sources_shown : StreamsShowTheirPictures → SourcesAreShown
+pub sources_shown : StreamsShowTheirPictures → SourcesShowReconstructions
 sources_shown law t pictures is =
     law t pictures (record {
       accepted = is.accepted;

@@ -55,7 +55,7 @@ behind n = if n == 0 then encoded.Done else encoded.PartialPicture n
 abbrev pub ending : Settings → List ℕ → Encoded
 ending t bytes = if nat_le (whole_pictures t bytes) t.pictures then behind (left_over t bytes) else encoded.TooManyPictures
 
--- the encoding of these pictures, where this is the answer behind a whole stream: before the first picture whose unit is too long, if there is one, it stops, and what waits for delivery is lost
+-- the encoding of these pictures, where this is the answer behind a whole stream: where the unit of a picture is too long, the encoding stops before the first such picture, and what waits for delivery is lost
 abbrev pub encoding_by : Settings → Encoded → List Picture → Option Picture → Encoding
 encoding_by t answer pictures None = record { answer = answer; stream = stream_of t pictures; shown = reconstructions t pictures }
 encoding_by t answer pictures (Some p) = record {
@@ -90,13 +90,13 @@ EndsStream (encoded.PartialPicture n) = ⊤
 EndsStream encoded.TooManyPictures = ⊤
 EndsStream answer = ⊥
 
--- the stream of these bytes' pictures is cut into its units, has no fault and shows their reconstructions; with quantiser index 0 these are the pictures themselves, and their raw bytes are those that were read
+-- the stream of these bytes' pictures is cut into its units, has no fault and shows their reconstructions; with quantiser index 0 these are the pictures themselves; the raw bytes of the pictures are the first of these bytes
 pub record IsRecovered (t : Settings) (bytes : List ℕ) : Type 0 where
   pub cut : IsCut start (stream_of t (sources t bytes)) (stream_units t (sources t bytes)) None
   pub shows : (o : Outcome) × IsShown (stream_of t (sources t bytes)) o × (o.shown ≡ reconstructions t (sources t bytes)) × (o.end ≡ None)
   pub lossless : t.index ≡ 0 → reconstructions t (sources t bytes) ≡ sources t bytes
   pub raw : raws (sources t bytes) ≡ take (length (sources t bytes) * raw_length t) bytes
 
--- pictures of rising numbers are delivered in their order
+-- fewer than 2^31 pictures, numbered one after another from 0, are delivered in that order
 abbrev pub PicturesLeaveInOrder : Type 0
 PicturesLeaveInOrder = (t : Settings) (pictures : List Picture) → AreNumbered 0 pictures → length pictures < 2 ^ 31 → flush (pushed t pictures) ≡ reconstructions t pictures

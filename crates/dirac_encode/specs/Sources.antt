@@ -20,17 +20,17 @@ pub record IsWhole (p : Picture) : Type 0 where
   pub u : length p.u.values ≡ p.u.width * p.u.height
   pub v : length p.v.values ≡ p.v.width * p.v.height
 
--- what is known of a source: its payload is read as it was coded, whatever was coded before; its coefficients stay below
--- 2^38; and at index 0 it is shown again
+-- a source's payload is read as it was coded, whatever was coded before; its coefficients stay small; and at index 0 it is shown again
 pub record ComesBack (t : Settings) (p : Picture) : Type 0 where
   pub read : (refs : List Picture) → picture_read 0x0C (sequence_of t) refs (payload_of t p) ≡ Ok (coded_intra t p)
   pub small : AreSmall (residual_of t p)
-  pub lossless : t.index ≡ 0 → shown_of t p ≡ p
+  pub lossless : IsWhole p → t.index ≡ 0 → shown_of t p ≡ p
 
+-- each source of accepted settings comes back
 abbrev pub SourcesComeBack : Type 0
-SourcesComeBack = (t : Settings) (p : Picture) → IsAccepted t → IsSource t p → IsWhole p → p.number < 2 ^ 32 → ComesBack t p
+SourcesComeBack = (t : Settings) (p : Picture) → IsAccepted t → IsSource t p → p.number < 2 ^ 32 → ComesBack t p
 
--- sources that are numbered from 0, whose units have lengths that their offsets can hold
+-- fewer than 2^31 sources of accepted settings, numbered from 0, whose units have lengths that their offsets can hold
 pub record AreSources (t : Settings) (pictures : List Picture) : Type 0 where
   pub accepted : IsAccepted t
   pub numbered : AreNumbered 0 pictures
@@ -39,13 +39,12 @@ pub record AreSources (t : Settings) (pictures : List Picture) : Type 0 where
   pub short : AllByRecursion (λ p. picture_length t p < 2 ^ 32) pictures
 
 -- their stream has no fault, and shows their reconstructions in order
-abbrev pub SourcesAreShown : Type 0
-SourcesAreShown =
+abbrev pub SourcesShowReconstructions : Type 0
+SourcesShowReconstructions =
     (t : Settings) (pictures : List Picture) → AreSources t pictures
     → (o : Outcome) × IsShown (stream_of t pictures) o × (o.shown ≡ reconstructions t pictures) × (o.end ≡ None)
 
--- the stream of raw pictures is cut into just its units, has no fault and shows their reconstructions, and at index 0 the
--- pictures themselves, where no unit is longer than the settings allow
+-- raw pictures are recovered from their stream where no unit is longer than the settings allow
 abbrev pub RawPicturesAreRecovered : Type 0
 RawPicturesAreRecovered =
     (t : Settings) (bytes : List ℕ) → IsAccepted t → AllByRecursion (λ b. b < 2 ^ 8) bytes → first_long t (sources t bytes) ≡ None → IsRecovered t bytes

@@ -1,4 +1,4 @@
--- One picture of a stream, and its end.
+-- One picture of a stream, and the end of a stream.
 use Rattle.std.specs.Prelude.{◌≡◌, ℕ, ◌+◌, ◌==◌, if◌then◌else◌, true, false, List, [], ◌∷◌, ◌++◌, length, Option, ⊤, ◌⊎◌}
 use Rattle.std.specs.Io.KnownBytes.{Appends, Keeps}
 use Rattle.dirac_io.specs.Writing.{AppendsFront}

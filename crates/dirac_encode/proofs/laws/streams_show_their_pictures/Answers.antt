@@ -19,9 +19,9 @@ pub returns-clause-shown : goal.returns-clause-shown
 returns-clause-shown c = streams_shown c.infos_are_read_as_written.ensures
 
 pub returns-clause-sources : goal.returns-clause-sources
-returns-clause-sources c t p accepted source whole small =
+returns-clause-sources c t p accepted source small =
     let codes = codable t accepted in
-    record { read = λ refs. source_read t p refs codes source small; small = source_small t p codes source; lossless = source_kept t p codes source whole }
+    record { read = λ refs. source_read t p refs codes source small; small = source_small t p codes source; lossless = source_kept t p codes source }
 
 pub returns-clause-sources_shown : goal.returns-clause-sources_shown
 returns-clause-sources_shown c = sources_shown (streams_shown c.infos_are_read_as_written.ensures)
