@@ -1,6 +1,7 @@
 -- Sources over readers and sinks over writers, as their contracts see them.
 use Rattle.std.specs.Prelude.{ℕ, ◌-◌, ◌^◌, ◌<◌}
-use Rattle.std.proofs.Common.{arith}
+use Rattle.std.proofs.Common.{lit<}
+use Rattle.std.proofs.Math.Nat.{lt_of_le_of_lt, sub-le}
 
 -- a reader, how many bytes it gave and how often it failed
 pub record Reads (R : Type 0) : Type 0 where
@@ -19,4 +20,4 @@ left_after given = 2 ^ 63 - 1 - given
 
 -- it is one
 pub left_after_fits : (given : ℕ) → left_after given < 2 ^ 63
-left_after_fits given = omega arith
+left_after_fits given = lt_of_le_of_lt (sub-le (2 ^ 63 - 1) given) (lit< tt)

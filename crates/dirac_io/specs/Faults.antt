@@ -1,6 +1,7 @@
 -- Counts of faults.
 use Rattle.std.specs.Prelude.{ℕ, ◌+◌, ◌-◌, ◌^◌, ◌≤◌, ◌<◌, min}
-use Rattle.std.proofs.Common.{arith}
+use Rattle.std.proofs.Common.{lit<}
+use Rattle.std.proofs.Math.Nat.{lt_of_le_of_lt, min-le_right}
 
 -- a count rose; one that stands at its last value counts as risen
 abbrev pub Rose : ℕ → ℕ → Type 0
@@ -16,4 +17,4 @@ clipped count = min count (2 ^ 64 - 1)
 
 -- it fits
 pub clipped_fits : (count : ℕ) → clipped count < 2 ^ 64
-clipped_fits count = omega arith
+clipped_fits count = lt_of_le_of_lt (min-le_right count (2 ^ 64 - 1)) (lit< tt)

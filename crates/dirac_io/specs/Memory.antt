@@ -1,6 +1,7 @@
 -- A source and a sink in memory, as their contracts see them.
 use Rattle.std.specs.Prelude.{◌≡◌, ℕ, ◌-◌, ◌^◌, ◌<◌, ◌==◌, Bool, true, false, List, [], ◌++◌, length, take, drop, min, if◌then◌else◌}
-use Rattle.std.proofs.Common.{arith}
+use Rattle.std.proofs.Common.{lit<}
+use Rattle.std.proofs.Math.Nat.{lt_of_le_of_lt, min-le_right}
 use Rattle.dirac_io.specs.Calls.{Calls, fails, called}
 use Rattle.dirac_io.specs.declared.source.Got.{Got}
 use Rattle.dirac_io.specs.declared.source.Got.TheVariants as got
@@ -38,7 +39,7 @@ left_of bytes = min (length bytes) (2 ^ 63 - 1)
 
 -- it is one
 pub left_of_fits : (bytes : List ℕ) → left_of bytes < 2 ^ 63
-left_of_fits bytes = omega arith
+left_of_fits bytes = lt_of_le_of_lt (min-le_right (length bytes) (2 ^ 63 - 1)) (lit< tt)
 
 -- a sink in memory: the bytes it took, the most that a write takes, and its calls
 pub record Store : Type 0 where
