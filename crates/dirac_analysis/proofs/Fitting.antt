@@ -19,7 +19,7 @@ use Rattle.dirac_coeffs.specs.declared.spot.CodedBand.{CodedBand}
 use Rattle.dirac_coeffs.specs.Written.{is_zero_band}
 use Rattle.dirac_lift.specs.Level.{analysed}
 use Rattle.dirac_analysis.specs.Analysis.{coded, coded_bands, differences, padded, reduced_values}
-use Rattle.dirac_analysis.specs.Fits.{AreCoded, AreSamples, IsCoded, IsDivisible, grown}
+use Rattle.dirac_analysis.specs.Fits.{AreLevelBands, AreSamples, IsLevelBand, IsDivisible, grown}
 use Rattle.dirac_analysis.specs.Laws.{PlanesFit}
 use Rattle.dirac_analysis.proofs.OneLevel.{length-filled, level_grows, low_divisible, padded_divisible}
 use Rattle.dirac_analysis.proofs.Undone.{differences_sum, front_get}
@@ -85,9 +85,9 @@ band_under b right below t band few is all = all_under b (2 ^ 38) band.values fe
 
 -- what is asked of band n
 Asked : ℕ → ℕ → ℕ → CodedBand → Type 0
-Asked across down n b = IsCoded (across * 2 ^ ((n - 1) / 3)) (down * 2 ^ ((n - 1) / 3)) b
+Asked across down n b = IsLevelBand (across * 2 ^ ((n - 1) / 3)) (down * 2 ^ ((n - 1) / 3)) b
 
-asked_here : (across down level n : ℕ) (b : CodedBand) (w h : ℕ) → (n - 1) / 3 ≡ level → w ≡ across * 2 ^ level → h ≡ down * 2 ^ level → IsCoded w h b → Asked across down n b
+asked_here : (across down level n : ℕ) (b : CodedBand) (w h : ℕ) → (n - 1) / 3 ≡ level → w ≡ across * 2 ^ level → h ≡ down * 2 ^ level → IsLevelBand w h b → Asked across down n b
 unfolding Asked
 asked_here across down level n b w h at ew eh fits =
     rw (at, ← ew, ← eh) fits
@@ -96,7 +96,7 @@ found_single : (b x : CodedBand) (n : ℕ) → slice_get (b ∷ []) n ≡ Some x
 found_single b x zero is = (refl, cc)
 found_single b x (suc n) is = absurd (omega (arith, slice_get_within {A = CodedBand} [] n x is))
 
-one_coded : (across down : ℕ) (b : CodedBand) (w h : ℕ) → w ≡ across * 2 ^ 0 → h ≡ down * 2 ^ 0 → IsCoded w h b → AreCoded across down 0 (b ∷ [])
+one_coded : (across down : ℕ) (b : CodedBand) (w h : ℕ) → w ≡ across * 2 ^ 0 → h ≡ down * 2 ^ 0 → IsLevelBand w h b → AreLevelBands across down 0 (b ∷ [])
 unfolding Asked
 one_coded across down b w h ew eh fits = record {
   count = refl;
@@ -122,7 +122,7 @@ found_three (y ∷ xs) h l d x zero P is past ph pl pd = absurd (omega arith)
 found_three (y ∷ xs) h l d x (suc n) P is past ph pl pd = found_three xs h l d x n P is (omega arith) ph pl pd
 
 more_coded : (across down depth : ℕ) (xs : List CodedBand) (h l d : CodedBand) (w v : ℕ) → w ≡ across * 2 ^ depth → v ≡ down * 2 ^ depth
-    → AreCoded across down depth xs → IsCoded w v h → IsCoded w v l → IsCoded w v d → AreCoded across down (suc depth) (xs ++ h ∷ l ∷ d ∷ [])
+    → AreLevelBands across down depth xs → IsLevelBand w v h → IsLevelBand w v l → IsLevelBand w v d → AreLevelBands across down (suc depth) (xs ++ h ∷ l ∷ d ∷ [])
 unfolding Asked
 more_coded across down depth xs h l d w v ew eh fits fh fl fd =
     let three : List CodedBand = h ∷ l ∷ d ∷ [] in
@@ -133,7 +133,7 @@ more_coded across down depth xs h l d w v ew eh fits fh fl fd =
         | inr behind ↦
             let within : n < length (xs ++ three) = slice_get_within (xs ++ three) n x there in
             let level : (n - 1) / 3 ≡ depth = omega (arith, fits.count, within, behind, length-append xs three) in
-            let here : (b : CodedBand) → IsCoded w v b → Asked across down n b = λ b. asked_here across down depth n b w v level ew eh in
+            let here : (b : CodedBand) → IsLevelBand w v b → Asked across down n b = λ b. asked_here across down depth n b w v level ew eh in
             found_three xs h l d x n (Asked across down n) there behind (here h fh) (here l fl) (here d fd)
       ];
     }
@@ -172,7 +172,7 @@ index_most true index few = omega arith
 index_most false index few = few
 
 -- a table that is coded
-coded_fits : (index : ℕ) (t : Table) → index ≤ 99 → length t.values ≡ t.width * t.height → All (λ v. unsigned_abs v < 2 ^ 38) t.values → IsCoded t.width t.height (coded index t)
+coded_fits : (index : ℕ) (t : Table) → index ≤ 99 → length t.values ≡ t.width * t.height → All (λ v. unsigned_abs v < 2 ^ 38) t.values → IsLevelBand t.width t.height (coded index t)
 coded_fits index t few len small = record {
   index = index_most (is_zero_band (reduced_values index t)) index few;
   across = refl;
@@ -197,7 +197,7 @@ differences_small b t len all =
           differences_bound b t.width t.values (differences t).values 0 all_from (omega (arith, some)) all
     ]
 
-lowest_coded : (t : Table) → length t.values ≡ t.width * t.height → All (λ v. unsigned_abs v ≤ 2 ^ 36) t.values → IsCoded t.width t.height (coded 0 (differences t))
+lowest_coded : (t : Table) → length t.values ≡ t.width * t.height → All (λ v. unsigned_abs v ≤ 2 ^ 36) t.values → IsLevelBand t.width t.height (coded 0 (differences t))
 lowest_coded t len small =
     coded_fits 0 (differences t) (omega arith) (sym (differences_sum t len).len ∙ len)
     (all_under (2 * 2 ^ 36) (2 ^ 38) (differences t).values (omega arith) (differences_small (2 ^ 36) t len small))
@@ -220,13 +220,13 @@ low_ready wavelet depth n t low l next few is_low across down is all =
     rw is_low (omega arith, (omega arith, (low_divisible wavelet n t whole, small)))
 
 -- a band of HL, LH or HH
-high_coded : (wavelet index depth right below : ℕ) (t : Table) → wavelet ≤ 6 → index ≤ 99 → IsDivisible (suc depth) t → All (λ v. unsigned_abs v ≤ 2 ^ 29) t.values → IsCoded (t.width / 2) (t.height / 2) (coded index (band_of (analysed wavelet t) right below))
+high_coded : (wavelet index depth right below : ℕ) (t : Table) → wavelet ≤ 6 → index ≤ 99 → IsDivisible (suc depth) t → All (λ v. unsigned_abs v ≤ 2 ^ 29) t.values → IsLevelBand (t.width / 2) (t.height / 2) (coded index (band_of (analysed wavelet t) right below))
 high_coded wavelet index depth right below t l few is small =
     let grows : All (λ v. unsigned_abs v ≤ 128 * 2 ^ 29 + 32) (analysed wavelet t).values = level_grows wavelet (2 ^ 29) depth t l is small in
     coded_fits index (band_of (analysed wavelet t) right below) few (length-filled (t.width / 2) (t.height / 2) (λ x y. table_at (analysed wavelet t) (2 * x + right) (2 * y + below)))
     (band_under (128 * 2 ^ 29 + 32) right below (analysed wavelet t) (band_of (analysed wavelet t) right below) (omega arith) refl grows)
 
-bands_coded : (wavelet index n depth : ℕ) (t : Table) → wavelet ≤ 6 → index ≤ 99 → n + depth ≤ 4 → (is : IsDivisible depth t) → All (λ v. unsigned_abs v ≤ grown n) t.values → AreCoded is.across is.down depth (coded_bands wavelet index t depth)
+bands_coded : (wavelet index n depth : ℕ) (t : Table) → wavelet ≤ 6 → index ≤ 99 → n + depth ≤ 4 → (is : IsDivisible depth t) → All (λ v. unsigned_abs v ≤ grown n) t.values → AreLevelBands is.across is.down depth (coded_bands wavelet index t depth)
 unfolding coded_bands
 bands_coded wavelet index n zero t l few levels is all =
     one_coded is.across is.down (coded 0 (differences t)) t.width t.height is.width is.height (lowest_coded t is.len (small_lowest n t.values (omega arith) all))

@@ -25,7 +25,7 @@ pub record IsDivisible (depth : ℕ) (t : Table) : Type 0 where
   pub len : length t.values ≡ t.width * t.height
 
 -- a coded band of these sizes
-pub record IsCoded (width height : ℕ) (b : CodedBand) : Type 0 where
+pub record IsLevelBand (width height : ℕ) (b : CodedBand) : Type 0 where
   pub index : b.index ≤ 99
   pub across : b.table.width ≡ width
   pub down : b.table.height ≡ height
@@ -34,6 +34,6 @@ pub record IsCoded (width height : ℕ) (b : CodedBand) : Type 0 where
   pub zeros : is_zero_band b.table.values ≡ true → b.index ≡ 0
 
 -- the bands of an analysis whose LL band has these sizes: those of a level are twice those of the level below
-pub record AreCoded (across down depth : ℕ) (bands : List CodedBand) : Type 0 where
+pub record AreLevelBands (across down depth : ℕ) (bands : List CodedBand) : Type 0 where
   pub count : length bands ≡ 3 * depth + 1
-  pub each : (n : ℕ) (b : CodedBand) → slice_get bands n ≡ Some b → IsCoded (across * 2 ^ ((n - 1) / 3)) (down * 2 ^ ((n - 1) / 3)) b
+  pub each : (n : ℕ) (b : CodedBand) → slice_get bands n ≡ Some b → IsLevelBand (across * 2 ^ ((n - 1) / 3)) (down * 2 ^ ((n - 1) / 3)) b

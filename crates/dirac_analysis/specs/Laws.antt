@@ -5,13 +5,13 @@ use Rattle.dirac_types.specs.Table.{Table}
 use Rattle.dirac_bands.specs.Geometry.{lowest_size}
 use Rattle.dirac_residual.specs.Residual.{residual}
 use Rattle.dirac_analysis.specs.Analysis.{plane_bands}
-use Rattle.dirac_analysis.specs.Fits.{AreCoded, AreSamples}
+use Rattle.dirac_analysis.specs.Fits.{AreLevelBands, AreSamples}
 
 -- the bands of a plane of samples have the sizes of their levels, and their coefficients stay below 2^38
 abbrev pub PlanesFit : Type 0
 PlanesFit =
     (wavelet depth index : ℕ) (t : Table) → wavelet ≤ 6 → depth ≤ 4 → index ≤ 99 → AreSamples t.values
-    → AreCoded (lowest_size t.width depth) (lowest_size t.height depth) depth (plane_bands wavelet depth index t)
+    → AreLevelBands (lowest_size t.width depth) (lowest_size t.height depth) depth (plane_bands wavelet depth index t)
 
 -- at index 0 nothing is lost
 abbrev pub PlanesAreKept : Type 0

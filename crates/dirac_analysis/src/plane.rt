@@ -3,7 +3,7 @@ ghost use Rattle.dirac_types.specs.declared.formats.Kind.TheVariants.{Intra};
 ghost use Rattle.dirac_bands.specs.Geometry.{lowest_size};
 ghost use Rattle.dirac_residual.specs.Residual.{residual};
 ghost use Rattle.dirac_analysis.specs.Analysis.{plane_bands};
-ghost use Rattle.dirac_analysis.specs.Fits.{AreCoded, AreSamples};
+ghost use Rattle.dirac_analysis.specs.Fits.{AreLevelBands, AreSamples};
 
 use crate::levels::code_levels;
 use crate::padding::pad;
@@ -28,7 +28,7 @@ pub fn analyse_plane(
     requires samples { AreSamples plane.now.values }
     ensures value { IfOk result (λ b. b ≡ plane_bands wavelet depth index plane.now) }
     // Each band has the sizes of its level, and its coefficients stay below 2^38.
-    ensures fits { IfOk result (AreCoded (lowest_size plane.now.width depth) (lowest_size plane.now.height depth) depth) }
+    ensures fits { IfOk result (AreLevelBands (lowest_size plane.now.width depth) (lowest_size plane.now.height depth) depth) }
     // At index 0 nothing is lost.
     ensures lossless { IfOk result (λ b. index ≡ 0 → residual wavelet depth Intra b plane.now.width plane.now.height ≡ plane.now) }
 {

@@ -10,7 +10,7 @@ use Rattle.dirac_picture.specs.Bands.{spot_of}
 use Rattle.dirac_picture.specs.Fits.{AreBandsOf}
 use Rattle.dirac_residual.specs.Residual.{clip, clipped}
 use Rattle.dirac_residual.proofs.Sizes.{lowest_length, level_length}
-use Rattle.dirac_analysis.specs.Fits.{AreCoded, AreSamples, lowest_size}
+use Rattle.dirac_analysis.specs.Fits.{AreLevelBands, AreSamples, lowest_size}
 use Rattle.dirac_sequence.proofs.Accepted.{writable}
 use Rattle.dirac_types.specs.declared.formats.Kind.TheVariants.{Intra}
 use Rattle.dirac_types.specs.declared.picture.Picture.{Picture}
@@ -31,7 +31,7 @@ band_sizes : (size depth n : ℕ) → 1 ≤ depth → n ≤ 3 * depth → band_l
 band_sizes size depth zero some few = lowest_length size depth ∙ omega arith
 band_sizes size depth (suc n) some few = level_length size depth ((suc n - 1) / 3) (suc n) (omega arith) (omega arith) (omega arith)
 
-pub bands_fit : (t : Settings) (width height : ℕ) (bands : List CodedBand) → 1 ≤ t.depth → AreCoded (lowest_size width t.depth) (lowest_size height t.depth) t.depth bands → AreBandsOf (transform_of t) width height bands
+pub bands_fit : (t : Settings) (width height : ℕ) (bands : List CodedBand) → 1 ≤ t.depth → AreLevelBands (lowest_size width t.depth) (lowest_size height t.depth) t.depth bands → AreBandsOf (transform_of t) width height bands
 unfolding spot_of
 bands_fit t width height bands some fits = record {
   count = fits.count;
@@ -50,10 +50,10 @@ bands_fit t width height bands some fits = record {
       };
 }
 
-pub bands_noughts : (across down depth : ℕ) (bands : List CodedBand) → AreCoded across down depth bands → HaveNoughts bands
+pub bands_noughts : (across down depth : ℕ) (bands : List CodedBand) → AreLevelBands across down depth bands → HaveNoughts bands
 bands_noughts across down depth bands fits n b there = (fits.each n b there).zeros
 
-pub bands_small : (across down depth : ℕ) (bands : List CodedBand) → AreCoded across down depth bands → HaveSmall bands
+pub bands_small : (across down depth : ℕ) (bands : List CodedBand) → AreLevelBands across down depth bands → HaveSmall bands
 bands_small across down depth bands fits n b there = (fits.each n b there).small
 
 -- samples aren't clipped

@@ -11,7 +11,7 @@ use Rattle.dirac_sequence.specs.Written.{sequence_of}
 use Rattle.dirac_picture.specs.Grammar.{chroma_height, chroma_width, picture_read}
 use Rattle.dirac_residual.specs.Residual.{clipped, residual}
 use Rattle.dirac_analysis.specs.Analysis.{plane_bands}
-use Rattle.dirac_analysis.specs.Fits.{AreCoded}
+use Rattle.dirac_analysis.specs.Fits.{AreLevelBands}
 use Rattle.dirac_analysis.proofs.Fitting.{planes_fit}
 use Rattle.dirac_analysis.proofs.Undone.{planes_kept}
 use Rattle.dirac_header.specs.declared.transform.Transform.{Transform}
@@ -27,7 +27,7 @@ use Rattle.dirac_encode.proofs.Coding.{bands_fit, bands_noughts, bands_small, cl
 use Rattle.dirac_encode.proofs.Written.{payload_read}
 
 plane_fits : (t : Settings) (width height : ℕ) (plane : Table) → IsCodable t → IsPlane width height plane
-    → AreCoded (lowest_size plane.width t.depth) (lowest_size plane.height t.depth) t.depth (bands_of t plane)
+    → AreLevelBands (lowest_size plane.width t.depth) (lowest_size plane.height t.depth) t.depth (bands_of t plane)
 plane_fits t width height plane codable is = planes_fit t.wavelet t.depth t.index plane codable.wavelet codable.depth.1 codable.index is.samples
 
 -- the residual of a source can be written
