@@ -245,7 +245,7 @@ fn changed(alloc: Global, place: usize, byte: u8) -> Result<Vec<u8>, Fail> {
 }
 
 // Decodes bytes, by calls that may fail.
-pub(crate) fn decoded<R: Threads + Sync>(
+pub(crate) fn decoded<R: Abort + Threads + Sync>(
     rt: &R,
     alloc: Global,
     bytes: &[u8],

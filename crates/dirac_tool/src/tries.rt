@@ -5,6 +5,7 @@ use crate::run::run;
 use crate::words::Words;
 use dirac_io::{MemSink, MemSource, OpenGate};
 use std::alloc::Global;
+use std::process::Abort;
 use std::test::Fail;
 use std::thread::Threads;
 
@@ -41,13 +42,14 @@ pub(crate) struct Left {
 }
 
 // Runs words over bytes.
-pub(crate) fn tried<R: Threads + Sync>(
+pub(crate) fn tried<R: Abort + Threads + Sync>(
     rt: &R,
     alloc: Global,
     words: &Words,
     bytes: &[u8],
     outside: &Outside<'_>,
 ) -> Result<Left, Fail> {
+    assert!(rt; 1 <= outside.read && 1 <= outside.write && 1 <= outside.side);
     let bytes = Vec::from_slice(alloc, bytes)?;
     let mut source = MemSource::new(bytes, outside.read, Vec::from_slice(alloc, outside.reads)?);
     let mut out = MemSink::new(
