@@ -1,5 +1,5 @@
 -- One more value, row, codeblock or row of codeblocks is read into the values: what was read before is still what they tell.
-use Rattle.std.proofs.Common.{◌≡◌, ℕ, ℤ, ◌+◌, ◌*◌, ◌<◌, ◌≤◌, Bool, List, length, set, pos, sym, ◌∙◌, ap, subst, arith}
+use Rattle.std.proofs.Common.{◌≡◌, ℕ, ℤ, ◌+◌, ◌*◌, ◌<◌, ◌≤◌, Bool, List, length, set, pos, sym, ◌∙◌, ap, arith}
 use Rattle.std.proofs.lemmas.List.{get_or-set_same}
 use Rattle.dirac_types.specs.declared.formats.Band.{Band}
 use Rattle.dirac_arith.specs.Reading.{Reading, Reads}
@@ -70,8 +70,4 @@ value_stored f xs x y v h inside =
 pub reads_value : (old new : Reading) (band : Band) (l l' a a' k k' p p' v v' : ℤ) → l ≡ l' → a ≡ a' → k ≡ k' → p ≡ p' → v ≡ v'
     → Reads old (value_spelling band l a k p v) new → Reads old (value_spelling band l' a' k' p' v') new
 reads_value old new band l l' a a' k k' p p' v v' el ea ek ep ev r =
-    subst (λ z. Reads old (value_spelling band l' a' k' p' z) new) ev
-    (subst (λ z. Reads old (value_spelling band l' a' k' z v) new) ep
-    (subst (λ z. Reads old (value_spelling band l' a' z p v) new) ek
-    (subst (λ z. Reads old (value_spelling band l' z k p v) new) ea
-    (subst (λ z. Reads old (value_spelling band z a k p v) new) el r))))
+    rw (sym el, sym ea, sym ek, sym ep, sym ev) r

@@ -1,5 +1,5 @@
 -- A test of a codeblock's values is the test of its definition.
-use Rattle.std.proofs.Common.{◌≡◌, ℕ, ℤ, pos, ◌+◌, ◌<◌, Bool, true, false, List, [], ◌∷◌, length, replicate, refl, ap, ◌∙◌, subst, inl, inr}
+use Rattle.std.proofs.Common.{◌≡◌, ℕ, ℤ, pos, ◌+◌, ◌<◌, Bool, true, false, List, [], ◌∷◌, length, replicate, refl, sym, ap, ◌∙◌, inl, inr}
 use Rattle.std.specs.List.{list_all}
 use Rattle.std.proofs.lemmas.Bool.{cases_Bool, and_parts}
 use Rattle.std.proofs.lemmas.Bool.Decides.{same_from_decides}
@@ -23,16 +23,8 @@ pub tests_block : (b : Bool) (spot : BandSpot) (xs : List ℤ) (cy cx left colum
     → left ≡ edge_of spot.width spot.across cx → columns ≡ span_of spot.width spot.across cx → top ≡ edge_of spot.height spot.down cy → rows ≡ span_of spot.height spot.down cy
     → Tests b spot.width xs left columns top rows → b ≡ is_zero_block spot xs cy cx
 tests_block b spot xs cy cx left columns top rows el ec et er t =
-    let w = spot.width in
-    let l' = edge_of w spot.across cx in
-    let c' = span_of w spot.across cx in
-    let t' = edge_of spot.height spot.down cy in
-    let r' = span_of spot.height spot.down cy in
-    let tests : Tests b w xs l' c' t' r' =
-    subst (λ r. Tests b w xs l' c' t' r) er
-    (subst (λ y. Tests b w xs l' c' y rows) et
-    (subst (λ c. Tests b w xs l' c top rows) ec
-    (subst (λ l. Tests b w xs l columns top rows) el t))) in
+    let tests : Tests b spot.width xs (edge_of spot.width spot.across cx) (span_of spot.width spot.across cx) (edge_of spot.height spot.down cy) (span_of spot.height spot.down cy) =
+    rw (sym ec, sym er, sym el, sym et) t in
     same_from_decides b (is_zero_block spot xs cy cx) (
       λ e i j p q. (tests.zeros e).each i j p q,
       λ z. elim (cases_Bool b) [ inl holds ↦ holds | inr fails ↦ absurd (tests.others fails (record { each = z })) ],
