@@ -42,7 +42,7 @@ value_contexts f xs ys x y h s t =
 pub value_same : (f : Frame) (xs ys : List ℤ) (x y : ℕ) → x < f.width → SameWithin f.width xs ys (x + 1) (y + 1) → value_part f xs x y ≡ value_part f ys x y
 value_same f xs ys x y h s =
     let here : value_at f.width xs x y ≡ value_at f.width ys x y = s.each x y h (omega arith) (omega arith) in
-    let contexts = value_contexts f xs ys x y h (same_less f.width xs ys (x + 1) (y + 1) x (y + 1) (omega arith) (omega arith) s) (same_less f.width xs ys (x + 1) (y + 1) (x + 1) y (omega arith) (omega arith) s) in
+    let contexts = value_contexts f xs ys x y h (same_less (omega arith) (omega arith) s) (same_less (omega arith) (omega arith) s) in
     ap (λ v. value_spelling f.band (left_of f.width xs x y) (above_of f.width xs x y) (corner_of f.width xs x y) (parent_of f.width f.parent x y) v) here ∙ sym contexts
 
 pub row_next : (f : Frame) (xs : List ℤ) (y x n : ℕ) → row_part f xs y x (n + 1) ≡ row_part f xs y x n ++ value_part f xs (x + n) y
@@ -54,8 +54,8 @@ unfolding row_part
 row_same f xs ys x y zero h s = refl
 row_same f xs ys x y (suc n) h s =
     ap₂ (λ (a b : List Decision). a ++ b)
-    (row_same f xs ys x y n (omega arith) (same_less f.width xs ys (x + suc n) (y + 1) (x + n) (y + 1) (omega arith) (omega arith) s))
-    (value_same f xs ys (x + n) y (omega arith) (same_less f.width xs ys (x + suc n) (y + 1) (x + n + 1) (y + 1) (omega arith) (omega arith) s))
+    (row_same f xs ys x y n (omega arith) (same_less (omega arith) (omega arith) s))
+    (value_same f xs ys (x + n) y (omega arith) (same_less (omega arith) (omega arith) s))
 
 pub rows_next : (f : Frame) (xs : List ℤ) (x count y n : ℕ) → rows_part f xs x count y (n + 1) ≡ rows_part f xs x count y n ++ row_part f xs (y + n) x count
 unfolding rows_part
@@ -66,5 +66,5 @@ unfolding rows_part
 rows_same f xs ys x count y zero h s = refl
 rows_same f xs ys x count y (suc n) h s =
     ap₂ (λ (a b : List Decision). a ++ b)
-    (rows_same f xs ys x count y n h (same_less f.width xs ys (x + count) (y + suc n) (x + count) (y + n) (omega arith) (omega arith) s))
-    (row_same f xs ys x (y + n) count h (same_less f.width xs ys (x + count) (y + suc n) (x + count) (y + n + 1) (omega arith) (omega arith) s))
+    (rows_same f xs ys x count y n h (same_less (omega arith) (omega arith) s))
+    (row_same f xs ys x (y + n) count h (same_less (omega arith) (omega arith) s))

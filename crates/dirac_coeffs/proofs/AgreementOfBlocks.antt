@@ -29,7 +29,7 @@ block_same spot parent xs ys cy cx mark is h s =
     let rows = span_of spot.height spot.down cy in
     let right : left + columns ≡ edge_of spot.width spot.across (cx + 1) = span_end spot.width spot.across cx (omega (arith, is.across)) in
     let bottom : top + rows ≡ edge_of spot.height spot.down (cy + 1) = span_end spot.height spot.down cy (omega (arith, is.down)) in
-    let inner : SameWithin spot.width xs ys (left + columns) (top + rows) = same_less spot.width xs ys (edge_of spot.width spot.across (cx + 1)) (edge_of spot.height spot.down (cy + 1)) (left + columns) (top + rows) (omega arith) (omega arith) s in
+    let inner : SameWithin spot.width xs ys (left + columns) (top + rows) = same_less (omega arith) (omega arith) s in
     ap (λ ds. flagged_part (is_flagged spot) mark.skipped ds)
     (rows_same (frame_of spot parent) xs ys left columns top rows (columns_inside spot cx is h) inner)
 
@@ -48,7 +48,7 @@ blocks_same spot parent xs ys marks others cy (suc n) is h same s =
     let here : SameWithin spot.width xs ys (edge_of spot.width spot.across (n + 1)) down = rw next s in
     let rises : edge_of spot.width spot.across n ≤ edge_of spot.width spot.across (suc n) = edge_rises spot.width spot.across n (suc n) (omega (arith, is.across)) (omega arith) in
     ap₂ (λ (a b : List Decision). a ++ b)
-    (blocks_same spot parent xs ys marks others cy n is (omega arith) (λ c l. same c (omega arith)) (same_less spot.width xs ys (edge_of spot.width spot.across (suc n)) down (edge_of spot.width spot.across n) down rises (omega arith) s))
+    (blocks_same spot parent xs ys marks others cy n is (omega arith) (λ c l. same c (omega arith)) (same_less rises (omega arith) s))
     (block_same spot parent xs ys cy n (marks n) is (omega arith) here ∙ ap (λ m. block_part spot parent ys cy n m) (same n (omega arith)))
 
 pub bands_next : (spot : BandSpot) (parent xs : List ℤ) (marks : Marks) (n : ℕ) → bands_part spot parent xs marks (n + 1) ≡ bands_part spot parent xs marks n ++ blocks_part spot parent xs (marks n) n spot.across
@@ -68,7 +68,7 @@ bands_same spot parent xs ys marks others (suc n) is h same s =
     let here : SameWithin w xs ys (edge_of spot.width spot.across spot.across) (edge_of spot.height spot.down (n + 1)) = rw (last, next) s in
     let rises : edge_of spot.height spot.down n ≤ bottom = edge_rises spot.height spot.down n (suc n) (omega (arith, is.down)) (omega arith) in
     ap₂ (λ (a b : List Decision). a ++ b)
-    (bands_same spot parent xs ys marks others n is (omega arith) (λ r c l. same r c (omega arith)) (same_less w xs ys w bottom w (edge_of spot.height spot.down n) (omega arith) rises s))
+    (bands_same spot parent xs ys marks others n is (omega arith) (λ r c l. same r c (omega arith)) (same_less (omega arith) rises s))
     (blocks_same spot parent xs ys (marks n) (others n) n spot.across is (omega arith) (λ c l. same n c (omega arith) l) here)
 
 -- what is zero stays zero where the values are the same

@@ -42,9 +42,9 @@ row_apart f block common xs ys x y i n digits small small' h inside long s t p q
     let theirs : Carries block (common ++ (row_part f ys y x i ++ value_part f ys (x + i) y)) =
     subst (λ (l : List Decision). Carries block (common ++ l)) (row_next f ys y x i)
     (parts_front block common (λ k. row_part f ys y x k) (λ k. value_part f ys (x + k) y) (row_next f ys y x) (i + 1) n (omega arith) q) in
-    let above : SameWithin w xs ys (x + i + 1) y = same_less w xs ys (x + n) y (x + i + 1) y (omega arith) (omega arith) t in
+    let above : SameWithin w xs ys (x + i + 1) y = same_less (omega arith) (omega arith) t in
     let before : SameWithin w xs ys (x + i) (y + 1) =
-    row_one f block common xs ys x y i small small' (omega arith) s (same_less w xs ys (x + n) y (x + i) y (omega arith) (omega arith) t)
+    row_one f block common xs ys x y i small small' (omega arith) s (same_less (omega arith) (omega arith) t)
     (front_of block common (row_part f xs y x i) (long_part f xs (x + i) y digits) p) (front_of block common (row_part f ys y x i) (value_part f ys (x + i) y) theirs) in
     let rows : row_part f xs y x i ≡ row_part f ys y x i = row_same f xs ys x y i (omega arith) before in
     let contexts = value_contexts f xs ys (x + i) y (omega arith) before above in
@@ -64,13 +64,13 @@ rows_apart f block common xs ys x count y j n i digits small small' h inside col
     subst (λ (l : List Decision). Carries block (common ++ l)) (rows_next f ys x count y j)
     (parts_front block common (λ k. rows_part f ys x count y k) (λ k. row_part f ys (y + k) x count) (rows_next f ys x count y) (j + 1) n (omega arith) q) in
     let before : SameWithin w xs ys (x + count) (y + j) =
-    rows_one f block common xs ys x count y j small small' h (same_less w xs ys x (y + n) x (y + j) (omega arith) (omega arith) s) t
+    rows_one f block common xs ys x count y j small small' h (same_less (omega arith) (omega arith) s) t
     (front_of block common (rows_part f xs x count y j) (row_until f xs (y + j) x i digits) p) (front_of block common (rows_part f ys x count y j) (row_part f ys (y + j) x count) theirs) in
     let rows : rows_part f xs x count y j ≡ rows_part f ys x count y j = rows_same f xs ys x count y j h before in
     let row =
     subst (λ (l : List Decision). Carries block ((common ++ l) ++ row_part f ys (y + j) x count)) (sym rows) (rest_of block common (rows_part f ys x count y j) (row_part f ys (y + j) x count) theirs) in
     row_apart f block (common ++ rows_part f xs x count y j) xs ys x (y + j) i count digits small small' h column long
-    (same_less w xs ys x (y + n) x (y + j + 1) (omega arith) (omega arith) s) before
+    (same_less (omega arith) (omega arith) s) before
     (rest_of block common (rows_part f xs x count y j) (row_until f xs (y + j) x i digits) p) row
 
 -- the same behind zero flags
@@ -100,8 +100,8 @@ block_apart spot parent block common xs ys cy cx row column digits mark is insid
     let right : left + columns ≡ edge_of w spot.across (cx + 1) = span_end w spot.across cx (omega (arith, is.across)) in
     let bottom : top + rows ≡ edge_of spot.height spot.down (cy + 1) = span_end spot.height spot.down cy (omega (arith, is.down)) in
     flagged_apart (frame_of spot parent) block common xs ys left columns top row rows column digits (is_flagged spot) mark.skipped small small' (columns_inside spot cx is inside) in_rows in_row long
-    (same_less w xs ys left (edge_of spot.height spot.down (cy + 1)) left (top + rows) (omega arith) (omega arith) s)
-    (same_less w xs ys (edge_of w spot.across (cx + 1)) top (left + columns) top (omega arith) (omega arith) t) p q
+    (same_less (omega arith) (omega arith) s)
+    (same_less (omega arith) (omega arith) t) p q
 
 blocks_apart : (spot : BandSpot) (parent : List ℤ) (block : List ℕ) (common : List Decision) (xs ys : List ℤ) (ms ms' : ℕ → Mark) (cy cx row column : ℕ) (digits : List Bool) → IsSpot spot → cx < spot.across
     → AreSmall xs → AreSmall ys → row < span_of spot.height spot.down cy → column < span_of spot.width spot.across cx → length digits ≡ 38
@@ -122,7 +122,7 @@ blocks_apart spot parent block common xs ys ms ms' cy cx row column digits is in
     (front_of block common mine until p) (front_of block common other here theirs) in
     let most : edge_of w spot.across (cx + 1) ≤ w = edge_most w spot.across (cx + 1) (omega (arith, is.across)) (omega arith) in
     block_apart spot parent block (common ++ mine) xs ys cy cx row column digits (ms' cx) is inside small small' in_rows in_row long
-    before.within (same_less w xs ys w (edge_of spot.height spot.down cy) (edge_of w spot.across (cx + 1)) (edge_of spot.height spot.down cy) most (omega arith) above)
+    before.within (same_less most (omega arith) above)
     (rest_of block common mine until p)
     (subst (λ (l : List Decision). Carries block ((common ++ l) ++ here)) (sym before.decisions) (rest_of block common other here theirs))
 

@@ -13,7 +13,6 @@ use Rattle.dirac_arith.specs.Reading.{Reading, Reads}
 use Rattle.dirac_arith.specs.Spelling.{spelt, signed_spelling}
 use Rattle.dirac_arith.proofs.Carrieds.{some_signed, start_lies}
 use Rattle.dirac_arith.proofs.Decidings.{some_truth}
-use Rattle.dirac_arith.proofs.Spellings.{reads_more}
 use Rattle.dirac_bands.specs.Geometry.{edge_of}
 use Rattle.dirac_coeffs.specs.declared.spot.BandSpot.{BandSpot}
 use Rattle.dirac_coeffs.specs.BandRead.{band_read}
@@ -27,7 +26,7 @@ use Rattle.dirac_coeffs.specs.Spots.{IsSpot, span_of, is_flagged}
 use Rattle.dirac_coeffs.proofs.AgreementOfBlocks.{columns_inside, rows_inside}
 use Rattle.dirac_coeffs.proofs.Edges.{edge_rises, edge_last, span_end}
 use Rattle.dirac_coeffs.proofs.Filling.{row_more, row_breaks, rows_more, rows_break, value_stored}
-use Rattle.dirac_coeffs.proofs.FillingOfBlocks.{blocks_more, blocks_break, bands_more, bands_break, plain_breaks, flagged_breaks}
+use Rattle.dirac_coeffs.proofs.FillingOfBlocks.{blocks_more, blocks_break, bands_more, bands_break, IsBehindFlag, behind_none, behind_flag, block_breaks}
 use Rattle.dirac_coeffs.proofs.Found.{band_found, ones_read, long_read}
 use Rattle.dirac_coeffs.proofs.Read.{read_is_carried, broken_is_long, zeros_first, zeros_small}
 use Rattle.dirac_coeffs.proofs.Readings.{reads_none}
@@ -44,8 +43,7 @@ record Went (w left right top bottom : ℕ) (xs : List ℤ) (Done Broken : List 
 
 -- nothing is changed yet
 went_none : {w left right top bottom : ℕ} {xs : List ℤ} {Done Broken : List ℤ → Reading → Type 0} (new : Reading) → Lies new.block new.at → Done xs new → Went w left right top bottom xs Done Broken
-went_none {w = w} {left = left} {right = right} {top = top} {bottom = bottom} {xs = xs} new lies done =
-    record { ys = xs; new = new; kept = kept_refl w left right top bottom xs; small = λ all. all; came = inl (done, lies) }
+went_none {xs = xs} new lies done = record { ys = xs; new = new; kept = kept_refl; small = λ all. all; came = inl (done, lies) }
 
 -- what it came to, said of what was read before too
 went_as : {w left right top bottom : ℕ} {xs : List ℤ} {Done Broken Done' Broken' : List ℤ → Reading → Type 0}
@@ -71,13 +69,13 @@ went_on : {w left right top bottom l r t b l' r' t' b' : ℕ} {xs : List ℤ} {D
     → Went w l r t b xs Done Broken
     → ((ys : List ℤ) (mid : Reading) → KeptOutside w l r t b xs ys → Done ys mid → Lies mid.block mid.at → Went w l' r' t' b' ys Done' Broken)
     → Went w left right top bottom xs Done' Broken
-went_on {w = w} {left = left} {right = right} {top = top} {bottom = bottom} {l = l} {r = r} {t = t} {b = b} {l' = l'} {r' = r'} {t' = t'} {b' = b'} {xs = xs} h h' before next =
+went_on h h' before next =
     elim before.came [
       | inr broken ↦
           record {
             ys = before.ys;
             new = before.new;
-            kept = kept_wider w left right top bottom l r t b xs before.ys h before.kept;
+            kept = kept_wider h before.kept;
             small = before.small;
             came = inr broken;
           }
@@ -86,7 +84,7 @@ went_on {w = w} {left = left} {right = right} {top = top} {bottom = bottom} {l =
           record {
             ys = one.ys;
             new = one.new;
-            kept = kept_join w left right top bottom l r t b l' r' t' b' xs before.ys one.ys h h' before.kept one.kept;
+            kept = kept_join h h' before.kept one.kept;
             small = λ all. one.small (before.small all);
             came = one.came;
           }
@@ -126,7 +124,7 @@ value_goes f old xs x y h inside lies =
           let ds = spelt follow bits_context long.0 false in
           let new : Reading = record { block = old.block; at = narrowed_by old.at ds } in
           let reads : Reads old ds new = record { moved = refl; lies = λ some. long.2 } in
-          record { ys = xs; new = new; kept = kept_refl w x (x + 1) y (y + 1) xs; small = λ all. all; came = inr (long.0, long.1, reads) }
+          record { ys = xs; new = new; kept = kept_refl; small = λ all. all; came = inr (long.0, long.1, reads) }
     ]
 
 -- the first n values of a row
@@ -140,8 +138,8 @@ row_goes f old xs x count y h (suc n) wide low len few lies =
     (row_goes f old xs x count y h n wide low len (omega arith) lies)
     (λ ys mid k read here.
     went_as
-    (λ zs new k' more. subst (λ m. Reads old (row_part f zs y x m) new) next (row_more f old mid new ys zs x y n (omega arith) k' read more))
-    (λ zs new k' long. row_breaks f old mid new ys zs x y n count long.0 (omega arith) (omega arith) long.1 k' read long.2)
+    (λ zs new k' more. subst (λ m. Reads old (row_part f zs y x m) new) next (row_more f x y n (omega arith) k' read more))
+    (λ zs new k' long. row_breaks f x y n count long.0 (omega arith) (omega arith) long.1 k' read long.2)
     (value_goes f mid ys (x + n) y (omega arith) (inside_place f.width h (x + n) y (length ys) (omega arith) low (k.len ∙ len)) here))
 
 -- the first n rows of a codeblock
@@ -155,8 +153,8 @@ rows_go f old xs x count y rows h (suc n) wide low len few lies =
     (rows_go f old xs x count y rows h n wide low len (omega arith) lies)
     (λ ys mid k read here.
     went_as
-    (λ zs new k' more. subst (λ m. Reads old (rows_part f zs x count y m) new) next (rows_more f old mid new ys zs x count y n wide k' read more))
-    (λ zs new k' broken. rows_break f old mid new ys zs x count y n rows wide (omega arith) k' read broken)
+    (λ zs new k' more. subst (λ m. Reads old (rows_part f zs x count y m) new) next (rows_more f x count y n wide k' read more))
+    (λ zs new k' broken. rows_break f x count y n rows wide (omega arith) k' read broken)
     (row_goes f mid ys x count (y + n) h count wide (omega arith) (k.len ∙ len) (omega arith) here))
 
 -- a codeblock, read behind the zero flag that it may have
@@ -189,27 +187,10 @@ values_go spot parent old xs cy cx is low left len lies =
     let went : P (x + columns) (y + rows) = rows_go (frame_of spot parent) old xs x columns y rows spot.height rows (columns_inside spot cx is left) (rows_inside spot cy is low) len (omega arith) lies in
     subst (λ r. P r (edge_of spot.height spot.down (cy + 1))) right (subst (λ b. P (x + columns) b) bottom went)
 
-plain_goes : (spot : BandSpot) (parent : List ℤ) (old : Reading) (xs : List ℤ) (cy cx : ℕ) → is_flagged spot ≡ false → ValuesWent spot parent old xs cy cx → BlockWent spot parent old xs cy cx
-plain_goes spot parent old xs cy cx plain all =
+unskipped_goes : (spot : BandSpot) (parent : List ℤ) (old mid : Reading) (xs : List ℤ) (cy cx : ℕ) → IsBehindFlag (is_flagged spot) old mid → ValuesWent spot parent mid xs cy cx → BlockWent spot parent old xs cy cx
+unskipped_goes spot parent old mid xs cy cx behind all =
     let mark : Mark = record { skipped = false } in
-    let rows : List ℤ → List Decision = λ ys. rows_part (frame_of spot parent) ys (edge_of spot.width spot.across cx) (span_of spot.width spot.across cx) (edge_of spot.height spot.down cy) (span_of spot.height spot.down cy) in
-    went_as
-    (λ ys new k read. (mark, subst (λ flagged. Reads old (flagged_part flagged false (rows ys)) new) (sym plain) read, λ flagged skipped i j p q. absurd cc))
-    (λ ys new k broken. plain_breaks spot parent old ys cy cx new plain broken)
-    all
-
-flagged_goes : (spot : BandSpot) (parent : List ℤ) (old mid : Reading) (xs : List ℤ) (cy cx : ℕ) → is_flagged spot ≡ true
-    → (let flag : Decision = (18, false) in Reads old (flag ∷ []) mid) → ValuesWent spot parent mid xs cy cx → BlockWent spot parent old xs cy cx
-flagged_goes spot parent old mid xs cy cx has flag all =
-    let mark : Mark = record { skipped = false } in
-    let d : Decision = (18, false) in
-    let rows : List ℤ → List Decision = λ ys. rows_part (frame_of spot parent) ys (edge_of spot.width spot.across cx) (span_of spot.width spot.across cx) (edge_of spot.height spot.down cy) (span_of spot.height spot.down cy) in
-    went_as
-    (λ ys new k read.
-    let joined : Reads old (d ∷ rows ys) new = reads_more old mid new (d ∷ []) (rows ys) flag read in
-    (mark, subst (λ flagged. Reads old (flagged_part flagged false (rows ys)) new) (sym has) joined, λ flagged skipped i j p q. absurd cc))
-    (λ ys new k broken. flagged_breaks spot parent old mid ys cy cx new has flag broken)
-    all
+    went_as (λ ys new k read. (mark, behind _ new read, λ flagged skipped i j p q. absurd cc)) (λ ys new k broken. block_breaks spot parent old mid cy cx behind broken) all
 
 skipped_goes : (spot : BandSpot) (parent : List ℤ) (old new : Reading) (xs : List ℤ) (cy cx : ℕ) → IsSpot spot → cx < spot.across → is_flagged spot ≡ true
     → ZeroFrom spot.width (edge_of spot.width spot.across cx) (edge_of spot.height spot.down cy) xs → Lies new.block new.at
@@ -231,14 +212,14 @@ block_goes spot parent old xs cy cx is low left len zeros lies =
     let here : Lies old.block (narrowed old.at (18, t)) = some_truth old.block old.at 18 lies in
     let reads : (b : Bool) → Lies old.block (narrowed old.at (flag b)) → Reads old (flag b ∷ []) (after old (flag b)) = λ b l. record { moved = refl; lies = λ some. l } in
     elim (cases_Bool (is_flagged spot)) [
-      | inr plain ↦ plain_goes spot parent old xs cy cx plain (values_go spot parent old xs cy cx is low left len lies)
+      | inr plain ↦ unskipped_goes spot parent old old xs cy cx (behind_none (is_flagged spot) old plain) (values_go spot parent old xs cy cx is low left len lies)
       | inl has ↦ elim (cases_Bool t) [
         | inl is_true ↦
             let l : Lies old.block (narrowed old.at (flag true)) = subst (λ b. Lies old.block (narrowed old.at (flag b))) is_true here in
             skipped_goes spot parent old (after old (flag true)) xs cy cx is left has zeros l (reads true l)
         | inr is_false ↦
             let l : Lies old.block (narrowed old.at (flag false)) = subst (λ b. Lies old.block (narrowed old.at (flag b))) is_false here in
-            flagged_goes spot parent old (after old (flag false)) xs cy cx has (reads false l) (values_go spot parent (after old (flag false)) xs cy cx is low left len l)
+            unskipped_goes spot parent old (after old (flag false)) xs cy cx (behind_flag (is_flagged spot) old (after old (flag false)) has (reads false l)) (values_go spot parent (after old (flag false)) xs cy cx is low left len l)
       ]
     ]
 
@@ -263,9 +244,9 @@ blocks_go spot parent old xs cy (suc n) is low few len zeros lies =
     (blocks_go spot parent old xs cy n is low (omega arith) len zeros lies)
     (λ ys mid k read here.
     went_as
-    (λ zs new k' more. blocks_more spot parent old mid new ys zs cy n more.0 is (omega arith) k' read more.1 more.2)
-    (λ zs new k' broken. blocks_break spot parent old mid new ys zs cy n is (omega arith) k' read broken)
-    (block_goes spot parent mid ys cy n is low (omega arith) (k.len ∙ len) (zero_right w 0 left top bottom 0 xs ys (omega arith) k zeros) here)) in
+    (λ zs new k' more. blocks_more spot parent cy n more.0 is (omega arith) k' read more.1 more.2)
+    (λ zs new k' broken. blocks_break spot parent cy n is (omega arith) k' read broken)
+    (block_goes spot parent mid ys cy n is low (omega arith) (k.len ∙ len) (zero_right (omega arith) k zeros) here)) in
     subst P next went
 
 -- the first n rows of codeblocks
@@ -289,9 +270,9 @@ bands_go spot parent old xs (suc n) is few len zeros lies =
     (bands_go spot parent old xs n is (omega arith) len zeros lies)
     (λ ys mid k read here.
     went_as
-    (λ zs new k' more. bands_more spot parent old mid new ys zs n is (omega arith) (changed ys zs k') read more)
-    (λ zs new k' broken. bands_break spot parent old mid new ys zs n is (omega arith) (changed ys zs k') read broken)
-    (blocks_go spot parent mid ys n spot.across is (omega arith) (omega arith) (k.len ∙ len) (zero_below w 0 w 0 top 0 xs ys (omega arith) k zeros) here)) in
+    (λ zs new k' more. bands_more spot parent n is (omega arith) (changed ys zs k') read more)
+    (λ zs new k' broken. bands_break spot parent n is (omega arith) (changed ys zs k') read broken)
+    (blocks_go spot parent mid ys n spot.across is (omega arith) (omega arith) (k.len ∙ len) (zero_below (omega arith) k zeros) here)) in
     subst P next went
 
 -- a block that doesn't begin with ones carries a band, or breaks off in a number that is too long

@@ -34,10 +34,10 @@ row_one f block common xs ys x y zero small small' h s t p q = rw add-zero s
 row_one f block common xs ys x y (suc n) small small' h s t p q =
     let w = f.width in
     let before : SameWithin w xs ys (x + n) (y + 1) =
-    row_one f block common xs ys x y n small small' (omega arith) s (same_less w xs ys (x + suc n) y (x + n) y (omega arith) (omega arith) t)
+    row_one f block common xs ys x y n small small' (omega arith) s (same_less (omega arith) (omega arith) t)
     (front_of block common (row_part f xs y x n) (value_part f xs (x + n) y) p) (front_of block common (row_part f ys y x n) (value_part f ys (x + n) y) q) in
     let rows : row_part f xs y x n ≡ row_part f ys y x n = row_same f xs ys x y n (omega arith) before in
-    let above : SameWithin w xs ys (x + n + 1) y = same_less w xs ys (x + suc n) y (x + n + 1) y (omega arith) (omega arith) t in
+    let above : SameWithin w xs ys (x + n + 1) y = same_less (omega arith) (omega arith) t in
     let contexts = value_contexts f xs ys (x + n) y (omega arith) before above in
     let theirs : Carries block ((common ++ row_part f xs y x n) ++ value_spelling f.band (left_of w xs (x + n) y) (above_of w xs (x + n) y) (corner_of w xs (x + n) y) (parent_of w f.parent (x + n) y) (value_at w ys (x + n) y)) =
     subst (λ (l : List Decision). Carries block ((common ++ l) ++ value_spelling f.band (left_of w xs (x + n) y) (above_of w xs (x + n) y) (corner_of w xs (x + n) y) (parent_of w f.parent (x + n) y) (value_at w ys (x + n) y))) (sym rows)
@@ -46,8 +46,8 @@ row_one f block common xs ys x y (suc n) small small' h s t p q =
     one_value block (common ++ row_part f xs y x n) (follow_among (left_of w xs (x + n) y) (above_of w xs (x + n) y) (corner_of w xs (x + n) y) (parent_of w f.parent (x + n) y)) bits_context (sign_of (sign_neighbour f.band (left_of w xs (x + n) y) (above_of w xs (x + n) y)))
     (value_at w xs (x + n) y) (value_at w ys (x + n) y) (small_at w xs (x + n) y small) (small_at w ys (x + n) y small')
     (rest_of block common (row_part f xs y x n) (value_part f xs (x + n) y) p) theirs in
-    let more : SameWithin w xs ys (x + n + 1) (y + 1) = same_more w xs ys (x + n) y before above here in
-    same_less w xs ys (x + n + 1) (y + 1) (x + suc n) (y + 1) (omega arith) (omega arith) more
+    let more : SameWithin w xs ys (x + n + 1) (y + 1) = same_more before above here in
+    same_less (omega arith) (omega arith) more
 
 pub rows_one : (f : Frame) (block : List ℕ) (common : List Decision) (xs ys : List ℤ) (x count y n : ℕ) → AreSmall xs → AreSmall ys → x + count ≤ f.width
     → SameWithin f.width xs ys x (y + n) → SameWithin f.width xs ys (x + count) y
@@ -57,15 +57,15 @@ rows_one f block common xs ys x count y zero small small' h s t p q = rw add-zer
 rows_one f block common xs ys x count y (suc n) small small' h s t p q =
     let w = f.width in
     let before : SameWithin w xs ys (x + count) (y + n) =
-    rows_one f block common xs ys x count y n small small' h (same_less w xs ys x (y + suc n) x (y + n) (omega arith) (omega arith) s) t
+    rows_one f block common xs ys x count y n small small' h (same_less (omega arith) (omega arith) s) t
     (front_of block common (rows_part f xs x count y n) (row_part f xs (y + n) x count) p) (front_of block common (rows_part f ys x count y n) (row_part f ys (y + n) x count) q) in
     let rows : rows_part f xs x count y n ≡ rows_part f ys x count y n = rows_same f xs ys x count y n h before in
     let theirs : Carries block ((common ++ rows_part f xs x count y n) ++ row_part f ys (y + n) x count) =
     subst (λ (l : List Decision). Carries block ((common ++ l) ++ row_part f ys (y + n) x count)) (sym rows) (rest_of block common (rows_part f ys x count y n) (row_part f ys (y + n) x count) q) in
     let more : SameWithin w xs ys (x + count) (y + n + 1) =
-    row_one f block (common ++ rows_part f xs x count y n) xs ys x (y + n) count small small' h (same_less w xs ys x (y + suc n) x (y + n + 1) (omega arith) (omega arith) s) before
+    row_one f block (common ++ rows_part f xs x count y n) xs ys x (y + n) count small small' h (same_less (omega arith) (omega arith) s) before
     (rest_of block common (rows_part f xs x count y n) (row_part f xs (y + n) x count) p) theirs in
-    same_less w xs ys (x + count) (y + n + 1) (x + count) (y + suc n) (omega arith) (omega arith) more
+    same_less (omega arith) (omega arith) more
 
 -- what two codeblocks that one block carries have in common
 pub record SameBlock (w : ℕ) (xs ys : List ℤ) (right bottom : ℕ) (ds es : List Decision) : Type 0 where
@@ -138,10 +138,10 @@ block_one spot parent block common xs ys cy cx mark mark' is inside small small'
     let bottom : top + rows ≡ edge_of spot.height spot.down (cy + 1) = span_end spot.height spot.down cy (omega (arith, is.down)) in
     let same =
     flagged_one (frame_of spot parent) block common xs ys left columns top rows (is_flagged spot) mark.skipped mark'.skipped small small' (columns_inside spot cx is inside)
-    (same_less w xs ys left (edge_of spot.height spot.down (cy + 1)) left (top + rows) (omega arith) (omega arith) s)
-    (same_less w xs ys (edge_of w spot.across (cx + 1)) top (left + columns) top (omega arith) (omega arith) t) z z' p q in
+    (same_less (omega arith) (omega arith) s)
+    (same_less (omega arith) (omega arith) t) z z' p q in
     record {
-      within = same_less w xs ys (left + columns) (top + rows) (edge_of w spot.across (cx + 1)) (edge_of spot.height spot.down (cy + 1)) (omega arith) (omega arith) same.within;
+      within = same_less (omega arith) (omega arith) same.within;
       decisions = same.decisions;
     }
 
@@ -168,13 +168,13 @@ blocks_one spot parent block common xs ys ms ms' cy (suc n) is inside small smal
     (rest_of block common (blocks_part spot parent ys ms' cy n) (block_part spot parent ys cy n (ms' n)) q) in
     let here =
     block_one spot parent block (common ++ blocks_part spot parent xs ms cy n) xs ys cy n (ms n) (ms' n) is (omega arith) small small'
-    before.within (same_less w xs ys w (edge_of spot.height spot.down cy) (edge_of w spot.across (n + 1)) (edge_of spot.height spot.down cy) most (omega arith) above)
+    before.within (same_less most (omega arith) above)
     (z n (omega arith)) (z' n (omega arith))
     (rest_of block common (blocks_part spot parent xs ms cy n) (block_part spot parent xs cy n (ms n)) p) theirs in
     let next : suc n ≡ n + 1 = omega arith in
     let edges : edge_of w spot.across (suc n) ≡ edge_of w spot.across (n + 1) = ap (λ k. edge_of w spot.across k) next in
     record {
-      within = same_less w xs ys (edge_of w spot.across (n + 1)) bottom (edge_of w spot.across (suc n)) bottom (omega (arith, edges)) (omega arith) here.within;
+      within = same_less (omega (arith, edges)) (omega arith) here.within;
       decisions = ap₂ (λ (a b : List Decision). a ++ b) before.decisions here.decisions;
     }
 
@@ -204,7 +204,7 @@ bands_one spot parent block common xs ys ms ms' (suc n) is inside small small' z
     let edges : edge_of spot.height spot.down (suc n) ≡ edge_of spot.height spot.down (n + 1) = ap (λ k. edge_of spot.height spot.down k) next in
     let last : edge_of w spot.across spot.across ≡ w = edge_last w spot.across (omega (arith, is.across)) in
     record {
-      within = same_less w xs ys (edge_of w spot.across spot.across) (edge_of spot.height spot.down (n + 1)) w (edge_of spot.height spot.down (suc n)) (omega arith) (omega (arith, edges)) here.within;
+      within = same_less (omega arith) (omega (arith, edges)) here.within;
       decisions = ap₂ (λ (a b : List Decision). a ++ b) before.decisions here.decisions;
     }
 
@@ -222,4 +222,4 @@ one_band spot parent block xs ys ms ms' is a b =
     let w = spot.width in
     let same = bands_one spot parent block [] xs ys ms ms' spot.down is (omega arith) a.small b.small a.zeros b.zeros a.carried b.carried in
     let last : edge_of spot.height spot.down spot.down ≡ spot.height = edge_last spot.height spot.down (omega (arith, is.down)) in
-    same_lists w spot.height xs ys (omega (arith, is.width)) a.len b.len (same_less w xs ys w (edge_of spot.height spot.down spot.down) w spot.height (omega arith) (omega arith) same.within)
+    same_lists w spot.height xs ys (omega (arith, is.width)) a.len b.len (same_less (omega arith) (omega arith) same.within)
