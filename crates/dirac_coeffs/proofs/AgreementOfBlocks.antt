@@ -9,15 +9,8 @@ use Rattle.dirac_coeffs.specs.Decisions.{Mark, Marks, frame_of, flagged_part, bl
 use Rattle.dirac_coeffs.specs.Places.{SameWithin}
 use Rattle.dirac_coeffs.specs.Spots.{IsSpot, span_of, is_flagged}
 use Rattle.dirac_coeffs.proofs.Agreement.{rows_same}
-use Rattle.dirac_coeffs.proofs.Edges.{edge_rises, edge_most, edge_last, span_end}
+use Rattle.dirac_coeffs.proofs.Edges.{edge_rises, edge_last, span_end, span_inside}
 use Rattle.dirac_coeffs.proofs.Within.{same_less}
-
--- the columns of a codeblock lie inside the band
-pub columns_inside : (spot : BandSpot) (cx : ℕ) → IsSpot spot → cx < spot.across → edge_of spot.width spot.across cx + span_of spot.width spot.across cx ≤ spot.width
-columns_inside spot cx is h = omega (arith, span_end spot.width spot.across cx (omega (arith, is.across)), edge_most spot.width spot.across (cx + 1) (omega (arith, is.across)) (omega arith))
-
-pub rows_inside : (spot : BandSpot) (cy : ℕ) → IsSpot spot → cy < spot.down → edge_of spot.height spot.down cy + span_of spot.height spot.down cy ≤ spot.height
-rows_inside spot cy is h = omega (arith, span_end spot.height spot.down cy (omega (arith, is.down)), edge_most spot.height spot.down (cy + 1) (omega (arith, is.down)) (omega arith))
 
 pub block_same : (spot : BandSpot) (parent xs ys : List ℤ) (cy cx : ℕ) (mark : Mark) → IsSpot spot → cx < spot.across
     → SameWithin spot.width xs ys (edge_of spot.width spot.across (cx + 1)) (edge_of spot.height spot.down (cy + 1))
@@ -31,7 +24,7 @@ block_same spot parent xs ys cy cx mark is h s =
     let bottom : top + rows ≡ edge_of spot.height spot.down (cy + 1) = span_end spot.height spot.down cy (omega (arith, is.down)) in
     let inner : SameWithin spot.width xs ys (left + columns) (top + rows) = same_less (omega arith) (omega arith) s in
     ap (λ ds. flagged_part (is_flagged spot) mark.skipped ds)
-    (rows_same (frame_of spot parent) xs ys left columns top rows (columns_inside spot cx is h) inner)
+    (rows_same (frame_of spot parent) xs ys left columns top rows (span_inside spot.width spot.across cx h) inner)
 
 pub blocks_next : (spot : BandSpot) (parent xs : List ℤ) (marks : ℕ → Mark) (cy n : ℕ) → blocks_part spot parent xs marks cy (n + 1) ≡ blocks_part spot parent xs marks cy n ++ block_part spot parent xs cy n (marks n)
 unfolding blocks_part
@@ -79,5 +72,5 @@ zeros_same spot xs ys cy cx mark is h s z =
     λ flagged skipped i j p q.
     let right : edge_of spot.width spot.across cx + span_of spot.width spot.across cx ≡ edge_of spot.width spot.across (cx + 1) = span_end spot.width spot.across cx (omega (arith, is.across)) in
     let bottom : edge_of spot.height spot.down cy + span_of spot.height spot.down cy ≡ edge_of spot.height spot.down (cy + 1) = span_end spot.height spot.down cy (omega (arith, is.down)) in
-    let inside = columns_inside spot cx is h in
+    let inside = span_inside spot.width spot.across cx h in
     sym (s.each (edge_of spot.width spot.across cx + i) (edge_of spot.height spot.down cy + j) (omega arith) (omega arith) (omega arith)) ∙ z flagged skipped i j p q

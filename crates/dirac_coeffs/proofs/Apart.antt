@@ -14,9 +14,9 @@ use Rattle.dirac_coeffs.specs.Laws.{NoBandBesideLong, OnesCarryNothing}
 use Rattle.dirac_coeffs.specs.Places.{SameWithin}
 use Rattle.dirac_coeffs.specs.Spots.{IsSpot, span_of, is_flagged}
 use Rattle.dirac_coeffs.proofs.Agreement.{row_same, row_next, rows_same, rows_next, value_contexts}
-use Rattle.dirac_coeffs.proofs.AgreementOfBlocks.{columns_inside, blocks_next, bands_next}
+use Rattle.dirac_coeffs.proofs.AgreementOfBlocks.{blocks_next, bands_next}
 use Rattle.dirac_coeffs.proofs.Coding.{front_of, rest_of, value_apart, truths_apart, ones_apart}
-use Rattle.dirac_coeffs.proofs.Edges.{edge_first, edge_most, edge_last, span_end}
+use Rattle.dirac_coeffs.proofs.Edges.{edge_first, edge_most, edge_last, span_end, span_inside}
 use Rattle.dirac_coeffs.proofs.OneBand.{row_one, rows_one, blocks_one, bands_one}
 use Rattle.dirac_coeffs.proofs.Within.{same_less}
 
@@ -99,7 +99,7 @@ block_apart spot parent block common xs ys cy cx row column digits mark is insid
     let rows = span_of spot.height spot.down cy in
     let right : left + columns ≡ edge_of w spot.across (cx + 1) = span_end w spot.across cx (omega (arith, is.across)) in
     let bottom : top + rows ≡ edge_of spot.height spot.down (cy + 1) = span_end spot.height spot.down cy (omega (arith, is.down)) in
-    flagged_apart (frame_of spot parent) block common xs ys left columns top row rows column digits (is_flagged spot) mark.skipped small small' (columns_inside spot cx is inside) in_rows in_row long
+    flagged_apart (frame_of spot parent) block common xs ys left columns top row rows column digits (is_flagged spot) mark.skipped small small' (span_inside spot.width spot.across cx inside) in_rows in_row long
     (same_less (omega arith) (omega arith) s)
     (same_less (omega arith) (omega arith) t) p q
 

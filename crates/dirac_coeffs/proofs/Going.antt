@@ -23,8 +23,7 @@ use Rattle.dirac_coeffs.specs.Laws.{LongIsRefused}
 use Rattle.dirac_coeffs.specs.Places.{KeptOutside, ZeroFrom}
 use Rattle.dirac_coeffs.specs.Reached.{BlocksRead, BandRead, RowBroken, RowsBroken, BlockBroken, BlocksBroken, BandBroken}
 use Rattle.dirac_coeffs.specs.Spots.{IsSpot, span_of, is_flagged}
-use Rattle.dirac_coeffs.proofs.AgreementOfBlocks.{columns_inside, rows_inside}
-use Rattle.dirac_coeffs.proofs.Edges.{edge_rises, edge_last, span_end}
+use Rattle.dirac_coeffs.proofs.Edges.{edge_rises, edge_last, span_end, span_inside}
 use Rattle.dirac_coeffs.proofs.Filling.{row_more, row_breaks, rows_more, rows_break, value_stored}
 use Rattle.dirac_coeffs.proofs.FillingOfBlocks.{blocks_more, blocks_break, bands_more, bands_break, IsBehindFlag, behind_none, behind_flag, block_breaks}
 use Rattle.dirac_coeffs.proofs.Found.{band_found, ones_read, long_read}
@@ -184,7 +183,7 @@ values_go spot parent old xs cy cx is low left len lies =
     let bottom : y + rows ≡ edge_of spot.height spot.down (cy + 1) = span_end spot.height spot.down cy (omega (arith, is.down)) in
     let P : ℕ → ℕ → Type 0 = λ r b.
     Went spot.width x r y b xs (λ ys new. Reads old (rows_part (frame_of spot parent) ys x columns y rows) new) (λ ys new. RowsBroken (frame_of spot parent) old ys x columns y rows new) in
-    let went : P (x + columns) (y + rows) = rows_go (frame_of spot parent) old xs x columns y rows spot.height rows (columns_inside spot cx is left) (rows_inside spot cy is low) len (omega arith) lies in
+    let went : P (x + columns) (y + rows) = rows_go (frame_of spot parent) old xs x columns y rows spot.height rows (span_inside spot.width spot.across cx left) (span_inside spot.height spot.down cy low) len (omega arith) lies in
     subst (λ r. P r (edge_of spot.height spot.down (cy + 1))) right (subst (λ b. P (x + columns) b) bottom went)
 
 unskipped_goes : (spot : BandSpot) (parent : List ℤ) (old mid : Reading) (xs : List ℤ) (cy cx : ℕ) → IsBehindFlag (is_flagged spot) old mid → ValuesWent spot parent mid xs cy cx → BlockWent spot parent old xs cy cx
@@ -200,7 +199,7 @@ skipped_goes spot parent old new xs cy cx is left has zeros lies flag =
     let x = edge_of spot.width spot.across cx in
     let y = edge_of spot.height spot.down cy in
     let rows : List Decision = rows_part (frame_of spot parent) xs x (span_of spot.width spot.across cx) y (span_of spot.height spot.down cy) in
-    let inside = columns_inside spot cx is left in
+    let inside = span_inside spot.width spot.across cx left in
     went_none new lies
     (mark, subst (λ flagged. Reads old (flagged_part flagged true rows) new) (sym has) flag, λ flagged skipped i j p q. zeros.each (x + i) (y + j) (omega arith) (omega arith) (omega arith))
 

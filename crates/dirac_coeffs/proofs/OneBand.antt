@@ -13,9 +13,8 @@ use Rattle.dirac_coeffs.specs.Laws.{OneBandIsCarried}
 use Rattle.dirac_coeffs.specs.Places.{SameWithin}
 use Rattle.dirac_coeffs.specs.Spots.{IsSpot, span_of, is_flagged}
 use Rattle.dirac_coeffs.proofs.Agreement.{row_same, rows_same, value_contexts}
-use Rattle.dirac_coeffs.proofs.AgreementOfBlocks.{columns_inside}
 use Rattle.dirac_coeffs.proofs.Coding.{front_of, rest_of, one_value, truths_apart}
-use Rattle.dirac_coeffs.proofs.Edges.{edge_first, edge_most, edge_last, span_end}
+use Rattle.dirac_coeffs.proofs.Edges.{edge_first, edge_most, edge_last, span_end, span_inside}
 use Rattle.dirac_coeffs.proofs.Within.{same_less, same_more}
 
 -- a value of the list, or the 0 past its end
@@ -137,7 +136,7 @@ block_one spot parent block common xs ys cy cx mark mark' is inside small small'
     let right : left + columns ≡ edge_of w spot.across (cx + 1) = span_end w spot.across cx (omega (arith, is.across)) in
     let bottom : top + rows ≡ edge_of spot.height spot.down (cy + 1) = span_end spot.height spot.down cy (omega (arith, is.down)) in
     let same =
-    flagged_one (frame_of spot parent) block common xs ys left columns top rows (is_flagged spot) mark.skipped mark'.skipped small small' (columns_inside spot cx is inside)
+    flagged_one (frame_of spot parent) block common xs ys left columns top rows (is_flagged spot) mark.skipped mark'.skipped small small' (span_inside spot.width spot.across cx inside)
     (same_less (omega arith) (omega arith) s)
     (same_less (omega arith) (omega arith) t) z z' p q in
     record {

@@ -4,7 +4,7 @@ use Rattle.dirac_arith.specs.Interval.{Decision}
 use Rattle.dirac_arith.specs.Reading.{Reads}
 use Rattle.dirac_bands.specs.Geometry.{edge_of}
 use Rattle.dirac_coeffs.specs.Spots.{is_flagged}
-use Rattle.dirac_coeffs.proofs.AgreementOfBlocks.{columns_inside}
+use Rattle.dirac_coeffs.proofs.Edges.{span_inside}
 use Rattle.dirac_coeffs.proofs.FillingOfBlocks.{behind_none, behind_flag, block_breaks}
 use Rattle.dirac_coeffs.proofs.codeblocks.read_codeblock.Goals as goal
 
@@ -18,7 +18,7 @@ returns-in-Err-clause-long c = λ e.
 pub returns-in-Ok-true-clause-zeros : goal.returns-in-Ok-true-clause-zeros
 returns-in-Ok-true-clause-zeros c = λ flagged skipped i j p q.
     c.requires.zeros.each (edge_of c.args.spot.width c.args.spot.across c.args.cx + i) (edge_of c.args.spot.height c.args.spot.down c.args.cy + j)
-    (omega (arith, columns_inside c.args.spot c.args.cx c.requires.spot c.requires.column)) (omega arith) (omega arith)
+    (omega (arith, span_inside c.args.spot.width c.args.spot.across c.args.cx c.requires.column)) (omega arith) (omega arith)
 
 pub returns-in-Err-read_block_values-clause-long : goal.returns-in-Err-read_block_values-clause-long
 returns-in-Err-read_block_values-clause-long c = λ e.
