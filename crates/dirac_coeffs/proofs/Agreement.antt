@@ -4,7 +4,8 @@ use Rattle.std.proofs.Common.{◌≡◌, ℕ, zero, suc, ℤ, ◌+◌, ◌-◌, 
 use Rattle.std.proofs.lemmas.Bool.{cases_eq}
 use Rattle.std.proofs.Math.Numerals.{unary_clauses}
 use Rattle.dirac_arith.specs.Interval.{Decision}
-use Rattle.dirac_coeffs.specs.Contexts.{value_at, left_of, above_of, corner_of, parent_of, value_spelling}
+use Rattle.dirac_arith.specs.Spelling.{signed_spelling}
+use Rattle.dirac_coeffs.specs.Contexts.{value_at, left_of, above_of, corner_of, parent_of, follow_among, bits_context, sign_of, sign_neighbour}
 use Rattle.dirac_coeffs.specs.Decisions.{Frame, value_part, row_part, rows_part}
 use Rattle.dirac_coeffs.specs.Places.{SameWithin}
 use Rattle.dirac_coeffs.proofs.Within.{same_less}
@@ -33,9 +34,19 @@ corner_same w xs ys x y h s =
       ])
     ]
 
--- the contexts of a value are read off the places before it
+-- the follow contexts and the sign's context of the value in column x of row y, and the decisions of this value there
+abbrev pub follow_here : Frame → List ℤ → ℕ → ℕ → List ℕ
+follow_here f xs x y = follow_among (left_of f.width xs x y) (above_of f.width xs x y) (corner_of f.width xs x y) (parent_of f.width f.parent x y)
+
+abbrev pub sign_here : Frame → List ℤ → ℕ → ℕ → ℕ
+sign_here f xs x y = sign_of (sign_neighbour f.band (left_of f.width xs x y) (above_of f.width xs x y))
+
+abbrev pub value_here : Frame → List ℤ → ℕ → ℕ → ℤ → List Decision
+value_here f xs x y v = signed_spelling (follow_here f xs x y) bits_context (sign_here f xs x y) v
+
+-- these are read off the places before it
 pub value_contexts : (f : Frame) (xs ys : List ℤ) (x y : ℕ) → x < f.width → SameWithin f.width xs ys x (y + 1) → SameWithin f.width xs ys (x + 1) y
-    → value_part f ys x y ≡ value_spelling f.band (left_of f.width xs x y) (above_of f.width xs x y) (corner_of f.width xs x y) (parent_of f.width f.parent x y) (value_at f.width ys x y)
+    → value_part f ys x y ≡ value_here f xs x y (value_at f.width ys x y)
 value_contexts f xs ys x y h s t =
     rw (left_same f.width xs ys x y h s, above_same f.width xs ys x y h t, corner_same f.width xs ys x y h t) refl
 
@@ -43,7 +54,7 @@ pub value_same : (f : Frame) (xs ys : List ℤ) (x y : ℕ) → x < f.width → 
 value_same f xs ys x y h s =
     let here : value_at f.width xs x y ≡ value_at f.width ys x y = s.each x y h (omega arith) (omega arith) in
     let contexts = value_contexts f xs ys x y h (same_less (omega arith) (omega arith) s) (same_less (omega arith) (omega arith) s) in
-    ap (λ v. value_spelling f.band (left_of f.width xs x y) (above_of f.width xs x y) (corner_of f.width xs x y) (parent_of f.width f.parent x y) v) here ∙ sym contexts
+    ap (λ v. value_here f xs x y v) here ∙ sym contexts
 
 pub row_next : (f : Frame) (xs : List ℤ) (y x n : ℕ) → row_part f xs y x (n + 1) ≡ row_part f xs y x n ++ value_part f xs (x + n) y
 unfolding row_part

@@ -11,11 +11,12 @@ use Rattle.dirac_arith.specs.Written.{block_length, flushed, flush}
 use Rattle.dirac_arith.proofs.Bytes.{length-bytes_of}
 use Rattle.dirac_bands.specs.Geometry.{edge_of}
 use Rattle.dirac_coeffs.specs.declared.spot.BandSpot.{BandSpot}
-use Rattle.dirac_coeffs.specs.Contexts.{value_at, left_of, above_of, corner_of, parent_of, follow_among, sign_of, sign_neighbour, bits_context}
+use Rattle.dirac_coeffs.specs.Contexts.{value_at, bits_context}
 use Rattle.dirac_coeffs.specs.Decisions.{Frame, Mark, Marks, frame_of, value_part, row_part, rows_part, flagged_part, block_part, blocks_part, bands_part, band_decisions}
 use Rattle.dirac_coeffs.specs.Laws.{BlocksAreShort}
 use Rattle.dirac_coeffs.specs.Spots.{span_of, is_flagged}
 use Rattle.dirac_coeffs.specs.Written.{marks_of}
+use Rattle.dirac_coeffs.proofs.Agreement.{follow_here, sign_here}
 use Rattle.dirac_coeffs.proofs.Edges.{edge_last, span_end}
 
 -- the least number that passes is at most the limit
@@ -74,10 +75,7 @@ signed_most follow bits sign (negsuc n) =
     omega (arith, length-append (spelling follow bits (suc n)) (last ∷ []), spelling_most follow bits (suc n))
 
 value_most : (f : Frame) (xs : List ℤ) (x y : ℕ) → length (value_part f xs x y) ≤ 78
-value_most f xs x y =
-    let left = left_of f.width xs x y in
-    let above = above_of f.width xs x y in
-    signed_most (follow_among left above (corner_of f.width xs x y) (parent_of f.width f.parent x y)) bits_context (sign_of (sign_neighbour f.band left above)) (value_at f.width xs x y)
+value_most f xs x y = signed_most (follow_here f xs x y) bits_context (sign_here f xs x y) (value_at f.width xs x y)
 
 row_most : (f : Frame) (xs : List ℤ) (y x n : ℕ) → length (row_part f xs y x n) ≤ 78 * n
 unfolding row_part

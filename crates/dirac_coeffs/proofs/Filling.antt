@@ -4,11 +4,11 @@ use Rattle.std.proofs.lemmas.List.{get_or-set_same}
 use Rattle.dirac_types.specs.declared.formats.Band.{Band}
 use Rattle.dirac_arith.specs.Reading.{Reading, Reads}
 use Rattle.dirac_coeffs.specs.Carried.{long_part}
-use Rattle.dirac_coeffs.specs.Contexts.{value_at, left_of, above_of, corner_of, parent_of, value_spelling}
+use Rattle.dirac_coeffs.specs.Contexts.{value_at, value_spelling}
 use Rattle.dirac_coeffs.specs.Decisions.{Frame, value_part, row_part, rows_part}
 use Rattle.dirac_coeffs.specs.Places.{KeptOutside}
 use Rattle.dirac_coeffs.specs.Reached.{RowBroken, RowsBroken}
-use Rattle.dirac_coeffs.proofs.Agreement.{value_contexts, row_same, row_next, rows_same, rows_next}
+use Rattle.dirac_coeffs.proofs.Agreement.{value_here, value_contexts, row_same, row_next, rows_same, rows_next}
 use Rattle.dirac_coeffs.proofs.Readings.{reads_behind}
 use Rattle.dirac_coeffs.proofs.Within.{set_kept, kept_above, kept_left}
 
@@ -44,15 +44,14 @@ rows_break {xs = xs} {ys = ys} f x count y n rows h inside k p b =
 
 -- a value among its neighbours, once it is stored
 pub value_stored : (f : Frame) (xs : List ℤ) (x y : ℕ) (v : ℤ) → x < f.width → y * f.width + x < length xs
-    → value_part f (set xs (y * f.width + x) v) x y
-    ≡ value_spelling f.band (left_of f.width xs x y) (above_of f.width xs x y) (corner_of f.width xs x y) (parent_of f.width f.parent x y) v
+    → value_part f (set xs (y * f.width + x) v) x y ≡ value_here f xs x y v
 value_stored f xs x y v h inside =
     let w = f.width in
     let ys = set xs (y * w + x) v in
     let k = set_kept w xs x y v h in
     let here : value_at w ys x y ≡ v = get_or-set_same xs (y * w + x) v (pos 0) inside in
     value_contexts f xs ys x y h (kept_left (omega arith) k) (kept_above (omega arith) k)
-    ∙ ap (λ z. value_spelling f.band (left_of w xs x y) (above_of w xs x y) (corner_of w xs x y) (parent_of w f.parent x y) z) here
+    ∙ ap (λ z. value_here f xs x y z) here
 
 -- the same decisions, told by equal values
 pub reads_value : (old new : Reading) (band : Band) (l l' a a' k k' p p' v v' : ℤ) → l ≡ l' → a ≡ a' → k ≡ k' → p ≡ p' → v ≡ v'

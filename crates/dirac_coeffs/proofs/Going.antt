@@ -10,19 +10,20 @@ use Rattle.dirac_arith.specs.Deciding.{begin, after}
 use Rattle.dirac_arith.specs.Front.{front}
 use Rattle.dirac_arith.specs.Interval.{Decision, narrowed, narrowed_by}
 use Rattle.dirac_arith.specs.Reading.{Reading, Reads}
-use Rattle.dirac_arith.specs.Spelling.{spelt, signed_spelling}
+use Rattle.dirac_arith.specs.Spelling.{spelt}
 use Rattle.dirac_arith.proofs.Carrieds.{some_signed, start_lies}
 use Rattle.dirac_arith.proofs.Decidings.{some_truth}
 use Rattle.dirac_bands.specs.Geometry.{edge_of}
 use Rattle.dirac_coeffs.specs.declared.spot.BandSpot.{BandSpot}
 use Rattle.dirac_coeffs.specs.BandRead.{band_read}
 use Rattle.dirac_coeffs.specs.Carried.{AreSmall, SkippedIsZero, CarriesLong, long_part}
-use Rattle.dirac_coeffs.specs.Contexts.{left_of, above_of, corner_of, parent_of, follow_among, bits_context, sign_of, sign_neighbour}
+use Rattle.dirac_coeffs.specs.Contexts.{bits_context}
 use Rattle.dirac_coeffs.specs.Decisions.{Frame, Mark, frame_of, value_part, row_part, rows_part, flagged_part, block_part, blocks_part, bands_part}
 use Rattle.dirac_coeffs.specs.Laws.{LongIsRefused}
 use Rattle.dirac_coeffs.specs.Places.{KeptOutside, ZeroFrom}
 use Rattle.dirac_coeffs.specs.Reached.{BlocksRead, BandRead, RowBroken, RowsBroken, BlockBroken, BlocksBroken, BandBroken}
 use Rattle.dirac_coeffs.specs.Spots.{IsSpot, span_of, is_flagged}
+use Rattle.dirac_coeffs.proofs.Agreement.{follow_here, sign_here, value_here}
 use Rattle.dirac_coeffs.proofs.Edges.{edge_rises, edge_last, span_end, span_inside}
 use Rattle.dirac_coeffs.proofs.Filling.{row_more, row_breaks, rows_more, rows_break, value_stored}
 use Rattle.dirac_coeffs.proofs.FillingOfBlocks.{blocks_more, blocks_break, bands_more, bands_break, IsBehindFlag, behind_none, behind_flag, block_breaks}
@@ -101,15 +102,12 @@ value_goes : (f : Frame) (old : Reading) (xs : List ℤ) (x y : ℕ) → x < f.w
     → Went f.width x (x + 1) y (y + 1) xs (λ ys new. Reads old (value_part f ys x y) new) (ValueBroken f old x y)
 value_goes f old xs x y h inside lies =
     let w = f.width in
-    let l = left_of w xs x y in
-    let a = above_of w xs x y in
-    let follow = follow_among l a (corner_of w xs x y) (parent_of w f.parent x y) in
-    let sign = sign_of (sign_neighbour f.band l a) in
-    elim (some_signed old.block old.at follow bits_context sign lies) [
+    let follow = follow_here f xs x y in
+    elim (some_signed old.block old.at follow bits_context (sign_here f xs x y) lies) [
       | inl found ↦
           let v = found.0 in
           let ys = set xs (y * w + x) v in
-          let ds = signed_spelling follow bits_context sign v in
+          let ds = value_here f xs x y v in
           let new : Reading = record { block = old.block; at = narrowed_by old.at ds } in
           let reads : Reads old ds new = record { moved = refl; lies = λ some. found.2 } in
           record {

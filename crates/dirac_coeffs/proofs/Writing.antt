@@ -8,10 +8,11 @@ use Rattle.dirac_bands.specs.Geometry.{edge_of}
 use Rattle.dirac_coeffs.specs.declared.spot.BandSpot.{BandSpot}
 use Rattle.dirac_coeffs.specs.BandRead.{band_read}
 use Rattle.dirac_coeffs.specs.Carried.{AreSmall, CarriesBand}
-use Rattle.dirac_coeffs.specs.Contexts.{value_at, left_of, above_of, corner_of, parent_of, is_zero, follow_of, follow_among, sign_of, sign_neighbour, bits_context}
+use Rattle.dirac_coeffs.specs.Contexts.{value_at, left_of, above_of, corner_of, parent_of, is_zero, follow_of, sign_of, sign_neighbour, bits_context}
 use Rattle.dirac_coeffs.specs.Decisions.{Frame, Mark, Marks, frame_of, value_part, row_part, rows_part, flagged_part, block_part, blocks_part, bands_part, band_decisions}
 use Rattle.dirac_coeffs.specs.Spots.{IsSpot, span_of, is_flagged}
 use Rattle.dirac_coeffs.specs.Written.{marks_of, block_of}
+use Rattle.dirac_coeffs.proofs.Agreement.{follow_here, sign_here}
 use Rattle.dirac_coeffs.proofs.Found.{band_found, zero_block_decides}
 
 -- a list of six contexts
@@ -38,11 +39,9 @@ sign_below (negsuc n) = lit< tt
 
 in_value : (f : Frame) (xs : List ℤ) (x y : ℕ) → InContexts (value_part f xs x y)
 in_value f xs x y =
-    let left = left_of f.width xs x y in
-    let above = above_of f.width xs x y in
-    in_signed (follow_among left above (corner_of f.width xs x y) (parent_of f.width f.parent x y)) bits_context (sign_of (sign_neighbour f.band left above)) (value_at f.width xs x y)
-    (follow_below (is_zero (parent_of f.width f.parent x y)) (is_zero left && (is_zero above && is_zero (corner_of f.width xs x y))))
-    (lit< tt) (sign_below (sign_neighbour f.band left above))
+    in_signed (follow_here f xs x y) bits_context (sign_here f xs x y) (value_at f.width xs x y)
+    (follow_below (is_zero (parent_of f.width f.parent x y)) (is_zero (left_of f.width xs x y) && (is_zero (above_of f.width xs x y) && is_zero (corner_of f.width xs x y))))
+    (lit< tt) (sign_below (sign_neighbour f.band (left_of f.width xs x y) (above_of f.width xs x y)))
 
 in_row : (f : Frame) (xs : List ℤ) (y x n : ℕ) → InContexts (row_part f xs y x n)
 unfolding row_part
