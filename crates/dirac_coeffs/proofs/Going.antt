@@ -3,7 +3,6 @@ use Rattle.std.proofs.Common.{◌≡◌, ◌≢◌, ℕ, zero, suc, ℤ, pos, �
 use Rattle.std.proofs.lemmas.Bool.{cases_Bool, cases_eq}
 use Rattle.std.proofs.lemmas.List.{length-replicate}
 use Rattle.std.proofs.lemmas.List.Elements.{All-set}
-use Rattle.std.proofs.lemmas.Nat.{mul-le}
 use Rattle.dirac_types.specs.declared.faults.Cause.TheVariants.{CodeWord, NumberTooLong}
 use Rattle.dirac_arith.specs.Carried.{Lies, lies_in}
 use Rattle.dirac_arith.specs.Deciding.{begin, after}
@@ -24,7 +23,7 @@ use Rattle.dirac_coeffs.specs.Places.{KeptOutside, ZeroFrom}
 use Rattle.dirac_coeffs.specs.Reached.{BlocksRead, BandRead, RowBroken, RowsBroken, BlockBroken, BlocksBroken, BandBroken}
 use Rattle.dirac_coeffs.specs.Spots.{IsSpot, span_of, is_flagged}
 use Rattle.dirac_coeffs.proofs.Agreement.{follow_here, sign_here, value_here}
-use Rattle.dirac_coeffs.proofs.Edges.{edge_rises, edge_last, span_end, span_inside}
+use Rattle.dirac_coeffs.proofs.Edges.{edge_rises, edge_last, span_end, span_inside, rows_inside}
 use Rattle.dirac_coeffs.proofs.Filling.{row_more, row_breaks, rows_more, rows_break, value_stored}
 use Rattle.dirac_coeffs.proofs.FillingOfBlocks.{blocks_more, blocks_break, bands_more, bands_break, IsBehindFlag, behind_none, behind_flag, block_breaks}
 use Rattle.dirac_coeffs.proofs.Found.{band_found, ones_read, long_read}
@@ -92,7 +91,7 @@ went_on h h' before next =
 
 -- a place of the list
 inside_place : (w h x y len : ℕ) → x < w → y < h → len ≡ w * h → y * w + x < len
-inside_place w h x y len p q e = omega (arith, mul-le (y + 1) w h w (omega arith) (omega arith))
+inside_place w h x y len p q e = omega (arith, rows_inside (y + 1) w h len (omega arith) e)
 
 -- a value, or too long a number in its place
 abbrev ValueBroken : Frame → Reading → ℕ → ℕ → List ℤ → Reading → Type 0
