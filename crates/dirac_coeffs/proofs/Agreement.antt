@@ -10,21 +10,21 @@ use Rattle.dirac_coeffs.specs.Decisions.{Frame, value_part, row_part, rows_part}
 use Rattle.dirac_coeffs.specs.Places.{SameWithin}
 use Rattle.dirac_coeffs.proofs.Within.{same_less}
 
-pub left_same : (w : ℕ) (xs ys : List ℤ) (x y : ℕ) → x < w → SameWithin w xs ys x (y + 1) → left_of w xs x y ≡ left_of w ys x y
+left_same : (w : ℕ) (xs ys : List ℤ) (x y : ℕ) → x < w → SameWithin w xs ys x (y + 1) → left_of w xs x y ≡ left_of w ys x y
 left_same w xs ys x y h s =
     elim (cases_eq x 0) [
       | inl e ↦ rw (eq-eqb x 0 e) refl
       | inr n ↦ rw (ne_eqb x 0 n) (s.each (x - 1) y (omega arith) (omega arith) (omega arith))
     ]
 
-pub above_same : (w : ℕ) (xs ys : List ℤ) (x y : ℕ) → x < w → SameWithin w xs ys (x + 1) y → above_of w xs x y ≡ above_of w ys x y
+above_same : (w : ℕ) (xs ys : List ℤ) (x y : ℕ) → x < w → SameWithin w xs ys (x + 1) y → above_of w xs x y ≡ above_of w ys x y
 above_same w xs ys x y h s =
     elim (cases_eq y 0) [
       | inl e ↦ rw (eq-eqb y 0 e) refl
       | inr n ↦ rw (ne_eqb y 0 n) (s.each x (y - 1) h (omega arith) (omega arith))
     ]
 
-pub corner_same : (w : ℕ) (xs ys : List ℤ) (x y : ℕ) → x < w → SameWithin w xs ys (x + 1) y → corner_of w xs x y ≡ corner_of w ys x y
+corner_same : (w : ℕ) (xs ys : List ℤ) (x y : ℕ) → x < w → SameWithin w xs ys (x + 1) y → corner_of w xs x y ≡ corner_of w ys x y
 corner_same w xs ys x y h s =
     elim (cases_eq x 0) [
       | inl e ↦ rw (eq-eqb x 0 e) refl
@@ -50,7 +50,7 @@ pub value_contexts : (f : Frame) (xs ys : List ℤ) (x y : ℕ) → x < f.width 
 value_contexts f xs ys x y h s t =
     rw (left_same f.width xs ys x y h s, above_same f.width xs ys x y h t, corner_same f.width xs ys x y h t) refl
 
-pub value_same : (f : Frame) (xs ys : List ℤ) (x y : ℕ) → x < f.width → SameWithin f.width xs ys (x + 1) (y + 1) → value_part f xs x y ≡ value_part f ys x y
+value_same : (f : Frame) (xs ys : List ℤ) (x y : ℕ) → x < f.width → SameWithin f.width xs ys (x + 1) (y + 1) → value_part f xs x y ≡ value_part f ys x y
 value_same f xs ys x y h s =
     let here : value_at f.width xs x y ≡ value_at f.width ys x y = s.each x y h (omega arith) (omega arith) in
     let contexts = value_contexts f xs ys x y h (same_less (omega arith) (omega arith) s) (same_less (omega arith) (omega arith) s) in

@@ -12,7 +12,7 @@ use Rattle.dirac_coeffs.proofs.Agreement.{rows_same}
 use Rattle.dirac_coeffs.proofs.Edges.{edge_rises, edge_last, span_end, span_inside}
 use Rattle.dirac_coeffs.proofs.Within.{same_less}
 
-pub block_same : (spot : BandSpot) (parent xs ys : List ℤ) (cy cx : ℕ) (mark : Mark) → IsSpot spot → cx < spot.across
+block_same : (spot : BandSpot) (parent xs ys : List ℤ) (cy cx : ℕ) (mark : Mark) → IsSpot spot → cx < spot.across
     → SameWithin spot.width xs ys (edge_of spot.width spot.across (cx + 1)) (edge_of spot.height spot.down (cy + 1))
     → block_part spot parent xs cy cx mark ≡ block_part spot parent ys cy cx mark
 block_same spot parent xs ys cy cx mark is h s =

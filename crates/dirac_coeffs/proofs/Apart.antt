@@ -5,6 +5,7 @@ use Rattle.dirac_arith.specs.Carried.{Carries}
 use Rattle.dirac_arith.specs.Interval.{Decision}
 use Rattle.dirac_arith.specs.Spelling.{opening, follow_at}
 use Rattle.dirac_arith.proofs.Carrieds.{signed_more}
+use Rattle.dirac_arith.proofs.Spellings.{carries_one_truth}
 use Rattle.dirac_bands.specs.Geometry.{edge_of}
 use Rattle.dirac_coeffs.specs.declared.spot.BandSpot.{BandSpot}
 use Rattle.dirac_coeffs.specs.Carried.{AreSmall, SkippedIsZero, LongAt, long_part, row_until, rows_until, block_until, blocks_until, band_until}
@@ -15,13 +16,13 @@ use Rattle.dirac_coeffs.specs.Places.{SameWithin}
 use Rattle.dirac_coeffs.specs.Spots.{IsSpot, span_of, is_flagged}
 use Rattle.dirac_coeffs.proofs.Agreement.{follow_here, sign_here, row_same, row_next, rows_same, rows_next, value_contexts}
 use Rattle.dirac_coeffs.proofs.AgreementOfBlocks.{blocks_next, bands_next}
-use Rattle.dirac_coeffs.proofs.Coding.{rest_of, parts_apart, value_apart, truths_apart, ones_apart}
+use Rattle.dirac_coeffs.proofs.Coding.{rest_of, parts_apart, value_apart, ones_apart}
 use Rattle.dirac_coeffs.proofs.Edges.{edge_first, edge_most, edge_last, span_end, span_inside}
 use Rattle.dirac_coeffs.proofs.OneBand.{SameBlock, row_one, rows_one, blocks_one, bands_one}
 use Rattle.dirac_coeffs.proofs.Within.{same_less}
 
 -- a row of values beside one that breaks off
-pub row_apart : (f : Frame) (block : List ℕ) (common : List Decision) (xs ys : List ℤ) (x y i n : ℕ) (digits : List Bool) → AreSmall xs → AreSmall ys → x + n ≤ f.width → i < n → length digits ≡ 38
+row_apart : (f : Frame) (block : List ℕ) (common : List Decision) (xs ys : List ℤ) (x y i n : ℕ) (digits : List Bool) → AreSmall xs → AreSmall ys → x + n ≤ f.width → i < n → length digits ≡ 38
     → SameWithin f.width xs ys x (y + 1) → SameWithin f.width xs ys (x + n) y
     → Carries block (common ++ row_until f xs y x i digits) → Carries block (common ++ row_part f ys y x n) → ⊥
 row_apart f block common xs ys x y i n digits small small' h inside long s t =
@@ -34,7 +35,7 @@ row_apart f block common xs ys x y i n digits small small' h inside long s t =
     (subst (λ (l : List Decision). Carries block ((common ++ mine) ++ l)) contexts q) p)
 
 -- rows of values beside rows that break off
-pub rows_apart : (f : Frame) (block : List ℕ) (common : List Decision) (xs ys : List ℤ) (x count y j n i : ℕ) (digits : List Bool) → AreSmall xs → AreSmall ys → x + count ≤ f.width → j < n → i < count → length digits ≡ 38
+rows_apart : (f : Frame) (block : List ℕ) (common : List Decision) (xs ys : List ℤ) (x count y j n i : ℕ) (digits : List Bool) → AreSmall xs → AreSmall ys → x + count ≤ f.width → j < n → i < count → length digits ≡ 38
     → SameWithin f.width xs ys x (y + n) → SameWithin f.width xs ys (x + count) y
     → Carries block (common ++ rows_until f xs x count y j i digits) → Carries block (common ++ rows_part f ys x count y n) → ⊥
 rows_apart f block common xs ys x count y j n i digits small small' h inside column long s t =
@@ -50,7 +51,7 @@ flagged_apart : (f : Frame) (block : List ℕ) (common : List Decision) (xs ys :
 flagged_apart f block common xs ys x count y j n i digits false skipped small small' h inside column long s t p q =
     rows_apart f block common xs ys x count y j n i digits small small' h inside column long s t p q
 flagged_apart f block common xs ys x count y j n i digits true true small small' h inside column long s t p q =
-    truths_apart block common [] (rows_until f xs x count y j i digits) 18 q p
+    carries_one_truth block common [] (rows_until f xs x count y j i digits) 18 q p
 flagged_apart f block common xs ys x count y j n i digits true false small small' h inside column long s t p q =
     let flag : Decision = (18, false) in
     rows_apart f block (common ++ flag ∷ []) xs ys x count y j n i digits small small' h inside column long s t

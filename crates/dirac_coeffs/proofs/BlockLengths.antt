@@ -43,7 +43,7 @@ narrowed_by_most s [] = omega arith
 narrowed_by_most s (d ∷ ds) = omega (arith, narrowed_most s d.0 d.1, narrowed_by_most (narrowed s d) ds)
 
 -- the block for decisions has at most two bytes for each, and one more
-pub flush_most : (ds : List Decision) → length (flush ds) ≤ 2 * length ds + 1
+flush_most : (ds : List Decision) → length (flush ds) ≤ 2 * length ds + 1
 unfolding flushed
 flush_most [] = omega arith
 flush_most (d ∷ ds) =
@@ -64,7 +64,7 @@ spelling_most follow bits v =
     let last : Decision = (follow_at follow (length digits), true) in
     omega (arith, length-append (opening follow bits 0 digits) (last ∷ []), length-opening follow bits 0 digits, digits_few v)
 
-pub signed_most : (follow : List ℕ) (bits sign : ℕ) (v : ℤ) → length (signed_spelling follow bits sign v) ≤ 78
+signed_most : (follow : List ℕ) (bits sign : ℕ) (v : ℤ) → length (signed_spelling follow bits sign v) ≤ 78
 unfolding signed_spelling
 signed_most follow bits sign (pos zero) = omega (arith, spelling_most follow bits 0)
 signed_most follow bits sign (pos (suc n)) =
@@ -147,7 +147,7 @@ bands_most spot parent xs marks (suc n) some rows =
     (bands_most spot parent xs marks n some rows) (row_of_blocks_most spot parent xs (marks n) n some) sum)
 
 -- a band: a flag for each codeblock, and its values
-pub decisions_most : (spot : BandSpot) (parent xs : List ℤ) (marks : Marks) → 0 < spot.across → 0 < spot.down
+decisions_most : (spot : BandSpot) (parent xs : List ℤ) (marks : Marks) → 0 < spot.across → 0 < spot.down
     → length (band_decisions spot parent xs marks) ≤ spot.down * spot.across + 78 * (spot.width * spot.height)
 decisions_most spot parent xs marks some rows =
     let last : edge_of spot.height spot.down spot.down ≡ spot.height = edge_last spot.height spot.down rows in

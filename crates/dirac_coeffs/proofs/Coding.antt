@@ -9,10 +9,10 @@ use Rattle.dirac_arith.specs.Interval.{Decision, Interval, narrowed_by, whole}
 use Rattle.dirac_arith.specs.Reading.{Reading, Reads}
 use Rattle.dirac_arith.specs.Spelling.{spelling, spelt, signed_spelling, opening, follow_at}
 use Rattle.dirac_arith.proofs.Carrieds.{signed_more}
-use Rattle.dirac_arith.proofs.Spellings.{carried_lies, lies_carried, lies_first, tame_by, whole_tame, narrowed_by-append, carries_one_signed, carries_one_truth, one_spelt_from, spelt_is, signed_is, sign_before, carried_behind}
+use Rattle.dirac_arith.proofs.Spellings.{carried_lies, lies_carried, lies_first, tame_by, whole_tame, narrowed_by-append, carries_one_signed, one_spelt_from, spelt_is, signed_is, sign_before, carried_behind}
 
 -- decisions that a block carries, it carries up to any of them
-pub front_carried : (block : List ℕ) (ds es : List Decision) → Carries block (ds ++ es) → Carries block ds
+front_carried : (block : List ℕ) (ds es : List Decision) → Carries block (ds ++ es) → Carries block ds
 front_carried block ds es p =
     lies_carried block ds (λ some.
     let longer : 0 < length (ds ++ es) = omega (arith, length-append {A = Decision} ds es) in
@@ -29,11 +29,11 @@ pub rest_of : (block : List ℕ) (common ds es : List Decision) → Carries bloc
 rest_of block common ds es p = subst (λ (l : List Decision). Carries block l) (sym (append_assoc common ds es)) p
 
 -- also where these are told otherwise
-pub rest_same : (block : List ℕ) (common ds es more : List Decision) → ds ≡ es → Carries block (common ++ (es ++ more)) → Carries block ((common ++ ds) ++ more)
+rest_same : (block : List ℕ) (common ds es more : List Decision) → ds ≡ es → Carries block (common ++ (es ++ more)) → Carries block ((common ++ ds) ++ more)
 rest_same block common ds es more same p = subst (λ (l : List Decision). Carries block ((common ++ l) ++ more)) (sym same) (rest_of block common es more p)
 
 -- of parts that grow at their end, a longer one that is carried begins with part n and what follows it
-pub parts_front : (block : List ℕ) (common : List Decision) (part more : ℕ → List Decision) → ((k : ℕ) → part (k + 1) ≡ part k ++ more k) → (n m : ℕ) → n < m
+parts_front : (block : List ℕ) (common : List Decision) (part more : ℕ → List Decision) → ((k : ℕ) → part (k + 1) ≡ part k ++ more k) → (n m : ℕ) → n < m
     → Carries block (common ++ part m) → Carries block (common ++ (part n ++ more n))
 parts_front block common part more grows n zero h p = absurd (omega arith)
 parts_front block common part more grows n (suc m) h p =
@@ -72,11 +72,6 @@ parts_apart block common mine until theirs more' P j n h grows' so_far same apar
     let longer = parts_front block common theirs more' grows' j n h q in
     let before : P = so_far (front_of block common mine until p) (front_of block common (theirs j) (more' j) longer) in
     apart before (rest_of block common mine until p) (rest_same block common mine (theirs j) (more' j) (same before) longer)
-
--- two truths at one place exclude each other
-pub truths_apart : (block : List ℕ) (common ds es : List Decision) (context : ℕ)
-    → (let t : Decision = (context, true) in Carries block (common ++ t ∷ ds)) → (let t : Decision = (context, false) in Carries block (common ++ t ∷ es)) → ⊥
-truths_apart block common ds es context p q = carries_one_truth block common ds es context p q
 
 -- one value at a place
 pub one_value : (block : List ℕ) (common : List Decision) (follow : List ℕ) (bits sign : ℕ) (v w : ℤ) → unsigned_abs v < 2 ^ 39 - 1 → unsigned_abs w < 2 ^ 39 - 1

@@ -17,10 +17,10 @@ use Rattle.dirac_coeffs.proofs.Edges.{edge_rises, edge_most}
 use Rattle.dirac_coeffs.proofs.Readings.{reads_behind}
 use Rattle.dirac_coeffs.proofs.Within.{kept_above, kept_left, same_less}
 
-pub put_here : {A : Type 0} (former : ℕ → A) (n : ℕ) (a : A) → put_at former n a n ≡ a
+put_here : {A : Type 0} (former : ℕ → A) (n : ℕ) (a : A) → put_at former n a n ≡ a
 put_here former n a = rw (eq-eqb n n refl) refl
 
-pub put_before : {A : Type 0} (former : ℕ → A) (n : ℕ) (a : A) (c : ℕ) → c < n → former c ≡ put_at former n a c
+put_before : {A : Type 0} (former : ℕ → A) (n : ℕ) (a : A) (c : ℕ) → c < n → former c ≡ put_at former n a c
 put_before former n a c h = let other : c ≡ n → ⊥ = λ e. omega arith in rw (ne_eqb c n other) refl
 
 -- what the zero flags left of codeblock n of row cy say, they still say where the values there are as they were

@@ -238,6 +238,10 @@ band_found spot parent block xs ms is a =
     let R : Type 0 = Result (List ℤ) Cause in
     other_read spot parent block (λ ones. (ones_carry_nothing spot parent block is ones).0 xs ms a) ∙ ap values_found found.found ∙ ap (λ l. let r : R = Ok l in r) same
 
+-- what is found is carried
+found_carried : (spot : BandSpot) (parent : List ℤ) (block : List ℕ) (m : Marked) → find (carries_marked spot parent block) (all_bands spot) ≡ Some m → CarriesBand spot parent block m.values m.marks
+found_carried spot parent block m e = (marked_decides spot parent block m).0 (find_passes (carries_marked spot parent block) (all_bands spot) m e)
+
 none_found : (o : Option Marked) → ((m : Marked) → o ≡ Some m → ⊥) → values_found o ≡ Err NumberTooLong
 none_found None h = refl
 none_found (Some m) h = absurd (h m refl)
@@ -247,27 +251,19 @@ pub long_read : (spot : BandSpot) (parent : List ℤ) (block : List ℕ) → IsS
 long_read spot parent block is b =
     other_read spot parent block (λ ones. (ones_carry_nothing spot parent block is ones).1 b)
     ∙ none_found (find (carries_marked spot parent block) (all_bands spot))
-    (λ m e. no_band_beside_long spot parent block m.values m.marks is ((marked_decides spot parent block m).0 (find_passes (carries_marked spot parent block) (all_bands spot) m e)) b)
+    (λ m e. no_band_beside_long spot parent block m.values m.marks is (found_carried spot parent block m e) b)
 
--- the band that was found
-record FoundBand (o : Option Marked) (xs : List ℤ) : Type 0 where
-  marked : Marked
-  is : o ≡ Some marked
-  same : marked.values ≡ xs
-
-found_values : (o : Option Marked) (xs : List ℤ) → values_found o ≡ Ok xs → FoundBand o xs
-found_values None xs e = absurd (cc)
-found_values (Some m) xs e = record { marked = m; is = refl; same = cc }
+some_found : (spot : BandSpot) (parent : List ℤ) (block : List ℕ) (xs : List ℤ) (o : Option Marked) → ((m : Marked) → o ≡ Some m → CarriesBand spot parent block m.values m.marks)
+    → values_found o ≡ Ok xs → (ms : Marks) × CarriesBand spot parent block xs ms
+some_found spot parent block xs None h e = absurd (cc)
+some_found spot parent block xs (Some m) h e = let same : m.values ≡ xs = cc in (m.marks, subst (λ zs. CarriesBand spot parent block zs m.marks) same (h m refl))
 
 -- what a block reads to, it carries
 pub band_carried : (spot : BandSpot) (parent : List ℤ) (block : List ℕ) (xs : List ℤ) → band_read spot parent block ≡ Ok xs → (ms : Marks) × CarriesBand spot parent block xs ms
 band_carried spot parent block xs e =
     elim (cases_eq (front block 16) 65535) [
       | inl ones ↦ let bad : Err CodeWord ≡ Ok xs = sym (ones_read spot parent block ones) ∙ e in absurd (cc)
-      | inr other ↦
-          let f = found_values (find (carries_marked spot parent block) (all_bands spot)) xs (sym (other_read spot parent block other) ∙ e) in
-          let passes = find_passes (carries_marked spot parent block) (all_bands spot) f.marked f.is in
-          (f.marked.marks, subst (λ zs. CarriesBand spot parent block zs f.marked.marks) f.same ((marked_decides spot parent block f.marked).0 passes))
+      | inr other ↦ some_found spot parent block xs (find (carries_marked spot parent block) (all_bands spot)) (found_carried spot parent block) (sym (other_read spot parent block other) ∙ e)
     ]
 
 no_code_word : (o : Option Marked) → values_found o ≡ Err CodeWord → ⊥

@@ -288,7 +288,7 @@ band_goes spot parent block is other =
     ]
 
 -- so one that is refused for a number that is too long carries the decisions up to that
-pub refused_is_long : (spot : BandSpot) (parent : List ℤ) (block : List ℕ) → IsSpot spot → band_read spot parent block ≡ Err NumberTooLong → CarriesLong spot parent block
+refused_is_long : (spot : BandSpot) (parent : List ℤ) (block : List ℕ) → IsSpot spot → band_read spot parent block ≡ Err NumberTooLong → CarriesLong spot parent block
 refused_is_long spot parent block is e =
     elim (cases_eq (front block 16) 65535) [
       | inl ones ↦ let shut : band_read spot parent block ≡ Err CodeWord = ones_read spot parent block ones in absurd cc

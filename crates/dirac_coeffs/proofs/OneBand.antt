@@ -4,6 +4,7 @@ use Rattle.std.proofs.lemmas.Bool.{cases_lt}
 use Rattle.std.proofs.lemmas.List.{get_or_past}
 use Rattle.dirac_arith.specs.Carried.{Carries}
 use Rattle.dirac_arith.specs.Interval.{Decision}
+use Rattle.dirac_arith.proofs.Spellings.{carries_one_truth}
 use Rattle.dirac_bands.specs.Geometry.{edge_of}
 use Rattle.dirac_coeffs.specs.declared.spot.BandSpot.{BandSpot}
 use Rattle.dirac_coeffs.specs.Carried.{AreSmall, SkippedIsZero}
@@ -14,12 +15,12 @@ use Rattle.dirac_coeffs.specs.Places.{SameWithin}
 use Rattle.dirac_coeffs.specs.Spots.{IsSpot, span_of, is_flagged}
 use Rattle.dirac_coeffs.proofs.Agreement.{follow_here, sign_here, row_same, row_next, rows_same, rows_next, value_contexts}
 use Rattle.dirac_coeffs.proofs.AgreementOfBlocks.{blocks_next, bands_next}
-use Rattle.dirac_coeffs.proofs.Coding.{rest_of, parts_one, one_value, truths_apart}
+use Rattle.dirac_coeffs.proofs.Coding.{rest_of, parts_one, one_value}
 use Rattle.dirac_coeffs.proofs.Edges.{edge_first, edge_most, edge_last, span_end, span_inside}
 use Rattle.dirac_coeffs.proofs.Within.{same_less, same_more}
 
 -- a value of the list, or the 0 past its end
-pub small_at : (w : ℕ) (xs : List ℤ) (x y : ℕ) → AreSmall xs → unsigned_abs (value_at w xs x y) < 2 ^ 39 - 1
+small_at : (w : ℕ) (xs : List ℤ) (x y : ℕ) → AreSmall xs → unsigned_abs (value_at w xs x y) < 2 ^ 39 - 1
 small_at w xs x y small =
     elim (cases_lt (y * w + x) (length xs)) [
       | inl inside ↦ small (y * w + x) (pos 0) inside
@@ -27,7 +28,7 @@ small_at w xs x y small =
     ]
 
 -- one value in column x of row y
-pub value_one : (f : Frame) (block : List ℕ) (common : List Decision) (xs ys : List ℤ) (x y : ℕ) → AreSmall xs → AreSmall ys → x < f.width
+value_one : (f : Frame) (block : List ℕ) (common : List Decision) (xs ys : List ℤ) (x y : ℕ) → AreSmall xs → AreSmall ys → x < f.width
     → SameWithin f.width xs ys x (y + 1) → SameWithin f.width xs ys (x + 1) y
     → Carries block (common ++ value_part f xs x y) → Carries block (common ++ value_part f ys x y) → SameWithin f.width xs ys (x + 1) (y + 1)
 value_one f block common xs ys x y small small' h s t p q =
@@ -72,18 +73,15 @@ zeros_meet w xs ys left columns top rows s t z z' =
             | inr a ↦ elim (cases_lt y top) [
               | inl b ↦ t.each x y p q b
               | inr b ↦
-                  let column : left + (x - left) ≡ x = omega arith in
-                  let row : top + (y - top) ≡ y = omega arith in
-                  let mine = z (x - left) (y - top) (omega arith) (omega arith) in
-                  let theirs = z' (x - left) (y - top) (omega arith) (omega arith) in
-                  let here : value_at w xs (left + (x - left)) (top + (y - top)) ≡ value_at w ys (left + (x - left)) (top + (y - top)) = mine ∙ sym theirs in
-                  subst (λ i. value_at w xs i y ≡ value_at w ys i y) column (subst (λ j. value_at w xs (left + (x - left)) j ≡ value_at w ys (left + (x - left)) j) row here)
+                  let column : x ≡ left + (x - left) = omega arith in
+                  let row : y ≡ top + (y - top) = omega arith in
+                  rw (column, row) (z (x - left) (y - top) (omega arith) (omega arith) ∙ sym (z' (x - left) (y - top) (omega arith) (omega arith)))
             ]
           ];
     }
 
 -- a rectangle of values behind zero flags
-pub flagged_one : (f : Frame) (block : List ℕ) (common : List Decision) (xs ys : List ℤ) (left columns top rows : ℕ) (flagged skipped skipped' : Bool) → AreSmall xs → AreSmall ys → left + columns ≤ f.width
+flagged_one : (f : Frame) (block : List ℕ) (common : List Decision) (xs ys : List ℤ) (left columns top rows : ℕ) (flagged skipped skipped' : Bool) → AreSmall xs → AreSmall ys → left + columns ≤ f.width
     → SameWithin f.width xs ys left (top + rows) → SameWithin f.width xs ys (left + columns) top
     → (flagged ≡ true → skipped ≡ true → (i j : ℕ) → i < columns → j < rows → value_at f.width xs (left + i) (top + j) ≡ pos 0)
     → (flagged ≡ true → skipped' ≡ true → (i j : ℕ) → i < columns → j < rows → value_at f.width ys (left + i) (top + j) ≡ pos 0)
@@ -96,9 +94,9 @@ flagged_one f block common xs ys left columns top rows false skipped skipped' sm
 flagged_one f block common xs ys left columns top rows true true true small small' h s t z z' p q =
     record { within = zeros_meet f.width xs ys left columns top rows s t (z refl refl) (z' refl refl); decisions = refl }
 flagged_one f block common xs ys left columns top rows true true false small small' h s t z z' p q =
-    absurd (truths_apart block common [] (rows_part f ys left columns top rows) 18 p q)
+    absurd (carries_one_truth block common [] (rows_part f ys left columns top rows) 18 p q)
 flagged_one f block common xs ys left columns top rows true false true small small' h s t z z' p q =
-    absurd (truths_apart block common [] (rows_part f xs left columns top rows) 18 q p)
+    absurd (carries_one_truth block common [] (rows_part f xs left columns top rows) 18 q p)
 flagged_one f block common xs ys left columns top rows true false false small small' h s t z z' p q =
     let flag : Decision = (18, false) in
     let all =
@@ -107,7 +105,7 @@ flagged_one f block common xs ys left columns top rows true false false small sm
     record { within = all; decisions = ap (λ (l : List Decision). flag ∷ l) (rows_same f xs ys left columns top rows h all) }
 
 -- codeblock cx of row cy
-pub block_one : (spot : BandSpot) (parent : List ℤ) (block : List ℕ) (common : List Decision) (xs ys : List ℤ) (cy cx : ℕ) (mark mark' : Mark) → IsSpot spot → cx < spot.across
+block_one : (spot : BandSpot) (parent : List ℤ) (block : List ℕ) (common : List Decision) (xs ys : List ℤ) (cy cx : ℕ) (mark mark' : Mark) → IsSpot spot → cx < spot.across
     → AreSmall xs → AreSmall ys
     → SameWithin spot.width xs ys (edge_of spot.width spot.across cx) (edge_of spot.height spot.down (cy + 1))
     → SameWithin spot.width xs ys (edge_of spot.width spot.across (cx + 1)) (edge_of spot.height spot.down cy)

@@ -33,7 +33,7 @@ pub zeros_small : (n : ℕ) → AreSmall (replicate n (pos 0))
 zeros_small n = All-replicate (λ v. unsigned_abs v < 2 ^ 39 - 1) n (pos 0) (lit< tt)
 
 -- all values written over
-pub written_over : (xs ys : List ℤ) → length ys ≡ length xs → take (length xs) (ys ++ drop (length ys) xs) ≡ ys
+written_over : (xs ys : List ℤ) → length ys ≡ length xs → take (length xs) (ys ++ drop (length ys) xs) ≡ ys
 written_over xs ys len =
     let none : drop (length ys) xs ≡ [] = drop_of_length-le xs {i = length ys} (omega arith) in
     ap (λ l. take (length xs) (ys ++ l)) none ∙ ap (λ l. take (length xs) l) (append-nil ys) ∙ ap (λ n. take n ys) (sym len) ∙ take_all (length ys) ys (omega arith)

@@ -1,5 +1,5 @@
 -- What an encoder has written, and that it is read back.
-use Rattle.std.proofs.Common.{◌≡◌, ℕ, zero, suc, ℤ, pos, negsuc, ◌+◌, ◌*◌, ◌<◌, min, Bool, true, false, List, [], ◌∷◌, ◌&&◌, length, slice_index, Result, Ok, Err, IfOk, sym, subst, arith, lit<}
+use Rattle.std.proofs.Common.{◌≡◌, ℕ, zero, suc, ℤ, pos, negsuc, ◌+◌, ◌*◌, ◌<◌, min, Bool, true, false, List, [], ◌∷◌, ◌&&◌, length, slice_index, Ok, sym, subst, arith, lit<}
 use Rattle.dirac_arith.specs.Interval.{Decision, InContexts}
 use Rattle.dirac_arith.specs.Spelling.{follow_at}
 use Rattle.dirac_arith.proofs.Encodings.{flushed_is_carried}
@@ -74,7 +74,7 @@ in_bands spot parent xs marks (suc n) =
     in_append (bands_part spot parent xs marks n) (blocks_part spot parent xs (marks n) n spot.across) (in_bands spot parent xs marks n) (in_blocks spot parent xs (marks n) n spot.across)
 
 -- the block that is written carries the band
-pub written_carried : (spot : BandSpot) (parent xs : List ℤ) → length xs ≡ spot.width * spot.height → AreSmall xs → CarriesBand spot parent (block_of spot parent xs) xs (marks_of spot xs)
+written_carried : (spot : BandSpot) (parent xs : List ℤ) → length xs ≡ spot.width * spot.height → AreSmall xs → CarriesBand spot parent (block_of spot parent xs) xs (marks_of spot xs)
 written_carried spot parent xs len small =
     record {
       len = len;
@@ -86,8 +86,3 @@ written_carried spot parent xs len small =
 -- so it reads to the band
 pub written_read : (spot : BandSpot) (parent xs : List ℤ) → IsSpot spot → length xs ≡ spot.width * spot.height → AreSmall xs → band_read spot parent (block_of spot parent xs) ≡ Ok xs
 written_read spot parent xs is len small = band_found spot parent (block_of spot parent xs) xs (marks_of spot xs) is (written_carried spot parent xs len small)
-
--- what follows from what holds of an answer
-pub ok_more : {T E : Type 0} (P Q : T → Type 0) → ((x : T) → P x → Q x) → (r : Result T E) → IfOk r P → IfOk r Q
-ok_more P Q each (Ok x) h = each x h
-ok_more P Q each (Err e) h = h
