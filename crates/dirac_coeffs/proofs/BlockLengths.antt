@@ -103,10 +103,11 @@ block_most spot parent xs cy cx mark =
     let rows = span_of spot.height spot.down cy in
     omega (arith, flagged_most (is_flagged spot) mark.skipped (rows_part f xs left columns top rows), rows_most f xs left columns top rows)
 
--- codeblocks of one row have the columns up to an edge
-joined : (all more n left span right rows : ℕ) → all ≤ n + 78 * (left * rows) → more ≤ 1 + 78 * (span * rows) → left + span ≡ right → all + more ≤ suc n + 78 * (right * rows)
-joined all more n left span right rows before here sum = rw (sym sum) (omega (arith, before, here))
+-- parts that have each their flags and lines from an edge to the next, and of one size across these
+grown : (all more n flags size left span right : ℕ) → all ≤ n * flags + 78 * (left * size) → more ≤ flags + 78 * (span * size) → left + span ≡ right → all + more ≤ suc n * flags + 78 * (right * size)
+grown all more n flags size left span right before here sum = rw (sym sum) (omega (arith, before, here))
 
+-- codeblocks of one row have the columns up to an edge
 blocks_most : (spot : BandSpot) (parent xs : List ℤ) (marks : ℕ → Mark) (cy n : ℕ) → 0 < spot.across
     → length (blocks_part spot parent xs marks cy n) ≤ n + 78 * (edge_of spot.width spot.across n * span_of spot.height spot.down cy)
 unfolding blocks_part
@@ -115,26 +116,21 @@ blocks_most spot parent xs marks cy (suc n) some =
     let w = spot.width in
     let next : n + 1 ≡ suc n = omega arith in
     let sum : edge_of w spot.across n + span_of w spot.across n ≡ edge_of w spot.across (suc n) = span_end w spot.across n some ∙ ap (λ c. edge_of w spot.across c) next in
-    rw (length-append (blocks_part spot parent xs marks cy n) (block_part spot parent xs cy n (marks n)))
-    (joined (length (blocks_part spot parent xs marks cy n)) (length (block_part spot parent xs cy n (marks n))) n
-    (edge_of w spot.across n) (span_of w spot.across n) (edge_of w spot.across (suc n)) (span_of spot.height spot.down cy)
-    (blocks_most spot parent xs marks cy n some) (block_most spot parent xs cy n (marks n)) sum)
+    let both = grown (length (blocks_part spot parent xs marks cy n)) (length (block_part spot parent xs cy n (marks n))) n 1 (span_of spot.height spot.down cy)
+    (edge_of w spot.across n) (span_of w spot.across n) (edge_of w spot.across (suc n)) (omega (arith, blocks_most spot parent xs marks cy n some)) (block_most spot parent xs cy n (marks n)) sum in
+    rw (length-append (blocks_part spot parent xs marks cy n) (block_part spot parent xs cy n (marks n))) (omega (arith, both))
 
 -- a row of codeblocks has the band's columns
 row_of_blocks_most : (spot : BandSpot) (parent xs : List ℤ) (marks : ℕ → Mark) (cy : ℕ) → 0 < spot.across
-    → length (blocks_part spot parent xs marks cy spot.across) ≤ spot.across + 78 * (spot.width * span_of spot.height spot.down cy)
+    → length (blocks_part spot parent xs marks cy spot.across) ≤ spot.across + 78 * (span_of spot.height spot.down cy * spot.width)
 row_of_blocks_most spot parent xs marks cy some =
     let last : edge_of spot.width spot.across spot.across ≡ spot.width = edge_last spot.width spot.across some in
     let most = blocks_most spot parent xs marks cy spot.across some in
-    rw last at most
+    omega (arith, rw last at most)
 
 -- rows of codeblocks have the rows up to an edge
-stacked : (all more n across width top span bottom : ℕ) → all ≤ n * across + 78 * (width * top) → more ≤ across + 78 * (width * span) → top + span ≡ bottom
-    → all + more ≤ suc n * across + 78 * (width * bottom)
-stacked all more n across width top span bottom before here sum = rw (sym sum) (omega (arith, before, here))
-
 bands_most : (spot : BandSpot) (parent xs : List ℤ) (marks : Marks) (n : ℕ) → 0 < spot.across → 0 < spot.down
-    → length (bands_part spot parent xs marks n) ≤ n * spot.across + 78 * (spot.width * edge_of spot.height spot.down n)
+    → length (bands_part spot parent xs marks n) ≤ n * spot.across + 78 * (edge_of spot.height spot.down n * spot.width)
 unfolding bands_part
 bands_most spot parent xs marks zero some rows = omega arith
 bands_most spot parent xs marks (suc n) some rows =
@@ -142,9 +138,8 @@ bands_most spot parent xs marks (suc n) some rows =
     let next : n + 1 ≡ suc n = omega arith in
     let sum : edge_of h spot.down n + span_of h spot.down n ≡ edge_of h spot.down (suc n) = span_end h spot.down n rows ∙ ap (λ c. edge_of h spot.down c) next in
     rw (length-append (bands_part spot parent xs marks n) (blocks_part spot parent xs (marks n) n spot.across))
-    (stacked (length (bands_part spot parent xs marks n)) (length (blocks_part spot parent xs (marks n) n spot.across)) n spot.across spot.width
-    (edge_of h spot.down n) (span_of h spot.down n) (edge_of h spot.down (suc n))
-    (bands_most spot parent xs marks n some rows) (row_of_blocks_most spot parent xs (marks n) n some) sum)
+    (grown (length (bands_part spot parent xs marks n)) (length (blocks_part spot parent xs (marks n) n spot.across)) n spot.across spot.width
+    (edge_of h spot.down n) (span_of h spot.down n) (edge_of h spot.down (suc n)) (bands_most spot parent xs marks n some rows) (row_of_blocks_most spot parent xs (marks n) n some) sum)
 
 -- a band: a flag for each codeblock, and its values
 decisions_most : (spot : BandSpot) (parent xs : List ℤ) (marks : Marks) → 0 < spot.across → 0 < spot.down
@@ -152,7 +147,7 @@ decisions_most : (spot : BandSpot) (parent xs : List ℤ) (marks : Marks) → 0 
 decisions_most spot parent xs marks some rows =
     let last : edge_of spot.height spot.down spot.down ≡ spot.height = edge_last spot.height spot.down rows in
     let most = bands_most spot parent xs marks spot.down some rows in
-    rw last at most
+    omega (arith, rw last at most)
 
 -- the block of a subband is short: its length can be spelt
 pub block_short : BlocksAreShort

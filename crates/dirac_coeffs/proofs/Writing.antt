@@ -1,7 +1,8 @@
 -- What an encoder has written, and that it is read back.
-use Rattle.std.proofs.Common.{◌≡◌, ℕ, zero, suc, ℤ, pos, negsuc, ◌+◌, ◌*◌, ◌<◌, min, Bool, true, false, List, [], ◌∷◌, ◌&&◌, length, slice_index, Ok, sym, subst, arith, lit<}
+use Rattle.std.proofs.Common.{◌≡◌, ℕ, zero, suc, ℤ, pos, negsuc, ◌+◌, ◌-◌, ◌*◌, ◌<◌, min, Bool, true, false, List, ◌&&◌, length, Ok, arith, lit<}
+use Rattle.std.specs.List.{AllByRecursion}
+use Rattle.std.proofs.lemmas.List.Elements.{All-from_recursion}
 use Rattle.dirac_arith.specs.Interval.{Decision, InContexts}
-use Rattle.dirac_arith.specs.Spelling.{follow_at}
 use Rattle.dirac_arith.proofs.Encodings.{flushed_is_carried}
 use Rattle.dirac_arith.proofs.InContexts.{AreBelow, in_append, in_signed}
 use Rattle.dirac_bands.specs.Geometry.{edge_of}
@@ -15,22 +16,15 @@ use Rattle.dirac_coeffs.specs.Written.{marks_of, block_of}
 use Rattle.dirac_coeffs.proofs.Agreement.{follow_here, sign_here}
 use Rattle.dirac_coeffs.proofs.Found.{band_found, zero_block_decides}
 
--- a list of six contexts
-six_below : (a b c d e f i : ℕ) → (a < 38) × (b < 38) × (c < 38) × (d < 38) × (e < 38) × (f < 38) → follow_at (a ∷ b ∷ c ∷ d ∷ e ∷ f ∷ []) i < 38
-six_below a b c d e f zero h = h.0
-six_below a b c d e f (suc zero) h = h.1
-six_below a b c d e f (suc (suc zero)) h = h.2
-six_below a b c d e f (suc (suc (suc zero))) h = h.3
-six_below a b c d e f (suc (suc (suc (suc zero)))) h = h.4
-six_below a b c d e f (suc (suc (suc (suc (suc i))))) h =
-    let last : min (suc (suc (suc (suc (suc i))))) 5 ≡ 5 = omega arith in
-    subst (λ k. slice_index (a ∷ b ∷ c ∷ d ∷ e ∷ f ∷ []) k < 38) (sym last) h.5
+-- a list of contexts, of which the last one repeats
+list_below : (follow : List ℕ) → 0 < length follow → AllByRecursion (λ c. c < 38) follow → AreBelow follow
+list_below follow some all = record { each = λ i. (All-from_recursion (λ c. c < 38) follow all) (min i (length follow - 1)) 0 (omega arith) }
 
 follow_below : (p n : Bool) → AreBelow (follow_of p n)
-follow_below true true = record { each = λ i. six_below 0 4 5 6 7 8 i (lit< tt, lit< tt, lit< tt, lit< tt, lit< tt, lit< tt) }
-follow_below true false = record { each = λ i. six_below 1 4 5 6 7 8 i (lit< tt, lit< tt, lit< tt, lit< tt, lit< tt, lit< tt) }
-follow_below false true = record { each = λ i. six_below 2 9 10 11 12 13 i (lit< tt, lit< tt, lit< tt, lit< tt, lit< tt, lit< tt) }
-follow_below false false = record { each = λ i. six_below 3 9 10 11 12 13 i (lit< tt, lit< tt, lit< tt, lit< tt, lit< tt, lit< tt) }
+follow_below true true = list_below (follow_of true true) (lit< tt) (lit< tt, (lit< tt, (lit< tt, (lit< tt, (lit< tt, (lit< tt, tt))))))
+follow_below true false = list_below (follow_of true false) (lit< tt) (lit< tt, (lit< tt, (lit< tt, (lit< tt, (lit< tt, (lit< tt, tt))))))
+follow_below false true = list_below (follow_of false true) (lit< tt) (lit< tt, (lit< tt, (lit< tt, (lit< tt, (lit< tt, (lit< tt, tt))))))
+follow_below false false = list_below (follow_of false false) (lit< tt) (lit< tt, (lit< tt, (lit< tt, (lit< tt, (lit< tt, (lit< tt, tt))))))
 
 sign_below : (v : ℤ) → sign_of v < 38
 sign_below (pos zero) = lit< tt
