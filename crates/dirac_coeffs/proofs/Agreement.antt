@@ -34,17 +34,19 @@ corner_same w xs ys x y h s =
       ])
     ]
 
--- the follow contexts and the sign's context of the value in column x of row y, and the decisions of this value there
+-- the follow contexts of the value in column x of row y
 abbrev pub follow_here : Frame → List ℤ → ℕ → ℕ → List ℕ
 follow_here f xs x y = follow_among (left_of f.width xs x y) (above_of f.width xs x y) (corner_of f.width xs x y) (parent_of f.width f.parent x y)
 
+-- the context of its sign
 abbrev pub sign_here : Frame → List ℤ → ℕ → ℕ → ℕ
 sign_here f xs x y = sign_of (sign_neighbour f.band (left_of f.width xs x y) (above_of f.width xs x y))
 
+-- the decisions that spell v there
 abbrev pub value_here : Frame → List ℤ → ℕ → ℕ → ℤ → List Decision
 value_here f xs x y v = signed_spelling (follow_here f xs x y) bits_context (sign_here f xs x y) v
 
--- these are read off the places before it
+-- the contexts of a value are read off the places before it
 pub value_contexts : (f : Frame) (xs ys : List ℤ) (x y : ℕ) → x < f.width → SameWithin f.width xs ys x (y + 1) → SameWithin f.width xs ys (x + 1) y
     → value_part f ys x y ≡ value_here f xs x y (value_at f.width ys x y)
 value_contexts f xs ys x y h s t =

@@ -28,7 +28,7 @@ front_of block common ds es p =
 pub rest_of : (block : List ℕ) (common ds es : List Decision) → Carries block (common ++ (ds ++ es)) → Carries block ((common ++ ds) ++ es)
 rest_of block common ds es p = subst (λ (l : List Decision). Carries block l) (sym (append_assoc common ds es)) p
 
--- also where these are told otherwise
+-- also where the first of them are written otherwise
 rest_same : (block : List ℕ) (common ds es more : List Decision) → ds ≡ es → Carries block (common ++ (es ++ more)) → Carries block ((common ++ ds) ++ more)
 rest_same block common ds es more same p = subst (λ (l : List Decision). Carries block ((common ++ l) ++ more)) (sym same) (rest_of block common es more p)
 
@@ -44,8 +44,8 @@ parts_front block common part more grows n (suc m) h p =
       | inr other ↦ parts_front block common part more grows n m (omega arith) (front_of block common (part m) (more m) longer)
     ]
 
--- two lists of such parts that one block carries: what holds of the parts so far makes them one, and with what follows them it
--- holds of the next
+-- where one block carries two lists of such parts: what makes the parts so far the same ones, and goes on to the next part,
+-- holds of all n parts
 pub parts_one : (block : List ℕ) (common : List Decision) (mine more theirs more' : ℕ → List Decision) (P : ℕ → Type 0) (n : ℕ)
     → ((k : ℕ) → mine (k + 1) ≡ mine k ++ more k) → ((k : ℕ) → theirs (k + 1) ≡ theirs k ++ more' k)
     → ((k : ℕ) → k ≤ n → P k → mine k ≡ theirs k) → P 0
@@ -62,7 +62,7 @@ parts_one block common mine more theirs more' P (suc n) grows grows' same first 
     (front_of block common (mine n) (more n) p') (front_of block common (theirs n) (more' n) q') in
     subst P (sym next) (step n (omega arith) before (rest_of block common (mine n) (more n) p') (rest_same block common (mine n) (theirs n) (more' n) (same n (omega arith) before) q'))
 
--- and where no more can follow part j on both sides, the block carries not both
+-- and where part j cannot be followed by both, the block carries one of the two alone
 pub parts_apart : (block : List ℕ) (common mine until : List Decision) (theirs more' : ℕ → List Decision) (P : Type 0) (j n : ℕ) → j < n
     → ((k : ℕ) → theirs (k + 1) ≡ theirs k ++ more' k)
     → (Carries block (common ++ mine) → Carries block (common ++ theirs j) → P) → (P → mine ≡ theirs j)

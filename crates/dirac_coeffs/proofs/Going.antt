@@ -40,11 +40,11 @@ record Went (w left right top bottom : ℕ) (xs : List ℤ) (Done Broken : List 
   small : AreSmall xs → AreSmall ys
   came : (Done ys new × Lies new.block new.at) ⊎ Broken ys new
 
--- nothing is changed yet
+-- no value is changed
 went_none : {w left right top bottom : ℕ} {xs : List ℤ} {Done Broken : List ℤ → Reading → Type 0} (new : Reading) → Lies new.block new.at → Done xs new → Went w left right top bottom xs Done Broken
 went_none {xs = xs} new lies done = record { ys = xs; new = new; kept = kept_refl; small = λ all. all; came = inl (done, lies) }
 
--- what it came to, said of what was read before too
+-- what it came to, in other words
 went_as : {w left right top bottom : ℕ} {xs : List ℤ} {Done Broken Done' Broken' : List ℤ → Reading → Type 0}
     → ((ys : List ℤ) (new : Reading) → KeptOutside w left right top bottom xs ys → Done ys new → Done' ys new)
     → ((ys : List ℤ) (new : Reading) → KeptOutside w left right top bottom xs ys → Broken ys new → Broken' ys new)
@@ -61,7 +61,7 @@ went_as more breaks went =
       ];
     }
 
--- a first part, and where all of it was read one more, both within these columns and rows
+-- a first part, and one more where all of the first was read, both within these columns and rows
 went_on : {w left right top bottom l r t b l' r' t' b' : ℕ} {xs : List ℤ} {Done Broken Done' : List ℤ → Reading → Type 0}
     → (left ≤ l) × (r ≤ right) × (top ≤ t) × (b ≤ bottom)
     → (left ≤ l') × (r' ≤ right) × (top ≤ t') × (b' ≤ bottom)
@@ -157,12 +157,13 @@ rows_go f old xs x count y rows h (suc n) wide low len few lies =
 abbrev BlockDone : BandSpot → List ℤ → Reading → ℕ → ℕ → List ℤ → Reading → Type 0
 BlockDone spot parent old cy cx ys new = (mark : Mark) × Reads old (block_part spot parent ys cy cx mark) new × SkippedIsZero spot ys cy cx mark
 
+-- what reading a codeblock came to
 abbrev BlockWent : BandSpot → List ℤ → Reading → List ℤ → ℕ → ℕ → Type 0
 BlockWent spot parent old xs cy cx =
     Went spot.width (edge_of spot.width spot.across cx) (edge_of spot.width spot.across (cx + 1)) (edge_of spot.height spot.down cy) (edge_of spot.height spot.down (cy + 1)) xs
     (BlockDone spot parent old cy cx) (λ ys new. BlockBroken spot parent old ys cy cx new)
 
--- the values of a codeblock, read from here
+-- what reading its values came to
 abbrev ValuesWent : BandSpot → List ℤ → Reading → List ℤ → ℕ → ℕ → Type 0
 ValuesWent spot parent old xs cy cx =
     Went spot.width (edge_of spot.width spot.across cx) (edge_of spot.width spot.across (cx + 1)) (edge_of spot.height spot.down cy) (edge_of spot.height spot.down (cy + 1)) xs

@@ -74,7 +74,7 @@ coded_spelled spot parent b block k before is len bytes read =
       subst (λ t. Spells ((if t then done b.index else refuse at QuantIndex) >>= rest) b k1 (gap before ++ bits_of block)) (sym allowed) tail,
     )
 
--- the two forms of a band
+-- a band of zeros
 zeros_spelled : (spot : BandSpot) (parent : List ℤ) (b : CodedBand) (bits : List Bool) → b ≡ zero_band spot → SpelledBehind (band spot parent) b bits (up_to_byte bits ++ uint 0)
 unfolding band
 zeros_spelled spot parent b bits e =
@@ -84,6 +84,7 @@ zeros_spelled spot parent b bits e =
       spells = (gap bits, uint 0, gap_length-at bits (length bits) refl, refl, (0, [], lit< tt, sym (append-nil (uint 0)), (sym e, refl)));
     }
 
+-- a band with a block
 block_spelled : (spot : BandSpot) (parent : List ℤ) (b : CodedBand) (bits : List Bool) → IsSpot spot → IsCodedBand spot b → length (block_of spot parent b.table.values) + 1 < 2 ^ 39
     → SpelledBehind (band spot parent) b bits (with_block b.index (block_of spot parent b.table.values) (up_to_byte bits))
 unfolding band
