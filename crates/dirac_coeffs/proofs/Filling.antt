@@ -1,10 +1,9 @@
 -- One more value, row, codeblock or row of codeblocks is read into the values: what was read before is still what they tell.
-use Rattle.std.proofs.Common.{◌≡◌, ℕ, ℤ, ◌+◌, ◌*◌, ◌<◌, ◌≤◌, Bool, List, length, set, pos, sym, ◌∙◌, ap, arith}
+use Rattle.std.proofs.Common.{◌≡◌, ℕ, ℤ, ◌+◌, ◌*◌, ◌<◌, ◌≤◌, Bool, List, length, set, pos, ◌∙◌, ap, arith}
 use Rattle.std.proofs.lemmas.List.{get_or-set_same}
-use Rattle.dirac_types.specs.declared.formats.Band.{Band}
 use Rattle.dirac_arith.specs.Reading.{Reading, Reads}
 use Rattle.dirac_coeffs.specs.Carried.{long_part}
-use Rattle.dirac_coeffs.specs.Contexts.{value_at, value_spelling}
+use Rattle.dirac_coeffs.specs.Contexts.{value_at}
 use Rattle.dirac_coeffs.specs.Decisions.{Frame, value_part, row_part, rows_part}
 use Rattle.dirac_coeffs.specs.Places.{KeptOutside}
 use Rattle.dirac_coeffs.specs.Reached.{RowBroken, RowsBroken}
@@ -52,9 +51,3 @@ value_stored f xs x y v h inside =
     let here : value_at w ys x y ≡ v = get_or-set_same xs (y * w + x) v (pos 0) inside in
     value_contexts f xs ys x y h (kept_left (omega arith) k) (kept_above (omega arith) k)
     ∙ ap (λ z. value_here f xs x y z) here
-
--- the same decisions, told by equal values
-pub reads_value : (old new : Reading) (band : Band) (l l' a a' k k' p p' v v' : ℤ) → l ≡ l' → a ≡ a' → k ≡ k' → p ≡ p' → v ≡ v'
-    → Reads old (value_spelling band l a k p v) new → Reads old (value_spelling band l' a' k' p' v') new
-reads_value old new band l l' a a' k k' p p' v v' el ea ek ep ev r =
-    rw (sym el, sym ea, sym ek, sym ep, sym ev) r
