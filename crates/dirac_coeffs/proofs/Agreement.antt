@@ -4,26 +4,27 @@ use Rattle.std.proofs.Common.{◌≡◌, ℕ, zero, suc, ℤ, ◌+◌, ◌-◌, 
 use Rattle.std.proofs.lemmas.Bool.{cases_eq}
 use Rattle.std.proofs.Math.Numerals.{unary_clauses}
 use Rattle.dirac_arith.specs.Interval.{Decision}
-use Rattle.dirac_coeffs.specs.Contexts.{value_at, left_of, above_of, corner_of, parent_of, value_spelling}
+use Rattle.dirac_arith.specs.Spelling.{signed_spelling}
+use Rattle.dirac_coeffs.specs.Contexts.{value_at, left_of, above_of, corner_of, parent_of, follow_among, bits_context, sign_of, sign_neighbour}
 use Rattle.dirac_coeffs.specs.Decisions.{Frame, value_part, row_part, rows_part}
 use Rattle.dirac_coeffs.specs.Places.{SameWithin}
 use Rattle.dirac_coeffs.proofs.Within.{same_less}
 
-pub left_same : (w : ℕ) (xs ys : List ℤ) (x y : ℕ) → x < w → SameWithin w xs ys x (y + 1) → left_of w xs x y ≡ left_of w ys x y
+left_same : (w : ℕ) (xs ys : List ℤ) (x y : ℕ) → x < w → SameWithin w xs ys x (y + 1) → left_of w xs x y ≡ left_of w ys x y
 left_same w xs ys x y h s =
     elim (cases_eq x 0) [
       | inl e ↦ rw (eq-eqb x 0 e) refl
       | inr n ↦ rw (ne_eqb x 0 n) (s.each (x - 1) y (omega arith) (omega arith) (omega arith))
     ]
 
-pub above_same : (w : ℕ) (xs ys : List ℤ) (x y : ℕ) → x < w → SameWithin w xs ys (x + 1) y → above_of w xs x y ≡ above_of w ys x y
+above_same : (w : ℕ) (xs ys : List ℤ) (x y : ℕ) → x < w → SameWithin w xs ys (x + 1) y → above_of w xs x y ≡ above_of w ys x y
 above_same w xs ys x y h s =
     elim (cases_eq y 0) [
       | inl e ↦ rw (eq-eqb y 0 e) refl
       | inr n ↦ rw (ne_eqb y 0 n) (s.each x (y - 1) h (omega arith) (omega arith))
     ]
 
-pub corner_same : (w : ℕ) (xs ys : List ℤ) (x y : ℕ) → x < w → SameWithin w xs ys (x + 1) y → corner_of w xs x y ≡ corner_of w ys x y
+corner_same : (w : ℕ) (xs ys : List ℤ) (x y : ℕ) → x < w → SameWithin w xs ys (x + 1) y → corner_of w xs x y ≡ corner_of w ys x y
 corner_same w xs ys x y h s =
     elim (cases_eq x 0) [
       | inl e ↦ rw (eq-eqb x 0 e) refl
@@ -33,17 +34,29 @@ corner_same w xs ys x y h s =
       ])
     ]
 
+-- the follow contexts of the value in column x of row y
+abbrev pub follow_here : Frame → List ℤ → ℕ → ℕ → List ℕ
+follow_here f xs x y = follow_among (left_of f.width xs x y) (above_of f.width xs x y) (corner_of f.width xs x y) (parent_of f.width f.parent x y)
+
+-- the context of its sign
+abbrev pub sign_here : Frame → List ℤ → ℕ → ℕ → ℕ
+sign_here f xs x y = sign_of (sign_neighbour f.band (left_of f.width xs x y) (above_of f.width xs x y))
+
+-- the decisions that spell v there
+abbrev pub value_here : Frame → List ℤ → ℕ → ℕ → ℤ → List Decision
+value_here f xs x y v = signed_spelling (follow_here f xs x y) bits_context (sign_here f xs x y) v
+
 -- the contexts of a value are read off the places before it
 pub value_contexts : (f : Frame) (xs ys : List ℤ) (x y : ℕ) → x < f.width → SameWithin f.width xs ys x (y + 1) → SameWithin f.width xs ys (x + 1) y
-    → value_part f ys x y ≡ value_spelling f.band (left_of f.width xs x y) (above_of f.width xs x y) (corner_of f.width xs x y) (parent_of f.width f.parent x y) (value_at f.width ys x y)
+    → value_part f ys x y ≡ value_here f xs x y (value_at f.width ys x y)
 value_contexts f xs ys x y h s t =
     rw (left_same f.width xs ys x y h s, above_same f.width xs ys x y h t, corner_same f.width xs ys x y h t) refl
 
-pub value_same : (f : Frame) (xs ys : List ℤ) (x y : ℕ) → x < f.width → SameWithin f.width xs ys (x + 1) (y + 1) → value_part f xs x y ≡ value_part f ys x y
+value_same : (f : Frame) (xs ys : List ℤ) (x y : ℕ) → x < f.width → SameWithin f.width xs ys (x + 1) (y + 1) → value_part f xs x y ≡ value_part f ys x y
 value_same f xs ys x y h s =
     let here : value_at f.width xs x y ≡ value_at f.width ys x y = s.each x y h (omega arith) (omega arith) in
-    let contexts = value_contexts f xs ys x y h (same_less f.width xs ys (x + 1) (y + 1) x (y + 1) (omega arith) (omega arith) s) (same_less f.width xs ys (x + 1) (y + 1) (x + 1) y (omega arith) (omega arith) s) in
-    ap (λ v. value_spelling f.band (left_of f.width xs x y) (above_of f.width xs x y) (corner_of f.width xs x y) (parent_of f.width f.parent x y) v) here ∙ sym contexts
+    let contexts = value_contexts f xs ys x y h (same_less (omega arith) (omega arith) s) (same_less (omega arith) (omega arith) s) in
+    ap (λ v. value_here f xs x y v) here ∙ sym contexts
 
 pub row_next : (f : Frame) (xs : List ℤ) (y x n : ℕ) → row_part f xs y x (n + 1) ≡ row_part f xs y x n ++ value_part f xs (x + n) y
 unfolding row_part
@@ -54,8 +67,8 @@ unfolding row_part
 row_same f xs ys x y zero h s = refl
 row_same f xs ys x y (suc n) h s =
     ap₂ (λ (a b : List Decision). a ++ b)
-    (row_same f xs ys x y n (omega arith) (same_less f.width xs ys (x + suc n) (y + 1) (x + n) (y + 1) (omega arith) (omega arith) s))
-    (value_same f xs ys (x + n) y (omega arith) (same_less f.width xs ys (x + suc n) (y + 1) (x + n + 1) (y + 1) (omega arith) (omega arith) s))
+    (row_same f xs ys x y n (omega arith) (same_less (omega arith) (omega arith) s))
+    (value_same f xs ys (x + n) y (omega arith) (same_less (omega arith) (omega arith) s))
 
 pub rows_next : (f : Frame) (xs : List ℤ) (x count y n : ℕ) → rows_part f xs x count y (n + 1) ≡ rows_part f xs x count y n ++ row_part f xs (y + n) x count
 unfolding rows_part
@@ -66,5 +79,5 @@ unfolding rows_part
 rows_same f xs ys x count y zero h s = refl
 rows_same f xs ys x count y (suc n) h s =
     ap₂ (λ (a b : List Decision). a ++ b)
-    (rows_same f xs ys x count y n h (same_less f.width xs ys (x + count) (y + suc n) (x + count) (y + n) (omega arith) (omega arith) s))
-    (row_same f xs ys x (y + n) count h (same_less f.width xs ys (x + count) (y + suc n) (x + count) (y + n + 1) (omega arith) (omega arith) s))
+    (rows_same f xs ys x count y n h (same_less (omega arith) (omega arith) s))
+    (row_same f xs ys x (y + n) count h (same_less (omega arith) (omega arith) s))

@@ -9,17 +9,10 @@ use Rattle.dirac_coeffs.specs.Decisions.{Mark, Marks, frame_of, flagged_part, bl
 use Rattle.dirac_coeffs.specs.Places.{SameWithin}
 use Rattle.dirac_coeffs.specs.Spots.{IsSpot, span_of, is_flagged}
 use Rattle.dirac_coeffs.proofs.Agreement.{rows_same}
-use Rattle.dirac_coeffs.proofs.Edges.{edge_rises, edge_most, edge_last, span_end}
+use Rattle.dirac_coeffs.proofs.Edges.{edge_rises, edge_last, span_end, span_inside}
 use Rattle.dirac_coeffs.proofs.Within.{same_less}
 
--- the columns of a codeblock lie inside the band
-pub columns_inside : (spot : BandSpot) (cx : ℕ) → IsSpot spot → cx < spot.across → edge_of spot.width spot.across cx + span_of spot.width spot.across cx ≤ spot.width
-columns_inside spot cx is h = omega (arith, span_end spot.width spot.across cx (omega (arith, is.across)), edge_most spot.width spot.across (cx + 1) (omega (arith, is.across)) (omega arith))
-
-pub rows_inside : (spot : BandSpot) (cy : ℕ) → IsSpot spot → cy < spot.down → edge_of spot.height spot.down cy + span_of spot.height spot.down cy ≤ spot.height
-rows_inside spot cy is h = omega (arith, span_end spot.height spot.down cy (omega (arith, is.down)), edge_most spot.height spot.down (cy + 1) (omega (arith, is.down)) (omega arith))
-
-pub block_same : (spot : BandSpot) (parent xs ys : List ℤ) (cy cx : ℕ) (mark : Mark) → IsSpot spot → cx < spot.across
+block_same : (spot : BandSpot) (parent xs ys : List ℤ) (cy cx : ℕ) (mark : Mark) → IsSpot spot → cx < spot.across
     → SameWithin spot.width xs ys (edge_of spot.width spot.across (cx + 1)) (edge_of spot.height spot.down (cy + 1))
     → block_part spot parent xs cy cx mark ≡ block_part spot parent ys cy cx mark
 block_same spot parent xs ys cy cx mark is h s =
@@ -29,9 +22,9 @@ block_same spot parent xs ys cy cx mark is h s =
     let rows = span_of spot.height spot.down cy in
     let right : left + columns ≡ edge_of spot.width spot.across (cx + 1) = span_end spot.width spot.across cx (omega (arith, is.across)) in
     let bottom : top + rows ≡ edge_of spot.height spot.down (cy + 1) = span_end spot.height spot.down cy (omega (arith, is.down)) in
-    let inner : SameWithin spot.width xs ys (left + columns) (top + rows) = same_less spot.width xs ys (edge_of spot.width spot.across (cx + 1)) (edge_of spot.height spot.down (cy + 1)) (left + columns) (top + rows) (omega arith) (omega arith) s in
+    let inner : SameWithin spot.width xs ys (left + columns) (top + rows) = same_less (omega arith) (omega arith) s in
     ap (λ ds. flagged_part (is_flagged spot) mark.skipped ds)
-    (rows_same (frame_of spot parent) xs ys left columns top rows (columns_inside spot cx is h) inner)
+    (rows_same (frame_of spot parent) xs ys left columns top rows (span_inside spot.width spot.across cx h) inner)
 
 pub blocks_next : (spot : BandSpot) (parent xs : List ℤ) (marks : ℕ → Mark) (cy n : ℕ) → blocks_part spot parent xs marks cy (n + 1) ≡ blocks_part spot parent xs marks cy n ++ block_part spot parent xs cy n (marks n)
 unfolding blocks_part
@@ -48,7 +41,7 @@ blocks_same spot parent xs ys marks others cy (suc n) is h same s =
     let here : SameWithin spot.width xs ys (edge_of spot.width spot.across (n + 1)) down = rw next s in
     let rises : edge_of spot.width spot.across n ≤ edge_of spot.width spot.across (suc n) = edge_rises spot.width spot.across n (suc n) (omega (arith, is.across)) (omega arith) in
     ap₂ (λ (a b : List Decision). a ++ b)
-    (blocks_same spot parent xs ys marks others cy n is (omega arith) (λ c l. same c (omega arith)) (same_less spot.width xs ys (edge_of spot.width spot.across (suc n)) down (edge_of spot.width spot.across n) down rises (omega arith) s))
+    (blocks_same spot parent xs ys marks others cy n is (omega arith) (λ c l. same c (omega arith)) (same_less rises (omega arith) s))
     (block_same spot parent xs ys cy n (marks n) is (omega arith) here ∙ ap (λ m. block_part spot parent ys cy n m) (same n (omega arith)))
 
 pub bands_next : (spot : BandSpot) (parent xs : List ℤ) (marks : Marks) (n : ℕ) → bands_part spot parent xs marks (n + 1) ≡ bands_part spot parent xs marks n ++ blocks_part spot parent xs (marks n) n spot.across
@@ -68,7 +61,7 @@ bands_same spot parent xs ys marks others (suc n) is h same s =
     let here : SameWithin w xs ys (edge_of spot.width spot.across spot.across) (edge_of spot.height spot.down (n + 1)) = rw (last, next) s in
     let rises : edge_of spot.height spot.down n ≤ bottom = edge_rises spot.height spot.down n (suc n) (omega (arith, is.down)) (omega arith) in
     ap₂ (λ (a b : List Decision). a ++ b)
-    (bands_same spot parent xs ys marks others n is (omega arith) (λ r c l. same r c (omega arith)) (same_less w xs ys w bottom w (edge_of spot.height spot.down n) (omega arith) rises s))
+    (bands_same spot parent xs ys marks others n is (omega arith) (λ r c l. same r c (omega arith)) (same_less (omega arith) rises s))
     (blocks_same spot parent xs ys (marks n) (others n) n spot.across is (omega arith) (λ c l. same n c (omega arith) l) here)
 
 -- what is zero stays zero where the values are the same
@@ -79,5 +72,5 @@ zeros_same spot xs ys cy cx mark is h s z =
     λ flagged skipped i j p q.
     let right : edge_of spot.width spot.across cx + span_of spot.width spot.across cx ≡ edge_of spot.width spot.across (cx + 1) = span_end spot.width spot.across cx (omega (arith, is.across)) in
     let bottom : edge_of spot.height spot.down cy + span_of spot.height spot.down cy ≡ edge_of spot.height spot.down (cy + 1) = span_end spot.height spot.down cy (omega (arith, is.down)) in
-    let inside = columns_inside spot cx is h in
+    let inside = span_inside spot.width spot.across cx h in
     sym (s.each (edge_of spot.width spot.across cx + i) (edge_of spot.height spot.down cy + j) (omega arith) (omega arith) (omega arith)) ∙ z flagged skipped i j p q

@@ -1,77 +1,48 @@
 -- A block that carries a band carries no number that is too long, and a block of ones carries neither.
-use Rattle.std.proofs.Common.{◌≡◌, ℕ, zero, suc, ℤ, ◌+◌, ◌<◌, ◌≤◌, Bool, true, false, List, [], ◌∷◌, ◌++◌, length, refl, sym, subst, arith, inl, inr, append-nil, length-append, not, ◌&&◌, ◌==◌, true≢false, eq-eqb, ne_eqb}
+use Rattle.std.proofs.Common.{◌≡◌, ℕ, zero, suc, ℤ, ◌+◌, ◌<◌, ◌≤◌, Bool, true, false, List, [], ◌∷◌, ◌++◌, length, refl, subst, arith, inl, inr, length-append, not, ◌&&◌, ◌==◌, true≢false, eq-eqb, ne_eqb}
 use Rattle.std.proofs.lemmas.Bool.{cases_eq}
 use Rattle.dirac_arith.specs.Carried.{Carries}
 use Rattle.dirac_arith.specs.Interval.{Decision}
 use Rattle.dirac_arith.specs.Spelling.{opening, follow_at}
-use Rattle.dirac_arith.proofs.Spellings.{signed_some}
+use Rattle.dirac_arith.proofs.Carrieds.{signed_more}
+use Rattle.dirac_arith.proofs.Spellings.{carries_one_truth}
 use Rattle.dirac_bands.specs.Geometry.{edge_of}
 use Rattle.dirac_coeffs.specs.declared.spot.BandSpot.{BandSpot}
 use Rattle.dirac_coeffs.specs.Carried.{AreSmall, SkippedIsZero, LongAt, long_part, row_until, rows_until, block_until, blocks_until, band_until}
-use Rattle.dirac_coeffs.specs.Contexts.{value_at, left_of, above_of, corner_of, parent_of, follow_among, sign_of, sign_neighbour, bits_context, value_spelling}
+use Rattle.dirac_coeffs.specs.Contexts.{value_at, bits_context}
 use Rattle.dirac_coeffs.specs.Decisions.{Frame, Mark, Marks, frame_of, value_part, row_part, rows_part, flagged_part, block_part, blocks_part, bands_part, band_decisions}
 use Rattle.dirac_coeffs.specs.Laws.{NoBandBesideLong, OnesCarryNothing}
 use Rattle.dirac_coeffs.specs.Places.{SameWithin}
 use Rattle.dirac_coeffs.specs.Spots.{IsSpot, span_of, is_flagged}
-use Rattle.dirac_coeffs.proofs.Agreement.{row_same, row_next, rows_same, rows_next, value_contexts}
-use Rattle.dirac_coeffs.proofs.AgreementOfBlocks.{columns_inside, blocks_next, bands_next}
-use Rattle.dirac_coeffs.proofs.Coding.{front_of, rest_of, value_apart, truths_apart, ones_apart}
-use Rattle.dirac_coeffs.proofs.Edges.{edge_first, edge_most, edge_last, span_end}
-use Rattle.dirac_coeffs.proofs.OneBand.{row_one, rows_one, blocks_one, bands_one}
+use Rattle.dirac_coeffs.proofs.Agreement.{follow_here, sign_here, row_same, row_next, rows_same, rows_next, value_contexts}
+use Rattle.dirac_coeffs.proofs.AgreementOfBlocks.{blocks_next, bands_next}
+use Rattle.dirac_coeffs.proofs.Coding.{rest_of, parts_apart, value_apart, ones_apart}
+use Rattle.dirac_coeffs.proofs.Edges.{edge_first, edge_most, edge_last, span_end, span_inside}
+use Rattle.dirac_coeffs.proofs.OneBand.{SameBlock, row_one, rows_one, blocks_one, bands_one}
 use Rattle.dirac_coeffs.proofs.Within.{same_less}
 
--- of parts that grow at their end, the first n are carried where the first m are
-pub parts_front : (block : List ℕ) (common : List Decision) (part more : ℕ → List Decision) → ((k : ℕ) → part (k + 1) ≡ part k ++ more k) → (n m : ℕ) → n ≤ m
-    → Carries block (common ++ part m) → Carries block (common ++ part n)
-parts_front block common part more grows n zero h p = let e : zero ≡ n = omega arith in subst (λ k. Carries block (common ++ part k)) e p
-parts_front block common part more grows n (suc m) h p =
-    elim (cases_eq n (suc m)) [
-      | inl e ↦ subst (λ k. Carries block (common ++ part k)) (sym e) p
-      | inr other ↦
-          let next : suc m ≡ m + 1 = omega arith in
-          let longer : Carries block (common ++ (part m ++ more m)) = subst (λ (l : List Decision). Carries block (common ++ l)) (grows m) (subst (λ k. Carries block (common ++ part k)) next p) in
-          parts_front block common part more grows n m (omega arith) (front_of block common (part m) (more m) longer)
-    ]
-
 -- a row of values beside one that breaks off
-pub row_apart : (f : Frame) (block : List ℕ) (common : List Decision) (xs ys : List ℤ) (x y i n : ℕ) (digits : List Bool) → AreSmall xs → AreSmall ys → x + n ≤ f.width → i < n → length digits ≡ 38
+row_apart : (f : Frame) (block : List ℕ) (common : List Decision) (xs ys : List ℤ) (x y i n : ℕ) (digits : List Bool) → AreSmall xs → AreSmall ys → x + n ≤ f.width → i < n → length digits ≡ 38
     → SameWithin f.width xs ys x (y + 1) → SameWithin f.width xs ys (x + n) y
     → Carries block (common ++ row_until f xs y x i digits) → Carries block (common ++ row_part f ys y x n) → ⊥
-row_apart f block common xs ys x y i n digits small small' h inside long s t p q =
-    let w = f.width in
-    let theirs : Carries block (common ++ (row_part f ys y x i ++ value_part f ys (x + i) y)) =
-    subst (λ (l : List Decision). Carries block (common ++ l)) (row_next f ys y x i)
-    (parts_front block common (λ k. row_part f ys y x k) (λ k. value_part f ys (x + k) y) (row_next f ys y x) (i + 1) n (omega arith) q) in
-    let above : SameWithin w xs ys (x + i + 1) y = same_less w xs ys (x + n) y (x + i + 1) y (omega arith) (omega arith) t in
-    let before : SameWithin w xs ys (x + i) (y + 1) =
-    row_one f block common xs ys x y i small small' (omega arith) s (same_less w xs ys (x + n) y (x + i) y (omega arith) (omega arith) t)
-    (front_of block common (row_part f xs y x i) (long_part f xs (x + i) y digits) p) (front_of block common (row_part f ys y x i) (value_part f ys (x + i) y) theirs) in
-    let rows : row_part f xs y x i ≡ row_part f ys y x i = row_same f xs ys x y i (omega arith) before in
-    let contexts = value_contexts f xs ys (x + i) y (omega arith) before above in
-    let value =
-    subst (λ (l : List Decision). Carries block ((common ++ l) ++ value_spelling f.band (left_of w xs (x + i) y) (above_of w xs (x + i) y) (corner_of w xs (x + i) y) (parent_of w f.parent (x + i) y) (value_at w ys (x + i) y))) (sym rows)
-    (subst (λ (l : List Decision). Carries block ((common ++ row_part f ys y x i) ++ l)) contexts (rest_of block common (row_part f ys y x i) (value_part f ys (x + i) y) theirs)) in
-    value_apart block (common ++ row_part f xs y x i) (follow_among (left_of w xs (x + i) y) (above_of w xs (x + i) y) (corner_of w xs (x + i) y) (parent_of w f.parent (x + i) y)) bits_context (sign_of (sign_neighbour f.band (left_of w xs (x + i) y) (above_of w xs (x + i) y)))
-    (value_at w ys (x + i) y) digits long value (rest_of block common (row_part f xs y x i) (long_part f xs (x + i) y digits) p)
+row_apart f block common xs ys x y i n digits small small' h inside long s t =
+    let mine = row_part f xs y x i in
+    parts_apart block common mine (long_part f xs (x + i) y digits) (λ k. row_part f ys y x k) (λ k. value_part f ys (x + k) y) (SameWithin f.width xs ys (x + i) (y + 1)) i n inside (row_next f ys y x)
+    (row_one f block common xs ys x y i small small' (omega arith) s (same_less (omega arith) (omega arith) t)) (row_same f xs ys x y i (omega arith))
+    (λ before p q.
+    let contexts = value_contexts f xs ys (x + i) y (omega arith) before (same_less (omega arith) (omega arith) t) in
+    value_apart block (common ++ mine) (follow_here f xs (x + i) y) bits_context (sign_here f xs (x + i) y) (value_at f.width ys (x + i) y) digits long
+    (subst (λ (l : List Decision). Carries block ((common ++ mine) ++ l)) contexts q) p)
 
 -- rows of values beside rows that break off
-pub rows_apart : (f : Frame) (block : List ℕ) (common : List Decision) (xs ys : List ℤ) (x count y j n i : ℕ) (digits : List Bool) → AreSmall xs → AreSmall ys → x + count ≤ f.width → j < n → i < count → length digits ≡ 38
+rows_apart : (f : Frame) (block : List ℕ) (common : List Decision) (xs ys : List ℤ) (x count y j n i : ℕ) (digits : List Bool) → AreSmall xs → AreSmall ys → x + count ≤ f.width → j < n → i < count → length digits ≡ 38
     → SameWithin f.width xs ys x (y + n) → SameWithin f.width xs ys (x + count) y
     → Carries block (common ++ rows_until f xs x count y j i digits) → Carries block (common ++ rows_part f ys x count y n) → ⊥
-rows_apart f block common xs ys x count y j n i digits small small' h inside column long s t p q =
-    let w = f.width in
-    let theirs : Carries block (common ++ (rows_part f ys x count y j ++ row_part f ys (y + j) x count)) =
-    subst (λ (l : List Decision). Carries block (common ++ l)) (rows_next f ys x count y j)
-    (parts_front block common (λ k. rows_part f ys x count y k) (λ k. row_part f ys (y + k) x count) (rows_next f ys x count y) (j + 1) n (omega arith) q) in
-    let before : SameWithin w xs ys (x + count) (y + j) =
-    rows_one f block common xs ys x count y j small small' h (same_less w xs ys x (y + n) x (y + j) (omega arith) (omega arith) s) t
-    (front_of block common (rows_part f xs x count y j) (row_until f xs (y + j) x i digits) p) (front_of block common (rows_part f ys x count y j) (row_part f ys (y + j) x count) theirs) in
-    let rows : rows_part f xs x count y j ≡ rows_part f ys x count y j = rows_same f xs ys x count y j h before in
-    let row =
-    subst (λ (l : List Decision). Carries block ((common ++ l) ++ row_part f ys (y + j) x count)) (sym rows) (rest_of block common (rows_part f ys x count y j) (row_part f ys (y + j) x count) theirs) in
-    row_apart f block (common ++ rows_part f xs x count y j) xs ys x (y + j) i count digits small small' h column long
-    (same_less w xs ys x (y + n) x (y + j + 1) (omega arith) (omega arith) s) before
-    (rest_of block common (rows_part f xs x count y j) (row_until f xs (y + j) x i digits) p) row
+rows_apart f block common xs ys x count y j n i digits small small' h inside column long s t =
+    let mine = rows_part f xs x count y j in
+    parts_apart block common mine (row_until f xs (y + j) x i digits) (λ k. rows_part f ys x count y k) (λ k. row_part f ys (y + k) x count) (SameWithin f.width xs ys (x + count) (y + j)) j n inside (rows_next f ys x count y)
+    (rows_one f block common xs ys x count y j small small' h (same_less (omega arith) (omega arith) s) t) (rows_same f xs ys x count y j h)
+    (λ before p q. row_apart f block (common ++ mine) xs ys x (y + j) i count digits small small' h column long (same_less (omega arith) (omega arith) s) before p q)
 
 -- the same behind zero flags
 flagged_apart : (f : Frame) (block : List ℕ) (common : List Decision) (xs ys : List ℤ) (x count y j n i : ℕ) (digits : List Bool) (flagged skipped : Bool) → AreSmall xs → AreSmall ys → x + count ≤ f.width → j < n → i < count → length digits ≡ 38
@@ -80,7 +51,7 @@ flagged_apart : (f : Frame) (block : List ℕ) (common : List Decision) (xs ys :
 flagged_apart f block common xs ys x count y j n i digits false skipped small small' h inside column long s t p q =
     rows_apart f block common xs ys x count y j n i digits small small' h inside column long s t p q
 flagged_apart f block common xs ys x count y j n i digits true true small small' h inside column long s t p q =
-    truths_apart block common [] (rows_until f xs x count y j i digits) 18 q p
+    carries_one_truth block common [] (rows_until f xs x count y j i digits) 18 q p
 flagged_apart f block common xs ys x count y j n i digits true false small small' h inside column long s t p q =
     let flag : Decision = (18, false) in
     rows_apart f block (common ++ flag ∷ []) xs ys x count y j n i digits small small' h inside column long s t
@@ -99,32 +70,23 @@ block_apart spot parent block common xs ys cy cx row column digits mark is insid
     let rows = span_of spot.height spot.down cy in
     let right : left + columns ≡ edge_of w spot.across (cx + 1) = span_end w spot.across cx (omega (arith, is.across)) in
     let bottom : top + rows ≡ edge_of spot.height spot.down (cy + 1) = span_end spot.height spot.down cy (omega (arith, is.down)) in
-    flagged_apart (frame_of spot parent) block common xs ys left columns top row rows column digits (is_flagged spot) mark.skipped small small' (columns_inside spot cx is inside) in_rows in_row long
-    (same_less w xs ys left (edge_of spot.height spot.down (cy + 1)) left (top + rows) (omega arith) (omega arith) s)
-    (same_less w xs ys (edge_of w spot.across (cx + 1)) top (left + columns) top (omega arith) (omega arith) t) p q
+    flagged_apart (frame_of spot parent) block common xs ys left columns top row rows column digits (is_flagged spot) mark.skipped small small' (span_inside spot.width spot.across cx inside) in_rows in_row long
+    (same_less (omega arith) (omega arith) s)
+    (same_less (omega arith) (omega arith) t) p q
 
 blocks_apart : (spot : BandSpot) (parent : List ℤ) (block : List ℕ) (common : List Decision) (xs ys : List ℤ) (ms ms' : ℕ → Mark) (cy cx row column : ℕ) (digits : List Bool) → IsSpot spot → cx < spot.across
     → AreSmall xs → AreSmall ys → row < span_of spot.height spot.down cy → column < span_of spot.width spot.across cx → length digits ≡ 38
     → SameWithin spot.width xs ys spot.width (edge_of spot.height spot.down cy)
     → ((c : ℕ) → c < cx → SkippedIsZero spot xs cy c (ms c)) → ((c : ℕ) → c < spot.across → SkippedIsZero spot ys cy c (ms' c))
     → Carries block (common ++ blocks_until spot parent xs ms cy cx row column digits) → Carries block (common ++ blocks_part spot parent ys ms' cy spot.across) → ⊥
-blocks_apart spot parent block common xs ys ms ms' cy cx row column digits is inside small small' in_rows in_row long above z z' p q =
+blocks_apart spot parent block common xs ys ms ms' cy cx row column digits is inside small small' in_rows in_row long above z z' =
     let w = spot.width in
-    let until = block_until spot parent xs cy cx row column digits in
     let mine = blocks_part spot parent xs ms cy cx in
-    let other = blocks_part spot parent ys ms' cy cx in
-    let here = block_part spot parent ys cy cx (ms' cx) in
-    let theirs : Carries block (common ++ (other ++ here)) =
-    subst (λ (l : List Decision). Carries block (common ++ l)) (blocks_next spot parent ys ms' cy cx)
-    (parts_front block common (λ k. blocks_part spot parent ys ms' cy k) (λ k. block_part spot parent ys cy k (ms' k)) (blocks_next spot parent ys ms' cy) (cx + 1) spot.across (omega arith) q) in
-    let before =
-    blocks_one spot parent block common xs ys ms ms' cy cx is (omega arith) small small' above z (λ c l. z' c (omega arith))
-    (front_of block common mine until p) (front_of block common other here theirs) in
-    let most : edge_of w spot.across (cx + 1) ≤ w = edge_most w spot.across (cx + 1) (omega (arith, is.across)) (omega arith) in
-    block_apart spot parent block (common ++ mine) xs ys cy cx row column digits (ms' cx) is inside small small' in_rows in_row long
-    before.within (same_less w xs ys w (edge_of spot.height spot.down cy) (edge_of w spot.across (cx + 1)) (edge_of spot.height spot.down cy) most (omega arith) above)
-    (rest_of block common mine until p)
-    (subst (λ (l : List Decision). Carries block ((common ++ l) ++ here)) (sym before.decisions) (rest_of block common other here theirs))
+    let most : edge_of w spot.across (cx + 1) ≤ w = edge_most w spot.across (cx + 1) (omega arith) (omega arith) in
+    parts_apart block common mine (block_until spot parent xs cy cx row column digits) (λ k. blocks_part spot parent ys ms' cy k) (λ k. block_part spot parent ys cy k (ms' k))
+    (SameBlock w xs ys (edge_of w spot.across cx) (edge_of spot.height spot.down (cy + 1)) mine (blocks_part spot parent ys ms' cy cx)) cx spot.across inside (blocks_next spot parent ys ms' cy)
+    (blocks_one spot parent block common xs ys ms ms' cy cx is (omega arith) small small' above z (λ c l. z' c (omega arith))) (λ before. before.decisions)
+    (λ before p q. block_apart spot parent block (common ++ mine) xs ys cy cx row column digits (ms' cx) is inside small small' in_rows in_row long before.within (same_less most (omega arith) above) p q)
 
 pub no_band_beside_long : NoBandBesideLong
 no_band_beside_long spot parent block ys ms' is a b =
@@ -132,38 +94,29 @@ no_band_beside_long spot parent block ys ms' is a b =
     let xs = b.values in
     let ms = b.marks in
     let n = at.down in
-    let until = blocks_until spot parent xs (ms n) n at.across at.row at.column at.digits in
     let mine = bands_part spot parent xs ms n in
-    let other = bands_part spot parent ys ms' n in
-    let here = blocks_part spot parent ys (ms' n) n spot.across in
-    let theirs : Carries block (other ++ here) =
-    subst (λ (l : List Decision). Carries block l) (bands_next spot parent ys ms' n)
-    (parts_front block [] (λ k. bands_part spot parent ys ms' k) (λ k. blocks_part spot parent ys (ms' k) k spot.across) (bands_next spot parent ys ms') (n + 1) spot.down (omega (arith, b.inside.down)) a.carried) in
-    let before =
-    bands_one spot parent block [] xs ys ms ms' n is (omega (arith, b.inside.down)) b.small a.small b.zeros_above (λ cy cx l m. a.zeros cy cx (omega (arith, b.inside.down)) m)
-    (front_of block [] mine until b.carried) (front_of block [] other here theirs) in
+    parts_apart block [] mine (blocks_until spot parent xs (ms n) n at.across at.row at.column at.digits) (λ k. bands_part spot parent ys ms' k) (λ k. blocks_part spot parent ys (ms' k) k spot.across)
+    (SameBlock spot.width xs ys spot.width (edge_of spot.height spot.down n) mine (bands_part spot parent ys ms' n)) n spot.down b.inside.down (bands_next spot parent ys ms')
+    (bands_one spot parent block [] xs ys ms ms' n is (omega (arith, b.inside.down)) b.small a.small b.zeros_above (λ cy cx l m. a.zeros cy cx (omega (arith, b.inside.down)) m)) (λ before. before.decisions)
+    (λ before p q.
     blocks_apart spot parent block mine xs ys (ms n) (ms' n) n at.across at.row at.column at.digits is b.inside.across b.small a.small b.inside.row b.inside.column b.inside.digits
-    before.within b.zeros_before (λ c l. a.zeros n c b.inside.down l)
-    b.carried
-    (subst (λ (l : List Decision). Carries block (l ++ here)) (sym before.decisions) theirs)
+    before.within b.zeros_before (λ c l. a.zeros n c b.inside.down l) p q)
+    b.carried a.carried
+
+-- what ends in decisions has some
+last_needs : (ds es : List Decision) → 0 < length es → 0 < length (ds ++ es)
+last_needs ds es some = omega (arith, length-append {A = Decision} ds es)
 
 -- a value needs a decision, and so does all that has a value
-value_needs : (f : Frame) (xs : List ℤ) (x y : ℕ) → 0 < length (value_part f xs x y)
-value_needs f xs x y =
-    let follow = follow_among (left_of f.width xs x y) (above_of f.width xs x y) (corner_of f.width xs x y) (parent_of f.width f.parent x y) in
-    let sign = sign_of (sign_neighbour f.band (left_of f.width xs x y) (above_of f.width xs x y)) in
-    let v = value_at f.width xs x y in
-    subst (λ (l : List Decision). 0 < length l) (append-nil (value_part f xs x y)) (signed_some follow bits_context sign v [])
-
 row_needs : (f : Frame) (xs : List ℤ) (y x n : ℕ) → 0 < n → 0 < length (row_part f xs y x n)
 unfolding row_part
 row_needs f xs y x zero h = absurd (omega arith)
-row_needs f xs y x (suc n) h = omega (arith, length-append {A = Decision} (row_part f xs y x n) (value_part f xs (x + n) y), value_needs f xs (x + n) y)
+row_needs f xs y x (suc n) h = last_needs (row_part f xs y x n) (value_part f xs (x + n) y) (signed_more (follow_here f xs (x + n) y) bits_context (sign_here f xs (x + n) y) (value_at f.width xs (x + n) y))
 
 rows_need : (f : Frame) (xs : List ℤ) (x count y n : ℕ) → 0 < count → 0 < n → 0 < length (rows_part f xs x count y n)
 unfolding rows_part
 rows_need f xs x count y zero some h = absurd (omega arith)
-rows_need f xs x count y (suc n) some h = omega (arith, length-append {A = Decision} (rows_part f xs x count y n) (row_part f xs (y + n) x count), row_needs f xs (y + n) x count some)
+rows_need f xs x count y (suc n) some h = last_needs (rows_part f xs x count y n) (row_part f xs (y + n) x count) (row_needs f xs (y + n) x count some)
 
 flagged_needs : (flagged skipped : Bool) (ds : List Decision) → (flagged ≡ false → 0 < length ds) → 0 < length (flagged_part flagged skipped ds)
 flagged_needs false skipped ds some = some refl
@@ -200,37 +153,31 @@ blocks_need : (spot : BandSpot) (parent xs : List ℤ) (marks : ℕ → Mark) (c
 unfolding blocks_part
 blocks_need spot parent xs marks cy zero is h inside some = absurd (omega arith)
 blocks_need spot parent xs marks cy (suc n) is h inside some =
-    omega (arith, length-append {A = Decision} (blocks_part spot parent xs marks cy n) (block_part spot parent xs cy n (marks n)), block_needs spot parent xs cy n (marks n) is h (omega arith))
+    last_needs (blocks_part spot parent xs marks cy n) (block_part spot parent xs cy n (marks n)) (block_needs spot parent xs cy n (marks n) is h (omega arith))
 
 bands_need : (spot : BandSpot) (parent xs : List ℤ) (marks : Marks) (n : ℕ) → IsSpot spot → n ≤ spot.down → 0 < n → 0 < length (bands_part spot parent xs marks n)
 unfolding bands_part
 bands_need spot parent xs marks zero is inside some = absurd (omega arith)
 bands_need spot parent xs marks (suc n) is inside some =
-    omega (arith, length-append {A = Decision} (bands_part spot parent xs marks n) (blocks_part spot parent xs (marks n) n spot.across), blocks_need spot parent xs (marks n) n spot.across is (omega arith) (omega arith) (omega (arith, is.across)))
+    last_needs (bands_part spot parent xs marks n) (blocks_part spot parent xs (marks n) n spot.across) (blocks_need spot parent xs (marks n) n spot.across is (omega arith) (omega arith) (omega (arith, is.across)))
 
--- so does a number that is too long, and all that ends in one
-long_needs : (f : Frame) (xs : List ℤ) (x y : ℕ) (digits : List Bool) → 0 < length (long_part f xs x y digits)
-long_needs f xs x y digits =
-    let follow = follow_among (left_of f.width xs x y) (above_of f.width xs x y) (corner_of f.width xs x y) (parent_of f.width f.parent x y) in
-    let last : Decision = (follow_at follow (length digits), false) in
-    omega (arith, length-append {A = Decision} (opening follow bits_context 0 digits) (last ∷ []))
-
+-- so does all that ends in a number that is too long
 until_needs : (spot : BandSpot) (parent xs : List ℤ) (marks : Marks) (at : LongAt) → 0 < length (band_until spot parent xs marks at)
 until_needs spot parent xs marks at =
     let f = frame_of spot parent in
-    let w = spot.width in
-    let left = edge_of w spot.across at.across in
-    let count = span_of w spot.across at.across in
+    let left = edge_of spot.width spot.across at.across in
     let top = edge_of spot.height spot.down at.down in
+    let columns = span_of spot.width spot.across at.across in
+    let follow = follow_here f xs (left + at.column) (top + at.row) in
+    let last : Decision = (follow_at follow (length at.digits), false) in
     let row = row_until f xs (top + at.row) left at.column at.digits in
-    let rows = rows_until f xs left count top at.row at.column at.digits in
-    let until = blocks_until spot parent xs (marks at.down) at.down at.across at.row at.column at.digits in
-    let long = long_part f xs (left + at.column) (top + at.row) at.digits in
-    let in_row : 0 < length row = omega (arith, length-append {A = Decision} (row_part f xs (top + at.row) left at.column) long, long_needs f xs (left + at.column) (top + at.row) at.digits) in
-    let in_rows : 0 < length rows = omega (arith, length-append {A = Decision} (rows_part f xs left count top at.row) row) in
-    let in_block : 0 < length (flagged_part (is_flagged spot) false rows) = flagged_needs (is_flagged spot) false rows (λ plain. in_rows) in
-    let in_blocks : 0 < length until = omega (arith, length-append {A = Decision} (blocks_part spot parent xs (marks at.down) at.down at.across) (flagged_part (is_flagged spot) false rows)) in
-    omega (arith, length-append {A = Decision} (bands_part spot parent xs marks at.down) until)
+    let rows = rows_until f xs left columns top at.row at.column at.digits in
+    last_needs (bands_part spot parent xs marks at.down) (blocks_until spot parent xs (marks at.down) at.down at.across at.row at.column at.digits)
+    (last_needs (blocks_part spot parent xs (marks at.down) at.down at.across) (flagged_part (is_flagged spot) false rows)
+    (flagged_needs (is_flagged spot) false rows (λ plain.
+    last_needs (rows_part f xs left columns top at.row) row
+    (last_needs (row_part f xs (top + at.row) left at.column) (long_part f xs (left + at.column) (top + at.row) at.digits)
+    (last_needs (opening follow bits_context 0 at.digits) (last ∷ []) (omega arith))))))
 
 pub ones_carry_nothing : OnesCarryNothing
 ones_carry_nothing spot parent block is ones = (

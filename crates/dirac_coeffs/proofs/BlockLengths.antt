@@ -11,11 +11,12 @@ use Rattle.dirac_arith.specs.Written.{block_length, flushed, flush}
 use Rattle.dirac_arith.proofs.Bytes.{length-bytes_of}
 use Rattle.dirac_bands.specs.Geometry.{edge_of}
 use Rattle.dirac_coeffs.specs.declared.spot.BandSpot.{BandSpot}
-use Rattle.dirac_coeffs.specs.Contexts.{value_at, left_of, above_of, corner_of, parent_of, follow_among, sign_of, sign_neighbour, bits_context}
+use Rattle.dirac_coeffs.specs.Contexts.{value_at, bits_context}
 use Rattle.dirac_coeffs.specs.Decisions.{Frame, Mark, Marks, frame_of, value_part, row_part, rows_part, flagged_part, block_part, blocks_part, bands_part, band_decisions}
 use Rattle.dirac_coeffs.specs.Laws.{BlocksAreShort}
 use Rattle.dirac_coeffs.specs.Spots.{span_of, is_flagged}
 use Rattle.dirac_coeffs.specs.Written.{marks_of}
+use Rattle.dirac_coeffs.proofs.Agreement.{follow_here, sign_here}
 use Rattle.dirac_coeffs.proofs.Edges.{edge_last, span_end}
 
 -- the least number that passes is at most the limit
@@ -42,7 +43,7 @@ narrowed_by_most s [] = omega arith
 narrowed_by_most s (d ∷ ds) = omega (arith, narrowed_most s d.0 d.1, narrowed_by_most (narrowed s d) ds)
 
 -- the block for decisions has at most two bytes for each, and one more
-pub flush_most : (ds : List Decision) → length (flush ds) ≤ 2 * length ds + 1
+flush_most : (ds : List Decision) → length (flush ds) ≤ 2 * length ds + 1
 unfolding flushed
 flush_most [] = omega arith
 flush_most (d ∷ ds) =
@@ -63,7 +64,7 @@ spelling_most follow bits v =
     let last : Decision = (follow_at follow (length digits), true) in
     omega (arith, length-append (opening follow bits 0 digits) (last ∷ []), length-opening follow bits 0 digits, digits_few v)
 
-pub signed_most : (follow : List ℕ) (bits sign : ℕ) (v : ℤ) → length (signed_spelling follow bits sign v) ≤ 78
+signed_most : (follow : List ℕ) (bits sign : ℕ) (v : ℤ) → length (signed_spelling follow bits sign v) ≤ 78
 unfolding signed_spelling
 signed_most follow bits sign (pos zero) = omega (arith, spelling_most follow bits 0)
 signed_most follow bits sign (pos (suc n)) =
@@ -74,10 +75,7 @@ signed_most follow bits sign (negsuc n) =
     omega (arith, length-append (spelling follow bits (suc n)) (last ∷ []), spelling_most follow bits (suc n))
 
 value_most : (f : Frame) (xs : List ℤ) (x y : ℕ) → length (value_part f xs x y) ≤ 78
-value_most f xs x y =
-    let left = left_of f.width xs x y in
-    let above = above_of f.width xs x y in
-    signed_most (follow_among left above (corner_of f.width xs x y) (parent_of f.width f.parent x y)) bits_context (sign_of (sign_neighbour f.band left above)) (value_at f.width xs x y)
+value_most f xs x y = signed_most (follow_here f xs x y) bits_context (sign_here f xs x y) (value_at f.width xs x y)
 
 row_most : (f : Frame) (xs : List ℤ) (y x n : ℕ) → length (row_part f xs y x n) ≤ 78 * n
 unfolding row_part
@@ -105,10 +103,11 @@ block_most spot parent xs cy cx mark =
     let rows = span_of spot.height spot.down cy in
     omega (arith, flagged_most (is_flagged spot) mark.skipped (rows_part f xs left columns top rows), rows_most f xs left columns top rows)
 
--- codeblocks of one row have the columns up to an edge
-joined : (all more n left span right rows : ℕ) → all ≤ n + 78 * (left * rows) → more ≤ 1 + 78 * (span * rows) → left + span ≡ right → all + more ≤ suc n + 78 * (right * rows)
-joined all more n left span right rows before here sum = rw (sym sum) (omega (arith, before, here))
+-- parts that have each their flags and lines from an edge to the next, and of one size across these
+grown : (all more n flags size left span right : ℕ) → all ≤ n * flags + 78 * (left * size) → more ≤ flags + 78 * (span * size) → left + span ≡ right → all + more ≤ suc n * flags + 78 * (right * size)
+grown all more n flags size left span right before here sum = rw (sym sum) (omega (arith, before, here))
 
+-- codeblocks of one row have the columns up to an edge
 blocks_most : (spot : BandSpot) (parent xs : List ℤ) (marks : ℕ → Mark) (cy n : ℕ) → 0 < spot.across
     → length (blocks_part spot parent xs marks cy n) ≤ n + 78 * (edge_of spot.width spot.across n * span_of spot.height spot.down cy)
 unfolding blocks_part
@@ -117,26 +116,21 @@ blocks_most spot parent xs marks cy (suc n) some =
     let w = spot.width in
     let next : n + 1 ≡ suc n = omega arith in
     let sum : edge_of w spot.across n + span_of w spot.across n ≡ edge_of w spot.across (suc n) = span_end w spot.across n some ∙ ap (λ c. edge_of w spot.across c) next in
-    rw (length-append (blocks_part spot parent xs marks cy n) (block_part spot parent xs cy n (marks n)))
-    (joined (length (blocks_part spot parent xs marks cy n)) (length (block_part spot parent xs cy n (marks n))) n
-    (edge_of w spot.across n) (span_of w spot.across n) (edge_of w spot.across (suc n)) (span_of spot.height spot.down cy)
-    (blocks_most spot parent xs marks cy n some) (block_most spot parent xs cy n (marks n)) sum)
+    let both = grown (length (blocks_part spot parent xs marks cy n)) (length (block_part spot parent xs cy n (marks n))) n 1 (span_of spot.height spot.down cy)
+    (edge_of w spot.across n) (span_of w spot.across n) (edge_of w spot.across (suc n)) (omega (arith, blocks_most spot parent xs marks cy n some)) (block_most spot parent xs cy n (marks n)) sum in
+    rw (length-append (blocks_part spot parent xs marks cy n) (block_part spot parent xs cy n (marks n))) (omega (arith, both))
 
 -- a row of codeblocks has the band's columns
 row_of_blocks_most : (spot : BandSpot) (parent xs : List ℤ) (marks : ℕ → Mark) (cy : ℕ) → 0 < spot.across
-    → length (blocks_part spot parent xs marks cy spot.across) ≤ spot.across + 78 * (spot.width * span_of spot.height spot.down cy)
+    → length (blocks_part spot parent xs marks cy spot.across) ≤ spot.across + 78 * (span_of spot.height spot.down cy * spot.width)
 row_of_blocks_most spot parent xs marks cy some =
     let last : edge_of spot.width spot.across spot.across ≡ spot.width = edge_last spot.width spot.across some in
     let most = blocks_most spot parent xs marks cy spot.across some in
-    rw last at most
+    omega (arith, rw last at most)
 
 -- rows of codeblocks have the rows up to an edge
-stacked : (all more n across width top span bottom : ℕ) → all ≤ n * across + 78 * (width * top) → more ≤ across + 78 * (width * span) → top + span ≡ bottom
-    → all + more ≤ suc n * across + 78 * (width * bottom)
-stacked all more n across width top span bottom before here sum = rw (sym sum) (omega (arith, before, here))
-
 bands_most : (spot : BandSpot) (parent xs : List ℤ) (marks : Marks) (n : ℕ) → 0 < spot.across → 0 < spot.down
-    → length (bands_part spot parent xs marks n) ≤ n * spot.across + 78 * (spot.width * edge_of spot.height spot.down n)
+    → length (bands_part spot parent xs marks n) ≤ n * spot.across + 78 * (edge_of spot.height spot.down n * spot.width)
 unfolding bands_part
 bands_most spot parent xs marks zero some rows = omega arith
 bands_most spot parent xs marks (suc n) some rows =
@@ -144,17 +138,16 @@ bands_most spot parent xs marks (suc n) some rows =
     let next : n + 1 ≡ suc n = omega arith in
     let sum : edge_of h spot.down n + span_of h spot.down n ≡ edge_of h spot.down (suc n) = span_end h spot.down n rows ∙ ap (λ c. edge_of h spot.down c) next in
     rw (length-append (bands_part spot parent xs marks n) (blocks_part spot parent xs (marks n) n spot.across))
-    (stacked (length (bands_part spot parent xs marks n)) (length (blocks_part spot parent xs (marks n) n spot.across)) n spot.across spot.width
-    (edge_of h spot.down n) (span_of h spot.down n) (edge_of h spot.down (suc n))
-    (bands_most spot parent xs marks n some rows) (row_of_blocks_most spot parent xs (marks n) n some) sum)
+    (grown (length (bands_part spot parent xs marks n)) (length (blocks_part spot parent xs (marks n) n spot.across)) n spot.across spot.width
+    (edge_of h spot.down n) (span_of h spot.down n) (edge_of h spot.down (suc n)) (bands_most spot parent xs marks n some rows) (row_of_blocks_most spot parent xs (marks n) n some) sum)
 
 -- a band: a flag for each codeblock, and its values
-pub decisions_most : (spot : BandSpot) (parent xs : List ℤ) (marks : Marks) → 0 < spot.across → 0 < spot.down
+decisions_most : (spot : BandSpot) (parent xs : List ℤ) (marks : Marks) → 0 < spot.across → 0 < spot.down
     → length (band_decisions spot parent xs marks) ≤ spot.down * spot.across + 78 * (spot.width * spot.height)
 decisions_most spot parent xs marks some rows =
     let last : edge_of spot.height spot.down spot.down ≡ spot.height = edge_last spot.height spot.down rows in
     let most = bands_most spot parent xs marks spot.down some rows in
-    rw last at most
+    omega (arith, rw last at most)
 
 -- the block of a subband is short: its length can be spelt
 pub block_short : BlocksAreShort

@@ -21,3 +21,11 @@ edge_most size count c h l = omega (arith, edge_rises size count c count h l, ed
 -- a codeblock ends where the next one begins
 pub span_end : (size count c : ℕ) → 0 < count → edge_of size count c + span_of size count c ≡ edge_of size count (c + 1)
 span_end size count c h = omega (arith, edge_rises size count c (c + 1) h (omega arith))
+
+-- and lies inside the band
+pub span_inside : (size count c : ℕ) → c < count → edge_of size count c + span_of size count c ≤ size
+span_inside size count c h = omega (arith, span_end size count c (omega arith), edge_most size count (c + 1) (omega arith) (omega arith))
+
+-- rows inside the band end inside its values
+pub rows_inside : (end w h len : ℕ) → end ≤ h → len ≡ w * h → end * w ≤ len
+rows_inside end w h len l e = omega (arith, mul-le end w h w l (omega arith))

@@ -1,7 +1,7 @@
 -- What is found among all bands is what the block carries.
-use Rattle.std.proofs.Common.{◌≡◌, ◌≢◌, ℕ, zero, suc, ℤ, pos, negsuc, neg_ℤ, ◌+◌, ◌-◌, ◌*◌, ◌^◌, ◌<◌, ◌≤◌, ◌⊎◌, ◌==◌, nat_lt, nat_le, if◌then◌else◌, Bool, true, false, ◌&&◌, List, [], ◌∷◌, ◌++◌, length, map, find, unsigned_abs, Option, Some, None, Result, Ok, Err, All, Decides, refl, sym, ap, ◌∙◌, subst, arith, inl, inr, eq-eqb, ne_eqb, true≢false, leb-true, le-leb}
+use Rattle.std.proofs.Common.{◌≡◌, ◌≢◌, ℕ, zero, suc, ℤ, pos, negsuc, neg_ℤ, ◌+◌, ◌-◌, ◌*◌, ◌^◌, ◌<◌, ◌≤◌, ◌⊎◌, ◌==◌, nat_lt, nat_le, Bool, true, false, ◌&&◌, List, [], ◌∷◌, ◌++◌, length, map, find, unsigned_abs, Option, Some, None, Result, Ok, Err, All, Decides, refl, sym, ap, ◌∙◌, subst, arith, inl, inr, eq-eqb, ne_eqb, true≢false, leb-true, le-leb}
 use Rattle.std.specs.List.{list_all, flat_map, AllByRecursion}
-use Rattle.std.proofs.lemmas.Bool.{cases_lt, cases_eq, cases_Bool, false≢true, and_parts, and_from}
+use Rattle.std.proofs.lemmas.Bool.{cases_lt, cases_eq, cases_Bool, false≢true}
 use Rattle.std.proofs.lemmas.Bool.Decides.{Decides-and, Decides-below_and, Decides-by_and, Decides-ltb, Decides-eqb}
 use Rattle.std.proofs.lemmas.List.Elements.{recursion_from_All}
 use Rattle.dirac_types.specs.declared.faults.Cause.{Cause}
@@ -175,32 +175,20 @@ small_decides : (n : ℕ) (xs : List ℤ) → Decides (list_all (λ v. nat_lt (u
 small_decides n xs =
     Decides-by_and (λ v. nat_lt (unsigned_abs v) n) (λ v. unsigned_abs v < n) (λ l. list_all (λ v. nat_lt (unsigned_abs v) n) l) (λ v. Decides-ltb (unsigned_abs v) n) refl (λ x l. refl) xs
 
--- the block carries the band where the test passes, and only there
-marked_carried : (spot : BandSpot) (parent : List ℤ) (block : List ℕ) (m : Marked) → carries_marked spot parent block m ≡ true → CarriesBand spot parent block m.values m.marks
-marked_carried spot parent block m e =
+-- the test passes where the block carries the band, and only there
+marked_decides : (spot : BandSpot) (parent : List ℤ) (block : List ℕ) (m : Marked) → Decides (carries_marked spot parent block m) (CarriesBand spot parent block m.values m.marks)
+marked_decides spot parent block m =
     let ds = band_decisions spot parent m.values m.marks in
     let len = length m.values == spot.width * spot.height in
     let small = list_all (λ v. nat_lt (unsigned_abs v) (2 ^ 39 - 1)) m.values in
     let flags = flags_hold spot m.values m.marks in
-    let first = and_parts len (small && (flags && is_carried block ds)) e in
-    let second = and_parts small (flags && is_carried block ds) first.1 in
-    let third = and_parts flags (is_carried block ds) second.1 in
-    record {
-      len = (Decides-eqb (length m.values) (spot.width * spot.height)).0 first.0;
-      small = (small_decides (2 ^ 39 - 1) m.values).0 second.0;
-      zeros = λ cy cx l k. (flags_decide spot m.values m.marks).0 third.0 cy l cx k;
-      carried = (carried_decides block ds).0 third.1;
-    }
-
-carried_marked : (spot : BandSpot) (parent : List ℤ) (block : List ℕ) (m : Marked) → CarriesBand spot parent block m.values m.marks → carries_marked spot parent block m ≡ true
-carried_marked spot parent block m a =
-    let ds = band_decisions spot parent m.values m.marks in
-    let len = length m.values == spot.width * spot.height in
-    let small = list_all (λ v. nat_lt (unsigned_abs v) (2 ^ 39 - 1)) m.values in
-    let flags = flags_hold spot m.values m.marks in
-    and_from len (small && (flags && is_carried block ds)) ((Decides-eqb (length m.values) (spot.width * spot.height)).1 a.len)
-    (and_from small (flags && is_carried block ds) ((small_decides (2 ^ 39 - 1) m.values).1 a.small)
-    (and_from flags (is_carried block ds) ((flags_decide spot m.values m.marks).1 (λ cy l cx k. a.zeros cy cx l k)) ((carried_decides block ds).1 a.carried)))
+    let d =
+    Decides-and len (small && (flags && is_carried block ds)) (Decides-eqb (length m.values) (spot.width * spot.height))
+    (Decides-and small (flags && is_carried block ds) (small_decides (2 ^ 39 - 1) m.values)
+    (Decides-and flags (is_carried block ds) (flags_decide spot m.values m.marks) (carried_decides block ds))) in (
+      λ e. let h = d.0 e in record { len = h.0; small = h.1.0; zeros = λ cy cx l k. h.1.1.0 cy l cx k; carried = h.1.1.1 },
+      λ a. d.1 (a.len, (a.small, (λ cy l cx k. a.zeros cy cx l k, a.carried))),
+    )
 
 -- marks that are the same for each codeblock serve as well
 same_marks : (spot : BandSpot) (parent : List ℤ) (block : List ℕ) (xs : List ℤ) (ms ms' : Marks) → IsSpot spot → ((cy : ℕ) → cy < spot.down → (cx : ℕ) → cx < spot.across → ms' cy cx ≡ ms cy cx)
@@ -227,31 +215,32 @@ some_band spot parent block xs ms is a =
     (λ ys e. some_map (λ marks. (cy : ℕ) → cy < spot.down → (cx : ℕ) → cx < spot.across → marks cy cx ≡ ms cy cx) Q (λ marks. let m : Marked = record { values = ys; marks = marks } in m)
     (λ marks same.
     let m : Marked = record { values = ys; marks = marks } in
-    carried_marked spot parent block m (subst (λ zs. CarriesBand spot parent block zs marks) (sym e) (same_marks spot parent block xs ms marks is same a)))
+    (marked_decides spot parent block m).1 (subst (λ zs. CarriesBand spot parent block zs marks) (sym e) (same_marks spot parent block xs ms marks is same a)))
     (all_marks spot) (some_marks spot ms))
     (lists_of (numbers_below (2 ^ 39 - 1)) (spot.width * spot.height))
     lists
 
--- a band that is carried is what the block reads to
-pub band_found : (spot : BandSpot) (parent : List ℤ) (block : List ℕ) (xs : List ℤ) (ms : Marks) → IsSpot spot → CarriesBand spot parent block xs ms → band_read spot parent block ≡ Ok xs
-unfolding band_read
-band_found spot parent block xs ms is a =
-    let other : front block 16 ≢ 65535 = λ ones. (ones_carry_nothing spot parent block is ones).0 xs ms a in
-    let all = all_bands spot in
-    let found = find_some (carries_marked spot parent block) all (some_band spot parent block xs ms is a) in
-    let same : found.value.values ≡ xs = one_band spot parent block found.value.values xs found.value.marks ms is (marked_carried spot parent block found.value found.passes) a in
-    let R : Type 0 = Result (List ℤ) Cause in
-    let choose : Bool → R = λ b. if b then Err CodeWord else values_found (find (carries_marked spot parent block) all) in
-    let last : Result (List ℤ) Cause = Ok xs in
-    ap choose (ne_eqb (front block 16) 65535 other) ∙ ap values_found found.found ∙ ap (λ l. let r : R = Ok l in r) same
-
 -- a block of ones reads to none
 pub ones_read : (spot : BandSpot) (parent : List ℤ) (block : List ℕ) → front block 16 ≡ 65535 → band_read spot parent block ≡ Err CodeWord
 unfolding band_read
-ones_read spot parent block ones =
+ones_read spot parent block ones = rw (eq-eqb (front block 16) 65535 ones) refl
+
+-- and another to what is found
+other_read : (spot : BandSpot) (parent : List ℤ) (block : List ℕ) → front block 16 ≢ 65535 → band_read spot parent block ≡ values_found (find (carries_marked spot parent block) (all_bands spot))
+unfolding band_read
+other_read spot parent block other = rw (ne_eqb (front block 16) 65535 other) refl
+
+-- a band that is carried is what the block reads to
+pub band_found : (spot : BandSpot) (parent : List ℤ) (block : List ℕ) (xs : List ℤ) (ms : Marks) → IsSpot spot → CarriesBand spot parent block xs ms → band_read spot parent block ≡ Ok xs
+band_found spot parent block xs ms is a =
+    let found = find_some (carries_marked spot parent block) (all_bands spot) (some_band spot parent block xs ms is a) in
+    let same : found.value.values ≡ xs = one_band spot parent block found.value.values xs found.value.marks ms is ((marked_decides spot parent block found.value).0 found.passes) a in
     let R : Type 0 = Result (List ℤ) Cause in
-    let choose : Bool → R = λ b. if b then Err CodeWord else values_found (find (carries_marked spot parent block) (all_bands spot)) in
-    ap choose (eq-eqb (front block 16) 65535 ones)
+    other_read spot parent block (λ ones. (ones_carry_nothing spot parent block is ones).0 xs ms a) ∙ ap values_found found.found ∙ ap (λ l. let r : R = Ok l in r) same
+
+-- what is found is carried
+found_carried : (spot : BandSpot) (parent : List ℤ) (block : List ℕ) (m : Marked) → find (carries_marked spot parent block) (all_bands spot) ≡ Some m → CarriesBand spot parent block m.values m.marks
+found_carried spot parent block m e = (marked_decides spot parent block m).0 (find_passes (carries_marked spot parent block) (all_bands spot) m e)
 
 none_found : (o : Option Marked) → ((m : Marked) → o ≡ Some m → ⊥) → values_found o ≡ Err NumberTooLong
 none_found None h = refl
@@ -259,38 +248,22 @@ none_found (Some m) h = absurd (h m refl)
 
 -- nor does one with a number that is too long
 pub long_read : (spot : BandSpot) (parent : List ℤ) (block : List ℕ) → IsSpot spot → CarriesLong spot parent block → band_read spot parent block ≡ Err NumberTooLong
-unfolding band_read
 long_read spot parent block is b =
-    let other : front block 16 ≢ 65535 = λ ones. (ones_carry_nothing spot parent block is ones).1 b in
-    let all = all_bands spot in
-    let R : Type 0 = Result (List ℤ) Cause in
-    let choose : Bool → R = λ c. if c then Err CodeWord else values_found (find (carries_marked spot parent block) all) in
-    ap choose (ne_eqb (front block 16) 65535 other)
-    ∙ none_found (find (carries_marked spot parent block) all)
-    (λ m e. no_band_beside_long spot parent block m.values m.marks is (marked_carried spot parent block m (find_passes (carries_marked spot parent block) all m e)) b)
+    other_read spot parent block (λ ones. (ones_carry_nothing spot parent block is ones).1 b)
+    ∙ none_found (find (carries_marked spot parent block) (all_bands spot))
+    (λ m e. no_band_beside_long spot parent block m.values m.marks is (found_carried spot parent block m e) b)
 
--- the band that was found
-record FoundBand (o : Option Marked) (xs : List ℤ) : Type 0 where
-  marked : Marked
-  is : o ≡ Some marked
-  same : marked.values ≡ xs
-
-found_values : (o : Option Marked) (xs : List ℤ) → values_found o ≡ Ok xs → FoundBand o xs
-found_values None xs e = absurd (cc)
-found_values (Some m) xs e = record { marked = m; is = refl; same = cc }
+some_found : (spot : BandSpot) (parent : List ℤ) (block : List ℕ) (xs : List ℤ) (o : Option Marked) → ((m : Marked) → o ≡ Some m → CarriesBand spot parent block m.values m.marks)
+    → values_found o ≡ Ok xs → (ms : Marks) × CarriesBand spot parent block xs ms
+some_found spot parent block xs None h e = absurd (cc)
+some_found spot parent block xs (Some m) h e = let same : m.values ≡ xs = cc in (m.marks, subst (λ zs. CarriesBand spot parent block zs m.marks) same (h m refl))
 
 -- what a block reads to, it carries
 pub band_carried : (spot : BandSpot) (parent : List ℤ) (block : List ℕ) (xs : List ℤ) → band_read spot parent block ≡ Ok xs → (ms : Marks) × CarriesBand spot parent block xs ms
-unfolding band_read
 band_carried spot parent block xs e =
-    let all = all_bands spot in
-    let R : Type 0 = Result (List ℤ) Cause in
-    let choose : Bool → R = λ c. if c then Err CodeWord else values_found (find (carries_marked spot parent block) all) in
     elim (cases_eq (front block 16) 65535) [
-      | inl ones ↦ let bad : Err CodeWord ≡ Ok xs = sym (ap choose (eq-eqb (front block 16) 65535 ones)) ∙ e in absurd (cc)
-      | inr other ↦
-          let f = found_values (find (carries_marked spot parent block) all) xs (sym (ap choose (ne_eqb (front block 16) 65535 other)) ∙ e) in
-          (f.marked.marks, subst (λ zs. CarriesBand spot parent block zs f.marked.marks) f.same (marked_carried spot parent block f.marked (find_passes (carries_marked spot parent block) all f.marked f.is)))
+      | inl ones ↦ let bad : Err CodeWord ≡ Ok xs = sym (ones_read spot parent block ones) ∙ e in absurd (cc)
+      | inr other ↦ some_found spot parent block xs (find (carries_marked spot parent block) (all_bands spot)) (found_carried spot parent block) (sym (other_read spot parent block other) ∙ e)
     ]
 
 no_code_word : (o : Option Marked) → values_found o ≡ Err CodeWord → ⊥
@@ -299,12 +272,8 @@ no_code_word (Some m) e = cc
 
 -- a block that is refused for its first bits begins with ones
 pub read_ones : (spot : BandSpot) (parent : List ℤ) (block : List ℕ) → band_read spot parent block ≡ Err CodeWord → front block 16 ≡ 65535
-unfolding band_read
 read_ones spot parent block e =
-    let all = all_bands spot in
-    let R : Type 0 = Result (List ℤ) Cause in
-    let choose : Bool → R = λ c. if c then Err CodeWord else values_found (find (carries_marked spot parent block) all) in
     elim (cases_eq (front block 16) 65535) [
       | inl ones ↦ ones
-      | inr other ↦ absurd (no_code_word (find (carries_marked spot parent block) all) (sym (ap choose (ne_eqb (front block 16) 65535 other)) ∙ e))
+      | inr other ↦ absurd (no_code_word (find (carries_marked spot parent block) (all_bands spot)) (sym (other_read spot parent block other) ∙ e))
     ]

@@ -1,71 +1,58 @@
 -- A block carries the decisions of one band: two that it carries are the same so far, whatever the order of coding.
-use Rattle.std.proofs.Common.{◌≡◌, ℕ, zero, suc, ℤ, pos, ◌+◌, ◌-◌, ◌*◌, ◌^◌, ◌<◌, ◌≤◌, Bool, true, false, List, [], ◌∷◌, ◌++◌, length, get_or, unsigned_abs, refl, sym, ap, ap₂, ◌∙◌, subst, arith, inl, inr, lit<, add-zero, ◌/◌, ◌%◌, mod-lt, div-lt_iff_lt-mul, div-add-mod', ext_get_or}
+use Rattle.std.proofs.Common.{◌≡◌, ℕ, ℤ, pos, ◌+◌, ◌-◌, ◌*◌, ◌^◌, ◌<◌, ◌≤◌, Bool, true, false, List, [], ◌∷◌, ◌++◌, length, get_or, unsigned_abs, refl, sym, ap, ap₂, ◌∙◌, subst, arith, inl, inr, lit<, add-zero, ◌/◌, ◌%◌, mod-lt, div-lt_iff_lt-mul, div-add-mod', ext_get_or}
 use Rattle.std.proofs.lemmas.Bool.{cases_lt}
 use Rattle.std.proofs.lemmas.List.{get_or_past}
 use Rattle.dirac_arith.specs.Carried.{Carries}
 use Rattle.dirac_arith.specs.Interval.{Decision}
+use Rattle.dirac_arith.proofs.Spellings.{carries_one_truth}
 use Rattle.dirac_bands.specs.Geometry.{edge_of}
 use Rattle.dirac_coeffs.specs.declared.spot.BandSpot.{BandSpot}
 use Rattle.dirac_coeffs.specs.Carried.{AreSmall, SkippedIsZero}
-use Rattle.dirac_coeffs.specs.Contexts.{value_at, left_of, above_of, corner_of, parent_of, follow_among, sign_of, sign_neighbour, bits_context, value_spelling}
+use Rattle.dirac_coeffs.specs.Contexts.{value_at, bits_context}
 use Rattle.dirac_coeffs.specs.Decisions.{Frame, Mark, Marks, frame_of, value_part, row_part, rows_part, flagged_part, block_part, blocks_part, bands_part}
 use Rattle.dirac_coeffs.specs.Laws.{OneBandIsCarried}
 use Rattle.dirac_coeffs.specs.Places.{SameWithin}
 use Rattle.dirac_coeffs.specs.Spots.{IsSpot, span_of, is_flagged}
-use Rattle.dirac_coeffs.proofs.Agreement.{row_same, rows_same, value_contexts}
-use Rattle.dirac_coeffs.proofs.AgreementOfBlocks.{columns_inside}
-use Rattle.dirac_coeffs.proofs.Coding.{front_of, rest_of, one_value, truths_apart}
-use Rattle.dirac_coeffs.proofs.Edges.{edge_first, edge_most, edge_last, span_end}
+use Rattle.dirac_coeffs.proofs.Agreement.{follow_here, sign_here, row_same, row_next, rows_same, rows_next, value_contexts}
+use Rattle.dirac_coeffs.proofs.AgreementOfBlocks.{blocks_next, bands_next}
+use Rattle.dirac_coeffs.proofs.Coding.{rest_of, parts_one, one_value}
+use Rattle.dirac_coeffs.proofs.Edges.{edge_first, edge_most, edge_last, span_end, span_inside}
 use Rattle.dirac_coeffs.proofs.Within.{same_less, same_more}
 
 -- a value of the list, or the 0 past its end
-pub small_at : (w : ℕ) (xs : List ℤ) (x y : ℕ) → AreSmall xs → unsigned_abs (value_at w xs x y) < 2 ^ 39 - 1
+small_at : (w : ℕ) (xs : List ℤ) (x y : ℕ) → AreSmall xs → unsigned_abs (value_at w xs x y) < 2 ^ 39 - 1
 small_at w xs x y small =
     elim (cases_lt (y * w + x) (length xs)) [
       | inl inside ↦ small (y * w + x) (pos 0) inside
       | inr past ↦ subst (λ v. unsigned_abs v < 2 ^ 39 - 1) (sym (get_or_past xs (y * w + x) (pos 0) past)) (lit< tt)
     ]
 
+-- one value in column x of row y
+value_one : (f : Frame) (block : List ℕ) (common : List Decision) (xs ys : List ℤ) (x y : ℕ) → AreSmall xs → AreSmall ys → x < f.width
+    → SameWithin f.width xs ys x (y + 1) → SameWithin f.width xs ys (x + 1) y
+    → Carries block (common ++ value_part f xs x y) → Carries block (common ++ value_part f ys x y) → SameWithin f.width xs ys (x + 1) (y + 1)
+value_one f block common xs ys x y small small' h s t p q =
+    let w = f.width in
+    let theirs = subst (λ (l : List Decision). Carries block (common ++ l)) (value_contexts f xs ys x y h s t) q in
+    same_more s t (one_value block common (follow_here f xs x y) bits_context (sign_here f xs x y) (value_at w xs x y) (value_at w ys x y) (small_at w xs x y small) (small_at w ys x y small') p theirs)
+
 pub row_one : (f : Frame) (block : List ℕ) (common : List Decision) (xs ys : List ℤ) (x y n : ℕ) → AreSmall xs → AreSmall ys → x + n ≤ f.width
     → SameWithin f.width xs ys x (y + 1) → SameWithin f.width xs ys (x + n) y
     → Carries block (common ++ row_part f xs y x n) → Carries block (common ++ row_part f ys y x n) → SameWithin f.width xs ys (x + n) (y + 1)
-unfolding row_part
-row_one f block common xs ys x y zero small small' h s t p q = rw add-zero s
-row_one f block common xs ys x y (suc n) small small' h s t p q =
-    let w = f.width in
-    let before : SameWithin w xs ys (x + n) (y + 1) =
-    row_one f block common xs ys x y n small small' (omega arith) s (same_less w xs ys (x + suc n) y (x + n) y (omega arith) (omega arith) t)
-    (front_of block common (row_part f xs y x n) (value_part f xs (x + n) y) p) (front_of block common (row_part f ys y x n) (value_part f ys (x + n) y) q) in
-    let rows : row_part f xs y x n ≡ row_part f ys y x n = row_same f xs ys x y n (omega arith) before in
-    let above : SameWithin w xs ys (x + n + 1) y = same_less w xs ys (x + suc n) y (x + n + 1) y (omega arith) (omega arith) t in
-    let contexts = value_contexts f xs ys (x + n) y (omega arith) before above in
-    let theirs : Carries block ((common ++ row_part f xs y x n) ++ value_spelling f.band (left_of w xs (x + n) y) (above_of w xs (x + n) y) (corner_of w xs (x + n) y) (parent_of w f.parent (x + n) y) (value_at w ys (x + n) y)) =
-    subst (λ (l : List Decision). Carries block ((common ++ l) ++ value_spelling f.band (left_of w xs (x + n) y) (above_of w xs (x + n) y) (corner_of w xs (x + n) y) (parent_of w f.parent (x + n) y) (value_at w ys (x + n) y))) (sym rows)
-    (subst (λ (l : List Decision). Carries block ((common ++ row_part f ys y x n) ++ l)) contexts (rest_of block common (row_part f ys y x n) (value_part f ys (x + n) y) q)) in
-    let here : value_at w xs (x + n) y ≡ value_at w ys (x + n) y =
-    one_value block (common ++ row_part f xs y x n) (follow_among (left_of w xs (x + n) y) (above_of w xs (x + n) y) (corner_of w xs (x + n) y) (parent_of w f.parent (x + n) y)) bits_context (sign_of (sign_neighbour f.band (left_of w xs (x + n) y) (above_of w xs (x + n) y)))
-    (value_at w xs (x + n) y) (value_at w ys (x + n) y) (small_at w xs (x + n) y small) (small_at w ys (x + n) y small')
-    (rest_of block common (row_part f xs y x n) (value_part f xs (x + n) y) p) theirs in
-    let more : SameWithin w xs ys (x + n + 1) (y + 1) = same_more w xs ys (x + n) y before above here in
-    same_less w xs ys (x + n + 1) (y + 1) (x + suc n) (y + 1) (omega arith) (omega arith) more
+row_one f block common xs ys x y n small small' h s t =
+    parts_one block common (λ k. row_part f xs y x k) (λ k. value_part f xs (x + k) y) (λ k. row_part f ys y x k) (λ k. value_part f ys (x + k) y)
+    (λ k. SameWithin f.width xs ys (x + k) (y + 1)) n (row_next f xs y x) (row_next f ys y x)
+    (λ k l. row_same f xs ys x y k (omega arith)) (rw add-zero s)
+    (λ k l before p q. same_less (omega arith) (omega arith) (value_one f block (common ++ row_part f xs y x k) xs ys (x + k) y small small' (omega arith) before (same_less (omega arith) (omega arith) t) p q))
 
 pub rows_one : (f : Frame) (block : List ℕ) (common : List Decision) (xs ys : List ℤ) (x count y n : ℕ) → AreSmall xs → AreSmall ys → x + count ≤ f.width
     → SameWithin f.width xs ys x (y + n) → SameWithin f.width xs ys (x + count) y
     → Carries block (common ++ rows_part f xs x count y n) → Carries block (common ++ rows_part f ys x count y n) → SameWithin f.width xs ys (x + count) (y + n)
-unfolding rows_part
-rows_one f block common xs ys x count y zero small small' h s t p q = rw add-zero t
-rows_one f block common xs ys x count y (suc n) small small' h s t p q =
-    let w = f.width in
-    let before : SameWithin w xs ys (x + count) (y + n) =
-    rows_one f block common xs ys x count y n small small' h (same_less w xs ys x (y + suc n) x (y + n) (omega arith) (omega arith) s) t
-    (front_of block common (rows_part f xs x count y n) (row_part f xs (y + n) x count) p) (front_of block common (rows_part f ys x count y n) (row_part f ys (y + n) x count) q) in
-    let rows : rows_part f xs x count y n ≡ rows_part f ys x count y n = rows_same f xs ys x count y n h before in
-    let theirs : Carries block ((common ++ rows_part f xs x count y n) ++ row_part f ys (y + n) x count) =
-    subst (λ (l : List Decision). Carries block ((common ++ l) ++ row_part f ys (y + n) x count)) (sym rows) (rest_of block common (rows_part f ys x count y n) (row_part f ys (y + n) x count) q) in
-    let more : SameWithin w xs ys (x + count) (y + n + 1) =
-    row_one f block (common ++ rows_part f xs x count y n) xs ys x (y + n) count small small' h (same_less w xs ys x (y + suc n) x (y + n + 1) (omega arith) (omega arith) s) before
-    (rest_of block common (rows_part f xs x count y n) (row_part f xs (y + n) x count) p) theirs in
-    same_less w xs ys (x + count) (y + n + 1) (x + count) (y + suc n) (omega arith) (omega arith) more
+rows_one f block common xs ys x count y n small small' h s t =
+    parts_one block common (λ k. rows_part f xs x count y k) (λ k. row_part f xs (y + k) x count) (λ k. rows_part f ys x count y k) (λ k. row_part f ys (y + k) x count)
+    (λ k. SameWithin f.width xs ys (x + count) (y + k)) n (rows_next f xs x count y) (rows_next f ys x count y)
+    (λ k l. rows_same f xs ys x count y k h) (rw add-zero t)
+    (λ k l before p q. same_less (omega arith) (omega arith) (row_one f block (common ++ rows_part f xs x count y k) xs ys x (y + k) count small small' h (same_less (omega arith) (omega arith) s) before p q))
 
 -- what two codeblocks that one block carries have in common
 pub record SameBlock (w : ℕ) (xs ys : List ℤ) (right bottom : ℕ) (ds es : List Decision) : Type 0 where
@@ -86,18 +73,15 @@ zeros_meet w xs ys left columns top rows s t z z' =
             | inr a ↦ elim (cases_lt y top) [
               | inl b ↦ t.each x y p q b
               | inr b ↦
-                  let column : left + (x - left) ≡ x = omega arith in
-                  let row : top + (y - top) ≡ y = omega arith in
-                  let mine = z (x - left) (y - top) (omega arith) (omega arith) in
-                  let theirs = z' (x - left) (y - top) (omega arith) (omega arith) in
-                  let here : value_at w xs (left + (x - left)) (top + (y - top)) ≡ value_at w ys (left + (x - left)) (top + (y - top)) = mine ∙ sym theirs in
-                  subst (λ i. value_at w xs i y ≡ value_at w ys i y) column (subst (λ j. value_at w xs (left + (x - left)) j ≡ value_at w ys (left + (x - left)) j) row here)
+                  let column : x ≡ left + (x - left) = omega arith in
+                  let row : y ≡ top + (y - top) = omega arith in
+                  rw (column, row) (z (x - left) (y - top) (omega arith) (omega arith) ∙ sym (z' (x - left) (y - top) (omega arith) (omega arith)))
             ]
           ];
     }
 
 -- a rectangle of values behind zero flags
-pub flagged_one : (f : Frame) (block : List ℕ) (common : List Decision) (xs ys : List ℤ) (left columns top rows : ℕ) (flagged skipped skipped' : Bool) → AreSmall xs → AreSmall ys → left + columns ≤ f.width
+flagged_one : (f : Frame) (block : List ℕ) (common : List Decision) (xs ys : List ℤ) (left columns top rows : ℕ) (flagged skipped skipped' : Bool) → AreSmall xs → AreSmall ys → left + columns ≤ f.width
     → SameWithin f.width xs ys left (top + rows) → SameWithin f.width xs ys (left + columns) top
     → (flagged ≡ true → skipped ≡ true → (i j : ℕ) → i < columns → j < rows → value_at f.width xs (left + i) (top + j) ≡ pos 0)
     → (flagged ≡ true → skipped' ≡ true → (i j : ℕ) → i < columns → j < rows → value_at f.width ys (left + i) (top + j) ≡ pos 0)
@@ -110,9 +94,9 @@ flagged_one f block common xs ys left columns top rows false skipped skipped' sm
 flagged_one f block common xs ys left columns top rows true true true small small' h s t z z' p q =
     record { within = zeros_meet f.width xs ys left columns top rows s t (z refl refl) (z' refl refl); decisions = refl }
 flagged_one f block common xs ys left columns top rows true true false small small' h s t z z' p q =
-    absurd (truths_apart block common [] (rows_part f ys left columns top rows) 18 p q)
+    absurd (carries_one_truth block common [] (rows_part f ys left columns top rows) 18 p q)
 flagged_one f block common xs ys left columns top rows true false true small small' h s t z z' p q =
-    absurd (truths_apart block common [] (rows_part f xs left columns top rows) 18 q p)
+    absurd (carries_one_truth block common [] (rows_part f xs left columns top rows) 18 q p)
 flagged_one f block common xs ys left columns top rows true false false small small' h s t z z' p q =
     let flag : Decision = (18, false) in
     let all =
@@ -121,7 +105,7 @@ flagged_one f block common xs ys left columns top rows true false false small sm
     record { within = all; decisions = ap (λ (l : List Decision). flag ∷ l) (rows_same f xs ys left columns top rows h all) }
 
 -- codeblock cx of row cy
-pub block_one : (spot : BandSpot) (parent : List ℤ) (block : List ℕ) (common : List Decision) (xs ys : List ℤ) (cy cx : ℕ) (mark mark' : Mark) → IsSpot spot → cx < spot.across
+block_one : (spot : BandSpot) (parent : List ℤ) (block : List ℕ) (common : List Decision) (xs ys : List ℤ) (cy cx : ℕ) (mark mark' : Mark) → IsSpot spot → cx < spot.across
     → AreSmall xs → AreSmall ys
     → SameWithin spot.width xs ys (edge_of spot.width spot.across cx) (edge_of spot.height spot.down (cy + 1))
     → SameWithin spot.width xs ys (edge_of spot.width spot.across (cx + 1)) (edge_of spot.height spot.down cy)
@@ -137,11 +121,11 @@ block_one spot parent block common xs ys cy cx mark mark' is inside small small'
     let right : left + columns ≡ edge_of w spot.across (cx + 1) = span_end w spot.across cx (omega (arith, is.across)) in
     let bottom : top + rows ≡ edge_of spot.height spot.down (cy + 1) = span_end spot.height spot.down cy (omega (arith, is.down)) in
     let same =
-    flagged_one (frame_of spot parent) block common xs ys left columns top rows (is_flagged spot) mark.skipped mark'.skipped small small' (columns_inside spot cx is inside)
-    (same_less w xs ys left (edge_of spot.height spot.down (cy + 1)) left (top + rows) (omega arith) (omega arith) s)
-    (same_less w xs ys (edge_of w spot.across (cx + 1)) top (left + columns) top (omega arith) (omega arith) t) z z' p q in
+    flagged_one (frame_of spot parent) block common xs ys left columns top rows (is_flagged spot) mark.skipped mark'.skipped small small' (span_inside spot.width spot.across cx inside)
+    (same_less (omega arith) (omega arith) s)
+    (same_less (omega arith) (omega arith) t) z z' p q in
     record {
-      within = same_less w xs ys (left + columns) (top + rows) (edge_of w spot.across (cx + 1)) (edge_of spot.height spot.down (cy + 1)) (omega arith) (omega arith) same.within;
+      within = same_less (omega arith) (omega arith) same.within;
       decisions = same.decisions;
     }
 
@@ -153,30 +137,21 @@ pub blocks_one : (spot : BandSpot) (parent : List ℤ) (block : List ℕ) (commo
     → Carries block (common ++ blocks_part spot parent xs ms cy n) → Carries block (common ++ blocks_part spot parent ys ms' cy n)
     → SameBlock spot.width xs ys (edge_of spot.width spot.across n) (edge_of spot.height spot.down (cy + 1)) (blocks_part spot parent xs ms cy n) (blocks_part spot parent ys ms' cy n)
 unfolding blocks_part
-blocks_one spot parent block common xs ys ms ms' cy zero is inside small small' above z z' p q =
-    record { within = record { each = λ x y a b c. absurd (omega (arith, edge_first spot.width spot.across)) }; decisions = refl }
-blocks_one spot parent block common xs ys ms ms' cy (suc n) is inside small small' above z z' p q =
+blocks_one spot parent block common xs ys ms ms' cy n is inside small small' above z z' =
     let w = spot.width in
-    let bottom = edge_of spot.height spot.down (cy + 1) in
-    let before =
-    blocks_one spot parent block common xs ys ms ms' cy n is (omega arith) small small' above (λ cx l. z cx (omega arith)) (λ cx l. z' cx (omega arith))
-    (front_of block common (blocks_part spot parent xs ms cy n) (block_part spot parent xs cy n (ms n)) p)
-    (front_of block common (blocks_part spot parent ys ms' cy n) (block_part spot parent ys cy n (ms' n)) q) in
-    let most : edge_of w spot.across (n + 1) ≤ w = edge_most w spot.across (n + 1) (omega (arith, is.across)) (omega arith) in
-    let theirs =
-    subst (λ (l : List Decision). Carries block ((common ++ l) ++ block_part spot parent ys cy n (ms' n))) (sym before.decisions)
-    (rest_of block common (blocks_part spot parent ys ms' cy n) (block_part spot parent ys cy n (ms' n)) q) in
-    let here =
-    block_one spot parent block (common ++ blocks_part spot parent xs ms cy n) xs ys cy n (ms n) (ms' n) is (omega arith) small small'
-    before.within (same_less w xs ys w (edge_of spot.height spot.down cy) (edge_of w spot.across (n + 1)) (edge_of spot.height spot.down cy) most (omega arith) above)
-    (z n (omega arith)) (z' n (omega arith))
-    (rest_of block common (blocks_part spot parent xs ms cy n) (block_part spot parent xs cy n (ms n)) p) theirs in
-    let next : suc n ≡ n + 1 = omega arith in
-    let edges : edge_of w spot.across (suc n) ≡ edge_of w spot.across (n + 1) = ap (λ k. edge_of w spot.across k) next in
+    let mine : ℕ → List Decision = λ k. blocks_part spot parent xs ms cy k in
+    let theirs : ℕ → List Decision = λ k. blocks_part spot parent ys ms' cy k in
+    parts_one block common mine (λ k. block_part spot parent xs cy k (ms k)) theirs (λ k. block_part spot parent ys cy k (ms' k))
+    (λ k. SameBlock w xs ys (edge_of w spot.across k) (edge_of spot.height spot.down (cy + 1)) (mine k) (theirs k)) n
+    (blocks_next spot parent xs ms cy) (blocks_next spot parent ys ms' cy) (λ k l before. before.decisions)
+    (record { within = record { each = λ x y a b c. absurd (omega (arith, edge_first w spot.across)) }; decisions = refl })
+    (λ k l before p q.
+    let most : edge_of w spot.across (k + 1) ≤ w = edge_most w spot.across (k + 1) (omega arith) (omega arith) in
+    let here = block_one spot parent block (common ++ mine k) xs ys cy k (ms k) (ms' k) is (omega arith) small small' before.within (same_less most (omega arith) above) (z k l) (z' k l) p q in
     record {
-      within = same_less w xs ys (edge_of w spot.across (n + 1)) bottom (edge_of w spot.across (suc n)) bottom (omega (arith, edges)) (omega arith) here.within;
-      decisions = ap₂ (λ (a b : List Decision). a ++ b) before.decisions here.decisions;
-    }
+      within = here.within;
+      decisions = blocks_next spot parent xs ms cy k ∙ ap₂ (λ (a b : List Decision). a ++ b) before.decisions here.decisions ∙ sym (blocks_next spot parent ys ms' cy k);
+    })
 
 -- the first n rows of codeblocks
 pub bands_one : (spot : BandSpot) (parent : List ℤ) (block : List ℕ) (common : List Decision) (xs ys : List ℤ) (ms ms' : Marks) (n : ℕ) → IsSpot spot → n ≤ spot.down
@@ -185,28 +160,21 @@ pub bands_one : (spot : BandSpot) (parent : List ℤ) (block : List ℕ) (common
     → Carries block (common ++ bands_part spot parent xs ms n) → Carries block (common ++ bands_part spot parent ys ms' n)
     → SameBlock spot.width xs ys spot.width (edge_of spot.height spot.down n) (bands_part spot parent xs ms n) (bands_part spot parent ys ms' n)
 unfolding bands_part
-bands_one spot parent block common xs ys ms ms' zero is inside small small' z z' p q =
-    record { within = record { each = λ x y a b c. absurd (omega (arith, edge_first spot.height spot.down)) }; decisions = refl }
-bands_one spot parent block common xs ys ms ms' (suc n) is inside small small' z z' p q =
+bands_one spot parent block common xs ys ms ms' n is inside small small' z z' =
     let w = spot.width in
-    let before =
-    bands_one spot parent block common xs ys ms ms' n is (omega arith) small small' (λ cy cx l m. z cy cx (omega arith) m) (λ cy cx l m. z' cy cx (omega arith) m)
-    (front_of block common (bands_part spot parent xs ms n) (blocks_part spot parent xs (ms n) n spot.across) p)
-    (front_of block common (bands_part spot parent ys ms' n) (blocks_part spot parent ys (ms' n) n spot.across) q) in
-    let theirs =
-    subst (λ (l : List Decision). Carries block ((common ++ l) ++ blocks_part spot parent ys (ms' n) n spot.across)) (sym before.decisions)
-    (rest_of block common (bands_part spot parent ys ms' n) (blocks_part spot parent ys (ms' n) n spot.across) q) in
-    let here =
-    blocks_one spot parent block (common ++ bands_part spot parent xs ms n) xs ys (ms n) (ms' n) n spot.across is (omega arith) small small'
-    before.within (λ cx l. z n cx (omega arith) l) (λ cx l. z' n cx (omega arith) l)
-    (rest_of block common (bands_part spot parent xs ms n) (blocks_part spot parent xs (ms n) n spot.across) p) theirs in
-    let next : suc n ≡ n + 1 = omega arith in
-    let edges : edge_of spot.height spot.down (suc n) ≡ edge_of spot.height spot.down (n + 1) = ap (λ k. edge_of spot.height spot.down k) next in
+    let mine : ℕ → List Decision = λ k. bands_part spot parent xs ms k in
+    let theirs : ℕ → List Decision = λ k. bands_part spot parent ys ms' k in
+    parts_one block common mine (λ k. blocks_part spot parent xs (ms k) k spot.across) theirs (λ k. blocks_part spot parent ys (ms' k) k spot.across)
+    (λ k. SameBlock w xs ys w (edge_of spot.height spot.down k) (mine k) (theirs k)) n
+    (bands_next spot parent xs ms) (bands_next spot parent ys ms') (λ k l before. before.decisions)
+    (record { within = record { each = λ x y a b c. absurd (omega (arith, edge_first spot.height spot.down)) }; decisions = refl })
+    (λ k l before p q.
     let last : edge_of w spot.across spot.across ≡ w = edge_last w spot.across (omega (arith, is.across)) in
+    let here = blocks_one spot parent block (common ++ mine k) xs ys (ms k) (ms' k) k spot.across is (omega arith) small small' before.within (λ cx m. z k cx l m) (λ cx m. z' k cx l m) p q in
     record {
-      within = same_less w xs ys (edge_of w spot.across spot.across) (edge_of spot.height spot.down (n + 1)) w (edge_of spot.height spot.down (suc n)) (omega arith) (omega (arith, edges)) here.within;
-      decisions = ap₂ (λ (a b : List Decision). a ++ b) before.decisions here.decisions;
-    }
+      within = same_less (omega (arith, last)) (omega arith) here.within;
+      decisions = bands_next spot parent xs ms k ∙ ap₂ (λ (a b : List Decision). a ++ b) before.decisions here.decisions ∙ sym (bands_next spot parent ys ms' k);
+    })
 
 -- lists of one size that are the same at every place are one
 same_lists : (w h : ℕ) (xs ys : List ℤ) → 0 < w → length xs ≡ w * h → length ys ≡ w * h → SameWithin w xs ys w h → xs ≡ ys
@@ -222,4 +190,4 @@ one_band spot parent block xs ys ms ms' is a b =
     let w = spot.width in
     let same = bands_one spot parent block [] xs ys ms ms' spot.down is (omega arith) a.small b.small a.zeros b.zeros a.carried b.carried in
     let last : edge_of spot.height spot.down spot.down ≡ spot.height = edge_last spot.height spot.down (omega (arith, is.down)) in
-    same_lists w spot.height xs ys (omega (arith, is.width)) a.len b.len (same_less w xs ys w (edge_of spot.height spot.down spot.down) w spot.height (omega arith) (omega arith) same.within)
+    same_lists w spot.height xs ys (omega (arith, is.width)) a.len b.len (same_less (omega arith) (omega arith) same.within)

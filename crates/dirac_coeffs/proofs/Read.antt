@@ -1,11 +1,11 @@
 -- What a reader of a block has read is what the block reads to.
-use Rattle.std.proofs.Common.{◌≡◌, ℕ, ℤ, pos, ◌+◌, ◌*◌, ◌-◌, ◌^◌, ◌<◌, List, [], ◌++◌, length, take, drop, replicate, unsigned_abs, Ok, sym, ap, ◌∙◌, arith, inl, inr, append-nil, lit<, drop_of_length-le}
+use Rattle.std.proofs.Common.{◌≡◌, ℕ, ℤ, pos, ◌+◌, ◌*◌, ◌-◌, ◌^◌, ◌<◌, List, [], ◌++◌, length, take, drop, replicate, unsigned_abs, Ok, sym, ap, ◌∙◌, subst, arith, inl, inr, append-nil, lit<, drop_of_length-le}
 use Rattle.std.proofs.lemmas.Bool.{cases_lt}
 use Rattle.std.proofs.lemmas.List.{get_or-replicate, get_or_past, take_all, length-replicate}
 use Rattle.std.proofs.lemmas.List.Elements.{All-replicate}
 use Rattle.dirac_types.specs.Table.{Table, with_values}
-use Rattle.dirac_arith.specs.Interval.{whole}
-use Rattle.dirac_arith.specs.Reading.{Reading}
+use Rattle.dirac_arith.specs.Deciding.{begin}
+use Rattle.dirac_arith.specs.Reading.{Reading, Reads}
 use Rattle.dirac_coeffs.specs.declared.spot.BandSpot.{BandSpot}
 use Rattle.dirac_coeffs.specs.BandRead.{band_read}
 use Rattle.dirac_coeffs.specs.Carried.{AreSmall, CarriesBand, CarriesLong, band_until}
@@ -33,28 +33,40 @@ pub zeros_small : (n : ℕ) → AreSmall (replicate n (pos 0))
 zeros_small n = All-replicate (λ v. unsigned_abs v < 2 ^ 39 - 1) n (pos 0) (lit< tt)
 
 -- all values written over
-pub written_over : (xs ys : List ℤ) → length ys ≡ length xs → take (length xs) (ys ++ drop (length ys) xs) ≡ ys
+written_over : (xs ys : List ℤ) → length ys ≡ length xs → take (length xs) (ys ++ drop (length ys) xs) ≡ ys
 written_over xs ys len =
     let none : drop (length ys) xs ≡ [] = drop_of_length-le xs {i = length ys} (omega arith) in
     ap (λ l. take (length xs) (ys ++ l)) none ∙ ap (λ l. take (length xs) l) (append-nil ys) ∙ ap (λ n. take n ys) (sym len) ∙ take_all (length ys) ys (omega arith)
 
-pub read_is_carried : (spot : BandSpot) (parent : List ℤ) (block : List ℕ) (xs : List ℤ) (new : Reading) → length xs ≡ spot.width * spot.height → AreSmall xs
-    → (b : BandRead spot parent (record { block = block; at = whole }) xs spot.down new) → CarriesBand spot parent block xs b.marks
-read_is_carried spot parent block xs new len small b =
-    record {
-      len = len;
-      small = small;
-      zeros = b.zeros;
-      carried = reads_carry block (band_decisions spot parent xs b.marks) new b.reads;
-    }
+-- a table of zeros whose values were read over: how many these are, that they are small, and that none is left
+pub record ReadOver (spot : BandSpot) (t : Table) (ws : List ℤ) : Type 0 where
+  pub len : length ws ≡ spot.width * spot.height
+  pub small : AreSmall ws
+  pub over : take (length t.values) (ws ++ drop (length ws) t.values) ≡ ws
 
-pub band_is_found : (spot : BandSpot) (parent : List ℤ) (block : List ℕ) (xs : List ℤ) (new : Reading) → IsSpot spot → length xs ≡ spot.width * spot.height → AreSmall xs
-    → BandRead spot parent (record { block = block; at = whole }) xs spot.down new → band_read spot parent block ≡ Ok xs
-band_is_found spot parent block xs new is len small b = band_found spot parent block xs b.marks is (read_is_carried spot parent block xs new len small b)
+pub read_over : (spot : BandSpot) (t : Table) (lent ws : List ℤ) → t ≡ band_table spot (replicate (spot.width * spot.height) (pos 0)) → lent ≡ t.values
+    → length ws ≡ length lent → (AreSmall lent → AreSmall ws) → ReadOver spot t ws
+read_over spot t lent ws made same len small =
+    let size = spot.width * spot.height in
+    let values : t.values ≡ replicate size (pos 0) = ap (λ (u : Table). u.values) made in
+    let count : length t.values ≡ size = ap length values ∙ length-replicate {A = ℤ} size (pos 0) in
+    let all : length ws ≡ length t.values = len ∙ ap length same in
+    record { len = all ∙ count; small = small (subst AreSmall (sym (same ∙ values)) (zeros_small size)); over = written_over t.values ws all }
 
-pub broken_is_long : (spot : BandSpot) (parent : List ℤ) (block : List ℕ) (xs : List ℤ) (new : Reading) → length xs ≡ spot.width * spot.height → AreSmall xs
-    → BandBroken spot parent (record { block = block; at = whole }) xs new → CarriesLong spot parent block
-broken_is_long spot parent block xs new len small b =
+pub read_is_carried : (spot : BandSpot) (parent : List ℤ) (block : List ℕ) (xs : List ℤ) (old new : Reading) → old ≡ begin block → length xs ≡ spot.width * spot.height → AreSmall xs
+    → (b : BandRead spot parent old xs spot.down new) → CarriesBand spot parent block xs b.marks
+read_is_carried spot parent block xs old new first len small b =
+    let ds = band_decisions spot parent xs b.marks in
+    record { len = len; small = small; zeros = b.zeros; carried = reads_carry block ds new (subst (λ (r : Reading). Reads r ds new) first b.reads) }
+
+pub band_is_found : (spot : BandSpot) (parent : List ℤ) (block : List ℕ) (xs : List ℤ) (old new : Reading) → IsSpot spot → old ≡ begin block → length xs ≡ spot.width * spot.height → AreSmall xs
+    → BandRead spot parent old xs spot.down new → band_read spot parent block ≡ Ok xs
+band_is_found spot parent block xs old new is first len small b = band_found spot parent block xs b.marks is (read_is_carried spot parent block xs old new first len small b)
+
+pub broken_is_long : (spot : BandSpot) (parent : List ℤ) (block : List ℕ) (xs : List ℤ) (old new : Reading) → old ≡ begin block → length xs ≡ spot.width * spot.height → AreSmall xs
+    → BandBroken spot parent old xs new → CarriesLong spot parent block
+broken_is_long spot parent block xs old new first len small b =
+    let ds = band_until spot parent xs b.marks b.at in
     record {
       values = xs;
       marks = b.marks;
@@ -64,7 +76,7 @@ broken_is_long spot parent block xs new len small b =
       inside = b.inside;
       zeros_above = b.zeros_above;
       zeros_before = b.zeros_before;
-      carried = reads_carry block (band_until spot parent xs b.marks b.at) new b.reads;
+      carried = reads_carry block ds new (subst (λ (r : Reading). Reads r ds new) first b.reads);
     }
 
 pub band_is_read : BandIsRead

@@ -74,16 +74,7 @@ coded_spelled spot parent b block k before is len bytes read =
       subst (λ t. Spells ((if t then done b.index else refuse at QuantIndex) >>= rest) b k1 (gap before ++ bits_of block)) (sym allowed) tail,
     )
 
--- the two forms of a band
-zeros_written : (spot : BandSpot) (parent : List ℤ) (b : CodedBand) (bits : List Bool) → is_zero_band b.table.values ≡ true → with_band spot parent b bits ≡ up_to_byte bits ++ uint 0
-zeros_written spot parent b bits e =
-    ap (λ (t : Bool). if t then up_to_byte bits ++ uint 0 else with_block b.index (block_of spot parent b.table.values) (up_to_byte bits)) e
-
-block_written : (spot : BandSpot) (parent : List ℤ) (b : CodedBand) (bits : List Bool) → is_zero_band b.table.values ≡ false
-    → with_band spot parent b bits ≡ with_block b.index (block_of spot parent b.table.values) (up_to_byte bits)
-block_written spot parent b bits e =
-    ap (λ (t : Bool). if t then up_to_byte bits ++ uint 0 else with_block b.index (block_of spot parent b.table.values) (up_to_byte bits)) e
-
+-- a band of zeros
 zeros_spelled : (spot : BandSpot) (parent : List ℤ) (b : CodedBand) (bits : List Bool) → b ≡ zero_band spot → SpelledBehind (band spot parent) b bits (up_to_byte bits ++ uint 0)
 unfolding band
 zeros_spelled spot parent b bits e =
@@ -93,6 +84,7 @@ zeros_spelled spot parent b bits e =
       spells = (gap bits, uint 0, gap_length-at bits (length bits) refl, refl, (0, [], lit< tt, sym (append-nil (uint 0)), (sym e, refl)));
     }
 
+-- a band with a block
 block_spelled : (spot : BandSpot) (parent : List ℤ) (b : CodedBand) (bits : List Bool) → IsSpot spot → IsCodedBand spot b → length (block_of spot parent b.table.values) + 1 < 2 ^ 39
     → SpelledBehind (band spot parent) b bits (with_block b.index (block_of spot parent b.table.values) (up_to_byte bits))
 unfolding band
@@ -123,9 +115,6 @@ pub band_spells : (spot : BandSpot) (parent : List ℤ) (b : CodedBand) (bits : 
     → (is_zero_band b.table.values ≡ true → b.index ≡ 0) → SpelledBehind (band spot parent) b bits (with_band spot parent b bits)
 band_spells spot parent b bits spot_is is index =
     elim (cases_Bool (is_zero_band b.table.values)) [
-      | inl zeros ↦
-          subst (λ (l : List Bool). SpelledBehind (band spot parent) b bits l) (sym (zeros_written spot parent b bits zeros)) (zeros_spelled spot parent b bits (zero_is spot b is (index zeros) zeros))
-      | inr others ↦
-          subst (λ (l : List Bool). SpelledBehind (band spot parent) b bits l) (sym (block_written spot parent b bits others))
-          (block_spelled spot parent b bits spot_is is (block_short spot parent b.table.values spot_is))
+      | inl zeros ↦ rw zeros (zeros_spelled spot parent b bits (zero_is spot b is (index zeros) zeros))
+      | inr others ↦ rw others (block_spelled spot parent b bits spot_is is (block_short spot parent b.table.values spot_is))
     ]

@@ -10,12 +10,12 @@ pub same_refl : (w : ℕ) (xs : List ℤ) (right bottom : ℕ) → SameWithin w 
 same_refl w xs right bottom = record { each = λ x y p q r. refl }
 
 -- a smaller part
-pub same_less : (w : ℕ) (xs ys : List ℤ) (right bottom r b : ℕ) → r ≤ right → b ≤ bottom → SameWithin w xs ys right bottom → SameWithin w xs ys r b
-same_less w xs ys right bottom r b h k s = record { each = λ x y p q t. s.each x y p (omega arith) (omega arith) }
+pub same_less : {w right bottom r b : ℕ} {xs ys : List ℤ} → r ≤ right → b ≤ bottom → SameWithin w xs ys right bottom → SameWithin w xs ys r b
+same_less h k s = record { each = λ x y p q t. s.each x y p (omega arith) (omega arith) }
 
 -- one column more in the last row
-pub same_more : (w : ℕ) (xs ys : List ℤ) (x y : ℕ) → SameWithin w xs ys x (y + 1) → SameWithin w xs ys (x + 1) y → value_at w xs x y ≡ value_at w ys x y → SameWithin w xs ys (x + 1) (y + 1)
-same_more w xs ys x y s t e =
+pub same_more : {w x y : ℕ} {xs ys : List ℤ} → SameWithin w xs ys x (y + 1) → SameWithin w xs ys (x + 1) y → value_at w xs x y ≡ value_at w ys x y → SameWithin w xs ys (x + 1) (y + 1)
+same_more {x = x} {y = y} s t e =
     record {
       each = λ i j p q r.
           elim (cases_lt i x) [
@@ -28,15 +28,15 @@ same_more w xs ys x y s t e =
     }
 
 -- nothing but the part is changed, so what lies above it is the same
-pub kept_above : (w left right top bottom : ℕ) (xs ys : List ℤ) (r b : ℕ) → b ≤ top → KeptOutside w left right top bottom xs ys → SameWithin w xs ys r b
-kept_above w left right top bottom xs ys r b h k = record { each = λ x y p q t. k.over x y p (omega arith) }
+pub kept_above : {w left right top bottom r b : ℕ} {xs ys : List ℤ} → b ≤ top → KeptOutside w left right top bottom xs ys → SameWithin w xs ys r b
+kept_above h k = record { each = λ x y p q t. k.over x y p (omega arith) }
 
 -- and so is what lies left of it
-pub kept_left : (w left right top bottom : ℕ) (xs ys : List ℤ) (r b : ℕ) → r ≤ left → KeptOutside w left right top bottom xs ys → SameWithin w xs ys r b
-kept_left w left right top bottom xs ys r b h k = record { each = λ x y p q t. k.before x y p (omega arith) }
+pub kept_left : {w left right top bottom r b : ℕ} {xs ys : List ℤ} → r ≤ left → KeptOutside w left right top bottom xs ys → SameWithin w xs ys r b
+kept_left h k = record { each = λ x y p q t. k.before x y p (omega arith) }
 
-pub kept_refl : (w left right top bottom : ℕ) (xs : List ℤ) → KeptOutside w left right top bottom xs xs
-kept_refl w left right top bottom xs =
+pub kept_refl : {w left right top bottom : ℕ} {xs : List ℤ} → KeptOutside w left right top bottom xs xs
+kept_refl =
     record {
       len = refl;
       before = λ x y p q. refl;
@@ -46,11 +46,11 @@ kept_refl w left right top bottom xs =
     }
 
 -- two changes within one part
-pub kept_join : (w left right top bottom l r t b l' r' t' b' : ℕ) (xs ys zs : List ℤ)
+pub kept_join : {w left right top bottom l r t b l' r' t' b' : ℕ} {xs ys zs : List ℤ}
     → (left ≤ l) × (r ≤ right) × (top ≤ t) × (b ≤ bottom)
     → (left ≤ l') × (r' ≤ right) × (top ≤ t') × (b' ≤ bottom)
     → KeptOutside w l r t b xs ys → KeptOutside w l' r' t' b' ys zs → KeptOutside w left right top bottom xs zs
-kept_join w left right top bottom l r t b l' r' t' b' xs ys zs h h' k k' =
+kept_join h h' k k' =
     record {
       len = k'.len ∙ k.len;
       before = λ x y p q. k.before x y p (omega arith) ∙ k'.before x y p (omega arith);
@@ -60,15 +60,8 @@ kept_join w left right top bottom l r t b l' r' t' b' xs ys zs h h' k k' =
     }
 
 -- a change within a part of the part
-pub kept_wider : (w left right top bottom l r t b : ℕ) (xs ys : List ℤ) → (left ≤ l) × (r ≤ right) × (top ≤ t) × (b ≤ bottom) → KeptOutside w l r t b xs ys → KeptOutside w left right top bottom xs ys
-kept_wider w left right top bottom l r t b xs ys h k =
-    record {
-      len = k.len;
-      before = λ x y p q. k.before x y p (omega arith);
-      after = λ x y p q. k.after x y p (omega arith);
-      over = λ x y p q. k.over x y p (omega arith);
-      under = λ x y p q. k.under x y p (omega arith);
-    }
+pub kept_wider : {w left right top bottom l r t b : ℕ} {xs ys : List ℤ} → (left ≤ l) × (r ≤ right) × (top ≤ t) × (b ≤ bottom) → KeptOutside w l r t b xs ys → KeptOutside w left right top bottom xs ys
+kept_wider {l = l} {r = r} {t = t} {b = b} h k = kept_join {l' = l} {r' = r} {t' = t} {b' = b} h h k kept_refl
 
 -- a place of another column or row isn't this one
 other_place : (w x y i j : ℕ) → x < w → i < w → ((i ≡ x) × (j ≡ y) → ⊥) → j * w + i ≢ y * w + x
@@ -88,8 +81,8 @@ set_kept w xs x y v h =
     }
 
 -- zeros to the right of a part that is changed, and below it
-pub zero_right : (w left right top bottom l : ℕ) (xs ys : List ℤ) → l ≤ right → KeptOutside w left right top bottom xs ys → ZeroFrom w l top xs → ZeroFrom w right top ys
-zero_right w left right top bottom l xs ys h k z = record { each = λ x y p q r. sym (k.after x y p q) ∙ z.each x y p (omega arith) r }
+pub zero_right : {w left right top bottom l : ℕ} {xs ys : List ℤ} → l ≤ right → KeptOutside w left right top bottom xs ys → ZeroFrom w l top xs → ZeroFrom w right top ys
+zero_right h k z = record { each = λ x y p q r. sym (k.after x y p q) ∙ z.each x y p (omega arith) r }
 
-pub zero_below : (w left right top bottom l : ℕ) (xs ys : List ℤ) → top ≤ bottom → KeptOutside w left right top bottom xs ys → ZeroFrom w l top xs → ZeroFrom w l bottom ys
-zero_below w left right top bottom l xs ys h k z = record { each = λ x y p q r. sym (k.under x y p r) ∙ z.each x y p q (omega arith) }
+pub zero_below : {w left right top bottom l : ℕ} {xs ys : List ℤ} → top ≤ bottom → KeptOutside w left right top bottom xs ys → ZeroFrom w l top xs → ZeroFrom w l bottom ys
+zero_below h k z = record { each = λ x y p q r. sym (k.under x y p r) ∙ z.each x y p q (omega arith) }

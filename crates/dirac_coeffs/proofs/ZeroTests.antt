@@ -1,43 +1,27 @@
 -- A test of a codeblock's values is the test of its definition.
-use Rattle.std.proofs.Common.{◌≡◌, ℕ, ℤ, pos, ◌+◌, ◌<◌, Bool, true, false, List, [], ◌∷◌, length, replicate, refl, ap, ◌∙◌, subst, inl, inr}
+use Rattle.std.proofs.Common.{◌≡◌, ℕ, ℤ, pos, ◌+◌, ◌<◌, Bool, true, false, List, [], ◌∷◌, length, replicate, refl, sym, ap, ◌∙◌, inl, inr}
 use Rattle.std.specs.List.{list_all}
 use Rattle.std.proofs.lemmas.Bool.{cases_Bool, and_parts}
 use Rattle.std.proofs.lemmas.Bool.Decides.{same_from_decides}
 use Rattle.dirac_bands.specs.Geometry.{edge_of}
 use Rattle.dirac_coeffs.specs.declared.spot.BandSpot.{BandSpot}
 use Rattle.dirac_coeffs.specs.BandRead.{is_zero_block}
+use Rattle.dirac_coeffs.specs.Carried.{IsZeroBlock}
 use Rattle.dirac_coeffs.specs.Contexts.{value_at, is_zero}
 use Rattle.dirac_coeffs.specs.Spots.{span_of}
 use Rattle.dirac_coeffs.proofs.Found.{zero_block_decides, zero_decides}
 
--- zeros in a rectangle
-pub record IsZeroIn (w : ℕ) (xs : List ℤ) (left columns top rows : ℕ) : Type 0 where
-  pub each : (i j : ℕ) → i < columns → j < rows → value_at w xs (left + i) (top + j) ≡ pos 0
-
--- a test of a rectangle
-pub record Tests (b : Bool) (w : ℕ) (xs : List ℤ) (left columns top rows : ℕ) : Type 0 where
-  pub zeros : b ≡ true → IsZeroIn w xs left columns top rows
-  pub others : b ≡ false → IsZeroIn w xs left columns top rows → ⊥
-
+-- a test of a rectangle whose edges are the codeblock's
 pub tests_block : (b : Bool) (spot : BandSpot) (xs : List ℤ) (cy cx left columns top rows : ℕ)
     → left ≡ edge_of spot.width spot.across cx → columns ≡ span_of spot.width spot.across cx → top ≡ edge_of spot.height spot.down cy → rows ≡ span_of spot.height spot.down cy
-    → Tests b spot.width xs left columns top rows → b ≡ is_zero_block spot xs cy cx
-tests_block b spot xs cy cx left columns top rows el ec et er t =
-    let w = spot.width in
-    let l' = edge_of w spot.across cx in
-    let c' = span_of w spot.across cx in
-    let t' = edge_of spot.height spot.down cy in
-    let r' = span_of spot.height spot.down cy in
-    let tests : Tests b w xs l' c' t' r' =
-    subst (λ r. Tests b w xs l' c' t' r) er
-    (subst (λ y. Tests b w xs l' c' y rows) et
-    (subst (λ c. Tests b w xs l' c top rows) ec
-    (subst (λ l. Tests b w xs l columns top rows) el t))) in
-    same_from_decides b (is_zero_block spot xs cy cx) (
-      λ e i j p q. (tests.zeros e).each i j p q,
-      λ z. elim (cases_Bool b) [ inl holds ↦ holds | inr fails ↦ absurd (tests.others fails (record { each = z })) ],
-    )
-    (zero_block_decides spot xs cy cx)
+    → (b ≡ true → (i j : ℕ) → i < columns → j < rows → value_at spot.width xs (left + i) (top + j) ≡ pos 0)
+    → (b ≡ false → ((i j : ℕ) → i < columns → j < rows → value_at spot.width xs (left + i) (top + j) ≡ pos 0) → ⊥)
+    → b ≡ is_zero_block spot xs cy cx
+tests_block b spot xs cy cx left columns top rows el ec et er zeros others =
+    let Z = IsZeroBlock spot xs cy cx in
+    let zeros' : b ≡ true → Z = rw (sym ec, sym er, sym el, sym et) zeros in
+    let others' : b ≡ false → Z → ⊥ = rw (sym ec, sym er, sym el, sym et) others in
+    same_from_decides b (is_zero_block spot xs cy cx) (zeros', λ z. elim (cases_Bool b) [ inl holds ↦ holds | inr fails ↦ absurd (others' fails z) ]) (zero_block_decides spot xs cy cx)
 
 -- a list of zeros
 pub all_zeros : (xs : List ℤ) → list_all is_zero xs ≡ true → xs ≡ replicate (length xs) (pos 0)

@@ -1,9 +1,10 @@
 use Rattle.std.proofs.Common.{◌≡◌, ℕ, List, Ok, ap, ◌∙◌}
+use Rattle.std.proofs.lemmas.Result.{IfOk-weaker}
 use Rattle.dirac_arith.specs.Interval.{Interval, whole, narrowed_by}
 use Rattle.dirac_coeffs.specs.BandRead.{band_read}
 use Rattle.dirac_coeffs.specs.Decisions.{band_decisions}
 use Rattle.dirac_coeffs.specs.Written.{marks_of, block_of}
-use Rattle.dirac_coeffs.proofs.Writing.{in_bands, written_read, ok_more}
+use Rattle.dirac_coeffs.proofs.Writing.{in_bands, written_read}
 use Rattle.dirac_coeffs.proofs.block_writer.write_block.Goals as goal
 
 pub returns-clause-exact : goal.returns-clause-exact
@@ -20,6 +21,6 @@ returns-clause-read_back c =
     let spot = c.args.spot in
     let parent = c.args.parent.now in
     let xs = c.args.values.now in
-    ok_more (λ block. block.items ≡ block_of spot parent xs) (λ block. band_read spot parent block.items ≡ Ok xs)
+    IfOk-weaker c.finish.result (λ block. block.items ≡ block_of spot parent xs) (λ block. band_read spot parent block.items ≡ Ok xs)
     (λ block e. ap (λ (l : List ℕ). band_read spot parent l) e ∙ written_read spot parent xs c.requires.spot c.requires.len c.requires.small)
-    c.finish.result (returns-clause-exact c)
+    (returns-clause-exact c)

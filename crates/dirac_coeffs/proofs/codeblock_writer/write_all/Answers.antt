@@ -1,4 +1,4 @@
-use Rattle.std.proofs.Common.{◌+◌, refl}
+use Rattle.std.proofs.Common.{refl}
 use Rattle.dirac_arith.proofs.Spellings.{narrowed_more}
 use Rattle.dirac_coeffs.specs.Decisions.{blocks_part, bands_part}
 use Rattle.dirac_coeffs.specs.Written.{marks_of}
@@ -14,6 +14,6 @@ down-preserved c =
     let spot = c.args.spot in
     let parent = c.args.parent.now in
     let xs = c.args.values.now in
+    let marks = marks_of spot xs in
     let n = c.down.cy in
-    narrowed_more c.args.encoder.now c.down.encoder c.write_codeblocks.new.encoder (bands_part spot parent xs (marks_of spot xs) n) (blocks_part spot parent xs (marks_of spot xs n) n spot.across) (bands_part spot parent xs (marks_of spot xs) (n + 1))
-    c.down.invariant c.in-Ok.ensures (bands_next spot parent xs (marks_of spot xs) n)
+    narrowed_more _ _ _ (bands_part spot parent xs marks n) (blocks_part spot parent xs (marks n) n spot.across) _ c.down.invariant c.in-Ok.ensures (bands_next spot parent xs marks n)

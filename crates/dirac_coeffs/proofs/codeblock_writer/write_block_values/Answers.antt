@@ -1,9 +1,7 @@
-use Rattle.std.proofs.Common.{◌+◌, arith}
-use Rattle.std.proofs.lemmas.Nat.{mul-le}
+use Rattle.std.proofs.Common.{◌+◌, length}
+use Rattle.dirac_coeffs.proofs.Edges.{rows_inside}
 use Rattle.dirac_coeffs.proofs.codeblock_writer.write_block_values.Goals as goal
 
 pub write_rows-requires-clause-inside : goal.write_rows-requires-clause-inside
 write_rows-requires-clause-inside c =
-    let end = c.part_of-rows.result.start + c.part_of-rows.result.length in
-    let w = c.args.spot.width in
-    omega (arith, mul-le end w c.args.spot.height w c.part_of-rows.ensures.inside (omega arith), c.requires.len)
+    rows_inside (c.part_of-rows.result.start + c.part_of-rows.result.length) c.args.spot.width c.args.spot.height (length c.args.values.now) c.part_of-rows.ensures.inside c.requires.len

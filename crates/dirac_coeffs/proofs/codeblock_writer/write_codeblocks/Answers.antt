@@ -1,4 +1,4 @@
-use Rattle.std.proofs.Common.{◌+◌, refl}
+use Rattle.std.proofs.Common.{refl}
 use Rattle.dirac_arith.proofs.Spellings.{narrowed_more}
 use Rattle.dirac_coeffs.specs.Decisions.{block_part, blocks_part}
 use Rattle.dirac_coeffs.specs.Written.{marks_of}
@@ -15,6 +15,6 @@ across-preserved c =
     let parent = c.args.parent.now in
     let xs = c.args.values.now in
     let cy = c.args.cy in
+    let marks = marks_of spot xs cy in
     let n = c.across.cx in
-    narrowed_more c.args.encoder.now c.across.encoder c.write_codeblock.new.encoder (blocks_part spot parent xs (marks_of spot xs cy) cy n) (block_part spot parent xs cy n (marks_of spot xs cy n)) (blocks_part spot parent xs (marks_of spot xs cy) cy (n + 1))
-    c.across.invariant c.in-Ok.ensures (blocks_next spot parent xs (marks_of spot xs cy) cy n)
+    narrowed_more _ _ _ (blocks_part spot parent xs marks cy n) (block_part spot parent xs cy n (marks n)) _ c.across.invariant c.in-Ok.ensures (blocks_next spot parent xs marks cy n)

@@ -1,5 +1,4 @@
-use Rattle.std.proofs.Common.{◌+◌, ◌≤◌, false, ◌∙◌, arith, refl}
-use Rattle.dirac_bands.specs.Geometry.{edge_of}
+use Rattle.std.proofs.Common.{◌+◌, false, ◌∙◌, arith, refl}
 use Rattle.dirac_coeffs.specs.Decisions.{bands_part}
 use Rattle.dirac_coeffs.proofs.Edges.{edge_rises}
 use Rattle.dirac_coeffs.proofs.FillingOfBlocks.{bands_more, bands_break}
@@ -22,23 +21,17 @@ down-init c =
 pub down-preserved : goal.down-preserved
 down-preserved c =
     let spot = c.args.spot in
-    let w = spot.width in
     let n = c.down.cy in
-    let top = edge_of spot.height spot.down n in
-    let bottom = edge_of spot.height spot.down (n + 1) in
-    let rises : top ≤ bottom = edge_rises spot.height spot.down n (n + 1) (omega arith) (omega arith) in
+    let rises = edge_rises spot.height spot.down n (n + 1) (omega arith) (omega arith) in
     record {
-      taken =
-          bands_more spot c.args.parent.now c.args.decoder.now c.down.decoder c.read_codeblocks.new.decoder c.down.values c.read_codeblocks.new.values
-          n c.requires.spot (omega arith) c.read_codeblocks.ensures.kept c.down.invariant.taken c.in-Ok.ensures.taken;
+      taken = bands_more spot c.args.parent.now n c.requires.spot (omega arith) c.read_codeblocks.ensures.kept c.down.invariant.taken c.in-Ok.ensures.taken;
       len = c.read_codeblocks.ensures.kept.len ∙ c.down.invariant.len;
       few = omega (arith, c.read_codeblocks.ensures.few, c.down.invariant.few);
       small = λ all. c.read_codeblocks.ensures.small (c.down.invariant.small all);
-      zeros = zero_below w 0 w top bottom 0 c.down.values c.read_codeblocks.new.values rises c.read_codeblocks.ensures.kept c.down.invariant.zeros;
+      zeros = zero_below rises c.read_codeblocks.ensures.kept c.down.invariant.zeros;
       block = c.read_codeblocks.ensures.block ∙ c.down.invariant.block;
     }
 
 pub returns-in-Err-clause-long : goal.returns-in-Err-clause-long
 returns-in-Err-clause-long c = λ e.
-    bands_break c.args.spot c.args.parent.now c.args.decoder.now c.down.decoder c.read_codeblocks.new.decoder c.down.values c.read_codeblocks.new.values
-    c.down.cy c.requires.spot (omega arith) c.read_codeblocks.ensures.kept c.down.invariant.taken (c.in-Err.ensures.long e)
+    bands_break c.args.spot c.args.parent.now c.down.cy c.requires.spot (omega arith) c.read_codeblocks.ensures.kept c.down.invariant.taken (c.in-Err.ensures.long e)

@@ -12,12 +12,9 @@ use Rattle.dirac_coeffs.proofs.codeblocks.read_codeblocks.Goals as goal
 pub across-init : goal.across-init
 unfolding blocks_part
 across-init c =
-    let spot = c.args.spot in
-    let top = edge_of spot.height spot.down c.args.cy in
-    let bottom = edge_of spot.height spot.down (c.args.cy + 1) in
     record {
       taken = record { marks = λ cx. record { skipped = false }; zeros = λ cx l. absurd (omega arith); reads = reads_none c.args.decoder.now };
-      kept = kept_refl spot.width 0 (edge_of spot.width spot.across 0) top bottom c.args.values.now;
+      kept = kept_refl;
       few = omega arith;
       small = λ all. all;
       zeros = record { each = λ x y p q r. c.requires.zeros.each x y p (omega arith) r };
@@ -27,45 +24,26 @@ across-init c =
 pub across-preserved : goal.across-preserved
 across-preserved c =
     let spot = c.args.spot in
-    let w = spot.width in
     let n = c.across.cx in
-    let left = edge_of w spot.across n in
-    let right = edge_of w spot.across (n + 1) in
-    let top = edge_of spot.height spot.down c.args.cy in
-    let bottom = edge_of spot.height spot.down (c.args.cy + 1) in
-    let rises : left ≤ right = edge_rises w spot.across n (n + 1) (omega arith) (omega arith) in
+    let rises : edge_of spot.width spot.across n ≤ edge_of spot.width spot.across (n + 1) = edge_rises spot.width spot.across n (n + 1) (omega arith) (omega arith) in
     let mark : Mark = record { skipped = c.in-Ok.field-0 } in
     record {
-      taken =
-          blocks_more spot c.args.parent.now c.args.decoder.now c.across.decoder c.read_codeblock.new.decoder c.across.values c.read_codeblock.new.values
-          c.args.cy n mark c.requires.spot (omega arith)
-          c.read_codeblock.ensures.kept c.across.invariant.taken c.in-Ok.ensures.taken c.in-Ok.ensures.zeros;
-      kept =
-          kept_join w 0 right top bottom 0 left top bottom left right top bottom
-          c.args.values.now c.across.values c.read_codeblock.new.values
-          (omega arith, rises, omega arith, omega arith) (omega arith, omega arith, omega arith, omega arith)
-          c.across.invariant.kept c.read_codeblock.ensures.kept;
-      few = omega (arith, c.read_codeblock.ensures.few, c.across.invariant.few, span_end w spot.across n (omega arith));
+      taken = blocks_more spot c.args.parent.now c.args.cy n mark c.requires.spot (omega arith) c.read_codeblock.ensures.kept c.across.invariant.taken c.in-Ok.ensures.taken c.in-Ok.ensures.zeros;
+      kept = kept_join (omega arith, rises, omega arith, omega arith) (omega arith, omega arith, omega arith, omega arith) c.across.invariant.kept c.read_codeblock.ensures.kept;
+      few = omega (arith, c.read_codeblock.ensures.few, c.across.invariant.few, span_end spot.width spot.across n (omega arith));
       small = λ all. c.read_codeblock.ensures.small (c.across.invariant.small all);
-      zeros = zero_right w left right top bottom left c.across.values c.read_codeblock.new.values rises c.read_codeblock.ensures.kept c.across.invariant.zeros;
+      zeros = zero_right rises c.read_codeblock.ensures.kept c.across.invariant.zeros;
       block = c.read_codeblock.ensures.block ∙ c.across.invariant.block;
     }
 
 pub returns-in-Err-clause-kept : goal.returns-in-Err-clause-kept
 returns-in-Err-clause-kept c =
-    let spot = c.args.spot in
-    let w = spot.width in
+    let w = c.args.spot.width in
+    let across = c.args.spot.across in
     let n = c.across.cx in
-    let left = edge_of w spot.across n in
-    let right = edge_of w spot.across (n + 1) in
-    let top = edge_of spot.height spot.down c.args.cy in
-    let bottom = edge_of spot.height spot.down (c.args.cy + 1) in
-    let rises : left ≤ right = edge_rises w spot.across n (n + 1) (omega arith) (omega arith) in
-    let most : right ≤ w = edge_most w spot.across (n + 1) (omega arith) (omega arith) in
-    kept_join w 0 w top bottom 0 left top bottom left right top bottom
-    c.args.values.now c.across.values c.read_codeblock.new.values
-    (omega arith, omega arith, omega arith, omega arith) (omega arith, most, omega arith, omega arith)
-    c.across.invariant.kept c.read_codeblock.ensures.kept
+    let rises : edge_of w across n ≤ edge_of w across (n + 1) = edge_rises w across n (n + 1) (omega arith) (omega arith) in
+    let most : edge_of w across (n + 1) ≤ w = edge_most w across (n + 1) (omega arith) (omega arith) in
+    kept_join (omega arith, omega arith, omega arith, omega arith) (omega arith, most, omega arith, omega arith) c.across.invariant.kept c.read_codeblock.ensures.kept
 
 pub returns-in-Err-clause-few : goal.returns-in-Err-clause-few
 returns-in-Err-clause-few c =
@@ -76,8 +54,7 @@ returns-in-Err-clause-few c =
 pub returns-in-Err-clause-long : goal.returns-in-Err-clause-long
 returns-in-Err-clause-long c = λ e.
     let same : c.in-Err.cause ≡ causes.NumberTooLong = cc in
-    blocks_break c.args.spot c.args.parent.now c.args.decoder.now c.across.decoder c.read_codeblock.new.decoder c.across.values c.read_codeblock.new.values
-    c.args.cy c.across.cx c.requires.spot (omega arith) c.read_codeblock.ensures.kept c.across.invariant.taken (c.in-Err.ensures.long (ap Err same))
+    blocks_break c.args.spot c.args.parent.now c.args.cy c.across.cx c.requires.spot (omega arith) c.read_codeblock.ensures.kept c.across.invariant.taken (c.in-Err.ensures.long (ap Err same))
 
 pub returns-clause-taken : goal.returns-clause-taken
 returns-clause-taken c =
@@ -86,13 +63,8 @@ returns-clause-taken c =
 
 pub returns-clause-kept : goal.returns-clause-kept
 returns-clause-kept c =
-    let spot = c.args.spot in
-    let w = spot.width in
-    let right = edge_of w spot.across c.across.cx in
-    let top = edge_of spot.height spot.down c.args.cy in
-    let bottom = edge_of spot.height spot.down (c.args.cy + 1) in
-    kept_wider w 0 w top bottom 0 right top bottom c.args.values.now c.across.values
-    (omega arith, edge_most w spot.across c.across.cx (omega arith) (omega arith), omega arith, omega arith) c.across.invariant.kept
+    let most = edge_most c.args.spot.width c.args.spot.across c.across.cx (omega arith) (omega arith) in
+    kept_wider (omega arith, most, omega arith, omega arith) c.across.invariant.kept
 
 pub returns-clause-few : goal.returns-clause-few
 returns-clause-few c = omega (arith, c.across.invariant.few, edge_most c.args.spot.width c.args.spot.across c.across.cx (omega arith) (omega arith))

@@ -16,5 +16,4 @@ rows-preserved c =
     let from = c.args.from in
     let count = c.args.count in
     let j = c.rows.j in
-    narrowed_more c.args.encoder.now c.rows.encoder c.write_row.new.encoder (rows_part f xs from count top j) (row_part f xs (top + j) from count) (rows_part f xs from count top (j + 1))
-    c.rows.invariant c.in-Ok.ensures (rows_next f xs from count top j)
+    narrowed_more _ _ _ (rows_part f xs from count top j) (row_part f xs (top + j) from count) _ c.rows.invariant c.in-Ok.ensures (rows_next f xs from count top j)

@@ -1,10 +1,8 @@
-use Rattle.std.proofs.Common.{rules, ◌≡◌, ◌+◌, ◌*◌, ◌<◌, to_z, of_z, w64, unsigned_abs, subst, sym, arith, List}
+use Rattle.std.proofs.Common.{rules, ◌≡◌, ◌+◌, ◌*◌, ◌<◌, to_z, of_z, w64, unsigned_abs, sym, arith}
 use Rattle.std.proofs.lemmas.List.Elements.{All-set}
-use Rattle.dirac_arith.specs.Reading.{Reads}
-use Rattle.dirac_arith.specs.Interval.{Decision}
 use Rattle.dirac_coeffs.specs.Contexts.{left_of, above_of, corner_of, parent_of}
 use Rattle.dirac_coeffs.specs.Decisions.{frame_of}
-use Rattle.dirac_coeffs.proofs.Filling.{value_stored, reads_value}
+use Rattle.dirac_coeffs.proofs.Filling.{value_stored}
 use Rattle.dirac_coeffs.proofs.Within.{set_kept}
 use Rattle.dirac_coeffs.proofs.values.read_at.Goals as goal
 
@@ -20,8 +18,7 @@ returns-in-Ok-clause-taken c =
     let corner : to_z w64 (of_z w64 c.corner_value-corner.result) ≡ corner_of f.width xs x y = search rules in
     let parent : to_z w64 (of_z w64 c.parent_value-parent.result) ≡ parent_of f.width f.parent x y = search rules in
     let value : c.in-Ok.value ≡ v = search rules in
-    let told = reads_value c.args.decoder.now c.read_value.new.decoder f.band _ (left_of f.width xs x y) _ (above_of f.width xs x y) _ (corner_of f.width xs x y) _ (parent_of f.width f.parent x y) c.in-Ok.value v left above corner parent value c.in-Ok.ensures.found in
-    subst (λ (ds : List Decision). Reads c.args.decoder.now ds c.read_value.new.decoder) (sym (value_stored f xs x y v c.requires.column (omega arith))) told
+    rw (value_stored f xs x y v c.requires.column (omega arith), sym left, sym above, sym corner, sym parent, sym value) c.in-Ok.ensures.found
 
 pub returns-in-Ok-clause-kept : goal.returns-in-Ok-clause-kept
 returns-in-Ok-clause-kept c = set_kept c.args.spot.width c.args.values.now c.args.x c.args.y (to_z w64 (of_z w64 c.in-Ok.value)) c.requires.column

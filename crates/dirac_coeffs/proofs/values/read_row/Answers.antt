@@ -1,4 +1,4 @@
-use Rattle.std.proofs.Common.{◌+◌, ◌∙◌, arith, refl}
+use Rattle.std.proofs.Common.{◌∙◌, arith, refl}
 use Rattle.dirac_coeffs.specs.Decisions.{frame_of, row_part}
 use Rattle.dirac_coeffs.proofs.Filling.{row_more, row_breaks}
 use Rattle.dirac_coeffs.proofs.Readings.{reads_none}
@@ -10,47 +10,25 @@ unfolding row_part
 values-init c =
     record {
       taken = reads_none c.args.decoder.now;
-      kept = kept_refl c.args.spot.width c.args.from (c.args.from + 0) c.args.y (c.args.y + 1) c.args.values.now;
+      kept = kept_refl;
       few = omega arith;
       small = λ all. all;
       block = refl;
     }
 
 pub returns-in-Err-clause-kept : goal.returns-in-Err-clause-kept
-returns-in-Err-clause-kept c =
-    let w = c.args.spot.width in
-    let from = c.args.from in
-    let i = c.values.i in
-    let y = c.args.y in
-    kept_join w from (from + c.args.count) y (y + 1) from (from + i) y (y + 1) (from + i) (from + i + 1) y (y + 1)
-    c.args.values.now c.values.values c.read_at.new.values
-    (omega arith, omega arith, omega arith, omega arith) (omega arith, omega arith, omega arith, omega arith)
-    c.values.invariant.kept c.read_at.ensures.kept
+returns-in-Err-clause-kept c = kept_join (omega arith, omega arith, omega arith, omega arith) (omega arith, omega arith, omega arith, omega arith) c.values.invariant.kept c.read_at.ensures.kept
 
 pub returns-in-Err-clause-long : goal.returns-in-Err-clause-long
 returns-in-Err-clause-long c = λ e.
     let broken = c.in-Err.ensures.long e in
-    let f = frame_of c.args.spot c.args.parent.now in
-    row_breaks f c.args.decoder.now c.values.decoder c.read_at.new.decoder c.values.values c.read_at.new.values
-    c.args.from c.args.y c.values.i c.args.count broken.0 (omega arith) (omega arith) broken.1
-    c.read_at.ensures.kept c.values.invariant.taken broken.2
+    row_breaks (frame_of c.args.spot c.args.parent.now) c.args.from c.args.y c.values.i c.args.count broken.0 (omega arith) (omega arith) broken.1 c.read_at.ensures.kept c.values.invariant.taken broken.2
 
 pub values-preserved : goal.values-preserved
 values-preserved c =
-    let f = frame_of c.args.spot c.args.parent.now in
-    let w = c.args.spot.width in
-    let from = c.args.from in
-    let i = c.values.i in
-    let y = c.args.y in
     record {
-      taken =
-          row_more f c.args.decoder.now c.values.decoder c.read_at.new.decoder c.values.values c.read_at.new.values from y i (omega arith)
-          c.read_at.ensures.kept c.values.invariant.taken c.in-Ok.ensures.taken;
-      kept =
-          kept_join w from (from + (i + 1)) y (y + 1) from (from + i) y (y + 1) (from + i) (from + i + 1) y (y + 1)
-          c.args.values.now c.values.values c.read_at.new.values
-          (omega arith, omega arith, omega arith, omega arith) (omega arith, omega arith, omega arith, omega arith)
-          c.values.invariant.kept c.read_at.ensures.kept;
+      taken = row_more (frame_of c.args.spot c.args.parent.now) c.args.from c.args.y c.values.i (omega arith) c.read_at.ensures.kept c.values.invariant.taken c.in-Ok.ensures.taken;
+      kept = kept_join (omega arith, omega arith, omega arith, omega arith) (omega arith, omega arith, omega arith, omega arith) c.values.invariant.kept c.read_at.ensures.kept;
       few = omega (arith, c.read_at.ensures.few);
       small = λ all. c.read_at.ensures.small (c.values.invariant.small all);
       block = c.read_at.ensures.block ∙ c.values.invariant.block;
