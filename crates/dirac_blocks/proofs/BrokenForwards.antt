@@ -4,35 +4,32 @@ use Rattle.std.specs.Prelude.{if◌then◌else◌}
 use Rattle.std.proofs.lemmas.Bool.{cases_lt, both_ways}
 use Rattle.std.proofs.lemmas.Nat.{mul-le}
 use Rattle.dirac_types.specs.declared.faults.Cause.{Cause}
-use Rattle.dirac_types.specs.declared.formats.Vector.{Vector}
 use Rattle.dirac_types.specs.Chain.{◌>>=◌}
 use Rattle.dirac_arith.specs.Deciding.{begin, after_all}
 use Rattle.dirac_arith.specs.Interval.{Decision}
 use Rattle.dirac_arith.specs.Reading.{Reading, Reads}
 use Rattle.dirac_arith.proofs.Carrieds.{IsLed}
 use Rattle.dirac_arith.proofs.Led.{led_begin, led_more, reads_parted, carried_reads, signed_led, signed_long_led}
-use Rattle.dirac_vectors.specs.Predictions.{vector_of, dc_of}
 use Rattle.dirac_blocks.specs.declared.block.Block.{Block}
-use Rattle.dirac_blocks.specs.declared.parts.Component.TheVariants as components
 use Rattle.dirac_blocks.specs.declared.parts.Part.{Part}
 use Rattle.dirac_blocks.specs.declared.parts.Part.TheVariants as parts
-use Rattle.dirac_blocks.specs.declared.parts.Reference.TheVariants as references
 use Rattle.dirac_blocks.specs.Carried.{with_part}
-use Rattle.dirac_blocks.specs.Decisions.{predicted, unit_row, unit_rows, superblock_row, superblock_rows}
-use Rattle.dirac_blocks.specs.Grammar.{Progress, repeated, with_unit, value_from, value_read, read_into, unit_read, unit_step, unit_row_step, unit_rows_step, superblock_step, is_dc, with_across, with_down, with_dc}
+use Rattle.dirac_blocks.specs.Decisions.{unit_row, unit_rows, superblock_row, superblock_rows}
+use Rattle.dirac_blocks.specs.Grammar.{Progress, repeated, with_unit, value_from, read_into, unit_read, unit_step, unit_row_step, unit_rows_step, superblock_step}
 use Rattle.dirac_blocks.specs.Laws.{BrokenIsRefused}
-use Rattle.dirac_blocks.specs.Parts.{vector_at, dc_at, part_at}
+use Rattle.dirac_blocks.specs.Parts.{part_at}
 use Rattle.dirac_blocks.specs.Reached.{IsUnit, progress}
-use Rattle.dirac_blocks.specs.Refused.{Told, component_told, dc_told, value_told, Break, long, beyond, IsBreak, broken_part, cause_of, list_until}
+use Rattle.dirac_blocks.specs.Refused.{Told, value_told, Break, long, beyond, IsBreak, broken_part, cause_of, list_until}
 use Rattle.dirac_blocks.specs.Tables.{BlockTable, IsBlockTable, block_at, split_at, unit_size}
 use Rattle.dirac_blocks.proofs.Fills.{split_few}
 use Rattle.dirac_blocks.proofs.ForwardLoops.{Toward, row_goes, rows_go, superblocks_go, superblock_rows_go, shape_back, unit_of_superblock, units_fill}
-use Rattle.dirac_blocks.proofs.Nearby.{Near, SameWithin, near_within, vector_near, dc_near}
+use Rattle.dirac_blocks.proofs.Nearby.{Near, SameWithin, near_within}
 use Rattle.dirac_blocks.proofs.Repeating.{repeated_stops, split_same}
 use Rattle.dirac_blocks.proofs.Units.{size_some}
+use Rattle.dirac_blocks.proofs.Valued.{Tells, told_read, has_same, across_tells, down_tells, dc_tells}
 
 -- a value whose decisions break off is refused
-value_refused : (v : Told) (k : Break) (r s : Reading) → IsLed r → IsBreak v k → Reads r (broken_part v k) s → value_read v.range v.follow v.bits v.sign v.prediction r ≡ Err (cause_of v k)
+value_refused : (v : Told) (k : Break) (r s : Reading) → IsLed r → IsBreak v k → Reads r (broken_part v k) s → told_read v r ≡ Err (cause_of v k)
 value_refused v (long digits) r s led so reads =
     ap (λ (x : Result (ℤ × Reading) Cause). x >>= value_from v.range v.prediction) (signed_long_led r s v.follow v.bits v.sign digits led so reads)
 value_refused v (beyond z) r s led so reads =
@@ -41,7 +38,7 @@ value_refused v (beyond z) r s led so reads =
     ∙ subst P (sym so.1) refl
 
 into_refused : (has : Bool) (bm : Block) (put : Block → ℤ → Block) (v : Told) (k : Break) (r s : Reading) → has ≡ true → IsLed r → IsBreak v k → Reads r (broken_part v k) s
-    → read_into has bm put (value_read v.range v.follow v.bits v.sign v.prediction) r ≡ Err (cause_of v k)
+    → read_into has bm put (told_read v) r ≡ Err (cause_of v k)
 into_refused true bm put v k r s t led so reads =
     ap (λ (x : Result (ℤ × Reading) Cause). x >>= (λ w. let y : Result (Block × Reading) Cause = Ok (put bm w.0, w.1) in y)) (value_refused v k r s led so reads)
 into_refused false bm put v k r s t led so reads = absurd (both_ways false refl t)
@@ -57,6 +54,16 @@ told_is false v w e = absurd (none e)
     none : {w : Told} → (let o : Option Told = None in o ≡ Some w) → ⊥
     none e = cc
 
+-- a unit whose value breaks off
+told_refused : (part : Part) (t : Tells part) (u m : BlockTable) (i j : ℕ) (r s : Reading) (v : Told) (k : Break) → with_part part (block_at m i j) (block_at u i j) ≡ block_at u i j → Near m u i j
+    → value_told part u i j ≡ Some v → IsLed r → IsBreak v k → Reads r (broken_part v k) s → unit_read part m i j r ≡ Err (cause_of v k)
+told_refused part t u m i j r s v k rest near is led so reads =
+    let bm = block_at m i j in
+    let bu = block_at u i j in
+    let told = told_is (t.has bu) (t.told u i j) v (sym (t.where_told u i j) ∙ is) in
+    t.read m i j r ∙ ap (λ (w : Told). read_into (t.has bm) bm t.put (told_read w) r) (t.near m u i j near ∙ told.1)
+    ∙ into_refused (t.has bm) bm t.put v k r s (has_same part t bm bu rest ∙ told.0) led so reads
+
 -- a unit whose decisions break off
 unit_refused : (part : Part) (u m : BlockTable) (i j : ℕ) (r s : Reading) (v : Told) (k : Break) → with_part part (block_at m i j) (block_at u i j) ≡ block_at u i j → Near m u i j
     → value_told part u i j ≡ Some v → IsLed r → IsBreak v k → Reads r (broken_part v k) s → unit_read part m i j r ≡ Err (cause_of v k)
@@ -64,66 +71,9 @@ unit_refused parts.Modes u m i j r s v k rest near is led so reads = absurd (non
   where
     none : {w : Told} → (let o : Option Told = None in o ≡ Some w) → ⊥
     none e = cc
-unit_refused (parts.Across references.First) u m i j r s v k rest near is led so reads =
-    let bm = block_at m i j in
-    let bu = block_at u i j in
-    let q = predicted vector_of (vector_at references.First u) i j in
-    let t = told_is bu.ref1 (component_told q.x) v is in
-    let same : bm.ref1 ≡ bu.ref1 = ap (λ (b : Block). b.ref1) rest in
-    let told : component_told (predicted vector_of (vector_at references.First m) i j).x ≡ v = ap (λ (w : Vector). component_told w.x) (vector_near references.First m u i j near) ∙ t.1 in
-    subst (λ (w : Told). read_into bm.ref1 bm (with_across references.First) (value_read w.range w.follow w.bits w.sign w.prediction) r ≡ Err (cause_of v k)) (sym told)
-    (into_refused bm.ref1 bm (with_across references.First) v k r s (same ∙ t.0) led so reads)
-unit_refused (parts.Across references.Second) u m i j r s v k rest near is led so reads =
-    let bm = block_at m i j in
-    let bu = block_at u i j in
-    let q = predicted vector_of (vector_at references.Second u) i j in
-    let t = told_is bu.ref2 (component_told q.x) v is in
-    let same : bm.ref2 ≡ bu.ref2 = ap (λ (b : Block). b.ref2) rest in
-    let told : component_told (predicted vector_of (vector_at references.Second m) i j).x ≡ v = ap (λ (w : Vector). component_told w.x) (vector_near references.Second m u i j near) ∙ t.1 in
-    subst (λ (w : Told). read_into bm.ref2 bm (with_across references.Second) (value_read w.range w.follow w.bits w.sign w.prediction) r ≡ Err (cause_of v k)) (sym told)
-    (into_refused bm.ref2 bm (with_across references.Second) v k r s (same ∙ t.0) led so reads)
-unit_refused (parts.Down references.First) u m i j r s v k rest near is led so reads =
-    let bm = block_at m i j in
-    let bu = block_at u i j in
-    let q = predicted vector_of (vector_at references.First u) i j in
-    let t = told_is bu.ref1 (component_told q.y) v is in
-    let same : bm.ref1 ≡ bu.ref1 = ap (λ (b : Block). b.ref1) rest in
-    let told : component_told (predicted vector_of (vector_at references.First m) i j).y ≡ v = ap (λ (w : Vector). component_told w.y) (vector_near references.First m u i j near) ∙ t.1 in
-    subst (λ (w : Told). read_into bm.ref1 bm (with_down references.First) (value_read w.range w.follow w.bits w.sign w.prediction) r ≡ Err (cause_of v k)) (sym told)
-    (into_refused bm.ref1 bm (with_down references.First) v k r s (same ∙ t.0) led so reads)
-unit_refused (parts.Down references.Second) u m i j r s v k rest near is led so reads =
-    let bm = block_at m i j in
-    let bu = block_at u i j in
-    let q = predicted vector_of (vector_at references.Second u) i j in
-    let t = told_is bu.ref2 (component_told q.y) v is in
-    let same : bm.ref2 ≡ bu.ref2 = ap (λ (b : Block). b.ref2) rest in
-    let told : component_told (predicted vector_of (vector_at references.Second m) i j).y ≡ v = ap (λ (w : Vector). component_told w.y) (vector_near references.Second m u i j near) ∙ t.1 in
-    subst (λ (w : Told). read_into bm.ref2 bm (with_down references.Second) (value_read w.range w.follow w.bits w.sign w.prediction) r ≡ Err (cause_of v k)) (sym told)
-    (into_refused bm.ref2 bm (with_down references.Second) v k r s (same ∙ t.0) led so reads)
-unit_refused (parts.Dc components.Y) u m i j r s v k rest near is led so reads =
-    let bm = block_at m i j in
-    let bu = block_at u i j in
-    let t = told_is (is_dc bu) (dc_told (predicted dc_of (dc_at components.Y u) i j)) v is in
-    let same : is_dc bm ≡ is_dc bu = ap (λ (b : Block). is_dc b) rest in
-    let told : dc_told (predicted dc_of (dc_at components.Y m) i j) ≡ v = ap (λ (w : ℤ). dc_told w) (dc_near components.Y m u i j near) ∙ t.1 in
-    subst (λ (w : Told). read_into (is_dc bm) bm (with_dc components.Y) (value_read w.range w.follow w.bits w.sign w.prediction) r ≡ Err (cause_of v k)) (sym told)
-    (into_refused (is_dc bm) bm (with_dc components.Y) v k r s (same ∙ t.0) led so reads)
-unit_refused (parts.Dc components.U) u m i j r s v k rest near is led so reads =
-    let bm = block_at m i j in
-    let bu = block_at u i j in
-    let t = told_is (is_dc bu) (dc_told (predicted dc_of (dc_at components.U u) i j)) v is in
-    let same : is_dc bm ≡ is_dc bu = ap (λ (b : Block). is_dc b) rest in
-    let told : dc_told (predicted dc_of (dc_at components.U m) i j) ≡ v = ap (λ (w : ℤ). dc_told w) (dc_near components.U m u i j near) ∙ t.1 in
-    subst (λ (w : Told). read_into (is_dc bm) bm (with_dc components.U) (value_read w.range w.follow w.bits w.sign w.prediction) r ≡ Err (cause_of v k)) (sym told)
-    (into_refused (is_dc bm) bm (with_dc components.U) v k r s (same ∙ t.0) led so reads)
-unit_refused (parts.Dc components.V) u m i j r s v k rest near is led so reads =
-    let bm = block_at m i j in
-    let bu = block_at u i j in
-    let t = told_is (is_dc bu) (dc_told (predicted dc_of (dc_at components.V u) i j)) v is in
-    let same : is_dc bm ≡ is_dc bu = ap (λ (b : Block). is_dc b) rest in
-    let told : dc_told (predicted dc_of (dc_at components.V m) i j) ≡ v = ap (λ (w : ℤ). dc_told w) (dc_near components.V m u i j near) ∙ t.1 in
-    subst (λ (w : Told). read_into (is_dc bm) bm (with_dc components.V) (value_read w.range w.follow w.bits w.sign w.prediction) r ≡ Err (cause_of v k)) (sym told)
-    (into_refused (is_dc bm) bm (with_dc components.V) v k r s (same ∙ t.0) led so reads)
+unit_refused (parts.Across c) u m i j r s v k rest near is led so reads = told_refused (parts.Across c) (across_tells c) u m i j r s v k rest near is led so reads
+unit_refused (parts.Down c) u m i j r s v k rest near is led so reads = told_refused (parts.Down c) (down_tells c) u m i j r s v k rest near is led so reads
+unit_refused (parts.Dc c) u m i j r s v k rest near is led so reads = told_refused (parts.Dc c) (dc_tells c) u m i j r s v k rest near is led so reads
 
 unit_step_refused : (part : Part) (u m : BlockTable) (size i j : ℕ) (r s : Reading) (v : Told) (k : Break) → with_part part (block_at m i j) (block_at u i j) ≡ block_at u i j → Near m u i j
     → value_told part u i j ≡ Some v → IsLed r → IsBreak v k → Reads r (broken_part v k) s → unit_step part size i j (progress m r) ≡ Err (cause_of v k)

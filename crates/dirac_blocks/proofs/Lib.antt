@@ -23,3 +23,4 @@ pub mod Spelled
 mod SplitsRefused
 pub mod Stages
 mod Units
+mod Valued
