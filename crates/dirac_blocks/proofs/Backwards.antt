@@ -19,8 +19,9 @@ use Rattle.dirac_blocks.specs.declared.parts.Part.{Part}
 use Rattle.dirac_blocks.specs.declared.parts.Part.TheVariants as parts
 use Rattle.dirac_blocks.specs.Carried.{with_part}
 use Rattle.dirac_blocks.specs.Decisions.{counted, differ, predicted, ref1_at, ref2_at, mode_part}
-use Rattle.dirac_blocks.specs.Grammar.{block_using, mode_read, second_use_read, is_short, value_from, read_into, unit_read}
+use Rattle.dirac_blocks.specs.Grammar.{Progress, block_using, mode_read, second_use_read, is_short, value_from, read_into, unit_read}
 use Rattle.dirac_blocks.specs.Parts.{part_at}
+use Rattle.dirac_blocks.specs.Reached.{progress}
 use Rattle.dirac_blocks.specs.Refused.{Told}
 use Rattle.dirac_blocks.specs.Tables.{BlockTable, IsBlock, IsBlockTable, block_at}
 use Rattle.dirac_blocks.proofs.Nearby.{Near, ref1_near, ref2_near, block_lawful, using_lawful}
@@ -47,6 +48,12 @@ same_answer x y e = ap (or_else x) e
     or_else : {A : Type 0} → A → Result A Cause → A
     or_else d (Ok x) = x
     or_else d (Err e) = d
+
+-- what holds of where steps led
+pub moved_to : (P : BlockTable → Reading → Type 0) {a b : BlockTable} {r s : Reading} → (let x : Result Progress Cause = Ok (progress a r) in x ≡ Ok (progress b s)) → P a r → P b s
+moved_to P {a = a} {b = b} {r = r} {s = s} e here =
+    let one = same_answer (progress a r) (progress b s) e in
+    subst (λ (x : Progress). P x.table x.reading) one here
 
 pub short_from : (v : ℤ) → is_short v ≡ true → IsShort v
 short_from v e = record { least = low v e; most = high v e }

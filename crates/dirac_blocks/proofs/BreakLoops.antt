@@ -12,10 +12,8 @@ use Rattle.dirac_arith.proofs.Carrieds.{IsLed, no_answer}
 use Rattle.dirac_arith.proofs.Led.{led_begin, reads_carried}
 use Rattle.dirac_arith.proofs.Spellings.{reads_more}
 use Rattle.dirac_blocks.specs.declared.block.Block.{Block}
-use Rattle.dirac_blocks.specs.declared.parts.Component.TheVariants as components
 use Rattle.dirac_blocks.specs.declared.parts.Part.{Part}
 use Rattle.dirac_blocks.specs.declared.parts.Part.TheVariants as parts
-use Rattle.dirac_blocks.specs.declared.parts.Reference.TheVariants as references
 use Rattle.dirac_blocks.specs.Carried.{with_part}
 use Rattle.dirac_blocks.specs.Decisions.{unit_row, unit_rows, superblock_row, superblock_rows}
 use Rattle.dirac_blocks.specs.Grammar.{Progress, Step, repeated, with_unit, unit_read, unit_step, unit_row_step, unit_rows_step, superblock_step}
@@ -29,6 +27,7 @@ use Rattle.dirac_blocks.proofs.Breaks.{stopped, unit_breaks}
 use Rattle.dirac_blocks.proofs.Fills.{split_few}
 use Rattle.dirac_blocks.proofs.ForwardLoops.{unit_of_superblock, units_fill}
 use Rattle.dirac_blocks.proofs.Repeating.{shape_join, shape_refl, split_same, unit_same}
+use Rattle.dirac_blocks.proofs.Valued.{across_value, down_value, dc_value, part_again}
 
 -- the step that was refused, behind those that weren't
 pub record StepBreaks (step : ℕ → Step) (n : ℕ) (x : Progress) (e : Cause) : Type 0 where
@@ -51,17 +50,7 @@ repeated_breaks step (suc n) x e is =
 
 -- parts that are told one after another
 with_twice : (part : Part) (a b c : Block) → with_part part a b ≡ b → with_part part b c ≡ c → with_part part a c ≡ c
-with_twice part a b c p q = sym (absorbs part a b c) ∙ ap (λ (x : Block). with_part part x c) p ∙ q
-  where
-    absorbs : (part : Part) (a b c : Block) → with_part part (with_part part a b) c ≡ with_part part a c
-    absorbs parts.Modes a b c = refl
-    absorbs (parts.Across references.First) a b c = refl
-    absorbs (parts.Across references.Second) a b c = refl
-    absorbs (parts.Down references.First) a b c = refl
-    absorbs (parts.Down references.Second) a b c = refl
-    absorbs (parts.Dc components.Y) a b c = refl
-    absorbs (parts.Dc components.U) a b c = refl
-    absorbs (parts.Dc components.V) a b c = refl
+with_twice part a b c p q = sym (part_again part a b c) ∙ ap (λ (x : Block). with_part part x c) p ∙ q
 
 -- a list that tells values tells nothing of a block that stays
 stays : (part : Part) (t : BlockTable) (i j : ℕ) (v : Told) → value_told part t i j ≡ Some v → (b : Block) → with_part part b b ≡ b
@@ -69,13 +58,9 @@ stays parts.Modes t i j v is b = absurd (none is)
   where
     none : {v : Told} → (let o : Option Told = None in o ≡ Some v) → ⊥
     none e = cc
-stays (parts.Across references.First) t i j v is b = refl
-stays (parts.Across references.Second) t i j v is b = refl
-stays (parts.Down references.First) t i j v is b = refl
-stays (parts.Down references.Second) t i j v is b = refl
-stays (parts.Dc components.Y) t i j v is b = refl
-stays (parts.Dc components.U) t i j v is b = refl
-stays (parts.Dc components.V) t i j v is b = refl
+stays (parts.Across k) t i j v is b = let own = across_value k in own.with_is b b ∙ own.own b
+stays (parts.Down k) t i j v is b = let own = down_value k in own.with_is b b ∙ own.own b
+stays (parts.Dc c) t i j v is b = let own = dc_value c in own.with_is b b ∙ own.own b
 
 -- what came of a table differs from it in this part alone
 rest_of : (part : Part) (m t : BlockTable) (r s : Reading) (left right top bottom : ℕ) (decisions : BlockTable → List Decision) → Came part m r t s left right top bottom decisions

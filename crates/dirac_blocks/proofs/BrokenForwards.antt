@@ -1,7 +1,7 @@
 -- A list whose block breaks off at some unit is refused there.
-use Rattle.std.proofs.Common.{◌≡◌, ℕ, ℤ, ◌+◌, ◌*◌, ◌^◌, ◌<◌, ◌≤◌, ◌+ℤ◌, inl, inr, Bool, true, false, List, ◌++◌, Option, Some, None, Result, Ok, Err, refl, sym, ap, ◌∙◌, arith, subst, append_assoc}
+use Rattle.std.proofs.Common.{◌≡◌, ℕ, ℤ, ◌+◌, ◌*◌, ◌^◌, ◌<◌, ◌≤◌, ◌+ℤ◌, Bool, true, false, List, ◌++◌, Option, Some, None, Result, Ok, Err, refl, sym, ap, ◌∙◌, arith, subst, append_assoc}
 use Rattle.std.specs.Prelude.{if◌then◌else◌}
-use Rattle.std.proofs.lemmas.Bool.{cases_lt, both_ways}
+use Rattle.std.proofs.lemmas.Bool.{both_ways}
 use Rattle.std.proofs.lemmas.Nat.{mul-le}
 use Rattle.dirac_types.specs.declared.faults.Cause.{Cause}
 use Rattle.dirac_types.specs.Chain.{◌>>=◌}
@@ -23,6 +23,7 @@ use Rattle.dirac_blocks.specs.Refused.{Told, value_told, Break, long, beyond, Is
 use Rattle.dirac_blocks.specs.Tables.{BlockTable, IsBlockTable, block_at, split_at, unit_size}
 use Rattle.dirac_blocks.proofs.Fills.{split_few}
 use Rattle.dirac_blocks.proofs.ForwardLoops.{Toward, row_goes, rows_go, superblocks_go, superblock_rows_go, shape_back, unit_of_superblock, units_fill}
+use Rattle.dirac_blocks.proofs.Going.{kept, grown, none_left, none_above}
 use Rattle.dirac_blocks.proofs.Nearby.{Near, SameWithin, near_within}
 use Rattle.dirac_blocks.proofs.Repeating.{repeated_stops, split_same}
 use Rattle.dirac_blocks.proofs.Units.{size_some}
@@ -91,17 +92,8 @@ row_refused part u m size i j count n r s v k inv toward units fits some few hy 
     let parted = reads_parted r s (unit_row (part_at part u) size i j n) (broken_part v k) led reads in
     let g = row_goes part u m size i j count n r parted.mid inv toward units fits some (omega arith) before over led parted.first in
     let place : (n + 1) * size ≤ count * size = mul-le (n + 1) size count size (omega arith) (omega arith) in
-    let near_left : SameWithin g.table u (i + n * size) (j + 1) = record {
-      each = λ x y p q.
-          elim (cases_lt x i) [
-            | inl l ↦ g.keeps x y (omega arith) (before.each x y l (omega arith))
-            | inr l ↦ elim (cases_lt y j) [
-              | inl o ↦ g.keeps x y (omega arith) (over.each x y (omega arith) o)
-              | inr o ↦ g.inside x y l p o (omega arith)
-            ]
-          ];
-    } in
-    let near_over : SameWithin g.table u (i + n * size + 1) j = record { each = λ x y p q. g.keeps x y (omega arith) (over.each x y (omega arith) q) } in
+    let near_left = grown (j + 1) (omega arith) (omega arith) (omega arith) (omega arith) g before over in
+    let near_over = kept (i + n * size + 1) j (omega arith) (omega arith) (omega arith) g over in
     let led' = led_more r parted.mid (unit_row (part_at part u) size i j n) led parted.first in
     let refused = unit_step_refused part u g.table size (i + n * size) j parted.mid s v k (g.toward.rest (i + n * size) j (omega arith) hy)
     (near_within g.table u (i + n * size) j near_left near_over) is led' so parted.then in
@@ -121,17 +113,8 @@ rows_refused part u m size across i j count n a r s v k inv toward units fits so
     let parted = reads_parted r s d (e ++ broken_part v k) led joined in
     let g = rows_go part u m size across i j count n r parted.mid inv toward units fits some (omega arith) before over led parted.first in
     let place : (n + 1) * size ≤ count * size = mul-le (n + 1) size count size (omega arith) (omega arith) in
-    let near_left : SameWithin g.table u i (j + n * size + size) = record { each = λ x y p q. g.keeps x y (omega arith) (before.each x y p (omega arith)) } in
-    let near_over : SameWithin g.table u (i + across * size) (j + n * size) = record {
-      each = λ x y p q.
-          elim (cases_lt x i) [
-            | inl l ↦ g.keeps x y (omega arith) (before.each x y l (omega arith))
-            | inr l ↦ elim (cases_lt y j) [
-              | inl o ↦ g.keeps x y (omega arith) (over.each x y p o)
-              | inr o ↦ g.inside x y l p o q
-            ]
-          ];
-    } in
+    let near_left = kept i (j + n * size + size) (omega arith) (omega arith) (omega arith) g before in
+    let near_over = grown (j + n * size) (omega arith) (omega arith) (omega arith) (omega arith) g before over in
     let led' = led_more r parted.mid d led parted.first in
     let refused = row_refused part u g.table size i (j + n * size) across a parted.mid s v k inv g.toward (λ b l. units b n l few) fits some hx (omega arith) near_left near_over is led' so parted.then in
     repeated_stops (λ b. unit_row_step part size i (j + b * size) across) n count (progress m r) (progress g.table parted.mid) (cause_of v k) few g.is refused
@@ -171,14 +154,8 @@ superblocks_refused part u m sx sy n a r s v k inv toward hx hy few some over is
     let joined : Reads r (d ++ (e ++ broken_part v k)) s = subst (λ (ds : List Decision). Reads r ds s) (append_assoc d e (broken_part v k)) reads in
     let parted = reads_parted r s d (e ++ broken_part v k) led joined in
     let g = superblocks_go part u m sy sx r parted.mid inv toward (omega arith) hy over led parted.first in
-    let near_left : SameWithin g.table u (4 * sx) (4 * sy + 4) = record {
-      each = λ x y p q.
-          elim (cases_lt y (4 * sy)) [
-            | inl o ↦ g.keeps x y (omega arith) (over.each x y (omega arith) o)
-            | inr o ↦ g.inside x y (omega arith) p o q
-          ];
-    } in
-    let near_over : SameWithin g.table u (4 * sx + 4) (4 * sy) = record { each = λ x y p q. g.keeps x y (omega arith) (over.each x y (omega arith) q) } in
+    let near_left = grown (4 * sy + 4) (omega arith) (omega arith) (omega arith) (omega arith) g (none_left (4 * sy + 4)) over in
+    let near_over = kept (4 * sx + 4) (4 * sy) (omega arith) (omega arith) (omega arith) g over in
     let led' = led_more r parted.mid d led parted.first in
     let refused = superblock_refused part u g.table sx sy n a parted.mid s v k inv g.toward hx hy few some near_left near_over is led' so parted.then in
     repeated_stops (superblock_step part sy) sx u.across (progress m r) (progress g.table parted.mid) (cause_of v k) hx g.is refused
@@ -197,7 +174,7 @@ list_refused part u m sx sy n a r s v k inv toward hx hy few some is led so read
     let joined : Reads r (d ++ (e ++ broken_part v k)) s = subst (λ (ds : List Decision). Reads r ds s) (append_assoc d e (broken_part v k)) reads in
     let parted = reads_parted r s d (e ++ broken_part v k) led joined in
     let g = superblock_rows_go part u m sy r parted.mid inv toward (omega arith) led parted.first in
-    let near_over : SameWithin g.table u (4 * u.across) (4 * sy) = record { each = λ x y p q. g.inside x y (omega arith) p (omega arith) q } in
+    let near_over = grown (4 * sy) (omega arith) (omega arith) (omega arith) (omega arith) g (none_left (4 * sy)) (none_above (4 * u.across)) in
     let led' = led_more r parted.mid d led parted.first in
     let refused = superblocks_refused part u g.table sx sy n a parted.mid s v k inv g.toward hx hy few some near_over is led' so parted.then in
     repeated_stops (λ y. repeated (superblock_step part y) u.across) sy u.down (progress m r) (progress g.table parted.mid) (cause_of v k) hy g.is refused

@@ -1,5 +1,5 @@
 -- Predictions read neighbours alone.
-use Rattle.std.proofs.Common.{◌≡◌, ℕ, ℤ, ◌+◌, ◌-◌, ◌*◌, ◌<◌, inl, inr, refl, sym, ap, arith, subst, length, Option, Some, None, Bool, true, false}
+use Rattle.std.proofs.Common.{◌≡◌, ℕ, ℤ, ◌+◌, ◌-◌, ◌*◌, inl, inr, refl, sym, ap, arith, subst, length, Option, Some, None, Bool, true, false}
 use Rattle.std.specs.Prelude.{option_map}
 use Rattle.std.proofs.lemmas.Bool.{cases_eq, cases_lt, eq-eqb, ne_eqb}
 use Rattle.std.proofs.lemmas.List.{get_or_past}
@@ -18,6 +18,7 @@ use Rattle.dirac_blocks.specs.Decisions.{left_of, above_of, corner_of, predicted
 use Rattle.dirac_blocks.specs.Grammar.{block_using, is_dc}
 use Rattle.dirac_blocks.specs.Parts.{vector_at, dc_at}
 use Rattle.dirac_blocks.specs.Tables.{BlockTable, IsBlock, IsBlockTable, block_at, grey}
+use Rattle.dirac_blocks.proofs.Going.{Same}
 
 -- what two tables have in common left, above and above and left of a place
 pub record Near (t u : BlockTable) (i j : ℕ) : Type 0 where
@@ -26,8 +27,8 @@ pub record Near (t u : BlockTable) (i j : ℕ) : Type 0 where
   pub corner : (i ≡ 0 → ⊥) → (j ≡ 0 → ⊥) → block_at t (i - 1) (j - 1) ≡ block_at u (i - 1) (j - 1)
 
 -- the same blocks left of column `right` and above row `bottom`
-pub record SameWithin (t u : BlockTable) (right bottom : ℕ) : Type 0 where
-  pub each : (x y : ℕ) → x < right → y < bottom → block_at t x y ≡ block_at u x y
+abbrev pub SameWithin : BlockTable → BlockTable → ℕ → ℕ → Type 0
+SameWithin t u right bottom = Same block_at t u right bottom
 
 pub near_within : (t u : BlockTable) (i j : ℕ) → SameWithin t u i (j + 1) → SameWithin t u (i + 1) j → Near t u i j
 near_within t u i j before over =

@@ -15,7 +15,7 @@ use Rattle.dirac_blocks.specs.Grammar.{Progress, Step, repeated, with_split, spl
 use Rattle.dirac_blocks.specs.Laws.{ReadSplitsAreCarried}
 use Rattle.dirac_blocks.specs.Reached.{AllGrey, SameBlocks, progress}
 use Rattle.dirac_blocks.specs.Tables.{BlockTable, IsBlockTable, split_at}
-use Rattle.dirac_blocks.proofs.Backwards.{passed, same_answer}
+use Rattle.dirac_blocks.proofs.Backwards.{passed, moved_to}
 use Rattle.dirac_blocks.proofs.Fills.{split_lawful}
 use Rattle.dirac_blocks.proofs.Putting.{split_inside}
 use Rattle.dirac_blocks.proofs.Repeating.{blocks_join, blocks_refl}
@@ -63,9 +63,6 @@ pub row_came : (m t : BlockTable) (sy n : ℕ) (r s : Reading) → IsBlockTable 
     → repeated (split_step sy) n (progress m r) ≡ Ok (progress t s) → RowCame m r t s sy n
 unfolding split_row repeated split_step
 row_came m t sy zero r s inv grey few hy led e =
-    let one = same_answer (progress m r) (progress t s) e in
-    let table : m ≡ t = ap (λ x. x.table) one in
-    let place : r ≡ s = ap (λ x. x.reading) one in
     let here : RowCame m r m r sy 0 = record {
       lawful = inv;
       rest = blocks_refl m;
@@ -76,7 +73,7 @@ row_came m t sy zero r s inv grey few hy led e =
       are = λ u w k l. absurd (omega arith);
       reads = reads_nothing r;
     } in
-    subst (λ (x : BlockTable). RowCame m r x s sy 0) table (subst (λ (x : Reading). RowCame m r m x sy 0) place here)
+    moved_to (λ (x : BlockTable) (y : Reading). RowCame m r x y sy 0) e here
 row_came m t sy (suc n) r s inv grey few hy led e =
     let q = passed (repeated (split_step sy) n (progress m r)) (split_step sy n) (progress t s) e in
     let mid = q.value.table in
@@ -89,9 +86,6 @@ row_came m t sy (suc n) r s inv grey few hy led e =
     let number = last.value.0 in
     let v = (number + predicted_split mid n sy) % 3 in
     let new = with_split mid n sy v in
-    let one = same_answer (progress new last.value.1) (progress t s) last.next in
-    let table : new ≡ t = ap (λ x. x.table) one in
-    let place : last.value.1 ≡ s = ap (λ x. x.reading) one in
     let leads = number_leads q.value.reading last.value.1 (22 ∷ 23 ∷ []) 24 number g.led last.first in
     let numbers = with_value g.numbers n number in
     let row = split_row (λ y. numbers) sy n in
@@ -128,7 +122,7 @@ row_came m t sy (suc n) r s inv grey few hy led e =
           (ap₂ (λ (a b : List Decision). a ++ b) same_row same_last)
           (reads_more r q.value.reading last.value.1 (split_row (λ y. g.numbers) sy n) (spelling (22 ∷ 23 ∷ []) 24 number) g.reads leads.1);
     } in
-    subst (λ (x : BlockTable). RowCame m r x s sy (suc n)) table (subst (λ (x : Reading). RowCame m r new x sy (suc n)) place here)
+    moved_to (λ (x : BlockTable) (y : Reading). RowCame m r x y sy (suc n)) last.next here
   where
     never : (sy n x y : ℕ) → IsBeside sy (suc n) x y → x ≡ n → y ≡ sy → ⊥
     never sy n x y (inl l) a b = omega arith
@@ -153,9 +147,6 @@ pub rows_came : (m t : BlockTable) (n : ℕ) (r s : Reading) → IsBlockTable m 
     → repeated (λ sy. repeated (split_step sy) m.across) n (progress m r) ≡ Ok (progress t s) → RowsCame m r t s n
 unfolding split_rows repeated
 rows_came m t zero r s inv grey few led e =
-    let one = same_answer (progress m r) (progress t s) e in
-    let table : m ≡ t = ap (λ x. x.table) one in
-    let place : r ≡ s = ap (λ x. x.reading) one in
     let here : RowsCame m r m r 0 = record {
       lawful = inv;
       rest = blocks_refl m;
@@ -165,7 +156,7 @@ rows_came m t zero r s inv grey few led e =
       are = λ u w x y p l. absurd (omega arith);
       reads = reads_nothing r;
     } in
-    subst (λ (x : BlockTable). RowsCame m r x s 0) table (subst (λ (x : Reading). RowsCame m r m x 0) place here)
+    moved_to (λ (x : BlockTable) (y : Reading). RowsCame m r x y 0) e here
 rows_came m t (suc n) r s inv grey few led e =
     let step : ℕ → Step = λ sy. repeated (split_step sy) m.across in
     let q = passed (repeated step n (progress m r)) (step n) (progress t s) e in

@@ -17,10 +17,11 @@ use Rattle.dirac_blocks.specs.Laws.{BrokenSplitsAreRefused}
 use Rattle.dirac_blocks.specs.Reached.{progress}
 use Rattle.dirac_blocks.specs.Refused.{CarriesSplitBreak}
 use Rattle.dirac_blocks.specs.Tables.{BlockTable, split_at}
+use Rattle.dirac_blocks.proofs.Going.{grown, none_left, none_above}
 use Rattle.dirac_blocks.proofs.Repeating.{repeated_stops}
 use Rattle.dirac_blocks.proofs.Spelled.{least_sum, predicted_few, splits_few}
 use Rattle.dirac_blocks.proofs.SplitBackwards.{split_row_same, split_rows_same}
-use Rattle.dirac_blocks.proofs.SplitForwards.{SameSplits, SplitsToward, AreNumbers, splits_go, split_rows_go}
+use Rattle.dirac_blocks.proofs.SplitForwards.{SplitsToward, AreNumbers, splits_go, split_rows_go}
 
 -- the numbers that were read, and the least ones from there on
 abbrev filled_up : BlockTable → Numbers → ℕ → ℕ → Numbers
@@ -91,7 +92,7 @@ splits_refused t m numbers sy sx r s digits toward all hx hy led long reads =
     let g = split_rows_go t m numbers sy r one.mid toward all (omega arith) led one.first in
     let led1 = led_more r one.mid d led one.first in
     let two = reads_parted one.mid s e far led1 one.then in
-    let over : SameSplits g.table t t.across sy = record { each = λ x y p q. g.inside x y (omega arith) p (omega arith) q } in
+    let over = grown sy (omega arith) (omega arith) (omega arith) (omega arith) g (none_left sy) (none_above t.across) in
     let h = splits_go t g.table numbers sy sx one.mid two.mid g.toward all (omega arith) hy over led1 two.first in
     let led2 = led_more one.mid two.mid e led1 two.first in
     let last = split_refused sy sx h.table two.mid s digits led2 long two.then in

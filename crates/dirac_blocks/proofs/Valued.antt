@@ -149,3 +149,14 @@ dc_tells c =
       near = λ m u i j n. ap (λ (p : ℤ). dc_told p) (dc_near c m u i j n);
       short = λ u i j inv. dc_short c u i j inv;
     }
+
+-- a part that is told twice is as told last
+pub part_again : (part : Part) (a b c : Block) → with_part part (with_part part a b) c ≡ with_part part a c
+part_again parts.Modes a b c = refl
+part_again (parts.Across references.First) a b c = refl
+part_again (parts.Across references.Second) a b c = refl
+part_again (parts.Down references.First) a b c = refl
+part_again (parts.Down references.Second) a b c = refl
+part_again (parts.Dc components.Y) a b c = refl
+part_again (parts.Dc components.U) a b c = refl
+part_again (parts.Dc components.V) a b c = refl
