@@ -18,7 +18,7 @@ use Rattle.dirac_blocks.specs.declared.block.Block.{Block}
 use Rattle.dirac_blocks.specs.declared.parts.Part.{Part}
 use Rattle.dirac_blocks.specs.declared.parts.Part.TheVariants as parts
 use Rattle.dirac_blocks.specs.Carried.{with_part}
-use Rattle.dirac_blocks.specs.Decisions.{counted, differ, predicted, ref1_at, ref2_at, mode_part}
+use Rattle.dirac_blocks.specs.Decisions.{counted, differ, predicted, ref1_at, ref2_at}
 use Rattle.dirac_blocks.specs.Grammar.{Progress, block_using, mode_read, second_use_read, is_short, value_from, read_into, unit_read}
 use Rattle.dirac_blocks.specs.Parts.{part_at}
 use Rattle.dirac_blocks.specs.Reached.{progress}
@@ -26,7 +26,7 @@ use Rattle.dirac_blocks.specs.Refused.{Told}
 use Rattle.dirac_blocks.specs.Tables.{BlockTable, IsBlock, IsBlockTable, block_at}
 use Rattle.dirac_blocks.proofs.Nearby.{Near, ref1_near, ref2_near, block_lawful, using_lawful}
 use Rattle.dirac_blocks.proofs.Valued.{Tells, told_read, telling, has_same, across_tells, down_tells, dc_tells}
-use Rattle.dirac_blocks.proofs.Forwards.{differ_twice}
+use Rattle.dirac_blocks.proofs.Forwards.{differ_twice, second_part}
 
 -- steps that led to an answer
 pub record Passed {A B E : Type 0} (x : Result A E) (g : A → Result B E) (y : B) : Type 0 where
@@ -135,96 +135,64 @@ pub record UnitCame (part : Part) (m : BlockTable) (i j : ℕ) (b : Block) (r s 
   pub is : with_part part (block_at m i j) b ≡ b
   pub reads : (u : BlockTable) → u.refs ≡ m.refs → Near m u i j → block_at u i j ≡ b → Reads r (part_at part u i j) s
 
--- the second bit, where there are two references and where there is one
-second_two : (m : BlockTable) (i j : ℕ) (mid : Reading) (y : Bool × Reading) → m.refs ≡ 2 → second_use_read m i j mid ≡ Ok y
-    → (decided 26 mid >>= (λ bit. let x : Result (Bool × Reading) Cause = Ok (differ bit.0 (predicted mode_of (ref2_at m) i j), bit.1) in x)) ≡ Ok y
-second_two m i j mid y two e =
-    let P : Bool → Type 0 = λ t. (if t then (decided 26 mid >>= (λ bit. let x : Result (Bool × Reading) Cause = Ok (differ bit.0 (predicted mode_of (ref2_at m) i j), bit.1) in x)) else Ok (false, mid)) ≡ Ok y in
-    subst P (eq-eqb m.refs 2 two) e
+-- whether a unit uses reference 2, as it was read
+record SecondCame (m : BlockTable) (i j : ℕ) (b : Bool) (r s : Reading) : Type 0 where
+  single : m.refs ≡ 1 → b ≡ false
+  reads : (u : BlockTable) → u.refs ≡ m.refs → Near m u i j → (block_at u i j).ref2 ≡ b → Reads r (second_part u i j) s
 
-second_one : (m : BlockTable) (i j : ℕ) (mid : Reading) (k : Bool × Reading → Result (Block × Reading) Cause) (y : Block × Reading) → (m.refs ≡ 2 → ⊥)
-    → (second_use_read m i j mid >>= k) ≡ Ok y → k (false, mid) ≡ Ok y
-second_one m i j mid k y not e =
-    let P : Bool → Type 0 = λ t. ((if t then (decided 26 mid >>= (λ bit. let x : Result (Bool × Reading) Cause = Ok (differ bit.0 (predicted mode_of (ref2_at m) i j), bit.1) in x)) else Ok (false, mid)) >>= k) ≡ Ok y in
-    subst P (ne_eqb m.refs 2 not) e
+second_came : (m : BlockTable) (i j : ℕ) (b : Bool) (r s : Reading) → IsLed r → second_use_read m i j r ≡ Ok (b, s) → SecondCame m i j b r s
+second_came m i j b r s led e =
+    let p = predicted mode_of (ref2_at m) i j in
+    let k : Bool × Reading → Result (Bool × Reading) Cause = λ bit. Ok (differ bit.0 p, bit.1) in
+    let P : Bool → Type 0 = λ t. (if t then (decided 26 r >>= k) else Ok (false, r)) ≡ Ok (b, s) in
+    let Q : BlockTable → Bool → Bool → Type 0 = λ u t g. let d : Decision = (26, g) in Reads r (if t then d ∷ [] else []) s in
+    elim (cases_eq m.refs 2) [
+      | inl two ↦
+          let q = passed (decided 26 r) k (b, s) (subst P (eq-eqb m.refs 2 two) e) in
+          let g = q.value.0 in
+          let d : Decision = (26, g) in
+          let one = same_answer (differ g p, q.value.1) (b, s) q.next in
+          let reads : Reads r (d ∷ []) s = subst (Reads r (d ∷ [])) (ap (λ x. x.1) one) (decision_leads r q.value.1 26 g led q.first) in
+          record {
+            single = λ one. absurd (omega arith);
+            reads = λ u refs near here.
+                let bit : differ (block_at u i j).ref2 (predicted mode_of (ref2_at u) i j) ≡ g =
+                ap₂ differ (here ∙ sym (ap (λ x. x.0) one)) (sym (ref2_near m u i j near)) ∙ differ_twice g p in
+                subst (λ (t : Bool). Q u t (differ (block_at u i j).ref2 (predicted mode_of (ref2_at u) i j))) (sym (eq-eqb u.refs 2 (refs ∙ two))) (subst (Q u true) (sym bit) reads);
+          }
+      | inr not ↦
+          let one = same_answer (false, r) (b, s) (subst P (ne_eqb m.refs 2 not) e) in
+          record {
+            single = λ e. sym (ap (λ x. x.0) one);
+            reads = λ u refs near here.
+                subst (λ (t : Bool). Q u t (differ (block_at u i j).ref2 (predicted mode_of (ref2_at u) i j))) (sym (ne_eqb u.refs 2 (λ two. not (sym refs ∙ two)))) (subst (Reads r []) (ap (λ x. x.1) one) (reads_nothing r));
+          }
+    ]
 
 -- the bits of a unit
-modes_two_came : (m : BlockTable) (i j : ℕ) (b : Block) (r s : Reading) → IsLed r → m.refs ≡ 2 → mode_read m i j r ≡ Ok (b, s) → UnitCame parts.Modes m i j b r s
-modes_two_came m i j b r s led two e =
-    let pa = predicted mode_of (ref1_at m) i j in
-    let pb = predicted mode_of (ref2_at m) i j in
-    let after = λ (first : Bool × Reading). second_use_read m i j first.1 >>= (λ second. let x : Result (Block × Reading) Cause = Ok (block_using (differ first.0 pa) second.0, second.1) in x) in
-    let q = passed (decided 25 r) after (b, s) e in
+modes_came : (m : BlockTable) (i j : ℕ) (b : Block) (r s : Reading) → IsLed r → mode_read m i j r ≡ Ok (b, s) → UnitCame parts.Modes m i j b r s
+modes_came m i j b r s led e =
+    let p = predicted mode_of (ref1_at m) i j in
+    let k : Bool × Reading → Bool × Reading → Result (Block × Reading) Cause = λ first second. Ok (block_using (differ first.0 p) second.0, second.1) in
+    let q = passed (decided 25 r) (λ first. second_use_read m i j first.1 >>= k first) (b, s) e in
     let f = q.value.0 in
     let mid = q.value.1 in
-    let e2 = passed (second_use_read m i j mid) (λ second. let x : Result (Block × Reading) Cause = Ok (block_using (differ f pa) second.0, second.1) in x) (b, s) q.next in
-    let second = second_two m i j mid e2.value two e2.first in
-    let q3 = passed (decided 26 mid) (λ bit. let x : Result (Bool × Reading) Cause = Ok (differ bit.0 pb, bit.1) in x) e2.value second in
-    let g = q3.value.0 in
-    let last = q3.value.1 in
+    let t = passed (second_use_read m i j mid) (k q.value) (b, s) q.next in
+    let end = same_answer (block_using (differ f p) t.value.0, t.value.1) (b, s) t.next in
     let d : Decision = (25, f) in
-    let d' : Decision = (26, g) in
-    let one = same_answer (differ g pb, last) e2.value q3.next in
-    let end = same_answer (block_using (differ f pa) e2.value.0, e2.value.1) (b, s) e2.next in
-    let block : b ≡ block_using (differ f pa) (differ g pb) = sym (ap (λ x. x.0) end) ∙ ap (λ (t : Bool). block_using (differ f pa) t) (sym (ap (λ x. x.0) one)) in
-    let place : last ≡ s = ap (λ x. x.1) one ∙ ap (λ x. x.1) end in
-    let first_reads : Reads r (d ∷ []) mid = decision_leads r mid 25 f led q.first in
-    let second_reads : Reads mid (d' ∷ []) last = decision_leads mid last 26 g (led_more r mid (d ∷ []) led first_reads) q3.first in
-    let both : Reads r (d ∷ d' ∷ []) s = subst (λ (x : Reading). Reads r (d ∷ d' ∷ []) x) place (reads_more r mid last (d ∷ []) (d' ∷ []) first_reads second_reads) in
+    let first : Reads r (d ∷ []) mid = decision_leads r mid 25 f led q.first in
+    let second = second_came m i j t.value.0 mid t.value.1 (led_more r mid (d ∷ []) led first) t.first in
+    let block : b ≡ block_using (differ f p) t.value.0 = sym (ap (λ x. x.0) end) in
     record {
-      lawful = subst (IsBlock m.refs) (sym block) (using_lawful m.refs (differ f pa) (differ g pb) (λ one. absurd (omega arith)));
+      lawful = subst (IsBlock m.refs) (sym block) (using_lawful m.refs (differ f p) t.value.0 second.single);
       is = subst (λ (c : Block). with_part parts.Modes (block_at m i j) c ≡ c) (sym block) refl;
       reads = λ u refs near here.
-          let at : block_at u i j ≡ block_using (differ f pa) (differ g pb) = here ∙ block in
-          let a_is : differ (block_at u i j).ref1 (predicted mode_of (ref1_at u) i j) ≡ f =
-          ap (λ (c : Block). differ c.ref1 (predicted mode_of (ref1_at u) i j)) at ∙ ap (λ (t : Bool). differ (differ f pa) t) (sym (ref1_near m u i j near)) ∙ differ_twice f pa in
-          let b_is : differ (block_at u i j).ref2 (predicted mode_of (ref2_at u) i j) ≡ g =
-          ap (λ (c : Block). differ c.ref2 (predicted mode_of (ref2_at u) i j)) at ∙ ap (λ (t : Bool). differ (differ g pb) t) (sym (ref2_near m u i j near)) ∙ differ_twice g pb in
-          two_modes u i j f g r s (refs ∙ two) a_is b_is both;
+          let bit : differ (block_at u i j).ref1 (predicted mode_of (ref1_at u) i j) ≡ f =
+          ap₂ differ (ap (λ (c : Block). c.ref1) (here ∙ block)) (sym (ref1_near m u i j near)) ∙ differ_twice f p in
+          let rest = second.reads u refs near (ap (λ (c : Block). c.ref2) (here ∙ block)) in
+          subst (λ (g : Bool). let d : Decision = (25, g) in Reads r (d ∷ second_part u i j) s) (sym bit)
+          (subst (Reads r (d ∷ second_part u i j)) (ap (λ x. x.1) end) (reads_more r mid t.value.1 (d ∷ []) (second_part u i j) first rest));
     }
-  where
-    two_modes : (u : BlockTable) (i j : ℕ) (f g : Bool) (r s : Reading) → u.refs ≡ 2 → differ (block_at u i j).ref1 (predicted mode_of (ref1_at u) i j) ≡ f
-        → differ (block_at u i j).ref2 (predicted mode_of (ref2_at u) i j) ≡ g → (let d : Decision = (25, f) in let e : Decision = (26, g) in Reads r (d ∷ e ∷ []) s) → Reads r (mode_part u i j) s
-    two_modes u i j f g r s two a b reads =
-        let x = differ (block_at u i j).ref1 (predicted mode_of (ref1_at u) i j) in
-        let y = differ (block_at u i j).ref2 (predicted mode_of (ref2_at u) i j) in
-        let d : Decision = (25, x) in
-        let e : Decision = (26, y) in
-        let P : Bool → Type 0 = λ t. Reads r (d ∷ (if t then e ∷ [] else [])) s in
-        let Q : Bool → Bool → Type 0 = λ t w. let d : Decision = (25, t) in let e : Decision = (26, w) in Reads r (d ∷ e ∷ []) s in
-        subst P (sym (eq-eqb u.refs 2 two)) (subst (λ (t : Bool). Q t y) (sym a) (subst (λ (w : Bool). Q f w) (sym b) reads))
-
-modes_one_came : (m : BlockTable) (i j : ℕ) (b : Block) (r s : Reading) → IsLed r → (m.refs ≡ 2 → ⊥) → mode_read m i j r ≡ Ok (b, s) → UnitCame parts.Modes m i j b r s
-modes_one_came m i j b r s led not e =
-    let pa = predicted mode_of (ref1_at m) i j in
-    let after = λ (first : Bool × Reading). second_use_read m i j first.1 >>= (λ second. let x : Result (Block × Reading) Cause = Ok (block_using (differ first.0 pa) second.0, second.1) in x) in
-    let q = passed (decided 25 r) after (b, s) e in
-    let f = q.value.0 in
-    let mid = q.value.1 in
-    let end' = second_one m i j mid (λ second. let x : Result (Block × Reading) Cause = Ok (block_using (differ f pa) second.0, second.1) in x) (b, s) not q.next in
-    let end = same_answer (block_using (differ f pa) false, mid) (b, s) end' in
-    let d : Decision = (25, f) in
-    let block : b ≡ block_using (differ f pa) false = sym (ap (λ x. x.0) end) in
-    let one : Reads r (d ∷ []) s = subst (λ (x : Reading). Reads r (d ∷ []) x) (ap (λ x. x.1) end) (decision_leads r mid 25 f led q.first) in
-    record {
-      lawful = subst (IsBlock m.refs) (sym block) (using_lawful m.refs (differ f pa) false (λ t. refl));
-      is = subst (λ (c : Block). with_part parts.Modes (block_at m i j) c ≡ c) (sym block) refl;
-      reads = λ u refs near here.
-          let at : block_at u i j ≡ block_using (differ f pa) false = here ∙ block in
-          let a_is : differ (block_at u i j).ref1 (predicted mode_of (ref1_at u) i j) ≡ f =
-          ap (λ (c : Block). differ c.ref1 (predicted mode_of (ref1_at u) i j)) at ∙ ap (λ (t : Bool). differ (differ f pa) t) (sym (ref1_near m u i j near)) ∙ differ_twice f pa in
-          one_mode u i j f r s (λ two. not (sym refs ∙ two)) a_is one;
-    }
-  where
-    one_mode : (u : BlockTable) (i j : ℕ) (f : Bool) (r s : Reading) → (u.refs ≡ 2 → ⊥) → differ (block_at u i j).ref1 (predicted mode_of (ref1_at u) i j) ≡ f
-        → (let d : Decision = (25, f) in Reads r (d ∷ []) s) → Reads r (mode_part u i j) s
-    one_mode u i j f r s not a reads =
-        let x = differ (block_at u i j).ref1 (predicted mode_of (ref1_at u) i j) in
-        let d : Decision = (25, x) in
-        let e : Decision = (26, differ (block_at u i j).ref2 (predicted mode_of (ref2_at u) i j)) in
-        let P : Bool → Type 0 = λ t. Reads r (d ∷ (if t then e ∷ [] else [])) s in
-        let Q : Bool → Type 0 = λ t. let d : Decision = (25, t) in Reads r (d ∷ []) s in
-        subst P (sym (ne_eqb u.refs 2 not)) (subst Q (sym a) reads)
 
 -- a value of a unit
 told_came : (part : Part) (k : Tells part) (m : BlockTable) (i j : ℕ) (b : Block) (r s : Reading) → IsBlockTable m → IsLed r → unit_read part m i j r ≡ Ok (b, s) → UnitCame part m i j b r s
@@ -244,11 +212,7 @@ told_came part k m i j b r s inv led e =
 
 -- what is read of a unit is carried
 pub unit_came : (part : Part) (m : BlockTable) (i j : ℕ) (b : Block) (r s : Reading) → IsBlockTable m → IsLed r → unit_read part m i j r ≡ Ok (b, s) → UnitCame part m i j b r s
-unit_came parts.Modes m i j b r s inv led e =
-    elim (cases_eq m.refs 2) [
-      | inl two ↦ modes_two_came m i j b r s led two e
-      | inr not ↦ modes_one_came m i j b r s led not e
-    ]
+unit_came parts.Modes m i j b r s inv led e = modes_came m i j b r s led e
 unit_came (parts.Across k) m i j b r s inv led e = told_came (parts.Across k) (across_tells k) m i j b r s inv led e
 unit_came (parts.Down k) m i j b r s inv led e = told_came (parts.Down k) (down_tells k) m i j b r s inv led e
 unit_came (parts.Dc c) m i j b r s inv led e = told_came (parts.Dc c) (dc_tells c) m i j b r s inv led e

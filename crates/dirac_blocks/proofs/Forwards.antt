@@ -1,10 +1,9 @@
 -- What a block carries of a table is read to it: unit by unit, since predictions read units that were read before.
-use Rattle.std.proofs.Common.{◌≡◌, ℕ, ℤ, ◌-◌, ◌^◌, ◌<◌, ◌+ℤ◌, ◌-ℤ◌, inl, inr, Bool, true, false, not, List, [], ◌∷◌, ◌++◌, nat_abs, Result, Ok, refl, sym, ap, ap₂, ◌∙◌, arith, subst}
-use Rattle.std.specs.Prelude.{if◌then◌else◌}
+use Rattle.std.proofs.Common.{◌≡◌, ℕ, ℤ, ◌-◌, ◌^◌, ◌<◌, ◌+ℤ◌, ◌-ℤ◌, inl, inr, Bool, true, false, not, List, [], ◌∷◌, nat_abs, Result, Ok, refl, sym, ap, ap₂, ◌∙◌, arith, subst}
+use Rattle.std.specs.Prelude.{◌==◌, if◌then◌else◌}
 use Rattle.std.proofs.lemmas.Bool.{cases_eq, eq-eqb, ne_eqb}
 use Rattle.std.proofs.lemmas.Int.{ints}
 use Rattle.dirac_types.specs.declared.faults.Cause.{Cause}
-use Rattle.dirac_arith.specs.Deciding.{decided}
 use Rattle.dirac_arith.specs.Interval.{Decision}
 use Rattle.dirac_arith.specs.Reading.{Reading, Reads}
 use Rattle.dirac_arith.specs.Spelling.{signed_spelling}
@@ -17,7 +16,7 @@ use Rattle.dirac_blocks.specs.declared.parts.Part.{Part}
 use Rattle.dirac_blocks.specs.declared.parts.Part.TheVariants as parts
 use Rattle.dirac_blocks.specs.Carried.{with_part}
 use Rattle.dirac_blocks.specs.Decisions.{counted, differ, predicted, ref1_at, ref2_at, mode_part}
-use Rattle.dirac_blocks.specs.Grammar.{block_using, mode_read, is_short, read_into, unit_read}
+use Rattle.dirac_blocks.specs.Grammar.{block_using, mode_read, second_use_read, is_short, read_into, unit_read}
 use Rattle.dirac_blocks.specs.Parts.{part_at}
 use Rattle.dirac_blocks.specs.Tables.{BlockTable, IsBlock, IsBlockTable, block_at}
 use Rattle.dirac_blocks.proofs.Nearby.{Near, ref1_near, ref2_near, block_lawful}
@@ -59,43 +58,38 @@ into_forward true bm bu put v t r s led short_p short_v is none reads =
 into_forward false bm bu put v t r s led short_p short_v is none reads =
     ap₂ (λ (b : Block) (q : Reading). let x : Result (Block × Reading) Cause = Ok (b, q) in x) (none refl) (sym reads.moved)
 
-mode_two : (m : BlockTable) (i j : ℕ) (r mid s : Reading) (f g a b : Bool) → m.refs ≡ 2 → decided 25 r ≡ Ok (f, mid) → decided 26 mid ≡ Ok (g, s)
-    → differ f (predicted mode_of (ref1_at m) i j) ≡ a → differ g (predicted mode_of (ref2_at m) i j) ≡ b → mode_read m i j r ≡ Ok (block_using a b, s)
-mode_two m i j r mid s f g a b two first second is more =
-    rw (first, eq-eqb m.refs 2 two, second)
-    (ap (λ (t : Bool). let x : Result (Block × Reading) Cause = Ok (block_using t (differ g (predicted mode_of (ref2_at m) i j)), s) in x) is
-    ∙ ap (λ (t : Bool). let x : Result (Block × Reading) Cause = Ok (block_using a t, s) in x) more)
+-- the decision for reference 2, where there is one
+abbrev pub second_part : BlockTable → ℕ → ℕ → List Decision
+second_part u i j = if u.refs == 2 then (26, differ (block_at u i j).ref2 (predicted mode_of (ref2_at u) i j)) ∷ [] else []
 
-mode_one : (m : BlockTable) (i j : ℕ) (r s : Reading) (f a : Bool) → (m.refs ≡ 2 → ⊥) → decided 25 r ≡ Ok (f, s)
-    → differ f (predicted mode_of (ref1_at m) i j) ≡ a → mode_read m i j r ≡ Ok (block_using a false, s)
-mode_one m i j r s f a not first is =
-    rw (first, ne_eqb m.refs 2 not) (ap (λ (t : Bool). let x : Result (Block × Reading) Cause = Ok (block_using t false, s) in x) is)
+second_forward : (m u : BlockTable) (i j : ℕ) (r s : Reading) → IsBlockTable u → m.refs ≡ u.refs → Near m u i j → IsLed r → Reads r (second_part u i j) s
+    → second_use_read m i j r ≡ Ok ((block_at u i j).ref2, s)
+second_forward m u i j r s inv same near led reads =
+    let b = (block_at u i j).ref2 in
+    let p = predicted mode_of (ref2_at u) i j in
+    let d : Decision = (26, differ b p) in
+    let P : Bool → Type 0 = λ t. Reads r (if t then d ∷ [] else []) s in
+    elim (cases_eq u.refs 2) [
+      | inl two ↦
+          let bit : differ (differ b p) (predicted mode_of (ref2_at m) i j) ≡ b = ap (differ (differ b p)) (ref2_near m u i j near) ∙ differ_twice b p in
+          rw (eq-eqb m.refs 2 (same ∙ two), decision_led r s 26 (differ b p) led (subst P (eq-eqb u.refs 2 two) reads))
+          (ap (λ (t : Bool). let x : Result (Bool × Reading) Cause = Ok (t, s) in x) bit)
+      | inr not ↦
+          let none : b ≡ false = (block_lawful u i j inv).second (omega (arith, inv.size.some_refs, inv.size.most_refs)) in
+          let moved = (subst P (ne_eqb u.refs 2 not) reads).moved in
+          rw (ne_eqb m.refs 2 (λ two. not (sym same ∙ two))) (ap₂ (λ (t : Bool) (q : Reading). let x : Result (Bool × Reading) Cause = Ok (t, q) in x) (sym none) (sym moved))
+    ]
 
 modes_forward : (m u : BlockTable) (i j : ℕ) (r s : Reading) → IsBlockTable u → m.refs ≡ u.refs → Near m u i j → IsLed r → Reads r (mode_part u i j) s
     → mode_read m i j r ≡ Ok (block_using (block_at u i j).ref1 (block_at u i j).ref2, s)
 modes_forward m u i j r s inv same near led reads =
     let a = (block_at u i j).ref1 in
-    let b = (block_at u i j).ref2 in
-    let pa = predicted mode_of (ref1_at u) i j in
-    let pb = predicted mode_of (ref2_at u) i j in
-    let d : Decision = (25, differ a pa) in
-    let e : Decision = (26, differ b pb) in
-    let first : differ (differ a pa) (predicted mode_of (ref1_at m) i j) ≡ a = ap (λ (t : Bool). differ (differ a pa) t) (ref1_near m u i j near) ∙ differ_twice a pa in
-    let second : differ (differ b pb) (predicted mode_of (ref2_at m) i j) ≡ b = ap (λ (t : Bool). differ (differ b pb) t) (ref2_near m u i j near) ∙ differ_twice b pb in
-    let P : Bool → Type 0 = λ t. Reads r (d ∷ (if t then e ∷ [] else [])) s in
-    elim (cases_eq u.refs 2) [
-      | inl two ↦
-          let both : Reads r ((d ∷ []) ++ e ∷ []) s = subst P (eq-eqb u.refs 2 two) reads in
-          let parted = reads_parted r s (d ∷ []) (e ∷ []) led both in
-          mode_two m i j r parted.mid s (differ a pa) (differ b pb) a b (same ∙ two) (decision_led r parted.mid 25 (differ a pa) led parted.first)
-          (decision_led parted.mid s 26 (differ b pb) (led_more r parted.mid (d ∷ []) led parted.first) parted.then) first second
-      | inr not ↦
-          let one : Reads r (d ∷ []) s = subst P (ne_eqb u.refs 2 not) reads in
-          let single : u.refs ≡ 1 = omega (arith, inv.size.some_refs, inv.size.most_refs) in
-          let none : b ≡ false = (block_lawful u i j inv).second single in
-          mode_one m i j r s (differ a pa) a (λ two. not (sym same ∙ two)) (decision_led r s 25 (differ a pa) led one) first
-          ∙ ap (λ (t : Bool). let x : Result (Block × Reading) Cause = Ok (block_using a t, s) in x) (sym none)
-    ]
+    let p = predicted mode_of (ref1_at u) i j in
+    let d : Decision = (25, differ a p) in
+    let bit : differ (differ a p) (predicted mode_of (ref1_at m) i j) ≡ a = ap (differ (differ a p)) (ref1_near m u i j near) ∙ differ_twice a p in
+    let parted = reads_parted r s (d ∷ []) (second_part u i j) led reads in
+    rw (decision_led r parted.mid 25 (differ a p) led parted.first, second_forward m u i j parted.mid s inv same near (led_more r parted.mid (d ∷ []) led parted.first) parted.then)
+    (ap (λ (t : Bool). let x : Result (Block × Reading) Cause = Ok (block_using t (block_at u i j).ref2, s) in x) bit)
 
 -- what is known of a place: both blocks, the second being the first with this part of it
 pub record Meets (part : Part) (m u : BlockTable) (i j : ℕ) : Type 0 where
