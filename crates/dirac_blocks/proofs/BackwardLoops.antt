@@ -1,5 +1,5 @@
 -- Lists that are read are carried, unit by unit and superblock by superblock.
-use Rattle.std.proofs.Common.{◌≡◌, ℕ, zero, suc, ◌+◌, ◌*◌, ◌^◌, ◌<◌, ◌≤◌, ◌⊎◌, inl, inr, List, [], ◌++◌, Result, Ok, refl, sym, ap, ◌∙◌, arith, subst}
+use Rattle.std.proofs.Common.{◌≡◌, ℕ, zero, suc, ◌+◌, ◌*◌, ◌^◌, ◌<◌, ◌≤◌, inl, inr, List, [], ◌++◌, Result, Ok, refl, sym, ap, ◌∙◌, arith, subst}
 use Rattle.std.proofs.lemmas.Bool.{cases_lt}
 use Rattle.dirac_types.specs.declared.faults.Cause.{Cause}
 use Rattle.dirac_arith.specs.Deciding.{begin}
@@ -18,15 +18,11 @@ use Rattle.dirac_blocks.specs.Parts.{part_at}
 use Rattle.dirac_blocks.specs.Reached.{SameShape, IsUnit, progress}
 use Rattle.dirac_blocks.specs.Tables.{BlockTable, IsBlockTable, block_at, split_at, unit_size}
 use Rattle.dirac_blocks.proofs.Backwards.{passed, moved_to, unit_came}
-use Rattle.dirac_blocks.proofs.Filled.{square, filled_inside, filled_or_same}
-use Rattle.dirac_blocks.proofs.Fills.{unit_lawful, split_few, unit_placed}
+use Rattle.dirac_blocks.proofs.Filled.{square}
+use Rattle.dirac_blocks.proofs.Fills.{IsOutside, filled_inside, filled_outside, unit_lawful, split_few, unit_placed}
 use Rattle.dirac_blocks.proofs.ForwardLoops.{unit_of_superblock, units_fill}
 use Rattle.dirac_blocks.proofs.Nearby.{Near, SameWithin, near_within}
 use Rattle.dirac_blocks.proofs.Repeating.{shape_join, shape_refl, split_same, unit_same}
-
--- outside a rectangle
-abbrev pub IsOutside : ℕ → ℕ → ℕ → ℕ → ℕ → ℕ → Type 0
-IsOutside left right top bottom x y = ((x < left) ⊎ (right ≤ x)) ⊎ ((y < top) ⊎ (bottom ≤ y))
 
 -- steps came from one table to another, and read the decisions of a rectangle
 pub record Came (part : Part) (m : BlockTable) (r : Reading) (t : BlockTable) (s : Reading) (left right top bottom : ℕ) (decisions : BlockTable → List Decision) : Type 0 where
@@ -126,12 +122,7 @@ unit_step_came part m t size i j r s inv unit led e =
     let mid = q.value.1 in
     let came = unit_came part m i j b r mid inv led q.first in
     let new = with_unit m size i j b in
-    let outside' : (x y : ℕ) → x < 4 * m.across → IsOutside i (i + size) j (j + size) x y → block_at new x y ≡ block_at m x y =
-    λ x y p o.
-    elim (filled_or_same m size i j b inv unit x y p) [
-      | inl k ↦ absurd (apart i (i + size) j (j + size) x y k.left k.right k.top k.bottom o)
-      | inr same ↦ same
-    ] in
+    let outside' = filled_outside m size i j b inv unit in
     let near : (u : BlockTable) → SameWithin new u (i + size) (j + size) → Near m u i j = λ u w.
     near_within m u i j (record { each = λ x y p q. sym (outside' x y (omega arith) (inl (inl p))) ∙ w.each x y (omega arith) (omega arith) })
     (record { each = λ x y p q. sym (outside' x y (omega arith) (inr (inl q))) ∙ w.each x y (omega arith) (omega arith) }) in
@@ -148,12 +139,6 @@ unit_step_came part m t size i j r s inv unit led e =
       reads = λ u k w. came.reads u k.refs (near u w) (filled u w);
     } in
     moved_to (λ (x : BlockTable) (y : Reading). Came part m r x y i (i + size) j (j + size) (λ u. part_at part u i j)) q.next here
-  where
-    apart : (left right top bottom x y : ℕ) → left ≤ x → x < right → top ≤ y → y < bottom → IsOutside left right top bottom x y → ⊥
-    apart left right top bottom x y a b c d (inl (inl l)) = omega arith
-    apart left right top bottom x y a b c d (inl (inr l)) = omega arith
-    apart left right top bottom x y a b c d (inr (inl l)) = omega arith
-    apart left right top bottom x y a b c d (inr (inr l)) = omega arith
 
 -- n units of a row
 pub row_came : (part : Part) (m t : BlockTable) (size i j n : ℕ) (r s : Reading) → IsBlockTable m → ((k : ℕ) → k < n → IsUnit m size (i + k * size) j) → IsLed r

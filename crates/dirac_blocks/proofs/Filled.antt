@@ -6,7 +6,7 @@ use Rattle.dirac_blocks.specs.declared.block.Block.{Block}
 use Rattle.dirac_blocks.specs.Grammar.{with_unit}
 use Rattle.dirac_blocks.specs.Reached.{IsUnit, SameShape}
 use Rattle.dirac_blocks.specs.Tables.{BlockTable, IsBlockTable, grey, block_at, split_at, unit_size, first_of}
-use Rattle.dirac_blocks.proofs.Fills.{rows_are_filled, unit_placed, split_few, unit_ends}
+use Rattle.dirac_blocks.proofs.Fills.{IsOutside, filled_outside, split_few, unit_ends}
 use Rattle.dirac_blocks.proofs.Units.{of_splits}
 
 -- the unit of a column
@@ -39,18 +39,6 @@ square t size i j inv k x y left right top bottom =
     ap (λ (n : ℕ). block_at t n y) (sym px) ∙ ap (λ (n : ℕ). block_at t (4 * k.sx + p) n) (sym qy) ∙ same
     ∙ ap (λ (n : ℕ). block_at t n (4 * k.sy + first_of s q)) fi ∙ ap (λ (n : ℕ). block_at t i n) fj
 
--- the blocks of the unit are filled
-pub filled_inside : (t : BlockTable) (size i j : ℕ) (b : Block) → IsBlockTable t → IsUnit t size i j
-    → (x y : ℕ) → i ≤ x → x < i + size → j ≤ y → y < j + size → block_at (with_unit t size i j b) x y ≡ b
-filled_inside t size i j b inv k x y left right top bottom =
-    let placed = unit_placed t size i j inv k in
-    let f = rows_are_filled (4 * t.across) t.blocks size i j b size placed.columns placed.rows in
-    let new = with_unit t size i j b in
-    let px : i + (x - i) ≡ x = omega arith in
-    let qy : j + (y - j) ≡ y = omega arith in
-    let here : block_at new (i + (x - i)) (j + (y - j)) ≡ b = f.done (x - i) (y - j) (omega arith) (omega arith) in
-    ap (λ (n : ℕ). block_at new n y) (sym px) ∙ ap (λ (n : ℕ). block_at new (i + (x - i)) n) (sym qy) ∙ here
-
 -- where a block stands in a unit
 pub record InSquare (size i j x y : ℕ) : Type 0 where
   pub left : i ≤ x
@@ -62,16 +50,15 @@ pub record InSquare (size i j x y : ℕ) : Type 0 where
 pub filled_or_same : (t : BlockTable) (size i j : ℕ) (b : Block) → IsBlockTable t → IsUnit t size i j
     → (x y : ℕ) → x < 4 * t.across → InSquare size i j x y ⊎ (block_at (with_unit t size i j b) x y ≡ block_at t x y)
 filled_or_same t size i j b inv k x y inside =
-    let placed = unit_placed t size i j inv k in
-    let f = rows_are_filled (4 * t.across) t.blocks size i j b size placed.columns placed.rows in
+    let stays = λ (o : IsOutside i (i + size) j (j + size) x y). filled_outside t size i j b inv k x y inside o in
     elim (cases_lt x i) [
-      | inl l ↦ inr (f.before x y inside l)
+      | inl l ↦ inr (stays (inl (inl l)))
       | inr a ↦ elim (cases_lt x (i + size)) [
-        | inr l ↦ inr (f.after x y inside l)
+        | inr l ↦ inr (stays (inl (inr l)))
         | inl c ↦ elim (cases_lt y j) [
-          | inl l ↦ inr (f.over x y inside l)
+          | inl l ↦ inr (stays (inr (inl l)))
           | inr d ↦ elim (cases_lt y (j + size)) [
-            | inr l ↦ inr (f.under x y inside l)
+            | inr l ↦ inr (stays (inr (inr l)))
             | inl e ↦ inl (record { left = a; right = c; top = d; bottom = e })
           ]
         ]

@@ -14,8 +14,8 @@ use Rattle.dirac_blocks.specs.Laws.{CarriedIsRead}
 use Rattle.dirac_blocks.specs.Parts.{part_at}
 use Rattle.dirac_blocks.specs.Reached.{SameShape, IsUnit, progress}
 use Rattle.dirac_blocks.specs.Tables.{BlockTable, IsBlock, IsBlockTable, block_at, split_at, unit_size}
-use Rattle.dirac_blocks.proofs.Filled.{square, filled_inside, filled_or_same, one_table}
-use Rattle.dirac_blocks.proofs.Fills.{unit_lawful, split_few, unit_placed}
+use Rattle.dirac_blocks.proofs.Filled.{square, filled_or_same, one_table}
+use Rattle.dirac_blocks.proofs.Fills.{filled_inside, unit_lawful, split_few, unit_placed}
 use Rattle.dirac_blocks.proofs.Forwards.{Meets, unit_forward}
 use Rattle.dirac_blocks.proofs.Going.{Goes, nothing_goes, beside_goes, below_goes, kept, grown, none_left, none_above}
 use Rattle.dirac_blocks.proofs.Nearby.{SameWithin, near_within, block_lawful}
