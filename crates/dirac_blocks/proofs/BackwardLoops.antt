@@ -19,7 +19,8 @@ use Rattle.dirac_blocks.specs.Reached.{SameShape, IsUnit, progress}
 use Rattle.dirac_blocks.specs.Tables.{BlockTable, IsBlockTable, block_at, split_at, unit_size}
 use Rattle.dirac_blocks.proofs.Backwards.{passed, moved_to, unit_came}
 use Rattle.dirac_blocks.proofs.Filled.{square}
-use Rattle.dirac_blocks.proofs.Fills.{IsOutside, filled_inside, filled_outside, unit_lawful, split_few, unit_placed}
+use Rattle.dirac_blocks.proofs.Fills.{filled_inside, filled_outside, unit_lawful, split_few, unit_placed}
+use Rattle.dirac_blocks.proofs.Putting.{IsOutside}
 use Rattle.dirac_blocks.proofs.ForwardLoops.{unit_of_superblock, units_fill}
 use Rattle.dirac_blocks.proofs.Nearby.{Near, SameWithin, near_within}
 use Rattle.dirac_blocks.proofs.Repeating.{shape_join, shape_refl, split_same, unit_same}

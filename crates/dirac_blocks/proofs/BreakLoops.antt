@@ -24,7 +24,8 @@ use Rattle.dirac_blocks.specs.Refused.{Told, value_told, broken_part, CarriesBre
 use Rattle.dirac_blocks.specs.Tables.{BlockTable, IsBlockTable, block_at, split_at, unit_size}
 use Rattle.dirac_blocks.proofs.BackwardLoops.{Came, row_came, rows_came, superblocks_came, superblock_rows_came}
 use Rattle.dirac_blocks.proofs.Breaks.{UnitBreaks, stopped, unit_breaks}
-use Rattle.dirac_blocks.proofs.Fills.{IsOutside, split_few}
+use Rattle.dirac_blocks.proofs.Fills.{split_few}
+use Rattle.dirac_blocks.proofs.Putting.{IsOutside}
 use Rattle.dirac_blocks.proofs.ForwardLoops.{unit_of_superblock, units_fill}
 use Rattle.dirac_blocks.proofs.Repeating.{shape_join, shape_refl, split_same, unit_same}
 use Rattle.dirac_blocks.proofs.Valued.{across_value, down_value, dc_value, part_again}

@@ -9,7 +9,7 @@ use Rattle.dirac_blocks.specs.declared.block.Block.{Block}
 use Rattle.dirac_blocks.specs.Grammar.{row_filled, rows_filled, with_split, with_unit}
 use Rattle.dirac_blocks.specs.Reached.{AllGrey, IsUnit}
 use Rattle.dirac_blocks.specs.Tables.{BlockTable, IsBlock, IsBlockTable, grey, split_at, block_at, block_in, unit_size, first_of}
-use Rattle.dirac_blocks.proofs.Putting.{split_inside}
+use Rattle.dirac_blocks.proofs.Putting.{IsOutside, row_outside, split_inside}
 use Rattle.dirac_blocks.proofs.Units.{of_splits, first_below, first_alike}
 
 pub row_filled_next : (blocks : List Block) (start : ℕ) (b : Block) (n : ℕ) → row_filled blocks start b (n + 1) ≡ slice_set (row_filled blocks start b n) (start + n) b
@@ -59,28 +59,6 @@ rows_all P width blocks size i j b zero here all = all
 rows_all P width blocks size i j b (suc n) here all =
     row_all P (rows_filled width blocks size i j b n) ((j + n) * width + i) b size here (rows_all P width blocks size i j b n here all)
 
--- outside a rectangle
-abbrev pub IsOutside : ℕ → ℕ → ℕ → ℕ → ℕ → ℕ → Type 0
-IsOutside left right top bottom x y = ((x < left) ⊎ (right ≤ x)) ⊎ ((y < top) ⊎ (bottom ≤ y))
-
--- a row that is filled changes its own places alone
-row_outside : (w a z size : ℕ) (b : Block) (old new : List Block) → a + size ≤ w → RowIsFilled (z * w + a) b size old new
-    → (x y : ℕ) → x < w → IsOutside a (a + size) z (z + 1) x y → get_or new (y * w + x) grey ≡ get_or old (y * w + x) grey
-row_outside w a z size b old new room r x y h o =
-    elim (cases_lt y z) [
-      | inl l ↦ let below : (y + 1) * w ≤ z * w = mul-le (y + 1) w z w (omega arith) (omega arith) in r.before (y * w + x) (omega arith)
-      | inr c ↦ elim (cases_lt z y) [
-        | inl l ↦ let above : (z + 1) * w ≤ y * w = mul-le (z + 1) w y w (omega arith) (omega arith) in r.after (y * w + x) (omega arith)
-        | inr d ↦
-            let e : y ≡ z = omega arith in
-            let same : y * w ≡ z * w = ap (λ k. k * w) e in
-            elim o [
-              | inl p ↦ elim p [ inl l ↦ r.before (y * w + x) (omega arith) | inr l ↦ r.after (y * w + x) (omega arith) ]
-              | inr p ↦ elim p [ inl l ↦ absurd (omega arith) | inr l ↦ absurd (omega arith) ]
-            ]
-      ]
-    ]
-
 -- n rows of `size` blocks from column `left` and row `top` on are b; all else stays
 pub record RowsAreFilled (width left top size : ℕ) (b : Block) (n : ℕ) (old new : List Block) : Type 0 where
   pub len : length new ≡ length old
@@ -101,7 +79,7 @@ rows_are_filled w blocks size left top b (suc n) room fits =
     let inside : z * w + left + size ≤ length mid = omega (arith, s.len) in
     let new = row_filled mid (z * w + left) b size in
     let r = row_is_filled mid (z * w + left) b size inside in
-    let others = row_outside w left z size b mid new room r in
+    let others = row_outside w left z size mid new room r.before r.after in
     record {
       len = r.len ∙ s.len;
       done = λ i j p l.

@@ -102,7 +102,7 @@ block_lawful t i j inv =
     ]
 
 -- what holds of a value, where there is one
-abbrev OfSome : {A : Type 0} → (A → Type 0) → Option A → Type 0
+abbrev pub OfSome : {A : Type 0} → (A → Type 0) → Option A → Type 0
 OfSome P None = Unit {0}
 OfSome P (Some x) = P x
 

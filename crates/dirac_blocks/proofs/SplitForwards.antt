@@ -1,5 +1,5 @@
 -- The splits that a block carries are read.
-use Rattle.std.proofs.Common.{◌≡◌, ℕ, zero, suc, ◌+◌, ◌-◌, ◌*◌, ◌/◌, ◌%◌, ◌^◌, ◌<◌, ◌≤◌, inl, inr, [], ◌∷◌, length, length-set, get_or, Option, Some, Result, Ok, refl, sym, ap, ◌∙◌, arith, subst, ext_get_or}
+use Rattle.std.proofs.Common.{◌≡◌, ℕ, zero, suc, ◌+◌, ◌-◌, ◌*◌, ◌%◌, ◌^◌, ◌<◌, ◌≤◌, inl, inr, [], ◌∷◌, length, length-set, get_or, Option, Some, Result, Ok, refl, sym, ap, ◌∙◌, arith, subst}
 use Rattle.std.proofs.lemmas.Bool.{cases_eq}
 use Rattle.std.proofs.lemmas.List.{get_or-set_same, get_or-set_other}
 use Rattle.std.proofs.lemmas.Nat.{mul-add-lt, same_from_place}
@@ -15,7 +15,7 @@ use Rattle.dirac_blocks.specs.Grammar.{Progress, Step, repeated, with_split, spl
 use Rattle.dirac_blocks.specs.Laws.{CarriedSplitsAreRead}
 use Rattle.dirac_blocks.specs.Reached.{SameBlocks, progress}
 use Rattle.dirac_blocks.specs.Tables.{BlockTable, IsBlockTable, split_at}
-use Rattle.dirac_blocks.proofs.Filled.{place_row, same_table}
+use Rattle.dirac_blocks.proofs.Filled.{same_places, same_table}
 use Rattle.dirac_blocks.proofs.Going.{Same, Goes, nothing_goes, beside_goes, below_goes, kept, grown, none_left, none_above}
 use Rattle.dirac_blocks.proofs.Nearby.{predicted_same}
 
@@ -122,13 +122,7 @@ split_rows_go u m numbers (suc n) r s toward all few led reads =
 one_split_table : (t u : BlockTable) → IsBlockTable u → SplitsToward t u → ((x y : ℕ) → x < u.across → y < u.down → split_at t x y ≡ split_at u x y) → t ≡ u
 one_split_table t u inv s all =
     same_table t u s.rest.across s.rest.down s.rest.refs
-    (ext_get_or 0 t.splits u.splits (s.len ∙ sym inv.splits_len)
-    (λ k l.
-    let parts = place_row u.across u.down k (omega (arith, s.len)) in
-    let here = all (k % u.across) (k / u.across) parts.2 parts.1 in
-    let wide : get_or t.splits (k / u.across * u.across + k % u.across) 0 ≡ get_or u.splits (k / u.across * u.across + k % u.across) 0 =
-    ap (λ (n : ℕ). get_or t.splits (k / u.across * n + k % u.across) 0) (sym s.rest.across) ∙ here in
-    ap (λ (n : ℕ). get_or t.splits n 0) (sym parts.3) ∙ wide ∙ ap (λ (n : ℕ). get_or u.splits n 0) parts.3))
+    (same_places 0 t.splits u.splits u.across u.down s.len inv.splits_len (λ x y p q. ap (λ (n : ℕ). get_or t.splits (y * n + x) 0) (sym s.rest.across) ∙ all x y p q))
     s.rest.blocks
 
 pub carried_splits_are_read : CarriedSplitsAreRead
