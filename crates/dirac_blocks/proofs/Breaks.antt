@@ -59,12 +59,12 @@ value_breaks v r e led some is =
                 ap (λ (x : Result (ℤ × Reading) Cause). x >>= value_from v.range v.prediction) read in
                 sym told ∙ is in
                 elim (cases_Bool (is_short (z +ℤ v.prediction))) [
-                  | inl short ↦ absurd (fits v (z, after_all r ds) e short value)
+                  | inl short ↦ absurd (no_answer (value_from v.range v.prediction (z, after_all r ds)) (z +ℤ v.prediction, after_all r ds) e (rw short refl) value)
                   | inr far ↦
                       record {
                         breaks = beyond z;
                         breaks_so = (found.1, far);
-                        cause_is = sym (apart v (z, after_all r ds) e far value);
+                        cause_is = one_refusal (value_from v.range v.prediction (z, after_all r ds)) e v.range value (rw far refl);
                         reads = (after_all r ds, reads_of r (after_all r ds) ds refl found.2);
                       }
                 ]
@@ -81,17 +81,6 @@ value_breaks v r e led some is =
             reads = (after_all r ds, reads_of r (after_all r ds) ds refl far.2);
           }
     ]
-  where
-    fits : (v : Told) (x : ℤ × Reading) (e : Cause) → is_short (x.0 +ℤ v.prediction) ≡ true → value_from v.range v.prediction x ≡ Err e → ⊥
-    fits v x e short is =
-        let P : Bool → Type 0 = λ b. (let r : Result (ℤ × Reading) Cause = if b then Ok (x.0 +ℤ v.prediction, x.1) else Err v.range in r ≡ Err e) in
-        no_answer (Ok (x.0 +ℤ v.prediction, x.1)) (x.0 +ℤ v.prediction, x.1) e refl (subst P short is)
-
-    apart : (v : Told) (x : ℤ × Reading) (e : Cause) → is_short (x.0 +ℤ v.prediction) ≡ false → value_from v.range v.prediction x ≡ Err e → v.range ≡ e
-    apart v x e far is =
-        let P : Bool → Type 0 = λ b. (let r : Result (ℤ × Reading) Cause = if b then Ok (x.0 +ℤ v.prediction, x.1) else Err v.range in r ≡ Err e) in
-        let left : Result (ℤ × Reading) Cause = Err v.range in
-        one_refusal left v.range e refl (subst P far is)
 
 -- a unit that has the value breaks off in it
 into_breaks : (part : Part) (m : BlockTable) (i j : ℕ) (has : Bool) (bm : Block) (put : Block → ℤ → Block) (v : Told) (r : Reading) (e : Cause) → IsLed r → front r.block 16 ≢ 0xFFFF

@@ -25,7 +25,7 @@ use Rattle.dirac_blocks.proofs.Fills.{split_few}
 use Rattle.dirac_blocks.proofs.ForwardLoops.{Toward, row_goes, rows_go, superblocks_go, superblock_rows_go, shape_back, unit_of_superblock, units_fill}
 use Rattle.dirac_blocks.proofs.Going.{kept, grown, none_left, none_above}
 use Rattle.dirac_blocks.proofs.Nearby.{Near, SameWithin, near_within}
-use Rattle.dirac_blocks.proofs.Repeating.{repeated_stops, split_same}
+use Rattle.dirac_blocks.proofs.Repeating.{repeated_sizes, repeated_stops, split_same}
 use Rattle.dirac_blocks.proofs.Units.{size_some}
 use Rattle.dirac_blocks.proofs.Valued.{Tells, told_read, has_same, across_tells, down_tells, dc_tells}
 
@@ -194,6 +194,5 @@ broken_is_refused part former block e inv h =
     let refused = list_refused part t former h.sx h.sy h.v h.u (begin block) (after_all (begin block) ds) h.told h.breaks h.lawful toward h.column h.row h.few h.some h.is
     (led_begin block) h.breaks_so (carried_reads block ds h.carried) in
     let at_across : repeated (λ y. repeated (superblock_step part y) former.across) former.down (progress former (begin block)) ≡ Err (cause_of h.told h.breaks) =
-    subst (λ (n : ℕ). repeated (λ y. repeated (superblock_step part y) n) former.down (progress former (begin block)) ≡ Err (cause_of h.told h.breaks)) shape.across
-    (subst (λ (n : ℕ). repeated (λ y. repeated (superblock_step part y) t.across) n (progress former (begin block)) ≡ Err (cause_of h.told h.breaks)) shape.down refused) in
+    repeated_sizes (superblock_step part) (progress former (begin block)) shape.across shape.down refused in
     at_across ∙ ap Err (sym h.cause_is)

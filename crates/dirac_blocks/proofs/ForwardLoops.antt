@@ -19,7 +19,7 @@ use Rattle.dirac_blocks.proofs.Fills.{filled_inside, unit_lawful, split_few, uni
 use Rattle.dirac_blocks.proofs.Forwards.{Meets, unit_forward}
 use Rattle.dirac_blocks.proofs.Going.{Goes, nothing_goes, beside_goes, below_goes, kept, grown, none_left, none_above}
 use Rattle.dirac_blocks.proofs.Nearby.{SameWithin, near_within, block_lawful}
-use Rattle.dirac_blocks.proofs.Repeating.{split_same, unit_same}
+use Rattle.dirac_blocks.proofs.Repeating.{repeated_sizes, split_same, unit_same}
 use Rattle.dirac_blocks.proofs.Units.{of_splits, size_some}
 use Rattle.dirac_blocks.proofs.Valued.{part_again}
 
@@ -203,6 +203,5 @@ carried_is_read part former t block inv h =
     (carried_reads block (unit_decisions t (part_at part t)) h.carried) in
     let one : g.table ≡ t = one_table g.table t g.toward.lawful h.lawful g.toward.shape (λ x y p q. g.inside x y (omega arith) p (omega arith) q) in
     let at_across : repeated (λ sy. repeated (superblock_step part sy) former.across) former.down (progress former (begin block)) ≡ Ok (progress g.table s) =
-    subst (λ (n : ℕ). repeated (λ sy. repeated (superblock_step part sy) n) former.down (progress former (begin block)) ≡ Ok (progress g.table s)) rest.shape.across
-    (subst (λ (n : ℕ). repeated (λ sy. repeated (superblock_step part sy) t.across) n (progress former (begin block)) ≡ Ok (progress g.table s)) rest.shape.down g.is) in
+    repeated_sizes (superblock_step part) (progress former (begin block)) rest.shape.across rest.shape.down g.is in
     (s, subst (λ (x : BlockTable). units_step part (progress former (begin block)) ≡ Ok (progress x s)) one at_across)

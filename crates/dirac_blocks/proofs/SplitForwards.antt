@@ -17,6 +17,7 @@ use Rattle.dirac_blocks.specs.Reached.{SameBlocks, progress}
 use Rattle.dirac_blocks.specs.Tables.{BlockTable, IsBlockTable, split_at}
 use Rattle.dirac_blocks.proofs.Filled.{same_places, same_table}
 use Rattle.dirac_blocks.proofs.Going.{Same, Goes, nothing_goes, beside_goes, below_goes, kept, grown, none_left, none_above}
+use Rattle.dirac_blocks.proofs.Repeating.{repeated_sizes}
 use Rattle.dirac_blocks.proofs.Nearby.{predicted_same}
 
 -- the same splits left of column `right` and above row `bottom`
@@ -138,6 +139,5 @@ carried_splits_are_read former t block inv h =
     (carried_reads block (split_rows t.across h.numbers t.down) h.carried) in
     let one : g.table ≡ t = one_split_table g.table t h.lawful g.toward (λ x y p q. g.inside x y (omega arith) p (omega arith) q) in
     let at_across : repeated (λ sy. repeated (split_step sy) former.across) former.down (progress former (begin block)) ≡ Ok (progress g.table s) =
-    subst (λ (n : ℕ). repeated (λ sy. repeated (split_step sy) n) former.down (progress former (begin block)) ≡ Ok (progress g.table s)) rest.across
-    (subst (λ (n : ℕ). repeated (λ sy. repeated (split_step sy) t.across) n (progress former (begin block)) ≡ Ok (progress g.table s)) rest.down g.is) in
+    repeated_sizes split_step (progress former (begin block)) rest.across rest.down g.is in
     (s, subst (λ (x : BlockTable). splits_step (progress former (begin block)) ≡ Ok (progress x s)) one at_across)

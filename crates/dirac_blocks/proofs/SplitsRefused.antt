@@ -18,7 +18,7 @@ use Rattle.dirac_blocks.specs.Reached.{progress}
 use Rattle.dirac_blocks.specs.Refused.{CarriesSplitBreak}
 use Rattle.dirac_blocks.specs.Tables.{BlockTable, split_at}
 use Rattle.dirac_blocks.proofs.Going.{grown, none_left, none_above}
-use Rattle.dirac_blocks.proofs.Repeating.{repeated_stops}
+use Rattle.dirac_blocks.proofs.Repeating.{repeated_sizes, repeated_stops}
 use Rattle.dirac_blocks.proofs.Spelled.{least_sum, predicted_few, splits_few}
 use Rattle.dirac_blocks.proofs.SplitBackwards.{split_row_same, split_rows_same}
 use Rattle.dirac_blocks.proofs.SplitForwards.{SplitsToward, AreNumbers, splits_go, split_rows_go}
@@ -112,5 +112,4 @@ broken_splits_are_refused former block inv h =
     let s = after_all (begin block) ds in
     let reads : Reads (begin block) es s = subst (λ (l : List Decision). Reads (begin block) l s) same (carried_reads block ds h.carried) in
     let refused = splits_refused t former numbers h.sy h.sx (begin block) s h.digits toward (filled_are former block h) h.column h.row (led_begin block) h.long reads in
-    subst (λ (n : ℕ). repeated (λ y. repeated (split_step y) n) former.down (progress former (begin block)) ≡ Err cause.NumberTooLong) rest.across
-    (subst (λ (n : ℕ). repeated (λ y. repeated (split_step y) t.across) n (progress former (begin block)) ≡ Err cause.NumberTooLong) rest.down refused)
+    repeated_sizes split_step (progress former (begin block)) rest.across rest.down refused

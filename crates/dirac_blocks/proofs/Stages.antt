@@ -1,5 +1,5 @@
 -- A finished table stage by stage: what the lists up to one have told of each block.
-use Rattle.std.proofs.Common.{◌≡◌, ℕ, ℤ, zero, suc, ◌+◌, ◌-◌, ◌*◌, ◌^◌, ◌<◌, inl, inr, Bool, List, [], ◌∷◌, ◌++◌, length, map, get_or, Option, Some, refl, sym, ap, ap₂, ◌∙◌, arith, subst}
+use Rattle.std.proofs.Common.{◌≡◌, ℕ, ℤ, ◌+◌, ◌-◌, ◌*◌, ◌<◌, inl, inr, Bool, List, [], ◌∷◌, ◌++◌, length, map, get_or, Option, Some, refl, sym, ap, ap₂, ◌∙◌, arith, subst}
 use Rattle.std.specs.Prelude.{option_map, if◌then◌else◌, ◌==◌}
 use Rattle.std.proofs.lemmas.Bool.{cases_Bool, cases_lt}
 use Rattle.std.proofs.lemmas.List.{get_or_past, get_or-map, length-map}
@@ -17,13 +17,14 @@ use Rattle.dirac_blocks.specs.declared.parts.Part.{Part}
 use Rattle.dirac_blocks.specs.declared.parts.Part.TheVariants as parts
 use Rattle.dirac_blocks.specs.declared.parts.Reference.TheVariants as references
 use Rattle.dirac_blocks.specs.Carried.{with_part, ReadsTo}
-use Rattle.dirac_blocks.specs.Decisions.{UnitPart, left_of, above_of, corner_of, predicted, counted, differ, less_prediction, ref1_at, ref2_at, unit_row, unit_rows, superblock_row, superblock_rows, unit_decisions}
+use Rattle.dirac_blocks.specs.Decisions.{left_of, above_of, corner_of, predicted, counted, differ, less_prediction, ref1_at, ref2_at, unit_decisions}
 use Rattle.dirac_blocks.specs.Grammar.{units_step}
 use Rattle.dirac_blocks.specs.Parts.{vector_at, dc_at, part_at}
-use Rattle.dirac_blocks.specs.Tables.{BlockTable, IsBlock, IsBlockTable, block_at, grey, split_at, first_of, unit_size}
+use Rattle.dirac_blocks.specs.Tables.{BlockTable, IsBlock, IsBlockTable, block_at, grey, split_at, first_of}
 use Rattle.dirac_blocks.proofs.Fills.{split_few}
 use Rattle.dirac_blocks.proofs.ForwardLoops.{carried_is_read}
 use Rattle.dirac_blocks.proofs.InContexts.{in_parts}
+use Rattle.dirac_blocks.proofs.Narrowing.{superblock_rows_joins}
 use Rattle.dirac_blocks.proofs.Nearby.{left_holds, above_holds, corner_holds, predicted_same, using_lawful}
 use Rattle.dirac_blocks.proofs.Units.{first_below}
 use Rattle.dirac_blocks.proofs.Valued.{Tells, put_none, component_at, dc_is_at, across_tells, down_tells, dc_tells}
@@ -177,29 +178,6 @@ part_same (parts.Dc c) t f s i j =
     let u = by (next_stage (parts.Dc c) f) t in
     dcs_same (dc_at c u) (dc_at c t) (λ p q. dc_is_at c u p q ∙ values_same (parts.Dc c) (dc_tells c) t f s p q ∙ sym (dc_is_at c t p q)) i j
 
--- lists of parts that tell the same
-unit_row_same : (p q : UnitPart) (size i j n : ℕ) → ((x y : ℕ) → p x y ≡ q x y) → unit_row p size i j n ≡ unit_row q size i j n
-unfolding unit_row
-unit_row_same p q size i j zero same = refl
-unit_row_same p q size i j (suc n) same = ap₂ (λ (a b : List Decision). a ++ b) (unit_row_same p q size i j n same) (same (i + n * size) j)
-
-unit_rows_same : (p q : UnitPart) (size across i j n : ℕ) → ((x y : ℕ) → p x y ≡ q x y) → unit_rows p size across i j n ≡ unit_rows q size across i j n
-unfolding unit_rows
-unit_rows_same p q size across i j zero same = refl
-unit_rows_same p q size across i j (suc n) same = ap₂ (λ (a b : List Decision). a ++ b) (unit_rows_same p q size across i j n same) (unit_row_same p q size i (j + n * size) across same)
-
-superblock_row_same : (p q : UnitPart) (t : BlockTable) (f : Block → Block) (sy n : ℕ) → ((x y : ℕ) → p x y ≡ q x y) → superblock_row p (by f t) sy n ≡ superblock_row q t sy n
-unfolding superblock_row
-superblock_row_same p q t f sy zero same = refl
-superblock_row_same p q t f sy (suc n) same =
-    let s = split_at t n sy in
-    ap₂ (λ (a b : List Decision). a ++ b) (superblock_row_same p q t f sy n same) (unit_rows_same p q (unit_size s) (2 ^ s) (4 * n) (4 * sy) (2 ^ s) same)
-
-superblock_rows_same : (p q : UnitPart) (t : BlockTable) (f : Block → Block) (n : ℕ) → ((x y : ℕ) → p x y ≡ q x y) → superblock_rows p (by f t) n ≡ superblock_rows q t n
-unfolding superblock_rows
-superblock_rows_same p q t f zero same = refl
-superblock_rows_same p q t f (suc n) same = ap₂ (λ (a b : List Decision). a ++ b) (superblock_rows_same p q t f n same) (superblock_row_same p q t f n t.across same)
-
 -- the block that is written for a list leads from one stage to the next
 pub stage_reads : (part : Part) (t : BlockTable) (f : Block → Block) → IsBlockTable t → ((b : Block) → IsBlock t.refs b → IsBlock t.refs (f b))
     → ((b : Block) → IsBlock t.refs b → IsBlock t.refs (next_stage part f b)) → ((i j : ℕ) → part_at part (by (next_stage part f) t) i j ≡ part_at part t i j)
@@ -207,7 +185,8 @@ pub stage_reads : (part : Part) (t : BlockTable) (f : Block → Block) → IsBlo
 stage_reads part t f inv lawful lawful' each =
     let g = next_stage part f in
     let ds = unit_decisions t (part_at part t) in
-    let same : unit_decisions (by g t) (part_at part (by g t)) ≡ ds = superblock_rows_same (part_at part (by g t)) (part_at part t) t g t.down each in
+    let same : unit_decisions (by g t) (part_at part (by g t)) ≡ ds =
+    superblock_rows_joins (λ a b. a ≡ b) (record { none = refl; both = λ a b c d x y. ap₂ (λ (e f : List Decision). e ++ f) x y }) (part_at part (by g t)) (part_at part t) t (map g t.blocks) t.down each in
     carried_is_read part (by f t) (by g t) (flush ds) (by_lawful f t inv lawful)
     (record {
       lawful = by_lawful g t inv lawful';
