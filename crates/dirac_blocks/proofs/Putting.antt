@@ -9,24 +9,6 @@ use Rattle.dirac_blocks.specs.Puts.{RowPut, RowsPut, IsPut}
 use Rattle.dirac_blocks.specs.Tables.{BlockTable, IsBlock, IsBlockTable, grey, split_at, block_in, unit_size, unit_of, first_of}
 use Rattle.dirac_blocks.proofs.Units.{column_fits, first_below, first_alike}
 
--- one block more
-pub row_more : (start split : ℕ) (units : List Block) (from n : ℕ) (old mid : List Block) (b : Block)
-    → start + n < length mid → b ≡ get_or units (from + n / unit_size split) grey
-    → RowPut start split units from n old mid → RowPut start split units from (n + 1) old (set mid (start + n) b)
-row_more start split units from n old mid b h e r =
-    record {
-      len = length-set mid (start + n) b ∙ r.len;
-      done = λ i l.
-          elim (cases_eq i n) [
-            | inl is ↦
-                let here : get_or (set mid (start + n) b) (start + n) grey ≡ get_or units (from + n / unit_size split) grey = get_or-set_same mid (start + n) b grey h ∙ e in
-                rw is here
-            | inr not ↦ get_or-set_other mid (start + n) (start + i) b grey (λ same. not (omega arith)) ∙ r.done i (omega arith)
-          ];
-      before = λ k l. get_or-set_other mid (start + n) k b grey (λ same. omega arith) ∙ r.before k l;
-      after = λ k l. get_or-set_other mid (start + n) k b grey (λ same. omega arith) ∙ r.after k (omega arith);
-    }
-
 -- blocks stay blocks of so many references
 pub row_lawful : (refs start split : ℕ) (units : List Block) (from : ℕ) (old new : List Block) → split ≤ 2
     → from + 2 ^ split ≤ length units → RowPut start split units from 4 old new
@@ -68,17 +50,6 @@ row_outside w a z size old new room before after x y h o =
             ]
       ]
     ]
-
-pub rows_none : (w left top split : ℕ) (units xs : List Block) → RowsPut w left top split units 0 xs xs
-rows_none w left top split units xs =
-    record {
-      len = refl;
-      done = λ i j p l. absurd (omega arith);
-      before = λ x y p l. refl;
-      after = λ x y p l. refl;
-      over = λ x y p l. refl;
-      under = λ x y p l. refl;
-    }
 
 -- one row more
 pub rows_more : (w left top split : ℕ) (units : List Block) (n : ℕ) (old mid new : List Block) → left + 4 ≤ w
