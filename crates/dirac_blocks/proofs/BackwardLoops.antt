@@ -1,5 +1,5 @@
 -- Lists that are read are carried, unit by unit and superblock by superblock.
-use Rattle.std.proofs.Common.{◌≡◌, ℕ, zero, suc, ◌+◌, ◌-◌, ◌*◌, ◌^◌, ◌<◌, ◌≤◌, ◌⊎◌, inl, inr, List, [], Result, Ok, refl, sym, ap, ◌∙◌, arith, subst}
+use Rattle.std.proofs.Common.{◌≡◌, ℕ, zero, suc, ◌+◌, ◌*◌, ◌^◌, ◌<◌, ◌≤◌, inl, inr, List, [], ◌++◌, Result, Ok, refl, sym, ap, ◌∙◌, arith, subst}
 use Rattle.std.proofs.lemmas.Bool.{cases_lt}
 use Rattle.dirac_types.specs.declared.faults.Cause.{Cause}
 use Rattle.dirac_arith.specs.Deciding.{begin}
@@ -17,16 +17,13 @@ use Rattle.dirac_blocks.specs.Laws.{ReadIsCarried}
 use Rattle.dirac_blocks.specs.Parts.{part_at}
 use Rattle.dirac_blocks.specs.Reached.{SameShape, IsUnit, progress}
 use Rattle.dirac_blocks.specs.Tables.{BlockTable, IsBlockTable, block_at, split_at, unit_size}
-use Rattle.dirac_blocks.proofs.Backwards.{passed, same_answer, unit_came}
-use Rattle.dirac_blocks.proofs.Filled.{square, filled_inside, filled_or_same}
-use Rattle.dirac_blocks.proofs.Fills.{unit_lawful, split_few, unit_placed}
+use Rattle.dirac_blocks.proofs.Backwards.{passed, moved_to, unit_came}
+use Rattle.dirac_blocks.proofs.Filled.{square}
+use Rattle.dirac_blocks.proofs.Fills.{filled_inside, filled_outside, unit_lawful, split_few, unit_placed}
+use Rattle.dirac_blocks.proofs.Putting.{IsOutside}
 use Rattle.dirac_blocks.proofs.ForwardLoops.{unit_of_superblock, units_fill}
-use Rattle.dirac_blocks.proofs.Nearby.{Near, SameWithin}
+use Rattle.dirac_blocks.proofs.Nearby.{Near, SameWithin, near_within}
 use Rattle.dirac_blocks.proofs.Repeating.{shape_join, shape_refl, split_same, unit_same}
-
--- outside a rectangle
-abbrev pub IsOutside : ℕ → ℕ → ℕ → ℕ → ℕ → ℕ → Type 0
-IsOutside left right top bottom x y = ((x < left) ⊎ (right ≤ x)) ⊎ ((y < top) ⊎ (bottom ≤ y))
 
 -- steps came from one table to another, and read the decisions of a rectangle
 pub record Came (part : Part) (m : BlockTable) (r : Reading) (t : BlockTable) (s : Reading) (left right top bottom : ℕ) (decisions : BlockTable → List Decision) : Type 0 where
@@ -43,9 +40,6 @@ nothing_came : (part : Part) (m t : BlockTable) (r s : Reading) (left right top 
     → ((u : BlockTable) → decisions u ≡ []) → (let p : Result Progress Cause = Ok (progress m r) in p ≡ Ok (progress t s))
     → Came part m r t s left right top bottom decisions
 nothing_came part m t r s left right top bottom decisions inv led empty none e =
-    let one = same_answer (progress m r) (progress t s) e in
-    let table : m ≡ t = ap (λ x. x.table) one in
-    let place : r ≡ s = ap (λ x. x.reading) one in
     let here : Came part m r m r left right top bottom decisions = record {
       lawful = inv;
       shape = shape_refl m;
@@ -54,8 +48,65 @@ nothing_came part m t r s left right top bottom decisions inv led empty none e =
       led = led;
       reads = λ u k w. subst (λ (ds : List Decision). Reads r ds r) (sym (none u)) (reads_nothing r);
     } in
-    subst (λ (x : BlockTable). Came part m r x s left right top bottom decisions) table
-    (subst (λ (x : Reading). Came part m r m x left right top bottom decisions) place here)
+    moved_to (λ (x : BlockTable) (y : Reading). Came part m r x y left right top bottom decisions) e here
+
+-- steps whose rectangles lie beside one another
+beside_came : {part : Part} {m q t : BlockTable} {r p s : Reading} {left middle end top bottom : ℕ} {first then' whole : BlockTable → List Decision} (right : ℕ)
+    → left ≤ middle → middle ≤ right → right ≤ 4 * m.across → end ≡ right → ((u : BlockTable) → SameShape t u → whole u ≡ first u ++ then' u)
+    → Came part m r q p left middle top bottom first → Came part q p t s middle end top bottom then' → Came part m r t s left right top bottom whole
+beside_came {part = part} {m = m} {q = q} {t = t} {r = r} {p = p} {s = s} {middle = middle} {first = first} {then' = then'} right low high fits is split g h =
+    let across = g.shape.across in
+    record {
+      lawful = h.lawful;
+      shape = shape_join m q t g.shape h.shape;
+      inside = λ x y a b c d.
+          elim (cases_lt x middle) [
+            | inl l ↦ subst (λ (z : Block). with_part part (block_at m x y) z ≡ z) (sym (h.outside x y (omega arith) (inl (inl l)))) (g.inside x y a l c d)
+            | inr l ↦ subst (λ (z : Block). with_part part z (block_at t x y) ≡ block_at t x y) (g.outside x y (omega arith) (inl (inr l))) (h.inside x y l (omega arith) c d)
+          ];
+      outside = λ x y l o.
+          elim o [
+            | inl a ↦ elim a [
+              | inl b ↦ h.outside x y (omega arith) (inl (inl (omega arith))) ∙ g.outside x y l (inl (inl b))
+              | inr b ↦ h.outside x y (omega arith) (inl (inr (omega arith))) ∙ g.outside x y l (inl (inr (omega arith)))
+            ]
+            | inr a ↦ h.outside x y (omega arith) (inr a) ∙ g.outside x y l (inr a)
+          ];
+      led = h.led;
+      reads = λ u k w.
+          let before = g.reads u (shape_join q t u h.shape k) (record { each = λ x y a b. sym (h.outside x y (omega arith) (inl (inl a))) ∙ w.each x y (omega arith) b }) in
+          let behind = h.reads u k (record { each = λ x y a b. w.each x y (omega arith) b }) in
+          subst (λ (ds : List Decision). Reads r ds s) (sym (split u k)) (reads_more r p s (first u) (then' u) before behind);
+    }
+
+-- and below one another
+below_came : {part : Part} {m q t : BlockTable} {r p s : Reading} {left right top middle end : ℕ} {first then' whole : BlockTable → List Decision} (bottom : ℕ)
+    → top ≤ middle → middle ≤ bottom → right ≤ 4 * m.across → end ≡ bottom → ((u : BlockTable) → SameShape t u → whole u ≡ first u ++ then' u)
+    → Came part m r q p left right top middle first → Came part q p t s left right middle end then' → Came part m r t s left right top bottom whole
+below_came {part = part} {m = m} {q = q} {t = t} {r = r} {p = p} {s = s} {middle = middle} {first = first} {then' = then'} bottom low high fits is split g h =
+    let across = g.shape.across in
+    record {
+      lawful = h.lawful;
+      shape = shape_join m q t g.shape h.shape;
+      inside = λ x y a b c d.
+          elim (cases_lt y middle) [
+            | inl l ↦ subst (λ (z : Block). with_part part (block_at m x y) z ≡ z) (sym (h.outside x y (omega arith) (inr (inl l)))) (g.inside x y a b c l)
+            | inr l ↦ subst (λ (z : Block). with_part part z (block_at t x y) ≡ block_at t x y) (g.outside x y (omega arith) (inr (inr l))) (h.inside x y a b l (omega arith))
+          ];
+      outside = λ x y l o.
+          elim o [
+            | inl a ↦ h.outside x y (omega arith) (inl a) ∙ g.outside x y l (inl a)
+            | inr a ↦ elim a [
+              | inl b ↦ h.outside x y (omega arith) (inr (inl (omega arith))) ∙ g.outside x y l (inr (inl b))
+              | inr b ↦ h.outside x y (omega arith) (inr (inr (omega arith))) ∙ g.outside x y l (inr (inr (omega arith)))
+            ]
+          ];
+      led = h.led;
+      reads = λ u k w.
+          let before = g.reads u (shape_join q t u h.shape k) (record { each = λ x y a b. sym (h.outside x y (omega arith) (inr (inl b))) ∙ w.each x y a (omega arith) }) in
+          let behind = h.reads u k (record { each = λ x y a b. w.each x y a (omega arith) }) in
+          subst (λ (ds : List Decision). Reads r ds s) (sym (split u k)) (reads_more r p s (first u) (then' u) before behind);
+    }
 
 -- a unit
 unit_step_came : (part : Part) (m t : BlockTable) (size i j : ℕ) (r s : Reading) → IsBlockTable m → IsUnit m size i j → IsLed r
@@ -72,15 +123,12 @@ unit_step_came part m t size i j r s inv unit led e =
     let mid = q.value.1 in
     let came = unit_came part m i j b r mid inv led q.first in
     let new = with_unit m size i j b in
-    let one = same_answer (progress new mid) (progress t s) q.next in
-    let table : new ≡ t = ap (λ x. x.table) one in
-    let place : mid ≡ s = ap (λ x. x.reading) one in
-    let outside' : (x y : ℕ) → x < 4 * m.across → IsOutside i (i + size) j (j + size) x y → block_at new x y ≡ block_at m x y =
-    λ x y p o.
-    elim (filled_or_same m size i j b inv unit x y p) [
-      | inl k ↦ absurd (apart i (i + size) j (j + size) x y k.left k.right k.top k.bottom o)
-      | inr same ↦ same
-    ] in
+    let outside' = filled_outside m size i j b inv unit in
+    let near : (u : BlockTable) → SameWithin new u (i + size) (j + size) → Near m u i j = λ u w.
+    near_within m u i j (record { each = λ x y p q. sym (outside' x y (omega arith) (inl (inl p))) ∙ w.each x y (omega arith) (omega arith) })
+    (record { each = λ x y p q. sym (outside' x y (omega arith) (inr (inl q))) ∙ w.each x y (omega arith) (omega arith) }) in
+    let filled : (u : BlockTable) → SameWithin new u (i + size) (j + size) → block_at u i j ≡ b = λ u w.
+    sym (w.each i j (omega arith) (omega arith)) ∙ filled_inside m size i j b inv unit i j (omega arith) (omega arith) (omega arith) (omega arith) in
     let here : Came part m r new mid i (i + size) j (j + size) (λ u. part_at part u i j) = record {
       lawful = unit_lawful m size i j b inv unit came.lawful;
       shape = record { across = refl; down = refl; refs = refl; splits = refl };
@@ -88,34 +136,10 @@ unit_step_came part m t size i j r s inv unit led e =
           subst (λ (z : Block). with_part part (block_at m x y) z ≡ z) (sym (filled_inside m size i j b inv unit x y a c d f))
           (subst (λ (z : Block). with_part part z b ≡ b) (sym (square m size i j inv unit x y a c d f)) came.is);
       outside = outside';
-      led = led_more r mid (part_at part new i j) led (came.reads new refl (near_new m new i j (omega arith) (λ x y p o. outside' x y (omega arith) (near_outside i j size x y some o))) (filled_inside m size i j b inv unit i j (omega arith) (omega arith) (omega arith) (omega arith)));
-      reads = λ u k w.
-          let near : Near m u i j = record {
-            left = λ z. sym (outside' (i - 1) j (omega arith) (inl (inl (omega arith)))) ∙ w.each (i - 1) j (omega arith) (omega arith);
-            above = λ z. sym (outside' i (j - 1) (omega arith) (inr (inl (omega arith)))) ∙ w.each i (j - 1) (omega arith) (omega arith);
-            corner = λ z z'. sym (outside' (i - 1) (j - 1) (omega arith) (inl (inl (omega arith)))) ∙ w.each (i - 1) (j - 1) (omega arith) (omega arith);
-          } in
-          came.reads u k.refs near (sym (w.each i j (omega arith) (omega arith)) ∙ filled_inside m size i j b inv unit i j (omega arith) (omega arith) (omega arith) (omega arith));
+      led = led_more r mid (part_at part new i j) led (came.reads new refl (near new (record { each = λ x y p q. refl })) (filled new (record { each = λ x y p q. refl })));
+      reads = λ u k w. came.reads u k.refs (near u w) (filled u w);
     } in
-    subst (λ (x : BlockTable). Came part m r x s i (i + size) j (j + size) (λ u. part_at part u i j)) table
-    (subst (λ (x : Reading). Came part m r new x i (i + size) j (j + size) (λ u. part_at part u i j)) place here)
-  where
-    apart : (left right top bottom x y : ℕ) → left ≤ x → x < right → top ≤ y → y < bottom → IsOutside left right top bottom x y → ⊥
-    apart left right top bottom x y a b c d (inl (inl l)) = omega arith
-    apart left right top bottom x y a b c d (inl (inr l)) = omega arith
-    apart left right top bottom x y a b c d (inr (inl l)) = omega arith
-    apart left right top bottom x y a b c d (inr (inr l)) = omega arith
-
-    near_outside : (i j size x y : ℕ) → 1 ≤ size → (x < i) ⊎ (y < j) → IsOutside i (i + size) j (j + size) x y
-    near_outside i j size x y some (inl l) = inl (inl l)
-    near_outside i j size x y some (inr l) = inr (inl l)
-
-    near_new : (m new : BlockTable) (i j : ℕ) → i < 4 * m.across → ((x y : ℕ) → x ≤ i → (x < i) ⊎ (y < j) → block_at new x y ≡ block_at m x y) → Near m new i j
-    near_new m new i j inside same = record {
-      left = λ z. sym (same (i - 1) j (omega arith) (inl (omega arith)));
-      above = λ z. sym (same i (j - 1) (omega arith) (inr (omega arith)));
-      corner = λ z z'. sym (same (i - 1) (j - 1) (omega arith) (inl (omega arith)));
-    }
+    moved_to (λ (x : BlockTable) (y : Reading). Came part m r x y i (i + size) j (j + size) (λ u. part_at part u i j)) q.next here
 
 -- n units of a row
 pub row_came : (part : Part) (m t : BlockTable) (size i j n : ℕ) (r s : Reading) → IsBlockTable m → ((k : ℕ) → k < n → IsUnit m size (i + k * size) j) → IsLed r
@@ -132,45 +156,7 @@ row_came part m t size i j (suc n) r s inv units led fits e =
     let g = row_came part m q.value.table size i j n r q.value.reading inv (λ k l. units k (omega arith)) led (omega arith) q.first in
     let h = unit_step_came part q.value.table t size (i + n * size) j q.value.reading s g.lawful (unit_same m q.value.table size (i + n * size) j g.shape (units n (omega arith))) g.led q.next in
     let width : 4 * q.value.table.across ≡ 4 * m.across = ap (λ (k : ℕ). 4 * k) g.shape.across in
-    record {
-      lawful = h.lawful;
-      shape = shape_join m q.value.table t g.shape h.shape;
-      inside = λ x y a b c d.
-          elim (cases_lt x (i + n * size)) [
-            | inl l ↦
-                subst (λ (z : Block). with_part part (block_at m x y) z ≡ z) (sym (h.outside x y (omega arith) (inl (inl l)))) (g.inside x y a l c d)
-            | inr l ↦
-                subst (λ (z : Block). with_part part z (block_at t x y) ≡ block_at t x y) (g.outside x y (omega arith) (inl (inr l))) (h.inside x y l (omega arith) c d)
-          ];
-      outside = λ x y p o. h.outside x y (omega arith) (last_outside i (n * size) size j (j + size) x y (suc n * size) end o) ∙ g.outside x y p (first_outside i (n * size) size j (j + size) x y (suc n * size) end o);
-      led = h.led;
-      reads = λ u k w.
-          let first = g.reads u (shape_join q.value.table t u h.shape k)
-          (record { each = λ x y a b. sym (h.outside x y (omega arith) (inl (inl a))) ∙ w.each x y (omega arith) b }) in
-          let second = h.reads u k (record { each = λ x y a b. w.each x y (omega arith) b }) in
-          reads_more r q.value.reading s (unit_row (part_at part u) size i j n) (part_at part u (i + n * size) j) first second;
-    }
-  where
-    last_outside : (i a size top bottom x y b : ℕ) → b ≡ a + size → IsOutside i (i + b) top bottom x y → IsOutside (i + a) (i + a + size) top bottom x y
-    last_outside i a size top bottom x y b e (inl (inl l)) = inl (inl (omega arith))
-    last_outside i a size top bottom x y b e (inl (inr l)) = inl (inr (omega arith))
-    last_outside i a size top bottom x y b e (inr l) = inr l
-
-    first_outside : (i a size top bottom x y b : ℕ) → b ≡ a + size → IsOutside i (i + b) top bottom x y → IsOutside i (i + a) top bottom x y
-    first_outside i a size top bottom x y b e (inl (inl l)) = inl (inl l)
-    first_outside i a size top bottom x y b e (inl (inr l)) = inl (inr (omega arith))
-    first_outside i a size top bottom x y b e (inr l) = inr l
-
--- a column of rectangles: what is outside of all is outside of each
-lower_outside : (left right j a size x y b : ℕ) → b ≡ a + size → IsOutside left right j (j + b) x y → IsOutside left right (j + a) (j + a + size) x y
-lower_outside left right j a size x y b e (inl l) = inl l
-lower_outside left right j a size x y b e (inr (inl l)) = inr (inl (omega arith))
-lower_outside left right j a size x y b e (inr (inr l)) = inr (inr (omega arith))
-
-upper_outside : (left right j a size x y b : ℕ) → b ≡ a + size → IsOutside left right j (j + b) x y → IsOutside left right j (j + a) x y
-upper_outside left right j a size x y b e (inl l) = inl l
-upper_outside left right j a size x y b e (inr (inl l)) = inr (inl l)
-upper_outside left right j a size x y b e (inr (inr l)) = inr (inr (omega arith))
+    beside_came (i + suc n * size) (omega arith) (omega arith) (omega arith) (omega arith) (λ u k. refl) g h
 
 -- n rows of units
 pub rows_came : (part : Part) (m t : BlockTable) (size across i j n : ℕ) (r s : Reading) → IsBlockTable m
@@ -188,26 +174,7 @@ rows_came part m t size across i j (suc n) r s inv units led fits e =
     let width : 4 * q.value.table.across ≡ 4 * m.across = ap (λ (k : ℕ). 4 * k) g.shape.across in
     let h = row_came part q.value.table t size i (j + n * size) across q.value.reading s g.lawful
     (λ k l. unit_same m q.value.table size (i + k * size) (j + n * size) g.shape (units k n l (omega arith))) g.led (omega arith) q.next in
-    record {
-      lawful = h.lawful;
-      shape = shape_join m q.value.table t g.shape h.shape;
-      inside = λ x y a b c d.
-          elim (cases_lt y (j + n * size)) [
-            | inl l ↦
-                subst (λ (z : Block). with_part part (block_at m x y) z ≡ z) (sym (h.outside x y (omega arith) (inr (inl l)))) (g.inside x y a b c l)
-            | inr l ↦
-                subst (λ (z : Block). with_part part z (block_at t x y) ≡ block_at t x y) (g.outside x y (omega arith) (inr (inr l))) (h.inside x y a b l (omega arith))
-          ];
-      outside = λ x y p o.
-          h.outside x y (omega arith) (lower_outside i (i + across * size) j (n * size) size x y (suc n * size) end o)
-          ∙ g.outside x y p (upper_outside i (i + across * size) j (n * size) size x y (suc n * size) end o);
-      led = h.led;
-      reads = λ u k w.
-          let first = g.reads u (shape_join q.value.table t u h.shape k)
-          (record { each = λ x y a b. sym (h.outside x y (omega arith) (inr (inl b))) ∙ w.each x y a (omega arith) }) in
-          let second = h.reads u k (record { each = λ x y a b. w.each x y a (omega arith) }) in
-          reads_more r q.value.reading s (unit_rows (part_at part u) size across i j n) (unit_row (part_at part u) size i (j + n * size) across) first second;
-    }
+    below_came (j + suc n * size) (omega arith) (omega arith) fits (omega arith) (λ u k. refl) g h
 
 -- a superblock
 pub superblock_came : (part : Part) (m t : BlockTable) (sx sy : ℕ) (r s : Reading) → IsBlockTable m → sx < m.across → sy < m.down → IsLed r
@@ -240,36 +207,8 @@ superblocks_came part m t sy (suc n) r s inv few hy led e =
     let across = g.shape.across in
     let down = g.shape.down in
     let h = superblock_came part q.value.table t n sy q.value.reading s g.lawful (omega arith) (omega arith) g.led q.next in
-    record {
-      lawful = h.lawful;
-      shape = shape_join m q.value.table t g.shape h.shape;
-      inside = λ x y a b c d.
-          elim (cases_lt x (4 * n)) [
-            | inl l ↦
-                subst (λ (z : Block). with_part part (block_at m x y) z ≡ z) (sym (h.outside x y (omega arith) (inl (inl l)))) (g.inside x y a l c d)
-            | inr l ↦
-                subst (λ (z : Block). with_part part z (block_at t x y) ≡ block_at t x y) (g.outside x y (omega arith) (inl (inr l))) (h.inside x y l (omega arith) c d)
-          ];
-      outside = λ x y p o. h.outside x y (omega arith) (last_of (4 * sy) n x y o) ∙ g.outside x y p (first_of' (4 * sy) n x y o);
-      led = h.led;
-      reads = λ u k w.
-          let first = g.reads u (shape_join q.value.table t u h.shape k)
-          (record { each = λ x y a b. sym (h.outside x y (omega arith) (inl (inl a))) ∙ w.each x y (omega arith) b }) in
-          let second = h.reads u k (record { each = λ x y a b. w.each x y (omega arith) b }) in
-          let same = superblock_shape part q.value.table u u n sy (shape_join q.value.table t u h.shape k) in
-          reads_more r q.value.reading s (superblock_row (part_at part u) u sy n) (superblock_part (part_at part u) u n sy) first
-          (subst (λ (ds : List Decision). Reads q.value.reading ds s) same second);
-    }
-  where
-    last_of : (top n x y : ℕ) → IsOutside 0 (4 * suc n) top (top + 4) x y → IsOutside (4 * n) (4 * n + 4) top (top + 4) x y
-    last_of top n x y (inl (inl l)) = absurd (omega arith)
-    last_of top n x y (inl (inr l)) = inl (inr (omega arith))
-    last_of top n x y (inr l) = inr l
-
-    first_of' : (top n x y : ℕ) → IsOutside 0 (4 * suc n) top (top + 4) x y → IsOutside 0 (4 * n) top (top + 4) x y
-    first_of' top n x y (inl (inl l)) = inl (inl l)
-    first_of' top n x y (inl (inr l)) = inl (inr (omega arith))
-    first_of' top n x y (inr l) = inr l
+    beside_came (4 * suc n) (omega arith) (omega arith) (omega arith) (omega arith)
+    (λ u k. ap (λ (ds : List Decision). superblock_row (part_at part u) u sy n ++ ds) (sym (superblock_shape part q.value.table u u n sy (shape_join q.value.table t u h.shape k)))) g h
 
 -- n rows of superblocks
 pub superblock_rows_came : (part : Part) (m t : BlockTable) (across n : ℕ) (r s : Reading) → IsBlockTable m → across ≡ m.across → n ≤ m.down → IsLed r
@@ -285,36 +224,10 @@ superblock_rows_came part m t across (suc n) r s inv all few led e =
     let wide = g.shape.across in
     let high = g.shape.down in
     let h = superblocks_came part q.value.table t n across q.value.reading s g.lawful (omega arith) (omega arith) g.led q.next in
-    record {
-      lawful = h.lawful;
-      shape = shape_join m q.value.table t g.shape h.shape;
-      inside = λ x y a b c d.
-          elim (cases_lt y (4 * n)) [
-            | inl l ↦
-                subst (λ (z : Block). with_part part (block_at m x y) z ≡ z) (sym (h.outside x y (omega arith) (inr (inl l)))) (g.inside x y a b c l)
-            | inr l ↦
-                subst (λ (z : Block). with_part part z (block_at t x y) ≡ block_at t x y) (g.outside x y (omega arith) (inr (inr l))) (h.inside x y a b l (omega arith))
-          ];
-      outside = λ x y p o. h.outside x y (omega arith) (last_of (4 * across) n x y o) ∙ g.outside x y p (first_of' (4 * across) n x y o);
-      led = h.led;
-      reads = λ u k w.
-          let first = g.reads u (shape_join q.value.table t u h.shape k)
-          (record { each = λ x y a b. sym (h.outside x y (omega arith) (inr (inl b))) ∙ w.each x y a (omega arith) }) in
-          let second = h.reads u k (record { each = λ x y a b. w.each x y a (omega arith) }) in
-          let wide' : across ≡ u.across = omega (arith, k.across, h.shape.across) in
-          reads_more r q.value.reading s (superblock_rows (part_at part u) u n) (superblock_row (part_at part u) u n u.across) first
-          (subst (λ (w : ℕ). Reads q.value.reading (superblock_row (part_at part u) u n w) s) wide' second);
-    }
-  where
-    last_of : (right n x y : ℕ) → IsOutside 0 right 0 (4 * suc n) x y → IsOutside 0 right (4 * n) (4 * n + 4) x y
-    last_of right n x y (inl l) = inl l
-    last_of right n x y (inr (inl l)) = absurd (omega arith)
-    last_of right n x y (inr (inr l)) = inr (inr (omega arith))
-
-    first_of' : (right n x y : ℕ) → IsOutside 0 right 0 (4 * suc n) x y → IsOutside 0 right 0 (4 * n) x y
-    first_of' right n x y (inl l) = inl l
-    first_of' right n x y (inr (inl l)) = inr (inl l)
-    first_of' right n x y (inr (inr l)) = inr (inr (omega arith))
+    below_came (4 * suc n) (omega arith) (omega arith) (omega arith) (omega arith)
+    (λ u k.
+    let all' : u.across ≡ across = omega (arith, k.across, h.shape.across) in
+    ap (λ (w : ℕ). superblock_rows (part_at part u) u n ++ superblock_row (part_at part u) u n w) all') g h
 
 -- a whole list
 pub read_is_carried : ReadIsCarried

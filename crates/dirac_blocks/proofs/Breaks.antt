@@ -11,15 +11,15 @@ use Rattle.dirac_arith.specs.Reading.{Reading, Reads}
 use Rattle.dirac_arith.specs.Spelling.{spelt, signed_spelling}
 use Rattle.dirac_arith.proofs.Carrieds.{IsLed, some_signed, reads_of, no_answer}
 use Rattle.dirac_arith.proofs.Decidings.{decided_open, signed_is_read, signed_is_long}
-use Rattle.dirac_vectors.specs.Predictions.{mode_of, vector_of, dc_of}
+use Rattle.dirac_vectors.specs.Predictions.{mode_of}
 use Rattle.dirac_blocks.specs.declared.block.Block.{Block}
 use Rattle.dirac_blocks.specs.declared.parts.Part.{Part}
 use Rattle.dirac_blocks.specs.declared.parts.Part.TheVariants as parts
 use Rattle.dirac_blocks.specs.Decisions.{predicted, differ, ref1_at, ref2_at}
-use Rattle.dirac_blocks.specs.Grammar.{block_using, mode_read, second_use_read, is_short, value_from, value_read, read_into, unit_read, uses, is_dc, with_across, with_down, with_dc}
-use Rattle.dirac_blocks.specs.Parts.{vector_at, dc_at}
-use Rattle.dirac_blocks.specs.Refused.{Told, component_told, dc_told, value_told, Break, long, beyond, IsBreak, broken_part, cause_of}
+use Rattle.dirac_blocks.specs.Grammar.{block_using, mode_read, second_use_read, is_short, value_from, read_into, unit_read}
+use Rattle.dirac_blocks.specs.Refused.{Told, value_told, Break, long, beyond, IsBreak, broken_part, cause_of}
 use Rattle.dirac_blocks.specs.Tables.{BlockTable, block_at}
+use Rattle.dirac_blocks.proofs.Valued.{Tells, told_read, across_tells, down_tells, dc_tells}
 
 pub one_refusal : {A : Type 0} (x : Result A Cause) (d e : Cause) → x ≡ Err d → x ≡ Err e → d ≡ e
 one_refusal x d e p q = cc
@@ -44,7 +44,7 @@ record ValueBreaks (v : Told) (r : Reading) (e : Cause) : Type 0 where
   cause_is : e ≡ cause_of v breaks
   reads : (s : Reading) × Reads r (broken_part v breaks) s
 
-value_breaks : (v : Told) (r : Reading) (e : Cause) → IsLed r → front r.block 16 ≢ 0xFFFF → value_read v.range v.follow v.bits v.sign v.prediction r ≡ Err e → ValueBreaks v r e
+value_breaks : (v : Told) (r : Reading) (e : Cause) → IsLed r → front r.block 16 ≢ 0xFFFF → told_read v r ≡ Err e → ValueBreaks v r e
 value_breaks v r e led some is =
     elim (some_signed r.block r.at v.follow v.bits v.sign (led.lies some)) [
       | inl found ↦
@@ -55,16 +55,16 @@ value_breaks v r e led some is =
             | inl bad ↦ absurd (no_answer (signed_read v.follow v.bits v.sign r) (z, after_all r ds) e read bad)
             | inr q ↦
                 let value : value_from v.range v.prediction (z, after_all r ds) ≡ Err e =
-                let told : value_read v.range v.follow v.bits v.sign v.prediction r ≡ value_from v.range v.prediction (z, after_all r ds) =
+                let told : told_read v r ≡ value_from v.range v.prediction (z, after_all r ds) =
                 ap (λ (x : Result (ℤ × Reading) Cause). x >>= value_from v.range v.prediction) read in
                 sym told ∙ is in
                 elim (cases_Bool (is_short (z +ℤ v.prediction))) [
-                  | inl short ↦ absurd (fits v (z, after_all r ds) e short value)
+                  | inl short ↦ absurd (no_answer (value_from v.range v.prediction (z, after_all r ds)) (z +ℤ v.prediction, after_all r ds) e (rw short refl) value)
                   | inr far ↦
                       record {
                         breaks = beyond z;
                         breaks_so = (found.1, far);
-                        cause_is = sym (apart v (z, after_all r ds) e far value);
+                        cause_is = one_refusal (value_from v.range v.prediction (z, after_all r ds)) e v.range value (rw far refl);
                         reads = (after_all r ds, reads_of r (after_all r ds) ds refl found.2);
                       }
                 ]
@@ -72,32 +72,21 @@ value_breaks v r e led some is =
       | inr far ↦
           let ds = spelt v.follow v.bits far.0 false in
           let read = signed_is_long v.follow v.bits v.sign far.0 r led.tame some far.1 far.2 in
-          let told : value_read v.range v.follow v.bits v.sign v.prediction r ≡ Err cause.NumberTooLong =
+          let told : told_read v r ≡ Err cause.NumberTooLong =
           ap (λ (x : Result (ℤ × Reading) Cause). x >>= value_from v.range v.prediction) read in
           record {
             breaks = long far.0;
             breaks_so = far.1;
-            cause_is = one_refusal (value_read v.range v.follow v.bits v.sign v.prediction r) e cause.NumberTooLong is told;
+            cause_is = one_refusal (told_read v r) e cause.NumberTooLong is told;
             reads = (after_all r ds, reads_of r (after_all r ds) ds refl far.2);
           }
     ]
-  where
-    fits : (v : Told) (x : ℤ × Reading) (e : Cause) → is_short (x.0 +ℤ v.prediction) ≡ true → value_from v.range v.prediction x ≡ Err e → ⊥
-    fits v x e short is =
-        let P : Bool → Type 0 = λ b. (let r : Result (ℤ × Reading) Cause = if b then Ok (x.0 +ℤ v.prediction, x.1) else Err v.range in r ≡ Err e) in
-        no_answer (Ok (x.0 +ℤ v.prediction, x.1)) (x.0 +ℤ v.prediction, x.1) e refl (subst P short is)
-
-    apart : (v : Told) (x : ℤ × Reading) (e : Cause) → is_short (x.0 +ℤ v.prediction) ≡ false → value_from v.range v.prediction x ≡ Err e → v.range ≡ e
-    apart v x e far is =
-        let P : Bool → Type 0 = λ b. (let r : Result (ℤ × Reading) Cause = if b then Ok (x.0 +ℤ v.prediction, x.1) else Err v.range in r ≡ Err e) in
-        let left : Result (ℤ × Reading) Cause = Err v.range in
-        one_refusal left v.range e refl (subst P far is)
 
 -- a unit that has the value breaks off in it
 into_breaks : (part : Part) (m : BlockTable) (i j : ℕ) (has : Bool) (bm : Block) (put : Block → ℤ → Block) (v : Told) (r : Reading) (e : Cause) → IsLed r → front r.block 16 ≢ 0xFFFF
-    → (has ≡ true → value_told part m i j ≡ Some v) → read_into has bm put (value_read v.range v.follow v.bits v.sign v.prediction) r ≡ Err e → UnitBreaks part m i j r e
+    → (has ≡ true → value_told part m i j ≡ Some v) → read_into has bm put (told_read v) r ≡ Err e → UnitBreaks part m i j r e
 into_breaks part m i j true bm put v r e led some told is =
-    elim (stopped (value_read v.range v.follow v.bits v.sign v.prediction r) (λ w. let x : Result (Block × Reading) Cause = Ok (put bm w.0, w.1) in x) e is) [
+    elim (stopped (told_read v r) (λ w. let x : Result (Block × Reading) Cause = Ok (put bm w.0, w.1) in x) e is) [
       | inl bad ↦
           let k = value_breaks v r e led some bad in
           record { told = v; is = told refl; breaks = k.breaks; breaks_so = k.breaks_so; cause_is = k.cause_is; reads = k.reads }
@@ -136,18 +125,15 @@ told_where : (has : Bool) (v : Told) → has ≡ true → (if has then Some v el
 told_where true v e = refl
 told_where false v e = absurd (both_ways false refl e)
 
+-- a unit whose value is refused
+told_breaks : (part : Part) (t : Tells part) (m : BlockTable) (i j : ℕ) (r : Reading) (e : Cause) → IsLed r → front r.block 16 ≢ 0xFFFF → unit_read part m i j r ≡ Err e → UnitBreaks part m i j r e
+told_breaks part t m i j r e led some is =
+    let b = block_at m i j in
+    into_breaks part m i j (t.has b) b t.put (t.told m i j) r e led some (λ has. t.where_told m i j ∙ told_where (t.has b) (t.told m i j) has) (sym (t.read m i j r) ∙ is)
+
 -- a unit that is refused breaks off
 pub unit_breaks : (part : Part) (m : BlockTable) (i j : ℕ) (r : Reading) (e : Cause) → IsLed r → front r.block 16 ≢ 0xFFFF → unit_read part m i j r ≡ Err e → UnitBreaks part m i j r e
 unit_breaks parts.Modes m i j r e led some is = absurd (modes_never m i j r e some is)
-unit_breaks (parts.Across k) m i j r e led some is =
-    let b = block_at m i j in
-    let v = component_told (predicted vector_of (vector_at k m) i j).x in
-    into_breaks (parts.Across k) m i j (uses k b) b (with_across k) v r e led some (told_where (uses k b) v) is
-unit_breaks (parts.Down k) m i j r e led some is =
-    let b = block_at m i j in
-    let v = component_told (predicted vector_of (vector_at k m) i j).y in
-    into_breaks (parts.Down k) m i j (uses k b) b (with_down k) v r e led some (told_where (uses k b) v) is
-unit_breaks (parts.Dc c) m i j r e led some is =
-    let b = block_at m i j in
-    let v = dc_told (predicted dc_of (dc_at c m) i j) in
-    into_breaks (parts.Dc c) m i j (is_dc b) b (with_dc c) v r e led some (told_where (is_dc b) v) is
+unit_breaks (parts.Across k) m i j r e led some is = told_breaks (parts.Across k) (across_tells k) m i j r e led some is
+unit_breaks (parts.Down k) m i j r e led some is = told_breaks (parts.Down k) (down_tells k) m i j r e led some is
+unit_breaks (parts.Dc c) m i j r e led some is = told_breaks (parts.Dc c) (dc_tells c) m i j r e led some is

@@ -1,38 +1,36 @@
 -- A list whose block breaks off at some unit is refused there.
-use Rattle.std.proofs.Common.{◌≡◌, ℕ, ℤ, ◌+◌, ◌*◌, ◌^◌, ◌<◌, ◌≤◌, ◌+ℤ◌, inl, inr, Bool, true, false, List, ◌++◌, Option, Some, None, Result, Ok, Err, refl, sym, ap, ◌∙◌, arith, subst, append_assoc}
+use Rattle.std.proofs.Common.{◌≡◌, ℕ, ℤ, ◌+◌, ◌*◌, ◌^◌, ◌<◌, ◌≤◌, ◌+ℤ◌, Bool, true, false, List, ◌++◌, Option, Some, None, Result, Ok, Err, refl, sym, ap, ◌∙◌, arith, subst, append_assoc}
 use Rattle.std.specs.Prelude.{if◌then◌else◌}
-use Rattle.std.proofs.lemmas.Bool.{cases_lt, both_ways}
+use Rattle.std.proofs.lemmas.Bool.{both_ways}
 use Rattle.std.proofs.lemmas.Nat.{mul-le}
 use Rattle.dirac_types.specs.declared.faults.Cause.{Cause}
-use Rattle.dirac_types.specs.declared.formats.Vector.{Vector}
 use Rattle.dirac_types.specs.Chain.{◌>>=◌}
 use Rattle.dirac_arith.specs.Deciding.{begin, after_all}
 use Rattle.dirac_arith.specs.Interval.{Decision}
 use Rattle.dirac_arith.specs.Reading.{Reading, Reads}
 use Rattle.dirac_arith.proofs.Carrieds.{IsLed}
 use Rattle.dirac_arith.proofs.Led.{led_begin, led_more, reads_parted, carried_reads, signed_led, signed_long_led}
-use Rattle.dirac_vectors.specs.Predictions.{vector_of, dc_of}
 use Rattle.dirac_blocks.specs.declared.block.Block.{Block}
-use Rattle.dirac_blocks.specs.declared.parts.Component.TheVariants as components
 use Rattle.dirac_blocks.specs.declared.parts.Part.{Part}
 use Rattle.dirac_blocks.specs.declared.parts.Part.TheVariants as parts
-use Rattle.dirac_blocks.specs.declared.parts.Reference.TheVariants as references
 use Rattle.dirac_blocks.specs.Carried.{with_part}
-use Rattle.dirac_blocks.specs.Decisions.{predicted, unit_row, unit_rows, superblock_row, superblock_rows}
-use Rattle.dirac_blocks.specs.Grammar.{Progress, repeated, with_unit, value_from, value_read, read_into, unit_read, unit_step, unit_row_step, unit_rows_step, superblock_step, is_dc, with_across, with_down, with_dc}
+use Rattle.dirac_blocks.specs.Decisions.{unit_row, unit_rows, superblock_row, superblock_rows}
+use Rattle.dirac_blocks.specs.Grammar.{Progress, repeated, with_unit, value_from, read_into, unit_read, unit_step, unit_row_step, unit_rows_step, superblock_step}
 use Rattle.dirac_blocks.specs.Laws.{BrokenIsRefused}
-use Rattle.dirac_blocks.specs.Parts.{vector_at, dc_at, part_at}
+use Rattle.dirac_blocks.specs.Parts.{part_at}
 use Rattle.dirac_blocks.specs.Reached.{IsUnit, progress}
-use Rattle.dirac_blocks.specs.Refused.{Told, component_told, dc_told, value_told, Break, long, beyond, IsBreak, broken_part, cause_of, list_until}
+use Rattle.dirac_blocks.specs.Refused.{Told, value_told, Break, long, beyond, IsBreak, broken_part, cause_of, list_until}
 use Rattle.dirac_blocks.specs.Tables.{BlockTable, IsBlockTable, block_at, split_at, unit_size}
 use Rattle.dirac_blocks.proofs.Fills.{split_few}
 use Rattle.dirac_blocks.proofs.ForwardLoops.{Toward, row_goes, rows_go, superblocks_go, superblock_rows_go, shape_back, unit_of_superblock, units_fill}
-use Rattle.dirac_blocks.proofs.Nearby.{Near, SameWithin, near_within, vector_near, dc_near}
-use Rattle.dirac_blocks.proofs.Repeating.{repeated_stops, split_same}
+use Rattle.dirac_blocks.proofs.Going.{kept, grown, none_left, none_above}
+use Rattle.dirac_blocks.proofs.Nearby.{Near, SameWithin, near_within}
+use Rattle.dirac_blocks.proofs.Repeating.{repeated_sizes, repeated_stops, split_same}
 use Rattle.dirac_blocks.proofs.Units.{size_some}
+use Rattle.dirac_blocks.proofs.Valued.{Tells, told_read, has_same, across_tells, down_tells, dc_tells}
 
 -- a value whose decisions break off is refused
-value_refused : (v : Told) (k : Break) (r s : Reading) → IsLed r → IsBreak v k → Reads r (broken_part v k) s → value_read v.range v.follow v.bits v.sign v.prediction r ≡ Err (cause_of v k)
+value_refused : (v : Told) (k : Break) (r s : Reading) → IsLed r → IsBreak v k → Reads r (broken_part v k) s → told_read v r ≡ Err (cause_of v k)
 value_refused v (long digits) r s led so reads =
     ap (λ (x : Result (ℤ × Reading) Cause). x >>= value_from v.range v.prediction) (signed_long_led r s v.follow v.bits v.sign digits led so reads)
 value_refused v (beyond z) r s led so reads =
@@ -41,7 +39,7 @@ value_refused v (beyond z) r s led so reads =
     ∙ subst P (sym so.1) refl
 
 into_refused : (has : Bool) (bm : Block) (put : Block → ℤ → Block) (v : Told) (k : Break) (r s : Reading) → has ≡ true → IsLed r → IsBreak v k → Reads r (broken_part v k) s
-    → read_into has bm put (value_read v.range v.follow v.bits v.sign v.prediction) r ≡ Err (cause_of v k)
+    → read_into has bm put (told_read v) r ≡ Err (cause_of v k)
 into_refused true bm put v k r s t led so reads =
     ap (λ (x : Result (ℤ × Reading) Cause). x >>= (λ w. let y : Result (Block × Reading) Cause = Ok (put bm w.0, w.1) in y)) (value_refused v k r s led so reads)
 into_refused false bm put v k r s t led so reads = absurd (both_ways false refl t)
@@ -57,6 +55,16 @@ told_is false v w e = absurd (none e)
     none : {w : Told} → (let o : Option Told = None in o ≡ Some w) → ⊥
     none e = cc
 
+-- a unit whose value breaks off
+told_refused : (part : Part) (t : Tells part) (u m : BlockTable) (i j : ℕ) (r s : Reading) (v : Told) (k : Break) → with_part part (block_at m i j) (block_at u i j) ≡ block_at u i j → Near m u i j
+    → value_told part u i j ≡ Some v → IsLed r → IsBreak v k → Reads r (broken_part v k) s → unit_read part m i j r ≡ Err (cause_of v k)
+told_refused part t u m i j r s v k rest near is led so reads =
+    let bm = block_at m i j in
+    let bu = block_at u i j in
+    let told = told_is (t.has bu) (t.told u i j) v (sym (t.where_told u i j) ∙ is) in
+    t.read m i j r ∙ ap (λ (w : Told). read_into (t.has bm) bm t.put (told_read w) r) (t.near m u i j near ∙ told.1)
+    ∙ into_refused (t.has bm) bm t.put v k r s (has_same part t bm bu rest ∙ told.0) led so reads
+
 -- a unit whose decisions break off
 unit_refused : (part : Part) (u m : BlockTable) (i j : ℕ) (r s : Reading) (v : Told) (k : Break) → with_part part (block_at m i j) (block_at u i j) ≡ block_at u i j → Near m u i j
     → value_told part u i j ≡ Some v → IsLed r → IsBreak v k → Reads r (broken_part v k) s → unit_read part m i j r ≡ Err (cause_of v k)
@@ -64,66 +72,9 @@ unit_refused parts.Modes u m i j r s v k rest near is led so reads = absurd (non
   where
     none : {w : Told} → (let o : Option Told = None in o ≡ Some w) → ⊥
     none e = cc
-unit_refused (parts.Across references.First) u m i j r s v k rest near is led so reads =
-    let bm = block_at m i j in
-    let bu = block_at u i j in
-    let q = predicted vector_of (vector_at references.First u) i j in
-    let t = told_is bu.ref1 (component_told q.x) v is in
-    let same : bm.ref1 ≡ bu.ref1 = ap (λ (b : Block). b.ref1) rest in
-    let told : component_told (predicted vector_of (vector_at references.First m) i j).x ≡ v = ap (λ (w : Vector). component_told w.x) (vector_near references.First m u i j near) ∙ t.1 in
-    subst (λ (w : Told). read_into bm.ref1 bm (with_across references.First) (value_read w.range w.follow w.bits w.sign w.prediction) r ≡ Err (cause_of v k)) (sym told)
-    (into_refused bm.ref1 bm (with_across references.First) v k r s (same ∙ t.0) led so reads)
-unit_refused (parts.Across references.Second) u m i j r s v k rest near is led so reads =
-    let bm = block_at m i j in
-    let bu = block_at u i j in
-    let q = predicted vector_of (vector_at references.Second u) i j in
-    let t = told_is bu.ref2 (component_told q.x) v is in
-    let same : bm.ref2 ≡ bu.ref2 = ap (λ (b : Block). b.ref2) rest in
-    let told : component_told (predicted vector_of (vector_at references.Second m) i j).x ≡ v = ap (λ (w : Vector). component_told w.x) (vector_near references.Second m u i j near) ∙ t.1 in
-    subst (λ (w : Told). read_into bm.ref2 bm (with_across references.Second) (value_read w.range w.follow w.bits w.sign w.prediction) r ≡ Err (cause_of v k)) (sym told)
-    (into_refused bm.ref2 bm (with_across references.Second) v k r s (same ∙ t.0) led so reads)
-unit_refused (parts.Down references.First) u m i j r s v k rest near is led so reads =
-    let bm = block_at m i j in
-    let bu = block_at u i j in
-    let q = predicted vector_of (vector_at references.First u) i j in
-    let t = told_is bu.ref1 (component_told q.y) v is in
-    let same : bm.ref1 ≡ bu.ref1 = ap (λ (b : Block). b.ref1) rest in
-    let told : component_told (predicted vector_of (vector_at references.First m) i j).y ≡ v = ap (λ (w : Vector). component_told w.y) (vector_near references.First m u i j near) ∙ t.1 in
-    subst (λ (w : Told). read_into bm.ref1 bm (with_down references.First) (value_read w.range w.follow w.bits w.sign w.prediction) r ≡ Err (cause_of v k)) (sym told)
-    (into_refused bm.ref1 bm (with_down references.First) v k r s (same ∙ t.0) led so reads)
-unit_refused (parts.Down references.Second) u m i j r s v k rest near is led so reads =
-    let bm = block_at m i j in
-    let bu = block_at u i j in
-    let q = predicted vector_of (vector_at references.Second u) i j in
-    let t = told_is bu.ref2 (component_told q.y) v is in
-    let same : bm.ref2 ≡ bu.ref2 = ap (λ (b : Block). b.ref2) rest in
-    let told : component_told (predicted vector_of (vector_at references.Second m) i j).y ≡ v = ap (λ (w : Vector). component_told w.y) (vector_near references.Second m u i j near) ∙ t.1 in
-    subst (λ (w : Told). read_into bm.ref2 bm (with_down references.Second) (value_read w.range w.follow w.bits w.sign w.prediction) r ≡ Err (cause_of v k)) (sym told)
-    (into_refused bm.ref2 bm (with_down references.Second) v k r s (same ∙ t.0) led so reads)
-unit_refused (parts.Dc components.Y) u m i j r s v k rest near is led so reads =
-    let bm = block_at m i j in
-    let bu = block_at u i j in
-    let t = told_is (is_dc bu) (dc_told (predicted dc_of (dc_at components.Y u) i j)) v is in
-    let same : is_dc bm ≡ is_dc bu = ap (λ (b : Block). is_dc b) rest in
-    let told : dc_told (predicted dc_of (dc_at components.Y m) i j) ≡ v = ap (λ (w : ℤ). dc_told w) (dc_near components.Y m u i j near) ∙ t.1 in
-    subst (λ (w : Told). read_into (is_dc bm) bm (with_dc components.Y) (value_read w.range w.follow w.bits w.sign w.prediction) r ≡ Err (cause_of v k)) (sym told)
-    (into_refused (is_dc bm) bm (with_dc components.Y) v k r s (same ∙ t.0) led so reads)
-unit_refused (parts.Dc components.U) u m i j r s v k rest near is led so reads =
-    let bm = block_at m i j in
-    let bu = block_at u i j in
-    let t = told_is (is_dc bu) (dc_told (predicted dc_of (dc_at components.U u) i j)) v is in
-    let same : is_dc bm ≡ is_dc bu = ap (λ (b : Block). is_dc b) rest in
-    let told : dc_told (predicted dc_of (dc_at components.U m) i j) ≡ v = ap (λ (w : ℤ). dc_told w) (dc_near components.U m u i j near) ∙ t.1 in
-    subst (λ (w : Told). read_into (is_dc bm) bm (with_dc components.U) (value_read w.range w.follow w.bits w.sign w.prediction) r ≡ Err (cause_of v k)) (sym told)
-    (into_refused (is_dc bm) bm (with_dc components.U) v k r s (same ∙ t.0) led so reads)
-unit_refused (parts.Dc components.V) u m i j r s v k rest near is led so reads =
-    let bm = block_at m i j in
-    let bu = block_at u i j in
-    let t = told_is (is_dc bu) (dc_told (predicted dc_of (dc_at components.V u) i j)) v is in
-    let same : is_dc bm ≡ is_dc bu = ap (λ (b : Block). is_dc b) rest in
-    let told : dc_told (predicted dc_of (dc_at components.V m) i j) ≡ v = ap (λ (w : ℤ). dc_told w) (dc_near components.V m u i j near) ∙ t.1 in
-    subst (λ (w : Told). read_into (is_dc bm) bm (with_dc components.V) (value_read w.range w.follow w.bits w.sign w.prediction) r ≡ Err (cause_of v k)) (sym told)
-    (into_refused (is_dc bm) bm (with_dc components.V) v k r s (same ∙ t.0) led so reads)
+unit_refused (parts.Across c) u m i j r s v k rest near is led so reads = told_refused (parts.Across c) (across_tells c) u m i j r s v k rest near is led so reads
+unit_refused (parts.Down c) u m i j r s v k rest near is led so reads = told_refused (parts.Down c) (down_tells c) u m i j r s v k rest near is led so reads
+unit_refused (parts.Dc c) u m i j r s v k rest near is led so reads = told_refused (parts.Dc c) (dc_tells c) u m i j r s v k rest near is led so reads
 
 unit_step_refused : (part : Part) (u m : BlockTable) (size i j : ℕ) (r s : Reading) (v : Told) (k : Break) → with_part part (block_at m i j) (block_at u i j) ≡ block_at u i j → Near m u i j
     → value_told part u i j ≡ Some v → IsLed r → IsBreak v k → Reads r (broken_part v k) s → unit_step part size i j (progress m r) ≡ Err (cause_of v k)
@@ -141,17 +92,8 @@ row_refused part u m size i j count n r s v k inv toward units fits some few hy 
     let parted = reads_parted r s (unit_row (part_at part u) size i j n) (broken_part v k) led reads in
     let g = row_goes part u m size i j count n r parted.mid inv toward units fits some (omega arith) before over led parted.first in
     let place : (n + 1) * size ≤ count * size = mul-le (n + 1) size count size (omega arith) (omega arith) in
-    let near_left : SameWithin g.table u (i + n * size) (j + 1) = record {
-      each = λ x y p q.
-          elim (cases_lt x i) [
-            | inl l ↦ g.keeps x y (omega arith) (before.each x y l (omega arith))
-            | inr l ↦ elim (cases_lt y j) [
-              | inl o ↦ g.keeps x y (omega arith) (over.each x y (omega arith) o)
-              | inr o ↦ g.inside x y l p o (omega arith)
-            ]
-          ];
-    } in
-    let near_over : SameWithin g.table u (i + n * size + 1) j = record { each = λ x y p q. g.keeps x y (omega arith) (over.each x y (omega arith) q) } in
+    let near_left = grown (j + 1) (omega arith) (omega arith) (omega arith) (omega arith) g before over in
+    let near_over = kept (i + n * size + 1) j (omega arith) (omega arith) (omega arith) g over in
     let led' = led_more r parted.mid (unit_row (part_at part u) size i j n) led parted.first in
     let refused = unit_step_refused part u g.table size (i + n * size) j parted.mid s v k (g.toward.rest (i + n * size) j (omega arith) hy)
     (near_within g.table u (i + n * size) j near_left near_over) is led' so parted.then in
@@ -171,17 +113,8 @@ rows_refused part u m size across i j count n a r s v k inv toward units fits so
     let parted = reads_parted r s d (e ++ broken_part v k) led joined in
     let g = rows_go part u m size across i j count n r parted.mid inv toward units fits some (omega arith) before over led parted.first in
     let place : (n + 1) * size ≤ count * size = mul-le (n + 1) size count size (omega arith) (omega arith) in
-    let near_left : SameWithin g.table u i (j + n * size + size) = record { each = λ x y p q. g.keeps x y (omega arith) (before.each x y p (omega arith)) } in
-    let near_over : SameWithin g.table u (i + across * size) (j + n * size) = record {
-      each = λ x y p q.
-          elim (cases_lt x i) [
-            | inl l ↦ g.keeps x y (omega arith) (before.each x y l (omega arith))
-            | inr l ↦ elim (cases_lt y j) [
-              | inl o ↦ g.keeps x y (omega arith) (over.each x y p o)
-              | inr o ↦ g.inside x y l p o q
-            ]
-          ];
-    } in
+    let near_left = kept i (j + n * size + size) (omega arith) (omega arith) (omega arith) g before in
+    let near_over = grown (j + n * size) (omega arith) (omega arith) (omega arith) (omega arith) g before over in
     let led' = led_more r parted.mid d led parted.first in
     let refused = row_refused part u g.table size i (j + n * size) across a parted.mid s v k inv g.toward (λ b l. units b n l few) fits some hx (omega arith) near_left near_over is led' so parted.then in
     repeated_stops (λ b. unit_row_step part size i (j + b * size) across) n count (progress m r) (progress g.table parted.mid) (cause_of v k) few g.is refused
@@ -221,14 +154,8 @@ superblocks_refused part u m sx sy n a r s v k inv toward hx hy few some over is
     let joined : Reads r (d ++ (e ++ broken_part v k)) s = subst (λ (ds : List Decision). Reads r ds s) (append_assoc d e (broken_part v k)) reads in
     let parted = reads_parted r s d (e ++ broken_part v k) led joined in
     let g = superblocks_go part u m sy sx r parted.mid inv toward (omega arith) hy over led parted.first in
-    let near_left : SameWithin g.table u (4 * sx) (4 * sy + 4) = record {
-      each = λ x y p q.
-          elim (cases_lt y (4 * sy)) [
-            | inl o ↦ g.keeps x y (omega arith) (over.each x y (omega arith) o)
-            | inr o ↦ g.inside x y (omega arith) p o q
-          ];
-    } in
-    let near_over : SameWithin g.table u (4 * sx + 4) (4 * sy) = record { each = λ x y p q. g.keeps x y (omega arith) (over.each x y (omega arith) q) } in
+    let near_left = grown (4 * sy + 4) (omega arith) (omega arith) (omega arith) (omega arith) g (none_left (4 * sy + 4)) over in
+    let near_over = kept (4 * sx + 4) (4 * sy) (omega arith) (omega arith) (omega arith) g over in
     let led' = led_more r parted.mid d led parted.first in
     let refused = superblock_refused part u g.table sx sy n a parted.mid s v k inv g.toward hx hy few some near_left near_over is led' so parted.then in
     repeated_stops (superblock_step part sy) sx u.across (progress m r) (progress g.table parted.mid) (cause_of v k) hx g.is refused
@@ -247,7 +174,7 @@ list_refused part u m sx sy n a r s v k inv toward hx hy few some is led so read
     let joined : Reads r (d ++ (e ++ broken_part v k)) s = subst (λ (ds : List Decision). Reads r ds s) (append_assoc d e (broken_part v k)) reads in
     let parted = reads_parted r s d (e ++ broken_part v k) led joined in
     let g = superblock_rows_go part u m sy r parted.mid inv toward (omega arith) led parted.first in
-    let near_over : SameWithin g.table u (4 * u.across) (4 * sy) = record { each = λ x y p q. g.inside x y (omega arith) p (omega arith) q } in
+    let near_over = grown (4 * sy) (omega arith) (omega arith) (omega arith) (omega arith) g (none_left (4 * sy)) (none_above (4 * u.across)) in
     let led' = led_more r parted.mid d led parted.first in
     let refused = superblocks_refused part u g.table sx sy n a parted.mid s v k inv g.toward hx hy few some near_over is led' so parted.then in
     repeated_stops (λ y. repeated (superblock_step part y) u.across) sy u.down (progress m r) (progress g.table parted.mid) (cause_of v k) hy g.is refused
@@ -267,6 +194,5 @@ broken_is_refused part former block e inv h =
     let refused = list_refused part t former h.sx h.sy h.v h.u (begin block) (after_all (begin block) ds) h.told h.breaks h.lawful toward h.column h.row h.few h.some h.is
     (led_begin block) h.breaks_so (carried_reads block ds h.carried) in
     let at_across : repeated (λ y. repeated (superblock_step part y) former.across) former.down (progress former (begin block)) ≡ Err (cause_of h.told h.breaks) =
-    subst (λ (n : ℕ). repeated (λ y. repeated (superblock_step part y) n) former.down (progress former (begin block)) ≡ Err (cause_of h.told h.breaks)) shape.across
-    (subst (λ (n : ℕ). repeated (λ y. repeated (superblock_step part y) t.across) n (progress former (begin block)) ≡ Err (cause_of h.told h.breaks)) shape.down refused) in
+    repeated_sizes (superblock_step part) (progress former (begin block)) shape.across shape.down refused in
     at_across ∙ ap Err (sym h.cause_is)

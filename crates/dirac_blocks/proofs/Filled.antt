@@ -1,12 +1,13 @@
 -- A table with a unit filled in, block by block.
-use Rattle.std.proofs.Common.{◌≡◌, ℕ, ◌+◌, ◌-◌, ◌*◌, ◌/◌, ◌%◌, ◌<◌, ◌≤◌, ◌⊎◌, inl, inr, sym, ap, ◌∙◌, arith, subst, List, length, get_or, ext_get_or}
+use Rattle.std.proofs.Common.{◌≡◌, ℕ, ◌+◌, ◌-◌, ◌*◌, ◌/◌, ◌%◌, ◌<◌, ◌≤◌, ◌⊎◌, inl, inr, sym, ap, ap₂, ◌∙◌, arith, subst, List, length, get_or, ext_get_or}
 use Rattle.std.proofs.lemmas.Bool.{cases_lt, cases_eq}
 use Rattle.std.proofs.lemmas.Nat.{mul-le}
 use Rattle.dirac_blocks.specs.declared.block.Block.{Block}
 use Rattle.dirac_blocks.specs.Grammar.{with_unit}
 use Rattle.dirac_blocks.specs.Reached.{IsUnit, SameShape}
 use Rattle.dirac_blocks.specs.Tables.{BlockTable, IsBlockTable, grey, block_at, split_at, unit_size, first_of}
-use Rattle.dirac_blocks.proofs.Fills.{rows_are_filled, unit_placed, split_few, unit_ends}
+use Rattle.dirac_blocks.proofs.Fills.{filled_outside, split_few, unit_ends}
+use Rattle.dirac_blocks.proofs.Putting.{IsOutside}
 use Rattle.dirac_blocks.proofs.Units.{of_splits}
 
 -- the unit of a column
@@ -39,18 +40,6 @@ square t size i j inv k x y left right top bottom =
     ap (λ (n : ℕ). block_at t n y) (sym px) ∙ ap (λ (n : ℕ). block_at t (4 * k.sx + p) n) (sym qy) ∙ same
     ∙ ap (λ (n : ℕ). block_at t n (4 * k.sy + first_of s q)) fi ∙ ap (λ (n : ℕ). block_at t i n) fj
 
--- the blocks of the unit are filled
-pub filled_inside : (t : BlockTable) (size i j : ℕ) (b : Block) → IsBlockTable t → IsUnit t size i j
-    → (x y : ℕ) → i ≤ x → x < i + size → j ≤ y → y < j + size → block_at (with_unit t size i j b) x y ≡ b
-filled_inside t size i j b inv k x y left right top bottom =
-    let placed = unit_placed t size i j inv k in
-    let f = rows_are_filled (4 * t.across) t.blocks size i j b size placed.columns placed.rows in
-    let new = with_unit t size i j b in
-    let px : i + (x - i) ≡ x = omega arith in
-    let qy : j + (y - j) ≡ y = omega arith in
-    let here : block_at new (i + (x - i)) (j + (y - j)) ≡ b = f.done (x - i) (y - j) (omega arith) (omega arith) in
-    ap (λ (n : ℕ). block_at new n y) (sym px) ∙ ap (λ (n : ℕ). block_at new (i + (x - i)) n) (sym qy) ∙ here
-
 -- where a block stands in a unit
 pub record InSquare (size i j x y : ℕ) : Type 0 where
   pub left : i ≤ x
@@ -62,16 +51,15 @@ pub record InSquare (size i j x y : ℕ) : Type 0 where
 pub filled_or_same : (t : BlockTable) (size i j : ℕ) (b : Block) → IsBlockTable t → IsUnit t size i j
     → (x y : ℕ) → x < 4 * t.across → InSquare size i j x y ⊎ (block_at (with_unit t size i j b) x y ≡ block_at t x y)
 filled_or_same t size i j b inv k x y inside =
-    let placed = unit_placed t size i j inv k in
-    let f = rows_are_filled (4 * t.across) t.blocks size i j b size placed.columns placed.rows in
+    let stays = λ (o : IsOutside i (i + size) j (j + size) x y). filled_outside t size i j b inv k x y inside o in
     elim (cases_lt x i) [
-      | inl l ↦ inr (f.before x y inside l)
+      | inl l ↦ inr (stays (inl (inl l)))
       | inr a ↦ elim (cases_lt x (i + size)) [
-        | inr l ↦ inr (f.after x y inside l)
+        | inr l ↦ inr (stays (inl (inr l)))
         | inl c ↦ elim (cases_lt y j) [
-          | inl l ↦ inr (f.over x y inside l)
+          | inl l ↦ inr (stays (inr (inl l)))
           | inr d ↦ elim (cases_lt y (j + size)) [
-            | inr l ↦ inr (f.under x y inside l)
+            | inr l ↦ inr (stays (inr (inr l)))
             | inl e ↦ inl (record { left = a; right = c; top = d; bottom = e })
           ]
         ]
@@ -101,18 +89,19 @@ place_row w h k l =
     past : (w h k : ℕ) → h ≤ k / w → k % w < w → k / w * w + k % w ≡ k → k < h * w → ⊥
     past w h k b rest parts l = let m : h * w ≤ k / w * w = mul-le h w (k / w) w b (omega arith) in omega arith
 
+-- lists by rows that are the same at each place are one
+pub same_places : {A : Type 0} (d : A) (xs ys : List A) (w h : ℕ) → length xs ≡ h * w → length ys ≡ h * w
+    → ((x y : ℕ) → x < w → y < h → get_or xs (y * w + x) d ≡ get_or ys (y * w + x) d) → xs ≡ ys
+same_places d xs ys w h p q all =
+    ext_get_or d xs ys (p ∙ sym q) (λ k l.
+    let parts = place_row w h k (omega arith) in
+    ap (λ (n : ℕ). get_or xs n d) (sym parts.3) ∙ all (k % w) (k / w) parts.2 parts.1 ∙ ap (λ (n : ℕ). get_or ys n d) parts.3)
+
 -- tables of one shape whose blocks are the same are one
 pub one_table : (t u : BlockTable) → IsBlockTable t → IsBlockTable u → SameShape u t
     → ((x y : ℕ) → x < 4 * u.across → y < 4 * u.down → block_at t x y ≡ block_at u x y) → t ≡ u
 one_table t u inv inv' s all =
     let w : 4 * t.across ≡ 4 * u.across = ap (λ (n : ℕ). 4 * n) s.across in
-    let lens : length t.blocks ≡ length u.blocks =
-    inv.blocks_len ∙ ap (λ (n : ℕ). 4 * n * (4 * t.across)) s.down ∙ ap (λ (n : ℕ). 4 * u.down * n) w ∙ sym inv'.blocks_len in
     same_table t u s.across s.down s.refs s.splits
-    (ext_get_or grey t.blocks u.blocks lens
-    (λ k l.
-    let parts = place_row (4 * u.across) (4 * u.down) k (omega (arith, inv'.blocks_len)) in
-    let here = all (k % (4 * u.across)) (k / (4 * u.across)) parts.2 parts.1 in
-    let wide : get_or t.blocks (k / (4 * u.across) * (4 * u.across) + k % (4 * u.across)) grey ≡ get_or u.blocks (k / (4 * u.across) * (4 * u.across) + k % (4 * u.across)) grey =
-    ap (λ (n : ℕ). get_or t.blocks (k / (4 * u.across) * n + k % (4 * u.across)) grey) (sym w) ∙ here in
-    ap (λ (n : ℕ). get_or t.blocks n grey) (sym parts.3) ∙ wide ∙ ap (λ (n : ℕ). get_or u.blocks n grey) parts.3))
+    (same_places grey t.blocks u.blocks (4 * u.across) (4 * u.down) (inv.blocks_len ∙ ap₂ (λ (h k : ℕ). 4 * h * k) s.down w) inv'.blocks_len
+    (λ x y p q. ap (λ (n : ℕ). get_or t.blocks (y * n + x) grey) (sym w) ∙ all x y p q))

@@ -1,5 +1,5 @@
 -- The blocks of a unit are filled in row by row.
-use Rattle.std.proofs.Common.{◌≡◌, ℕ, zero, suc, ◌+◌, ◌-◌, ◌*◌, ◌/◌, ◌^◌, ◌<◌, ◌≤◌, inl, inr, refl, arith, subst, sym, ap, ◌∙◌, List, length, get_or, set, slice_set, length-set, All}
+use Rattle.std.proofs.Common.{◌≡◌, ℕ, zero, suc, ◌+◌, ◌-◌, ◌*◌, ◌/◌, ◌^◌, ◌<◌, ◌≤◌, ◌⊎◌, inl, inr, refl, arith, subst, sym, ap, ◌∙◌, List, length, get_or, set, slice_set, length-set, All}
 use Rattle.std.proofs.lemmas.Bool.{cases_eq, cases_lt}
 use Rattle.std.proofs.lemmas.List.{get_or-set_same, get_or-set_other}
 use Rattle.std.proofs.lemmas.List.Elements.{All-set}
@@ -8,9 +8,9 @@ use native.Mathlib.Numerals.{unary_clauses}
 use Rattle.dirac_blocks.specs.declared.block.Block.{Block}
 use Rattle.dirac_blocks.specs.Grammar.{row_filled, rows_filled, with_split, with_unit}
 use Rattle.dirac_blocks.specs.Reached.{AllGrey, IsUnit}
-use Rattle.dirac_blocks.specs.Tables.{BlockTable, IsBlock, IsBlockTable, grey, split_at, block_in, unit_size, first_of}
-use Rattle.dirac_blocks.proofs.Putting.{split_inside}
-use Rattle.dirac_blocks.proofs.Units.{of_splits, first_below, first_alike, size_some}
+use Rattle.dirac_blocks.specs.Tables.{BlockTable, IsBlock, IsBlockTable, grey, split_at, block_at, block_in, unit_size, first_of}
+use Rattle.dirac_blocks.proofs.Putting.{IsOutside, row_outside, split_inside}
+use Rattle.dirac_blocks.proofs.Units.{of_splits, first_below, first_alike}
 
 pub row_filled_next : (blocks : List Block) (start : ℕ) (b : Block) (n : ℕ) → row_filled blocks start b (n + 1) ≡ slice_set (row_filled blocks start b n) (start + n) b
 unfolding row_filled
@@ -59,62 +59,17 @@ rows_all P width blocks size i j b zero here all = all
 rows_all P width blocks size i j b (suc n) here all =
     row_all P (rows_filled width blocks size i j b n) ((j + n) * width + i) b size here (rows_all P width blocks size i j b n here all)
 
--- a row that is filled changes places of its own row alone
-row_over : (w a z size : ℕ) (b : Block) (old new : List Block) → RowIsFilled (z * w + a) b size old new
-    → (x y : ℕ) → x < w → y < z → get_or new (y * w + x) grey ≡ get_or old (y * w + x) grey
-row_over w a z size b old new r x y h l =
-    let below : (y + 1) * w ≤ z * w = mul-le (y + 1) w z w (omega arith) (omega arith) in
-    r.before (y * w + x) (omega arith)
-
-row_under : (w a z size : ℕ) (b : Block) (old new : List Block) → a + size ≤ w → RowIsFilled (z * w + a) b size old new
-    → (x y : ℕ) → x < w → z < y → get_or new (y * w + x) grey ≡ get_or old (y * w + x) grey
-row_under w a z size b old new room r x y h l =
-    let above : (z + 1) * w ≤ y * w = mul-le (z + 1) w y w (omega arith) (omega arith) in
-    r.after (y * w + x) (omega arith)
-
-row_left : (w a z size : ℕ) (b : Block) (old new : List Block) → a + size ≤ w → RowIsFilled (z * w + a) b size old new
-    → (x y : ℕ) → x < w → x < a → get_or new (y * w + x) grey ≡ get_or old (y * w + x) grey
-row_left w a z size b old new room r x y h l =
-    elim (cases_lt y z) [
-      | inl p ↦ row_over w a z size b old new r x y h p
-      | inr p ↦ elim (cases_eq y z) [
-        | inl e ↦ let same : y * w ≡ z * w = ap (λ k. k * w) e in r.before (y * w + x) (omega arith)
-        | inr c ↦ row_under w a z size b old new room r x y h (omega arith)
-      ]
-    ]
-
-row_right : (w a z size : ℕ) (b : Block) (old new : List Block) → a + size ≤ w → RowIsFilled (z * w + a) b size old new
-    → (x y : ℕ) → x < w → a + size ≤ x → get_or new (y * w + x) grey ≡ get_or old (y * w + x) grey
-row_right w a z size b old new room r x y h l =
-    elim (cases_lt y z) [
-      | inl p ↦ row_over w a z size b old new r x y h p
-      | inr p ↦ elim (cases_eq y z) [
-        | inl e ↦ let same : y * w ≡ z * w = ap (λ k. k * w) e in r.after (y * w + x) (omega arith)
-        | inr c ↦ row_under w a z size b old new room r x y h (omega arith)
-      ]
-    ]
-
 -- n rows of `size` blocks from column `left` and row `top` on are b; all else stays
 pub record RowsAreFilled (width left top size : ℕ) (b : Block) (n : ℕ) (old new : List Block) : Type 0 where
   pub len : length new ≡ length old
   pub done : (i j : ℕ) → i < size → j < n → get_or new ((top + j) * width + (left + i)) grey ≡ b
-  pub before : (x y : ℕ) → x < width → x < left → get_or new (y * width + x) grey ≡ get_or old (y * width + x) grey
-  pub after : (x y : ℕ) → x < width → left + size ≤ x → get_or new (y * width + x) grey ≡ get_or old (y * width + x) grey
-  pub over : (x y : ℕ) → x < width → y < top → get_or new (y * width + x) grey ≡ get_or old (y * width + x) grey
-  pub under : (x y : ℕ) → x < width → top + n ≤ y → get_or new (y * width + x) grey ≡ get_or old (y * width + x) grey
+  pub outside : (x y : ℕ) → x < width → IsOutside left (left + size) top (top + n) x y → get_or new (y * width + x) grey ≡ get_or old (y * width + x) grey
 
 pub rows_are_filled : (w : ℕ) (blocks : List Block) (size left top : ℕ) (b : Block) (n : ℕ) → left + size ≤ w → (top + n) * w ≤ length blocks
     → RowsAreFilled w left top size b n blocks (rows_filled w blocks size left top b n)
 unfolding rows_filled
 rows_are_filled w blocks size left top b zero room fits =
-    record {
-      len = refl;
-      done = λ i j p l. absurd (omega arith);
-      before = λ x y p l. refl;
-      after = λ x y p l. refl;
-      over = λ x y p l. refl;
-      under = λ x y p l. refl;
-    }
+    record { len = refl; done = λ i j p l. absurd (omega arith); outside = λ x y p o. refl }
 rows_are_filled w blocks size left top b (suc n) room fits =
     let z = top + n in
     let below : (top + n) * w ≤ (top + suc n) * w = mul-le (top + n) w (top + suc n) w (omega arith) (omega arith) in
@@ -124,6 +79,7 @@ rows_are_filled w blocks size left top b (suc n) room fits =
     let inside : z * w + left + size ≤ length mid = omega (arith, s.len) in
     let new = row_filled mid (z * w + left) b size in
     let r = row_is_filled mid (z * w + left) b size inside in
+    let others = row_outside w left z size mid new room r.before r.after in
     record {
       len = r.len ∙ s.len;
       done = λ i j p l.
@@ -132,26 +88,21 @@ rows_are_filled w blocks size left top b (suc n) room fits =
                 let at : (z * w + left) + i ≡ z * w + (left + i) = omega arith in
                 let here : get_or new (z * w + (left + i)) grey ≡ b = ap (λ k. get_or new k grey) (sym at) ∙ r.done i p in
                 rw e here
-            | inr not ↦ row_over w left z size b mid new r (left + i) (top + j) (omega arith) (omega arith) ∙ s.done i j p (omega arith)
+            | inr not ↦ others (left + i) (top + j) (omega arith) (inr (inl (omega arith))) ∙ s.done i j p (omega arith)
           ];
-      before = λ x y p l. row_left w left z size b mid new room r x y p l ∙ s.before x y p l;
-      after = λ x y p l. row_right w left z size b mid new room r x y p l ∙ s.after x y p l;
-      over = λ x y p l. row_over w left z size b mid new r x y p (omega arith) ∙ s.over x y p l;
-      under = λ x y p l. row_under w left z size b mid new room r x y p (omega arith) ∙ s.under x y p (omega arith);
+      outside = λ x y p o.
+          elim o [
+            | inl a ↦ others x y p (inl a) ∙ s.outside x y p (inl a)
+            | inr a ↦ elim a [
+              | inl l ↦ others x y p (inr (inl (omega arith))) ∙ s.outside x y p (inr (inl l))
+              | inr l ↦ others x y p (inr (inr (omega arith))) ∙ s.outside x y p (inr (inr (omega arith)))
+            ]
+          ];
     }
 
--- the columns of a unit, counted in its superblock
-unit_from : (split i u : ℕ) → split ≤ 2 → i / unit_size split ≡ u → u * unit_size split ≤ i
-unit_from split i u h = of_splits (λ s. i / unit_size s ≡ u → u * unit_size s ≤ i) split h (λ e. omega arith) (λ e. omega arith) (λ e. omega arith)
-
-unit_to : (split i u : ℕ) → split ≤ 2 → i / unit_size split ≡ u → i < u * unit_size split + unit_size split
-unit_to split i u h = of_splits (λ s. i / unit_size s ≡ u → i < u * unit_size s + unit_size s) split h (λ e. omega arith) (λ e. omega arith) (λ e. omega arith)
-
-unit_left : (split i u : ℕ) → split ≤ 2 → i / unit_size split < u → i < u * unit_size split
-unit_left split i u h = of_splits (λ s. i / unit_size s < u → i < u * unit_size s) split h (λ e. omega arith) (λ e. omega arith) (λ e. omega arith)
-
-unit_right : (split i u : ℕ) → split ≤ 2 → u < i / unit_size split → u * unit_size split + unit_size split ≤ i
-unit_right split i u h = of_splits (λ s. u < i / unit_size s → u * unit_size s + unit_size s ≤ i) split h (λ e. omega arith) (λ e. omega arith) (λ e. omega arith)
+-- what holds of the sizes of units holds of each size
+of_size : (P : ℕ → Type 0) (split size : ℕ) → split ≤ 2 → size ≡ unit_size split → P 4 → P 2 → P 1 → P size
+of_size P split size h is p q r = subst P (sym is) (of_splits (λ s. P (unit_size s)) split h p q r)
 
 pub unit_ends : (split u : ℕ) → split ≤ 2 → u < 2 ^ split → u * unit_size split + unit_size split ≤ 4
 unit_ends split u h = of_splits (λ s. u < 2 ^ s → u * unit_size s + unit_size s ≤ 4) split h (λ e. omega arith) (λ e. omega arith) (λ e. omega arith)
@@ -167,9 +118,6 @@ pub record IsPlaced (t : BlockTable) (size i j : ℕ) : Type 0 where
 pub split_few : (t : BlockTable) (sx sy : ℕ) → IsBlockTable t → sx < t.across → sy < t.down → split_at t sx sy ≤ 2
 split_few t sx sy inv hx hy = inv.splits (sy * t.across + sx) 0 (split_inside t sx sy inv hx hy)
 
-size_few : (split : ℕ) → split ≤ 2 → unit_size split ≤ 4
-size_few split h = of_splits (λ s. unit_size s ≤ 4) split h (omega arith) (omega arith) (omega arith)
-
 pub unit_placed : (t : BlockTable) (size i j : ℕ) → IsBlockTable t → IsUnit t size i j → IsPlaced t size i j
 unit_placed t size i j inv k =
     let s = split_at t k.sx k.sy in
@@ -181,76 +129,67 @@ unit_placed t size i j inv k =
     let within : j + size ≤ 4 * t.down = omega (arith, k.down) in
     let whole = mul-le (j + size) (4 * t.across) (4 * t.down) (4 * t.across) within (omega arith) in
     record {
-      few = subst (λ (n : ℕ). n ≤ 4) (sym k.is) (size_few s two);
-      some = subst (λ (n : ℕ). 1 ≤ n) (sym k.is) (size_some s two);
+      few = of_size (λ n. n ≤ 4) s size two k.is (omega arith) (omega arith) (omega arith);
+      some = of_size (λ n. 1 ≤ n) s size two k.is (omega arith) (omega arith) (omega arith);
       columns = omega (arith, k.across);
       rows = omega (arith, whole, inv.blocks_len);
       row = within;
     }
 
+-- the blocks of the unit are filled
+pub filled_inside : (t : BlockTable) (size i j : ℕ) (b : Block) → IsBlockTable t → IsUnit t size i j
+    → (x y : ℕ) → i ≤ x → x < i + size → j ≤ y → y < j + size → block_at (with_unit t size i j b) x y ≡ b
+filled_inside t size i j b inv k x y left right top bottom =
+    let placed = unit_placed t size i j inv k in
+    let f = rows_are_filled (4 * t.across) t.blocks size i j b size placed.columns placed.rows in
+    let new = with_unit t size i j b in
+    let px : i + (x - i) ≡ x = omega arith in
+    let qy : j + (y - j) ≡ y = omega arith in
+    let here : block_at new (i + (x - i)) (j + (y - j)) ≡ b = f.done (x - i) (y - j) (omega arith) (omega arith) in
+    ap (λ (n : ℕ). block_at new n y) (sym px) ∙ ap (λ (n : ℕ). block_at new (i + (x - i)) n) (sym qy) ∙ here
+
+-- and all others stay
+pub filled_outside : (t : BlockTable) (size i j : ℕ) (b : Block) → IsBlockTable t → IsUnit t size i j
+    → (x y : ℕ) → x < 4 * t.across → IsOutside i (i + size) j (j + size) x y → block_at (with_unit t size i j b) x y ≡ block_at t x y
+filled_outside t size i j b inv k =
+    let placed = unit_placed t size i j inv k in
+    (rows_are_filled (4 * t.across) t.blocks size i j b size placed.columns placed.rows).outside
+
+-- a column or row of a superblock that is one of the unit's
+unit_span : (split size p u : ℕ) → split ≤ 2 → size ≡ unit_size split → p / size ≡ u → (u * size ≤ p) × (p < u * size + size)
+unit_span split size p u h is =
+    of_size (λ n. p / n ≡ u → (u * n ≤ p) × (p < u * n + n)) split size h is (λ e. (omega arith, omega arith)) (λ e. (omega arith, omega arith)) (λ e. (omega arith, omega arith))
+
+-- and one that isn't
+unit_aside : (split size base first p u : ℕ) → split ≤ 2 → size ≡ unit_size split → first ≡ 4 * base + u * size → (p / size ≡ u → ⊥) → (4 * base + p < first) ⊎ (first + size ≤ 4 * base + p)
+unit_aside split size base first p u h is at not =
+    elim (cases_lt (p / size) u) [
+      | inl l ↦ let e : p < u * size = of_size (λ n. p / n < u → p < u * n) split size h is (λ e. omega arith) (λ e. omega arith) (λ e. omega arith) l in inl (omega arith)
+      | inr m ↦ let e : u * size + size ≤ p = of_size (λ n. u < p / n → u * n + n ≤ p) split size h is (λ e. omega arith) (λ e. omega arith) (λ e. omega arith) (omega arith) in inr (omega arith)
+    ]
+
 -- a block of the superblock is b where its column and row are the unit's, and stays where one isn't
 unit_inside : (t : BlockTable) (size i j : ℕ) (b : Block) → IsBlockTable t → (k : IsUnit t size i j)
     → (p q : ℕ) → p / size ≡ k.u → q / size ≡ k.v → block_in (with_unit t size i j b) k.sx k.sy p q ≡ b
 unit_inside t size i j b inv k p q hp hq =
-    let s = split_at t k.sx k.sy in
-    let two : s ≤ 2 = split_few t k.sx k.sy inv k.across k.down in
-    let placed = unit_placed t size i j inv k in
-    let f = rows_are_filled (4 * t.across) t.blocks size i j b size placed.columns placed.rows in
-    let is = k.is in
-    let p' : p / unit_size s ≡ k.u = subst (λ (n : ℕ). p / n ≡ k.u) is hp in
-    let q' : q / unit_size s ≡ k.v = subst (λ (n : ℕ). q / n ≡ k.v) is hq in
-    let p_from : k.u * size ≤ p = subst (λ (n : ℕ). k.u * n ≤ p) (sym is) (unit_from s p k.u two p') in
-    let p_to : p < k.u * size + size = subst (λ (n : ℕ). p < k.u * n + n) (sym is) (unit_to s p k.u two p') in
-    let q_from : k.v * size ≤ q = subst (λ (n : ℕ). k.v * n ≤ q) (sym is) (unit_from s q k.v two q') in
-    let q_to : q < k.v * size + size = subst (λ (n : ℕ). q < k.v * n + n) (sym is) (unit_to s q k.v two q') in
+    let two = split_few t k.sx k.sy inv k.across k.down in
+    let x = unit_span (split_at t k.sx k.sy) size p k.u two k.is hp in
+    let y = unit_span (split_at t k.sx k.sy) size q k.v two k.is hq in
     let column = k.column in
     let row = k.row in
-    let x : i + (p - k.u * size) ≡ 4 * k.sx + p = omega arith in
-    let y : j + (q - k.v * size) ≡ 4 * k.sy + q = omega arith in
-    let new = with_unit t size i j b in
-    let here : get_or new.blocks ((j + (q - k.v * size)) * (4 * t.across) + (i + (p - k.u * size))) grey ≡ b =
-    f.done (p - k.u * size) (q - k.v * size) (omega arith) (omega arith) in
-    subst (λ (m : ℕ). get_or new.blocks (m * (4 * t.across) + (4 * k.sx + p)) grey ≡ b) y
-    (subst (λ (m : ℕ). get_or new.blocks ((j + (q - k.v * size)) * (4 * t.across) + m) grey ≡ b) x here)
+    filled_inside t size i j b inv k (4 * k.sx + p) (4 * k.sy + q) (omega (arith, x.0)) (omega (arith, x.1)) (omega (arith, y.0)) (omega (arith, y.1))
 
--- a block beside the unit in its superblock's columns
-unit_beside : (t : BlockTable) (size i j : ℕ) (b : Block) → IsBlockTable t → (k : IsUnit t size i j)
-    → (p y : ℕ) → p < 4 → (p / size ≡ k.u → ⊥) → get_or (with_unit t size i j b).blocks (y * (4 * t.across) + (4 * k.sx + p)) grey ≡ get_or t.blocks (y * (4 * t.across) + (4 * k.sx + p)) grey
-unit_beside t size i j b inv k p y small not =
+unit_outside : (t : BlockTable) (size i j : ℕ) (b : Block) → IsBlockTable t → (k : IsUnit t size i j)
+    → (p q : ℕ) → p < 4 → (p / size ≡ k.u → ⊥) ⊎ (q / size ≡ k.v → ⊥) → block_in (with_unit t size i j b) k.sx k.sy p q ≡ block_in t k.sx k.sy p q
+unit_outside t size i j b inv k p q small o =
     let s = split_at t k.sx k.sy in
-    let two : s ≤ 2 = split_few t k.sx k.sy inv k.across k.down in
-    let placed = unit_placed t size i j inv k in
-    let f = rows_are_filled (4 * t.across) t.blocks size i j b size placed.columns placed.rows in
-    let is = k.is in
+    let two = split_few t k.sx k.sy inv k.across k.down in
     let across = k.across in
-    let column = k.column in
-    elim (cases_lt (p / size) k.u) [
-      | inl less ↦
-          let l : p < k.u * size = subst (λ (n : ℕ). p / n < k.u → p < k.u * n) (sym is) (unit_left s p k.u two) less in
-          f.before (4 * k.sx + p) y (omega arith) (omega arith)
-      | inr more ↦
-          let l : k.u * size + size ≤ p = subst (λ (n : ℕ). k.u < p / n → k.u * n + n ≤ p) (sym is) (unit_right s p k.u two) (omega arith) in
-          f.after (4 * k.sx + p) y (omega arith) (omega arith)
-    ]
-
--- a block above or below it in its superblock's rows
-unit_apart : (t : BlockTable) (size i j : ℕ) (b : Block) → IsBlockTable t → (k : IsUnit t size i j)
-    → (x q : ℕ) → x < 4 * t.across → (q / size ≡ k.v → ⊥) → get_or (with_unit t size i j b).blocks ((4 * k.sy + q) * (4 * t.across) + x) grey ≡ get_or t.blocks ((4 * k.sy + q) * (4 * t.across) + x) grey
-unit_apart t size i j b inv k x q inside not =
-    let s = split_at t k.sx k.sy in
-    let two : s ≤ 2 = split_few t k.sx k.sy inv k.across k.down in
-    let placed = unit_placed t size i j inv k in
-    let f = rows_are_filled (4 * t.across) t.blocks size i j b size placed.columns placed.rows in
-    let is = k.is in
-    let row = k.row in
-    elim (cases_lt (q / size) k.v) [
-      | inl less ↦
-          let l : q < k.v * size = subst (λ (n : ℕ). q / n < k.v → q < k.v * n) (sym is) (unit_left s q k.v two) less in
-          f.over x (4 * k.sy + q) inside (omega arith)
-      | inr more ↦
-          let l : k.v * size + size ≤ q = subst (λ (n : ℕ). k.v < q / n → k.v * n + n ≤ q) (sym is) (unit_right s q k.v two) (omega arith) in
-          f.under x (4 * k.sy + q) inside (omega arith)
-    ]
+    filled_outside t size i j b inv k (4 * k.sx + p) (4 * k.sy + q) (omega arith)
+    (elim o [
+      | inl not ↦ inl (unit_aside s size k.sx i p k.u two k.is k.column not)
+      | inr not ↦ inr (unit_aside s size k.sy j q k.v two k.is k.row not)
+    ])
 
 -- the blocks of all other superblocks stay
 unit_elsewhere : (t : BlockTable) (size i j : ℕ) (b : Block) → IsBlockTable t → (k : IsUnit t size i j)
@@ -258,25 +197,24 @@ unit_elsewhere : (t : BlockTable) (size i j : ℕ) (b : Block) → IsBlockTable 
 unit_elsewhere t size i j b inv k x y p q hx hy hp hq not =
     let s = split_at t k.sx k.sy in
     let two : s ≤ 2 = split_few t k.sx k.sy inv k.across k.down in
-    let placed = unit_placed t size i j inv k in
-    let f = rows_are_filled (4 * t.across) t.blocks size i j b size placed.columns placed.rows in
     let u_end : k.u * size + size ≤ 4 = subst (λ (n : ℕ). k.u * n + n ≤ 4) (sym k.is) (unit_ends s k.u two k.some) in
     let v_end : k.v * size + size ≤ 4 = subst (λ (n : ℕ). k.v * n + n ≤ 4) (sym k.is) (unit_ends s k.v two k.few) in
     let column = k.column in
     let row = k.row in
-    elim (cases_lt x k.sx) [
-      | inl left ↦ f.before (4 * x + p) (4 * y + q) (omega arith) (omega arith)
+    filled_outside t size i j b inv k (4 * x + p) (4 * y + q) (omega arith)
+    (elim (cases_lt x k.sx) [
+      | inl left ↦ inl (inl (omega arith))
       | inr l ↦ elim (cases_eq x k.sx) [
         | inl e ↦ elim (cases_lt y k.sy) [
-          | inl over ↦ f.over (4 * x + p) (4 * y + q) (omega arith) (omega arith)
+          | inl over ↦ inr (inl (omega arith))
           | inr m ↦ elim (cases_eq y k.sy) [
             | inl e' ↦ absurd (not e e')
-            | inr n ↦ f.under (4 * x + p) (4 * y + q) (omega arith) (omega arith)
+            | inr n ↦ inr (inr (omega arith))
           ]
         ]
-        | inr n ↦ f.after (4 * x + p) (4 * y + q) (omega arith) (omega arith)
+        | inr n ↦ inl (inr (omega arith))
       ]
-    ]
+    ])
 
 -- all blocks of each unit of the superblock are equal
 unit_equal : (t : BlockTable) (size i j : ℕ) (b : Block) → IsBlockTable t → (k : IsUnit t size i j) → (p q : ℕ) → p < 4 → q < 4
@@ -288,7 +226,6 @@ unit_equal t size i j b inv k p q hp hq =
     let p' = first_of s p in
     let q' = first_of s q in
     let p_small : p' < 4 = first_below s p two hp in
-    let q_small : q' < 4 = first_below s q two hq in
     let p_alike : p' / size ≡ p / size = subst (λ (n : ℕ). p' / n ≡ p / n) (sym is) (first_alike s p two hp) in
     let q_alike : q' / size ≡ q / size = subst (λ (n : ℕ). q' / n ≡ q / n) (sym is) (first_alike s q two hq) in
     let old = inv.units k.sx k.sy p q k.across k.down hp hq in
@@ -296,13 +233,9 @@ unit_equal t size i j b inv k p q hp hq =
     elim (cases_eq (p / size) k.u) [
       | inl hu ↦ elim (cases_eq (q / size) k.v) [
         | inl hv ↦ unit_inside t size i j b inv k p q hu hv ∙ sym (unit_inside t size i j b inv k p' q' (p_alike ∙ hu) (q_alike ∙ hv))
-        | inr nv ↦
-            unit_apart t size i j b inv k (4 * k.sx + p) q (omega arith) nv ∙ old
-            ∙ sym (unit_apart t size i j b inv k (4 * k.sx + p') q' (omega arith) (λ e. nv (sym q_alike ∙ e)))
+        | inr nv ↦ unit_outside t size i j b inv k p q hp (inr nv) ∙ old ∙ sym (unit_outside t size i j b inv k p' q' p_small (inr (λ e. nv (sym q_alike ∙ e))))
       ]
-      | inr nu ↦
-          unit_beside t size i j b inv k p (4 * k.sy + q) hp nu ∙ old
-          ∙ sym (unit_beside t size i j b inv k p' (4 * k.sy + q') p_small (λ e. nu (sym p_alike ∙ e)))
+      | inr nu ↦ unit_outside t size i j b inv k p q hp (inl nu) ∙ old ∙ sym (unit_outside t size i j b inv k p' q' p_small (inl (λ e. nu (sym p_alike ∙ e))))
     ]
 
 pub unit_lawful : (t : BlockTable) (size i j : ℕ) (b : Block) → IsBlockTable t → IsUnit t size i j → IsBlock t.refs b → IsBlockTable (with_unit t size i j b)

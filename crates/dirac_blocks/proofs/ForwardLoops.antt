@@ -1,30 +1,27 @@
 -- Lists of a table, unit by unit and superblock by superblock.
-use Rattle.std.proofs.Common.{◌≡◌, ℕ, zero, suc, ◌+◌, ◌*◌, ◌^◌, ◌<◌, ◌≤◌, inl, inr, Result, Ok, refl, sym, ap, ◌∙◌, arith, subst}
-use Rattle.std.proofs.lemmas.Bool.{cases_lt}
+use Rattle.std.proofs.Common.{◌≡◌, ℕ, zero, suc, ◌+◌, ◌*◌, ◌^◌, ◌<◌, ◌≤◌, inl, inr, Ok, refl, sym, ap, ◌∙◌, arith, subst}
 use Rattle.std.proofs.lemmas.Nat.{mul-le}
-use Rattle.dirac_types.specs.declared.faults.Cause.{Cause}
 use Rattle.dirac_arith.specs.Deciding.{begin, after_all}
 use Rattle.dirac_arith.specs.Reading.{Reading, Reads}
 use Rattle.dirac_arith.proofs.Carrieds.{IsLed}
 use Rattle.dirac_arith.proofs.Led.{led_begin, led_more, reads_parted, carried_reads}
 use Rattle.dirac_blocks.specs.declared.block.Block.{Block}
-use Rattle.dirac_blocks.specs.declared.parts.Component.TheVariants as components
 use Rattle.dirac_blocks.specs.declared.parts.Part.{Part}
-use Rattle.dirac_blocks.specs.declared.parts.Part.TheVariants as parts
-use Rattle.dirac_blocks.specs.declared.parts.Reference.TheVariants as references
 use Rattle.dirac_blocks.specs.Carried.{with_part}
 use Rattle.dirac_blocks.specs.Decisions.{unit_row, unit_rows, superblock_part, superblock_row, superblock_rows, unit_decisions}
-use Rattle.dirac_blocks.specs.Grammar.{Progress, Step, repeated, with_unit, unit_step, unit_row_step, unit_rows_step, superblock_step, units_step}
+use Rattle.dirac_blocks.specs.Grammar.{Step, repeated, with_unit, unit_step, unit_row_step, unit_rows_step, superblock_step, units_step}
 use Rattle.dirac_blocks.specs.Laws.{CarriedIsRead}
 use Rattle.dirac_blocks.specs.Parts.{part_at}
 use Rattle.dirac_blocks.specs.Reached.{SameShape, IsUnit, progress}
 use Rattle.dirac_blocks.specs.Tables.{BlockTable, IsBlock, IsBlockTable, block_at, split_at, unit_size}
-use Rattle.dirac_blocks.proofs.Filled.{square, filled_inside, filled_or_same, one_table}
-use Rattle.dirac_blocks.proofs.Fills.{unit_lawful, split_few, unit_placed}
+use Rattle.dirac_blocks.proofs.Filled.{square, filled_or_same, one_table}
+use Rattle.dirac_blocks.proofs.Fills.{filled_inside, unit_lawful, split_few, unit_placed}
 use Rattle.dirac_blocks.proofs.Forwards.{Meets, unit_forward}
+use Rattle.dirac_blocks.proofs.Going.{Goes, nothing_goes, beside_goes, below_goes, kept, grown, none_left, none_above}
 use Rattle.dirac_blocks.proofs.Nearby.{SameWithin, near_within, block_lawful}
-use Rattle.dirac_blocks.proofs.Repeating.{split_same, unit_same}
+use Rattle.dirac_blocks.proofs.Repeating.{repeated_sizes, split_same, unit_same}
 use Rattle.dirac_blocks.proofs.Units.{of_splits, size_some}
+use Rattle.dirac_blocks.proofs.Valued.{part_again}
 
 -- a table on its way to a finished one: what it lacks is in this part
 pub record Toward (part : Part) (m u : BlockTable) : Type 0 where
@@ -32,32 +29,18 @@ pub record Toward (part : Part) (m u : BlockTable) : Type 0 where
   pub shape : SameShape u m
   pub rest : (x y : ℕ) → x < 4 * u.across → y < 4 * u.down → with_part part (block_at m x y) (block_at u x y) ≡ block_at u x y
 
--- a step leads toward the finished table, and fills a rectangle
-pub record Goes (part : Part) (u : BlockTable) (step : Step) (m : BlockTable) (r s : Reading) (left right top bottom : ℕ) : Type 0 where
-  pub table : BlockTable
-  pub is : step (progress m r) ≡ Ok (progress table s)
-  pub toward : Toward part table u
-  pub inside : (x y : ℕ) → left ≤ x → x < right → top ≤ y → y < bottom → block_at table x y ≡ block_at u x y
-  pub keeps : (x y : ℕ) → x < 4 * u.across → block_at m x y ≡ block_at u x y → block_at table x y ≡ block_at u x y
+-- a step leads toward the finished table, and fills a rectangle of its blocks
+abbrev pub UnitsGo : Part → BlockTable → Step → BlockTable → Reading → Reading → ℕ → ℕ → ℕ → ℕ → Type 0
+UnitsGo part u step m r s left right top bottom = Goes (λ t. Toward part t u) block_at (4 * u.across) u step m r s left right top bottom
 
 -- a part that is told again is the same
 part_twice : (part : Part) (a b : Block) → with_part part a b ≡ b → with_part part b b ≡ b
-part_twice part a b is = subst (λ (x : Block). with_part part x b ≡ b) is (absorbs part a b ∙ is)
-  where
-    absorbs : (part : Part) (a b : Block) → with_part part (with_part part a b) b ≡ with_part part a b
-    absorbs parts.Modes a b = refl
-    absorbs (parts.Across references.First) a b = refl
-    absorbs (parts.Across references.Second) a b = refl
-    absorbs (parts.Down references.First) a b = refl
-    absorbs (parts.Down references.Second) a b = refl
-    absorbs (parts.Dc components.Y) a b = refl
-    absorbs (parts.Dc components.U) a b = refl
-    absorbs (parts.Dc components.V) a b = refl
+part_twice part a b is = subst (λ (x : Block). with_part part x b ≡ b) is (part_again part a b b ∙ is)
 
 -- a unit
 unit_goes : (part : Part) (u m : BlockTable) (size i j : ℕ) (r s : Reading) → IsBlockTable u → Toward part m u → IsUnit u size i j
     → SameWithin m u i (j + 1) → SameWithin m u (i + 1) j → IsLed r → Reads r (part_at part u i j) s
-    → Goes part u (unit_step part size i j) m r s i (i + size) j (j + size)
+    → UnitsGo part u (unit_step part size i j) m r s i (i + size) j (j + size)
 unfolding unit_step
 unit_goes part u m size i j r s inv toward unit before over led reads =
     let placed = unit_placed u size i j inv unit in
@@ -105,89 +88,39 @@ unit_goes part u m size i j r s inv toward unit before over led reads =
 pub row_goes : (part : Part) (u m : BlockTable) (size i j count n : ℕ) (r s : Reading) → IsBlockTable u → Toward part m u
     → ((k : ℕ) → k < count → IsUnit u size (i + k * size) j) → i + count * size ≤ 4 * u.across → 1 ≤ size → n ≤ count
     → SameWithin m u i (j + size) → SameWithin m u (i + count * size) j → IsLed r → Reads r (unit_row (part_at part u) size i j n) s
-    → Goes part u (unit_row_step part size i j n) m r s i (i + n * size) j (j + size)
+    → UnitsGo part u (unit_row_step part size i j n) m r s i (i + n * size) j (j + size)
 unfolding unit_row repeated
 row_goes part u m size i j count zero r s inv toward units fits some few before over led reads =
-    record {
-      table = m;
-      is = ap (λ (q : Reading). let x : Result Progress Cause = Ok (progress m q) in x) (sym reads.moved);
-      toward = toward;
-      inside = λ x y a c d e. absurd (omega arith);
-      keeps = λ x y p agree. agree;
-    }
+    nothing_goes refl toward reads (λ x y a b c d. omega arith)
 row_goes part u m size i j count (suc n) r s inv toward units fits some few before over led reads =
     let parted = reads_parted r s (unit_row (part_at part u) size i j n) (part_at part u (i + n * size) j) led reads in
     let g = row_goes part u m size i j count n r parted.mid inv toward units fits some (omega arith) before over led parted.first in
     let place : (n + 1) * size ≤ count * size = mul-le (n + 1) size count size (omega arith) (omega arith) in
-    let near_left : SameWithin g.table u (i + n * size) (j + 1) = record {
-      each = λ x y p q.
-          elim (cases_lt x i) [
-            | inl l ↦ g.keeps x y (omega arith) (before.each x y l (omega arith))
-            | inr l ↦ elim (cases_lt y j) [
-              | inl o ↦ g.keeps x y (omega arith) (over.each x y (omega arith) o)
-              | inr o ↦ g.inside x y l p o (omega arith)
-            ]
-          ];
-    } in
-    let near_over : SameWithin g.table u (i + n * size + 1) j = record { each = λ x y p q. g.keeps x y (omega arith) (over.each x y (omega arith) q) } in
+    let near_left = grown (j + 1) (omega arith) (omega arith) (omega arith) (omega arith) g before over in
+    let near_over = kept (i + n * size + 1) j (omega arith) (omega arith) (omega arith) g over in
     let led' = led_more r parted.mid (unit_row (part_at part u) size i j n) led parted.first in
     let h = unit_goes part u g.table size (i + n * size) j parted.mid s inv g.toward (units n (omega arith)) near_left near_over led' parted.then in
     let end : suc n * size ≡ n * size + size = omega arith in
-    record {
-      table = h.table;
-      is = rw g.is h.is;
-      toward = h.toward;
-      inside = λ x y a c d e.
-          elim (cases_lt x (i + n * size)) [
-            | inl l ↦ h.keeps x y (omega arith) (g.inside x y a l d e)
-            | inr l ↦ h.inside x y l (omega arith) d e
-          ];
-      keeps = λ x y p agree. h.keeps x y p (g.keeps x y p agree);
-    }
+    beside_goes (i + suc n * size) (omega arith) (omega arith) g h
 
 -- n rows of units
 pub rows_go : (part : Part) (u m : BlockTable) (size across i j count n : ℕ) (r s : Reading) → IsBlockTable u → Toward part m u
     → ((k l : ℕ) → k < across → l < count → IsUnit u size (i + k * size) (j + l * size)) → i + across * size ≤ 4 * u.across → 1 ≤ size → n ≤ count
     → SameWithin m u i (j + count * size) → SameWithin m u (i + across * size) j → IsLed r → Reads r (unit_rows (part_at part u) size across i j n) s
-    → Goes part u (unit_rows_step part size across i j n) m r s i (i + across * size) j (j + n * size)
+    → UnitsGo part u (unit_rows_step part size across i j n) m r s i (i + across * size) j (j + n * size)
 unfolding unit_rows repeated
 rows_go part u m size across i j count zero r s inv toward units fits some few before over led reads =
-    record {
-      table = m;
-      is = ap (λ (q : Reading). let x : Result Progress Cause = Ok (progress m q) in x) (sym reads.moved);
-      toward = toward;
-      inside = λ x y a c d e. absurd (omega arith);
-      keeps = λ x y p agree. agree;
-    }
+    nothing_goes refl toward reads (λ x y a b c d. omega arith)
 rows_go part u m size across i j count (suc n) r s inv toward units fits some few before over led reads =
     let parted = reads_parted r s (unit_rows (part_at part u) size across i j n) (unit_row (part_at part u) size i (j + n * size) across) led reads in
     let g = rows_go part u m size across i j count n r parted.mid inv toward units fits some (omega arith) before over led parted.first in
     let place : (n + 1) * size ≤ count * size = mul-le (n + 1) size count size (omega arith) (omega arith) in
-    let near_left : SameWithin g.table u i (j + n * size + size) = record { each = λ x y p q. g.keeps x y (omega arith) (before.each x y p (omega arith)) } in
-    let near_over : SameWithin g.table u (i + across * size) (j + n * size) = record {
-      each = λ x y p q.
-          elim (cases_lt x i) [
-            | inl l ↦ g.keeps x y (omega arith) (before.each x y l (omega arith))
-            | inr l ↦ elim (cases_lt y j) [
-              | inl o ↦ g.keeps x y (omega arith) (over.each x y p o)
-              | inr o ↦ g.inside x y l p o q
-            ]
-          ];
-    } in
+    let near_left = kept i (j + n * size + size) (omega arith) (omega arith) (omega arith) g before in
+    let near_over = grown (j + n * size) (omega arith) (omega arith) (omega arith) (omega arith) g before over in
     let led' = led_more r parted.mid (unit_rows (part_at part u) size across i j n) led parted.first in
     let h = row_goes part u g.table size i (j + n * size) across across parted.mid s inv g.toward (λ k l. units k n l (omega arith)) fits some (omega arith) near_left near_over led' parted.then in
     let end : suc n * size ≡ n * size + size = omega arith in
-    record {
-      table = h.table;
-      is = rw g.is h.is;
-      toward = h.toward;
-      inside = λ x y a c d e.
-          elim (cases_lt y (j + n * size)) [
-            | inl l ↦ h.keeps x y (omega arith) (g.inside x y a c d l)
-            | inr l ↦ h.inside x y a c l (omega arith)
-          ];
-      keeps = λ x y p agree. h.keeps x y p (g.keeps x y p agree);
-    }
+    below_goes (j + suc n * size) (omega arith) (omega arith) g h
 
 -- the units of a superblock fill it
 pub units_fill : (split : ℕ) → split ≤ 2 → 2 ^ split * unit_size split ≡ 4
@@ -200,7 +133,7 @@ unit_of_superblock u sx sy k l hx hy hk hl =
 
 superblock_goes : (part : Part) (u m : BlockTable) (sx sy : ℕ) (r s : Reading) → IsBlockTable u → Toward part m u → sx < u.across → sy < u.down
     → SameWithin m u (4 * sx) (4 * sy + 4) → SameWithin m u (4 * sx + 4) (4 * sy) → IsLed r → Reads r (superblock_part (part_at part u) u sx sy) s
-    → Goes part u (superblock_step part sy sx) m r s (4 * sx) (4 * sx + 4) (4 * sy) (4 * sy + 4)
+    → UnitsGo part u (superblock_step part sy sx) m r s (4 * sx) (4 * sx + 4) (4 * sy) (4 * sy + 4)
 unfolding superblock_step
 superblock_goes part u m sx sy r s inv toward hx hy before over led reads =
     let t = split_at u sx sy in
@@ -223,71 +156,33 @@ superblock_goes part u m sx sy r s inv toward hx hy before over led reads =
 -- n superblocks of a row
 pub superblocks_go : (part : Part) (u m : BlockTable) (sy n : ℕ) (r s : Reading) → IsBlockTable u → Toward part m u → n ≤ u.across → sy < u.down
     → SameWithin m u (4 * u.across) (4 * sy) → IsLed r → Reads r (superblock_row (part_at part u) u sy n) s
-    → Goes part u (λ x. repeated (superblock_step part sy) n x) m r s 0 (4 * n) (4 * sy) (4 * sy + 4)
+    → UnitsGo part u (λ x. repeated (superblock_step part sy) n x) m r s 0 (4 * n) (4 * sy) (4 * sy + 4)
 unfolding superblock_row repeated
 superblocks_go part u m sy zero r s inv toward few hy over led reads =
-    record {
-      table = m;
-      is = ap (λ (q : Reading). let x : Result Progress Cause = Ok (progress m q) in x) (sym reads.moved);
-      toward = toward;
-      inside = λ x y a c d e. absurd (omega arith);
-      keeps = λ x y p agree. agree;
-    }
+    nothing_goes refl toward reads (λ x y a b c d. omega arith)
 superblocks_go part u m sy (suc n) r s inv toward few hy over led reads =
     let parted = reads_parted r s (superblock_row (part_at part u) u sy n) (superblock_part (part_at part u) u n sy) led reads in
     let g = superblocks_go part u m sy n r parted.mid inv toward (omega arith) hy over led parted.first in
-    let near_left : SameWithin g.table u (4 * n) (4 * sy + 4) = record {
-      each = λ x y p q.
-          elim (cases_lt y (4 * sy)) [
-            | inl o ↦ g.keeps x y (omega arith) (over.each x y (omega arith) o)
-            | inr o ↦ g.inside x y (omega arith) p o q
-          ];
-    } in
-    let near_over : SameWithin g.table u (4 * n + 4) (4 * sy) = record { each = λ x y p q. g.keeps x y (omega arith) (over.each x y (omega arith) q) } in
+    let near_left = grown (4 * sy + 4) (omega arith) (omega arith) (omega arith) (omega arith) g (none_left (4 * sy + 4)) over in
+    let near_over = kept (4 * n + 4) (4 * sy) (omega arith) (omega arith) (omega arith) g over in
     let led' = led_more r parted.mid (superblock_row (part_at part u) u sy n) led parted.first in
     let h = superblock_goes part u g.table n sy parted.mid s inv g.toward (omega arith) hy near_left near_over led' parted.then in
-    record {
-      table = h.table;
-      is = rw g.is h.is;
-      toward = h.toward;
-      inside = λ x y a c d e.
-          elim (cases_lt x (4 * n)) [
-            | inl l ↦ h.keeps x y (omega arith) (g.inside x y a l d e)
-            | inr l ↦ h.inside x y l (omega arith) d e
-          ];
-      keeps = λ x y p agree. h.keeps x y p (g.keeps x y p agree);
-    }
+    beside_goes (4 * suc n) (omega arith) (omega arith) g h
 
 -- n rows of superblocks
 pub superblock_rows_go : (part : Part) (u m : BlockTable) (n : ℕ) (r s : Reading) → IsBlockTable u → Toward part m u → n ≤ u.down
     → IsLed r → Reads r (superblock_rows (part_at part u) u n) s
-    → Goes part u (λ x. repeated (λ sy. repeated (superblock_step part sy) u.across) n x) m r s 0 (4 * u.across) 0 (4 * n)
+    → UnitsGo part u (λ x. repeated (λ sy. repeated (superblock_step part sy) u.across) n x) m r s 0 (4 * u.across) 0 (4 * n)
 unfolding superblock_rows repeated
 superblock_rows_go part u m zero r s inv toward few led reads =
-    record {
-      table = m;
-      is = ap (λ (q : Reading). let x : Result Progress Cause = Ok (progress m q) in x) (sym reads.moved);
-      toward = toward;
-      inside = λ x y a c d e. absurd (omega arith);
-      keeps = λ x y p agree. agree;
-    }
+    nothing_goes refl toward reads (λ x y a b c d. omega arith)
 superblock_rows_go part u m (suc n) r s inv toward few led reads =
     let parted = reads_parted r s (superblock_rows (part_at part u) u n) (superblock_row (part_at part u) u n u.across) led reads in
     let g = superblock_rows_go part u m n r parted.mid inv toward (omega arith) led parted.first in
-    let near_over : SameWithin g.table u (4 * u.across) (4 * n) = record { each = λ x y p q. g.inside x y (omega arith) p (omega arith) q } in
+    let near_over = grown (4 * n) (omega arith) (omega arith) (omega arith) (omega arith) g (none_left (4 * n)) (none_above (4 * u.across)) in
     let led' = led_more r parted.mid (superblock_rows (part_at part u) u n) led parted.first in
     let h = superblocks_go part u g.table n u.across parted.mid s inv g.toward (omega arith) (omega arith) near_over led' parted.then in
-    record {
-      table = h.table;
-      is = rw g.is h.is;
-      toward = h.toward;
-      inside = λ x y a c d e.
-          elim (cases_lt y (4 * n)) [
-            | inl l ↦ h.keeps x y c (g.inside x y a c d l)
-            | inr l ↦ h.inside x y a c l (omega arith)
-          ];
-      keeps = λ x y p agree. h.keeps x y p (g.keeps x y p agree);
-    }
+    below_goes (4 * suc n) (omega arith) (omega arith) g h
 
 pub shape_back : (a b : BlockTable) → SameShape a b → SameShape b a
 shape_back a b s = record { across = sym s.across; down = sym s.down; refs = sym s.refs; splits = sym s.splits }
@@ -308,6 +203,5 @@ carried_is_read part former t block inv h =
     (carried_reads block (unit_decisions t (part_at part t)) h.carried) in
     let one : g.table ≡ t = one_table g.table t g.toward.lawful h.lawful g.toward.shape (λ x y p q. g.inside x y (omega arith) p (omega arith) q) in
     let at_across : repeated (λ sy. repeated (superblock_step part sy) former.across) former.down (progress former (begin block)) ≡ Ok (progress g.table s) =
-    subst (λ (n : ℕ). repeated (λ sy. repeated (superblock_step part sy) n) former.down (progress former (begin block)) ≡ Ok (progress g.table s)) rest.shape.across
-    (subst (λ (n : ℕ). repeated (λ sy. repeated (superblock_step part sy) t.across) n (progress former (begin block)) ≡ Ok (progress g.table s)) rest.shape.down g.is) in
+    repeated_sizes (superblock_step part) (progress former (begin block)) rest.shape.across rest.shape.down g.is in
     (s, subst (λ (x : BlockTable). units_step part (progress former (begin block)) ≡ Ok (progress x s)) one at_across)

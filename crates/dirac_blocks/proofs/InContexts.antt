@@ -1,13 +1,14 @@
 -- All decisions of a table's lists are in contexts that there are.
-use Rattle.std.proofs.Common.{◌≡◌, ◌-ℤ◌, ℕ, zero, suc, ℤ, ◌+◌, ◌*◌, ◌<◌, ◌==◌, min, Bool, true, false, List, [], ◌∷◌, slice_index, Option, Some, None, if◌then◌else◌, sym, subst, arith, lit<}
+use Rattle.std.proofs.Common.{◌≡◌, ◌-ℤ◌, ℕ, zero, suc, ℤ, ◌<◌, ◌==◌, min, Bool, true, false, List, [], ◌∷◌, slice_index, Option, Some, None, if◌then◌else◌, sym, subst, arith, lit<}
 use Rattle.dirac_arith.specs.Interval.{Decision, InContexts}
 use Rattle.dirac_arith.specs.Spelling.{follow_at, spelling}
 use Rattle.dirac_arith.proofs.InContexts.{AreBelow, in_append, in_signed, in_spelling}
 use Rattle.dirac_blocks.specs.declared.parts.Part.{Part}
 use Rattle.dirac_blocks.specs.declared.parts.Part.TheVariants as part
 use Rattle.dirac_blocks.specs.Tables.{BlockTable}
-use Rattle.dirac_blocks.specs.Decisions.{Numbers, UnitPart, less_prediction, split_row, split_rows, unit_row, unit_rows, superblock_part, superblock_row, superblock_rows}
+use Rattle.dirac_blocks.specs.Decisions.{Numbers, less_prediction, split_row, split_rows, superblock_rows}
 use Rattle.dirac_blocks.specs.Parts.{part_at}
+use Rattle.dirac_blocks.proofs.Narrowing.{superblock_rows_joins}
 
 two_below : (a b i : ℕ) → a < 38 → b < 38 → follow_at (a ∷ b ∷ []) i < 38
 two_below a b zero p q = p
@@ -39,31 +40,9 @@ in_part (part.Across r) t i j = in_less (27 ∷ 28 ∷ 29 ∷ 30 ∷ 31 ∷ []) 
 in_part (part.Down r) t i j = in_less (27 ∷ 28 ∷ 29 ∷ 30 ∷ 31 ∷ []) 32 33 _ _ (record { each = vector_below }) (lit< tt) (lit< tt)
 in_part (part.Dc c) t i j = in_less (34 ∷ 35 ∷ []) 36 37 _ _ (record { each = λ n. two_below 34 35 n (lit< tt) (lit< tt) }) (lit< tt) (lit< tt)
 
-in_unit_row : (p : UnitPart) (size i j n : ℕ) → ((i j : ℕ) → InContexts (p i j)) → InContexts (unit_row p size i j n)
-unfolding unit_row
-in_unit_row p size i j zero h = tt
-in_unit_row p size i j (suc n) h = in_append (unit_row p size i j n) (p (i + n * size) j) (in_unit_row p size i j n h) (h (i + n * size) j)
-
-in_unit_rows : (p : UnitPart) (size across i j n : ℕ) → ((i j : ℕ) → InContexts (p i j)) → InContexts (unit_rows p size across i j n)
-unfolding unit_rows
-in_unit_rows p size across i j zero h = tt
-in_unit_rows p size across i j (suc n) h =
-    in_append (unit_rows p size across i j n) (unit_row p size i (j + n * size) across) (in_unit_rows p size across i j n h) (in_unit_row p size i (j + n * size) across h)
-
-in_superblock_row : (p : UnitPart) (t : BlockTable) (sy n : ℕ) → ((i j : ℕ) → InContexts (p i j)) → InContexts (superblock_row p t sy n)
-unfolding superblock_row
-in_superblock_row p t sy zero h = tt
-in_superblock_row p t sy (suc n) h =
-    in_append (superblock_row p t sy n) (superblock_part p t n sy) (in_superblock_row p t sy n h) (in_unit_rows p _ _ _ _ _ h)
-
-pub in_superblock_rows : (p : UnitPart) (t : BlockTable) (n : ℕ) → ((i j : ℕ) → InContexts (p i j)) → InContexts (superblock_rows p t n)
-unfolding superblock_rows
-in_superblock_rows p t zero h = tt
-in_superblock_rows p t (suc n) h =
-    in_append (superblock_rows p t n) (superblock_row p t n t.across) (in_superblock_rows p t n h) (in_superblock_row p t n t.across h)
-
 pub in_parts : (p : Part) (t : BlockTable) (n : ℕ) → InContexts (superblock_rows (part_at p t) t n)
-in_parts p t n = in_superblock_rows (part_at p t) t n (in_part p t)
+in_parts p t n =
+    superblock_rows_joins (λ a b. InContexts a) (record { none = tt; both = λ a b c d x y. in_append a b x y }) (part_at p t) (part_at p t) t t.blocks n (in_part p t)
 
 in_split_row : (numbers : Numbers) (sy n : ℕ) → InContexts (split_row numbers sy n)
 unfolding split_row

@@ -9,6 +9,7 @@ pub mod Filled
 mod Fills
 mod ForwardLoops
 mod Forwards
+mod Going
 mod InContexts
 mod Narrowing
 pub mod Nearby
@@ -23,3 +24,4 @@ pub mod Spelled
 mod SplitsRefused
 pub mod Stages
 mod Units
+mod Valued

@@ -1,6 +1,6 @@
 -- Predictions read neighbours alone.
-use Rattle.std.proofs.Common.{◌≡◌, ℕ, ℤ, ◌+◌, ◌-◌, ◌*◌, ◌<◌, inl, inr, refl, sym, ap, arith, subst, length, Option, Some, None, Bool, true, false}
-use Rattle.std.specs.Prelude.{option_map, pos}
+use Rattle.std.proofs.Common.{◌≡◌, ℕ, ℤ, ◌+◌, ◌-◌, ◌*◌, inl, inr, refl, sym, ap, arith, subst, length, Option, Some, None, Bool, true, false}
+use Rattle.std.specs.Prelude.{option_map}
 use Rattle.std.proofs.lemmas.Bool.{cases_eq, cases_lt, eq-eqb, ne_eqb}
 use Rattle.std.proofs.lemmas.List.{get_or_past}
 use Rattle.std.proofs.lemmas.Int.{ints}
@@ -15,9 +15,10 @@ use Rattle.dirac_blocks.specs.declared.parts.Component.TheVariants as components
 use Rattle.dirac_blocks.specs.declared.parts.Reference.{Reference}
 use Rattle.dirac_blocks.specs.declared.parts.Reference.TheVariants as references
 use Rattle.dirac_blocks.specs.Decisions.{left_of, above_of, corner_of, predicted, counted, ref1_at, ref2_at, is_dc_at}
-use Rattle.dirac_blocks.specs.Grammar.{is_dc}
+use Rattle.dirac_blocks.specs.Grammar.{block_using, is_dc}
 use Rattle.dirac_blocks.specs.Parts.{vector_at, dc_at}
-use Rattle.dirac_blocks.specs.Tables.{BlockTable, IsBlock, IsBlockTable, block_at, grey, no_vector}
+use Rattle.dirac_blocks.specs.Tables.{BlockTable, IsBlock, IsBlockTable, block_at, grey}
+use Rattle.dirac_blocks.proofs.Going.{Same}
 
 -- what two tables have in common left, above and above and left of a place
 pub record Near (t u : BlockTable) (i j : ℕ) : Type 0 where
@@ -26,8 +27,8 @@ pub record Near (t u : BlockTable) (i j : ℕ) : Type 0 where
   pub corner : (i ≡ 0 → ⊥) → (j ≡ 0 → ⊥) → block_at t (i - 1) (j - 1) ≡ block_at u (i - 1) (j - 1)
 
 -- the same blocks left of column `right` and above row `bottom`
-pub record SameWithin (t u : BlockTable) (right bottom : ℕ) : Type 0 where
-  pub each : (x y : ℕ) → x < right → y < bottom → block_at t x y ≡ block_at u x y
+abbrev pub SameWithin : BlockTable → BlockTable → ℕ → ℕ → Type 0
+SameWithin t u right bottom = Same block_at t u right bottom
 
 pub near_within : (t u : BlockTable) (i j : ℕ) → SameWithin t u i (j + 1) → SameWithin t u (i + 1) j → Near t u i j
 near_within t u i j before over =
@@ -37,82 +38,60 @@ near_within t u i j before over =
       corner = λ some more. before.each (i - 1) (j - 1) (omega arith) (omega arith);
     }
 
-left_same : {A : Type 0} (f g : ℕ → ℕ → Option A) (i j : ℕ) → ((i ≡ 0 → ⊥) → f (i - 1) j ≡ g (i - 1) j) → left_of f i j ≡ left_of g i j
-left_same f g i j same =
+-- what holds of the neighbours of two places, where there are none too
+pub left_holds : {A B : Type 0} (R : Option A → Option B → Type 0) (f : ℕ → ℕ → Option A) (g : ℕ → ℕ → Option B) (i j : ℕ)
+    → R None None → ((i ≡ 0 → ⊥) → R (f (i - 1) j) (g (i - 1) j)) → R (left_of f i j) (left_of g i j)
+left_holds R f g i j none some =
     elim (cases_eq i 0) [
-      | inl none ↦ rw (eq-eqb i 0 none) refl
-      | inr some ↦ rw (ne_eqb i 0 some) (same some)
+      | inl e ↦ rw (eq-eqb i 0 e) none
+      | inr n ↦ rw (ne_eqb i 0 n) (some n)
     ]
 
-above_same : {A : Type 0} (f g : ℕ → ℕ → Option A) (i j : ℕ) → ((j ≡ 0 → ⊥) → f i (j - 1) ≡ g i (j - 1)) → above_of f i j ≡ above_of g i j
-above_same f g i j same =
-    elim (cases_eq j 0) [
-      | inl none ↦ rw (eq-eqb j 0 none) refl
-      | inr some ↦ rw (ne_eqb j 0 some) (same some)
-    ]
+pub above_holds : {A B : Type 0} (R : Option A → Option B → Type 0) (f : ℕ → ℕ → Option A) (g : ℕ → ℕ → Option B) (i j : ℕ)
+    → R None None → ((j ≡ 0 → ⊥) → R (f i (j - 1)) (g i (j - 1))) → R (above_of f i j) (above_of g i j)
+above_holds R f g i j none some = left_holds R (λ y x. f x y) (λ y x. g x y) j i none some
 
-corner_same : {A : Type 0} (f g : ℕ → ℕ → Option A) (i j : ℕ) → ((i ≡ 0 → ⊥) → (j ≡ 0 → ⊥) → f (i - 1) (j - 1) ≡ g (i - 1) (j - 1)) → corner_of f i j ≡ corner_of g i j
-corner_same f g i j same =
-    elim (cases_eq i 0) [
-      | inl none ↦ rw (eq-eqb i 0 none) refl
-      | inr some ↦ elim (cases_eq j 0) [
-        | inl none ↦ rw (ne_eqb i 0 some, eq-eqb j 0 none) refl
-        | inr more ↦ rw (ne_eqb i 0 some, ne_eqb j 0 more) (same some more)
-      ]
-    ]
+pub corner_holds : {A B : Type 0} (R : Option A → Option B → Type 0) (f : ℕ → ℕ → Option A) (g : ℕ → ℕ → Option B) (i j : ℕ)
+    → R None None → ((i ≡ 0 → ⊥) → (j ≡ 0 → ⊥) → R (f (i - 1) (j - 1)) (g (i - 1) (j - 1))) → R (corner_of f i j) (corner_of g i j)
+corner_holds R f g i j none some =
+    left_holds R (above_of f) (above_of g) i j none (λ n. above_holds R f g (i - 1) j none (some n))
 
 pub predicted_same : {A B : Type 0} (prediction : Option A → Option A → Option A → B) (f g : ℕ → ℕ → Option A) (i j : ℕ)
     → ((i ≡ 0 → ⊥) → f (i - 1) j ≡ g (i - 1) j) → ((j ≡ 0 → ⊥) → f i (j - 1) ≡ g i (j - 1)) → ((i ≡ 0 → ⊥) → (j ≡ 0 → ⊥) → f (i - 1) (j - 1) ≡ g (i - 1) (j - 1))
     → predicted prediction f i j ≡ predicted prediction g i j
-predicted_same prediction f g i j left above corner =
-    rw (left_same f g i j left, above_same f g i j above, corner_same f g i j corner) refl
+predicted_same {A = A} prediction f g i j left above corner =
+    let same = λ (o p : Option A). o ≡ p in
+    rw (left_holds same f g i j refl left, above_holds same f g i j refl above, corner_holds same f g i j refl corner) refl
+
+-- a prediction from what each block shows
+view_near : {A B : Type 0} (prediction : Option A → Option A → Option A → B) (view : Block → Option A) (t u : BlockTable) (i j : ℕ) → Near t u i j
+    → predicted prediction (λ x y. view (block_at t x y)) i j ≡ predicted prediction (λ x y. view (block_at u x y)) i j
+view_near prediction view t u i j near =
+    predicted_same prediction (λ x y. view (block_at t x y)) (λ x y. view (block_at u x y)) i j (λ p. ap view (near.left p)) (λ p. ap view (near.above p)) (λ p q. ap view (near.corner p q))
 
 -- which references a block uses
 pub ref1_near : (t u : BlockTable) (i j : ℕ) → Near t u i j → predicted mode_of (ref1_at t) i j ≡ predicted mode_of (ref1_at u) i j
-ref1_near t u i j near =
-    let f : Block → Option Bool = λ b. Some b.ref1 in
-    predicted_same mode_of (ref1_at t) (ref1_at u) i j (λ p. ap f (near.left p)) (λ p. ap f (near.above p)) (λ p q. ap f (near.corner p q))
+ref1_near t u i j near = view_near mode_of (λ b. Some b.ref1) t u i j near
 
 pub ref2_near : (t u : BlockTable) (i j : ℕ) → Near t u i j → predicted mode_of (ref2_at t) i j ≡ predicted mode_of (ref2_at u) i j
-ref2_near t u i j near =
-    let f : Block → Option Bool = λ b. Some b.ref2 in
-    predicted_same mode_of (ref2_at t) (ref2_at u) i j (λ p. ap f (near.left p)) (λ p. ap f (near.above p)) (λ p q. ap f (near.corner p q))
+ref2_near t u i j near = view_near mode_of (λ b. Some b.ref2) t u i j near
 
 pub vector_near : (k : Reference) (t u : BlockTable) (i j : ℕ) → Near t u i j → predicted vector_of (vector_at k t) i j ≡ predicted vector_of (vector_at k u) i j
-vector_near references.First t u i j near =
-    let f : Block → Option Vector = λ b. counted b.ref1 b.v1 in
-    predicted_same vector_of (vector_at references.First t) (vector_at references.First u) i j (λ p. ap f (near.left p)) (λ p. ap f (near.above p)) (λ p q. ap f (near.corner p q))
-vector_near references.Second t u i j near =
-    let f : Block → Option Vector = λ b. counted b.ref2 b.v2 in
-    predicted_same vector_of (vector_at references.Second t) (vector_at references.Second u) i j (λ p. ap f (near.left p)) (λ p. ap f (near.above p)) (λ p q. ap f (near.corner p q))
+vector_near references.First t u i j near = view_near vector_of (λ b. counted b.ref1 b.v1) t u i j near
+vector_near references.Second t u i j near = view_near vector_of (λ b. counted b.ref2 b.v2) t u i j near
 
 pub dc_near : (k : Component) (t u : BlockTable) (i j : ℕ) → Near t u i j → predicted dc_of (dc_at k t) i j ≡ predicted dc_of (dc_at k u) i j
-dc_near components.Y t u i j near =
-    let f : Block → Option ℤ = λ b. counted (is_dc b) b.dc_y in
-    predicted_same dc_of (dc_at components.Y t) (dc_at components.Y u) i j (λ p. ap f (near.left p)) (λ p. ap f (near.above p)) (λ p q. ap f (near.corner p q))
-dc_near components.U t u i j near =
-    let f : Block → Option ℤ = λ b. counted (is_dc b) b.dc_u in
-    predicted_same dc_of (dc_at components.U t) (dc_at components.U u) i j (λ p. ap f (near.left p)) (λ p. ap f (near.above p)) (λ p q. ap f (near.corner p q))
-dc_near components.V t u i j near =
-    let f : Block → Option ℤ = λ b. counted (is_dc b) b.dc_v in
-    predicted_same dc_of (dc_at components.V t) (dc_at components.V u) i j (λ p. ap f (near.left p)) (λ p. ap f (near.above p)) (λ p q. ap f (near.corner p q))
+dc_near components.Y t u i j near = view_near dc_of (λ b. counted (is_dc b) b.dc_y) t u i j near
+dc_near components.U t u i j near = view_near dc_of (λ b. counted (is_dc b) b.dc_u) t u i j near
+dc_near components.V t u i j near = view_near dc_of (λ b. counted (is_dc b) b.dc_v) t u i j near
+
+-- a block all of whose values are 0
+pub using_lawful : (refs : ℕ) (a b : Bool) → (refs ≡ 1 → b ≡ false) → IsBlock refs (block_using a b)
+using_lawful refs a b single = grind (arith, ints)
 
 -- a block outside the list is one of value 0
 pub grey_lawful : (refs : ℕ) → IsBlock refs grey
-grey_lawful refs =
-    let zero : IsShort (pos 0) = record { least = omega (arith, ints); most = omega (arith, ints) } in
-    let still : IsShortVector no_vector = record { x = zero; y = zero } in
-    record {
-      second = λ e. refl;
-      v1 = still;
-      v2 = still;
-      dc_y = zero;
-      dc_u = zero;
-      dc_v = zero;
-      no_v1 = λ e. refl;
-      no_v2 = λ e. refl;
-      no_dc = λ e. (refl, refl, refl);
-    }
+grey_lawful refs = using_lawful refs false false (λ e. refl)
 
 pub block_lawful : (t : BlockTable) (i j : ℕ) → IsBlockTable t → IsBlock t.refs (block_at t i j)
 block_lawful t i j inv =
@@ -123,7 +102,7 @@ block_lawful t i j inv =
     ]
 
 -- what holds of a value, where there is one
-abbrev OfSome : {A : Type 0} → (A → Type 0) → Option A → Type 0
+abbrev pub OfSome : {A : Type 0} → (A → Type 0) → Option A → Type 0
 OfSome P None = Unit {0}
 OfSome P (Some x) = P x
 
@@ -138,30 +117,6 @@ of_neighbours_short three of_three (Some l) (Some a) None p q r = mean_of_two_sh
 of_neighbours_short three of_three (Some l) None (Some c) p q r = mean_of_two_short l c p r
 of_neighbours_short three of_three None (Some a) (Some c) p q r = mean_of_two_short a c q r
 of_neighbours_short three of_three (Some l) (Some a) (Some c) p q r = of_three l a c p q r
-
-left_short : {A : Type 0} (P : A → Type 0) (f : ℕ → ℕ → Option A) (i j : ℕ) → ((x y : ℕ) → OfSome P (f x y)) → OfSome P (left_of f i j)
-left_short P f i j all =
-    elim (cases_eq i 0) [
-      | inl none ↦ rw (eq-eqb i 0 none) tt
-      | inr some ↦ rw (ne_eqb i 0 some) (all (i - 1) j)
-    ]
-
-above_short : {A : Type 0} (P : A → Type 0) (f : ℕ → ℕ → Option A) (i j : ℕ) → ((x y : ℕ) → OfSome P (f x y)) → OfSome P (above_of f i j)
-above_short P f i j all =
-    elim (cases_eq j 0) [
-      | inl none ↦ rw (eq-eqb j 0 none) tt
-      | inr some ↦ rw (ne_eqb j 0 some) (all i (j - 1))
-    ]
-
-corner_short : {A : Type 0} (P : A → Type 0) (f : ℕ → ℕ → Option A) (i j : ℕ) → ((x y : ℕ) → OfSome P (f x y)) → OfSome P (corner_of f i j)
-corner_short P f i j all =
-    elim (cases_eq i 0) [
-      | inl none ↦ rw (eq-eqb i 0 none) tt
-      | inr some ↦ elim (cases_eq j 0) [
-        | inl none ↦ rw (ne_eqb i 0 some, eq-eqb j 0 none) tt
-        | inr more ↦ rw (ne_eqb i 0 some, ne_eqb j 0 more) (all (i - 1) (j - 1))
-      ]
-    ]
 
 counted_short : {A : Type 0} (P : A → Type 0) (b : Bool) (v : A) → P v → OfSome P (counted b v)
 counted_short P true v p = p
@@ -181,11 +136,11 @@ vectors_short references.Second t inv x y = counted_short IsShortVector (block_a
 
 pub vector_short : (k : Reference) (t : BlockTable) (i j : ℕ) → IsBlockTable t → IsShortVector (predicted vector_of (vector_at k t) i j)
 vector_short k t i j inv =
-    let all = vectors_short k t inv in
     let f = vector_at k t in
-    let l = left_short IsShortVector f i j all in
-    let a = above_short IsShortVector f i j all in
-    let c = corner_short IsShortVector f i j all in
+    let R = λ (o p : Option Vector). OfSome IsShortVector o in
+    let l = left_holds R f f i j tt (λ n. vectors_short k t inv (i - 1) j) in
+    let a = above_holds R f f i j tt (λ n. vectors_short k t inv i (j - 1)) in
+    let c = corner_holds R f f i j tt (λ n n'. vectors_short k t inv (i - 1) (j - 1)) in
     record {
       x = of_neighbours_short median median_short _ _ _ (x_short (left_of f i j) l) (x_short (above_of f i j) a) (x_short (corner_of f i j) c);
       y = of_neighbours_short median median_short _ _ _ (y_short (left_of f i j) l) (y_short (above_of f i j) a) (y_short (corner_of f i j) c);
@@ -198,7 +153,7 @@ dcs_short components.V t inv x y = counted_short IsShort (is_dc_at t x y) (block
 
 pub dc_short : (k : Component) (t : BlockTable) (i j : ℕ) → IsBlockTable t → IsShort (predicted dc_of (dc_at k t) i j)
 dc_short k t i j inv =
-    let all = dcs_short k t inv in
     let f = dc_at k t in
+    let R = λ (o p : Option ℤ). OfSome IsShort o in
     of_neighbours_short mean_of_three mean_of_three_short (left_of f i j) (above_of f i j) (corner_of f i j)
-    (left_short IsShort f i j all) (above_short IsShort f i j all) (corner_short IsShort f i j all)
+    (left_holds R f f i j tt (λ n. dcs_short k t inv (i - 1) j)) (above_holds R f f i j tt (λ n. dcs_short k t inv i (j - 1))) (corner_holds R f f i j tt (λ n n'. dcs_short k t inv (i - 1) (j - 1)))

@@ -11,47 +11,48 @@ use Rattle.dirac_arith.specs.Reading.{Reading}
 use Rattle.dirac_arith.proofs.Carrieds.{not_shut}
 use Rattle.dirac_arith.proofs.Decidings.{decided_shut, number_is_shut, signed_is_shut}
 use Rattle.dirac_arith.proofs.Led.{led_begin}
-use Rattle.dirac_vectors.specs.Predictions.{mode_of, vector_of, dc_of}
+use Rattle.dirac_vectors.specs.Predictions.{mode_of}
 use Rattle.dirac_blocks.specs.declared.block.Block.{Block}
 use Rattle.dirac_blocks.specs.declared.parts.Part.{Part}
 use Rattle.dirac_blocks.specs.declared.parts.Part.TheVariants as parts
 use Rattle.dirac_blocks.specs.Carried.{ReadsTo}
 use Rattle.dirac_blocks.specs.Decisions.{differ, predicted, predicted_split, ref1_at, unit_decisions}
-use Rattle.dirac_blocks.specs.Grammar.{Progress, Step, repeated, with_unit, with_split, block_using, second_use_read, value_from, value_read, read_into, unit_read, unit_step, unit_row_step, superblock_step, units_step, split_step, uses, is_dc, with_across, with_down, with_dc}
+use Rattle.dirac_blocks.specs.Grammar.{Progress, Step, repeated, with_unit, with_split, block_using, second_use_read, value_from, read_into, unit_read, unit_step, unit_row_step, superblock_step, units_step, split_step}
 use Rattle.dirac_blocks.specs.Laws.{OnesAreRefused, OnesRefuseSplits}
-use Rattle.dirac_blocks.specs.Parts.{vector_at, dc_at, part_at}
+use Rattle.dirac_blocks.specs.Parts.{part_at}
 use Rattle.dirac_blocks.specs.Reached.{progress}
-use Rattle.dirac_blocks.specs.Refused.{Told, component_told, dc_told}
+use Rattle.dirac_blocks.specs.Refused.{Told}
 use Rattle.dirac_blocks.specs.Tables.{BlockTable, block_at, split_at, unit_size}
 use Rattle.dirac_blocks.proofs.BackwardLoops.{read_is_carried}
 use Rattle.dirac_blocks.proofs.Repeating.{repeated_none, repeated_stops}
+use Rattle.dirac_blocks.proofs.Valued.{Tells, told_read, across_tells, down_tells, dc_tells}
 
 -- on ones a step is refused, or it reads nothing
 record Shut (step : Step) : Type 0 where
   each : (m : BlockTable) (r : Reading) → front r.block 16 ≡ 65535 → (step (progress m r) ≡ Err cause.CodeWord) ⊎ ((t : BlockTable) × (step (progress m r) ≡ Ok (progress t r)))
 
 into_shut : (has : Bool) (b : Block) (put : Block → ℤ → Block) (v : Told) (r : Reading) → front r.block 16 ≡ 65535
-    → (read_into has b put (value_read v.range v.follow v.bits v.sign v.prediction) r ≡ Err cause.CodeWord) ⊎ (read_into has b put (value_read v.range v.follow v.bits v.sign v.prediction) r ≡ Ok (b, r))
+    → (read_into has b put (told_read v) r ≡ Err cause.CodeWord) ⊎ (read_into has b put (told_read v) r ≡ Ok (b, r))
 into_shut true b put v r ones =
-    let read : value_read v.range v.follow v.bits v.sign v.prediction r ≡ Err cause.CodeWord =
+    let read : told_read v r ≡ Err cause.CodeWord =
     ap (λ (x : Result (ℤ × Reading) Cause). x >>= value_from v.range v.prediction) (signed_is_shut v.follow v.bits v.sign r ones) in
     inl (ap (λ (x : Result (ℤ × Reading) Cause). x >>= (λ w. let y : Result (Block × Reading) Cause = Ok (put b w.0, w.1) in y)) read)
 into_shut false b put v r ones = inr refl
+
+told_shut : (part : Part) (t : Tells part) (m : BlockTable) (i j : ℕ) (r : Reading) → front r.block 16 ≡ 65535
+    → (unit_read part m i j r ≡ Err cause.CodeWord) ⊎ ((b : Block) × (unit_read part m i j r ≡ Ok (b, r)))
+told_shut part t m i j r ones =
+    let b = block_at m i j in
+    elim (into_shut (t.has b) b t.put (t.told m i j) r ones) [ inl e ↦ inl (t.read m i j r ∙ e) | inr e ↦ inr (b, t.read m i j r ∙ e) ]
 
 unit_shut : (part : Part) (m : BlockTable) (i j : ℕ) (r : Reading) → front r.block 16 ≡ 65535
     → (unit_read part m i j r ≡ Err cause.CodeWord) ⊎ ((b : Block) × (unit_read part m i j r ≡ Ok (b, r)))
 unit_shut parts.Modes m i j r ones =
     inl (ap (λ (x : Result (Bool × Reading) Cause). x >>= (λ first. second_use_read m i j first.1 >>= (λ second. let y : Result (Block × Reading) Cause = Ok (block_using (differ first.0 (predicted mode_of (ref1_at m) i j)) second.0, second.1) in y)))
     (decided_shut 25 r ones))
-unit_shut (parts.Across k) m i j r ones =
-    let b = block_at m i j in
-    elim (into_shut (uses k b) b (with_across k) (component_told (predicted vector_of (vector_at k m) i j).x) r ones) [ inl e ↦ inl e | inr e ↦ inr (b, e) ]
-unit_shut (parts.Down k) m i j r ones =
-    let b = block_at m i j in
-    elim (into_shut (uses k b) b (with_down k) (component_told (predicted vector_of (vector_at k m) i j).y) r ones) [ inl e ↦ inl e | inr e ↦ inr (b, e) ]
-unit_shut (parts.Dc c) m i j r ones =
-    let b = block_at m i j in
-    elim (into_shut (is_dc b) b (with_dc c) (dc_told (predicted dc_of (dc_at c m) i j)) r ones) [ inl e ↦ inl e | inr e ↦ inr (b, e) ]
+unit_shut (parts.Across k) m i j r ones = told_shut (parts.Across k) (across_tells k) m i j r ones
+unit_shut (parts.Down k) m i j r ones = told_shut (parts.Down k) (down_tells k) m i j r ones
+unit_shut (parts.Dc c) m i j r ones = told_shut (parts.Dc c) (dc_tells c) m i j r ones
 
 unit_step_shut : (part : Part) (size i j : ℕ) → Shut (unit_step part size i j)
 unfolding unit_step

@@ -1,5 +1,5 @@
 -- A superblock is put into a table row by row.
-use Rattle.std.proofs.Common.{◌≡◌, ℕ, ◌+◌, ◌-◌, ◌*◌, ◌/◌, ◌^◌, ◌<◌, ◌≤◌, inl, inr, refl, arith, subst, sym, ap, ap₂, ◌∙◌, List, length, get_or, set, length-set, All}
+use Rattle.std.proofs.Common.{◌≡◌, ℕ, ◌+◌, ◌-◌, ◌*◌, ◌/◌, ◌^◌, ◌<◌, ◌≤◌, ◌⊎◌, inl, inr, refl, arith, subst, sym, ap, ap₂, ◌∙◌, List, length, get_or, set, length-set, All}
 use Rattle.std.proofs.lemmas.Bool.{cases_eq, cases_lt}
 use Rattle.std.proofs.lemmas.List.{get_or-set_same, get_or-set_other}
 use Rattle.std.proofs.lemmas.Nat.{same_from_place, mul-le, mul-add-lt}
@@ -8,24 +8,6 @@ use Rattle.dirac_blocks.specs.declared.block.Block.{Block}
 use Rattle.dirac_blocks.specs.Puts.{RowPut, RowsPut, IsPut}
 use Rattle.dirac_blocks.specs.Tables.{BlockTable, IsBlock, IsBlockTable, grey, split_at, block_in, unit_size, unit_of, first_of}
 use Rattle.dirac_blocks.proofs.Units.{column_fits, first_below, first_alike}
-
--- one block more
-pub row_more : (start split : ℕ) (units : List Block) (from n : ℕ) (old mid : List Block) (b : Block)
-    → start + n < length mid → b ≡ get_or units (from + n / unit_size split) grey
-    → RowPut start split units from n old mid → RowPut start split units from (n + 1) old (set mid (start + n) b)
-row_more start split units from n old mid b h e r =
-    record {
-      len = length-set mid (start + n) b ∙ r.len;
-      done = λ i l.
-          elim (cases_eq i n) [
-            | inl is ↦
-                let here : get_or (set mid (start + n) b) (start + n) grey ≡ get_or units (from + n / unit_size split) grey = get_or-set_same mid (start + n) b grey h ∙ e in
-                rw is here
-            | inr not ↦ get_or-set_other mid (start + n) (start + i) b grey (λ same. not (omega arith)) ∙ r.done i (omega arith)
-          ];
-      before = λ k l. get_or-set_other mid (start + n) k b grey (λ same. omega arith) ∙ r.before k l;
-      after = λ k l. get_or-set_other mid (start + n) k b grey (λ same. omega arith) ∙ r.after k (omega arith);
-    }
 
 -- blocks stay blocks of so many references
 pub row_lawful : (refs start split : ℕ) (units : List Block) (from : ℕ) (old new : List Block) → split ≤ 2
@@ -46,51 +28,28 @@ row_lawful refs start split units from old new h fits r us os =
       ]
     ])
 
--- a row that is put changes four places of its own row alone
-row_over : (w a z split : ℕ) (units : List Block) (from : ℕ) (old new : List Block) → RowPut (z * w + a) split units from 4 old new
-    → (x y : ℕ) → x < w → y < z → get_or new (y * w + x) grey ≡ get_or old (y * w + x) grey
-row_over w a z split units from old new r x y h l =
-    let below : (y + 1) * w ≤ z * w = mul-le (y + 1) w z w (omega arith) (omega arith) in
-    r.before (y * w + x) (omega arith)
+-- outside a rectangle
+abbrev pub IsOutside : ℕ → ℕ → ℕ → ℕ → ℕ → ℕ → Type 0
+IsOutside left right top bottom x y = ((x < left) ⊎ (right ≤ x)) ⊎ ((y < top) ⊎ (bottom ≤ y))
 
-row_under : (w a z split : ℕ) (units : List Block) (from : ℕ) (old new : List Block) → a + 4 ≤ w → RowPut (z * w + a) split units from 4 old new
-    → (x y : ℕ) → x < w → z < y → get_or new (y * w + x) grey ≡ get_or old (y * w + x) grey
-row_under w a z split units from old new room r x y h l =
-    let above : (z + 1) * w ≤ y * w = mul-le (z + 1) w y w (omega arith) (omega arith) in
-    r.after (y * w + x) (omega arith)
-
-row_left : (w a z split : ℕ) (units : List Block) (from : ℕ) (old new : List Block) → a + 4 ≤ w → RowPut (z * w + a) split units from 4 old new
-    → (x y : ℕ) → x < w → x < a → get_or new (y * w + x) grey ≡ get_or old (y * w + x) grey
-row_left w a z split units from old new room r x y h l =
+-- where `size` places from column a of row z on are written, all others stay
+pub row_outside : (w a z size : ℕ) (old new : List Block) → a + size ≤ w
+    → ((k : ℕ) → k < z * w + a → get_or new k grey ≡ get_or old k grey) → ((k : ℕ) → z * w + a + size ≤ k → get_or new k grey ≡ get_or old k grey)
+    → (x y : ℕ) → x < w → IsOutside a (a + size) z (z + 1) x y → get_or new (y * w + x) grey ≡ get_or old (y * w + x) grey
+row_outside w a z size old new room before after x y h o =
     elim (cases_lt y z) [
-      | inl b ↦ row_over w a z split units from old new r x y h b
-      | inr b ↦ elim (cases_eq y z) [
-        | inl e ↦ let same : y * w ≡ z * w = ap (λ k. k * w) e in r.before (y * w + x) (omega arith)
-        | inr c ↦ row_under w a z split units from old new room r x y h (omega arith)
+      | inl l ↦ let below : (y + 1) * w ≤ z * w = mul-le (y + 1) w z w (omega arith) (omega arith) in before (y * w + x) (omega arith)
+      | inr c ↦ elim (cases_lt z y) [
+        | inl l ↦ let above : (z + 1) * w ≤ y * w = mul-le (z + 1) w y w (omega arith) (omega arith) in after (y * w + x) (omega arith)
+        | inr d ↦
+            let e : y ≡ z = omega arith in
+            let same : y * w ≡ z * w = ap (λ k. k * w) e in
+            elim o [
+              | inl p ↦ elim p [ inl l ↦ before (y * w + x) (omega arith) | inr l ↦ after (y * w + x) (omega arith) ]
+              | inr p ↦ elim p [ inl l ↦ absurd (omega arith) | inr l ↦ absurd (omega arith) ]
+            ]
       ]
     ]
-
-row_right : (w a z split : ℕ) (units : List Block) (from : ℕ) (old new : List Block) → a + 4 ≤ w → RowPut (z * w + a) split units from 4 old new
-    → (x y : ℕ) → x < w → a + 4 ≤ x → get_or new (y * w + x) grey ≡ get_or old (y * w + x) grey
-row_right w a z split units from old new room r x y h l =
-    elim (cases_lt y z) [
-      | inl b ↦ row_over w a z split units from old new r x y h b
-      | inr b ↦ elim (cases_eq y z) [
-        | inl e ↦ let same : y * w ≡ z * w = ap (λ k. k * w) e in r.after (y * w + x) (omega arith)
-        | inr c ↦ row_under w a z split units from old new room r x y h (omega arith)
-      ]
-    ]
-
-pub rows_none : (w left top split : ℕ) (units xs : List Block) → RowsPut w left top split units 0 xs xs
-rows_none w left top split units xs =
-    record {
-      len = refl;
-      done = λ i j p l. absurd (omega arith);
-      before = λ x y p l. refl;
-      after = λ x y p l. refl;
-      over = λ x y p l. refl;
-      under = λ x y p l. refl;
-    }
 
 -- one row more
 pub rows_more : (w left top split : ℕ) (units : List Block) (n : ℕ) (old mid new : List Block) → left + 4 ≤ w
@@ -99,6 +58,7 @@ pub rows_more : (w left top split : ℕ) (units : List Block) (n : ℕ) (old mid
 rows_more w left top split units n old mid new room r s =
     let z = top + n in
     let from = n / unit_size split * 2 ^ split in
+    let others = row_outside w left z 4 mid new room r.before r.after in
     record {
       len = r.len ∙ s.len;
       done = λ i j p l.
@@ -107,12 +67,12 @@ rows_more w left top split units n old mid new room r s =
                 let at : (z * w + left) + i ≡ z * w + (left + i) = omega arith in
                 let here : get_or new (z * w + (left + i)) grey ≡ get_or units (from + i / unit_size split) grey = ap (λ k. get_or new k grey) (sym at) ∙ r.done i p in
                 rw e here
-            | inr not ↦ row_over w left z split units from mid new r (left + i) (top + j) (omega arith) (omega arith) ∙ s.done i j p (omega arith)
+            | inr not ↦ others (left + i) (top + j) (omega arith) (inr (inl (omega arith))) ∙ s.done i j p (omega arith)
           ];
-      before = λ x y p l. row_left w left z split units from mid new room r x y p l ∙ s.before x y p l;
-      after = λ x y p l. row_right w left z split units from mid new room r x y p l ∙ s.after x y p l;
-      over = λ x y p l. row_over w left z split units from mid new r x y p (omega arith) ∙ s.over x y p l;
-      under = λ x y p l. row_under w left z split units from mid new room r x y p (omega arith) ∙ s.under x y p (omega arith);
+      before = λ x y p l. others x y p (inl (inl l)) ∙ s.before x y p l;
+      after = λ x y p l. others x y p (inl (inr l)) ∙ s.after x y p l;
+      over = λ x y p l. others x y p (inr (inl (omega arith))) ∙ s.over x y p l;
+      under = λ x y p l. others x y p (inr (inr (omega arith))) ∙ s.under x y p (omega arith);
     }
 
 -- the table with this superblock's split and these blocks

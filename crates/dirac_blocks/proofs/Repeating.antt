@@ -35,6 +35,11 @@ repeated_stops step n (suc m) x y e less before here =
           ap (λ (r : Result Progress Cause). r >>= step m) (repeated_stops step n m x y e (omega arith) before here)
     ]
 
+-- steps by rows and columns, where sizes are the same
+pub repeated_sizes : (step : ℕ → ℕ → Step) {a b c d : ℕ} (x : Progress) {y : Result Progress Cause} → a ≡ b → c ≡ d
+    → repeated (λ j. repeated (step j) a) c x ≡ y → repeated (λ j. repeated (step j) b) d x ≡ y
+repeated_sizes step x p q is = rw (← p, ← q) is
+
 pub shape_refl : (t : BlockTable) → SameShape t t
 shape_refl t = record { across = refl; down = refl; refs = refl; splits = refl }
 

@@ -34,7 +34,7 @@ use Rattle.dirac_blocks.specs.Tables.{BlockTable, IsBlock, IsBlockTable, IsSize,
 use Rattle.dirac_blocks.specs.Written.{with_block, with_lists, AreShort}
 use Rattle.dirac_blocks.proofs.Appended.{lists_append}
 use Rattle.dirac_blocks.proofs.InContexts.{in_split_rows}
-use Rattle.dirac_blocks.proofs.Nearby.{grey_lawful}
+use Rattle.dirac_blocks.proofs.Nearby.{OfSome, left_holds, above_holds, corner_holds, grey_lawful}
 use Rattle.dirac_blocks.proofs.SplitForwards.{carried_splits_are_read}
 use Rattle.dirac_blocks.proofs.Stages.{by, by_lawful, IsStage, next_stage, stage_next, stage_modes, modes_same, part_same, stage_reads}
 
@@ -67,22 +67,12 @@ list_spelled step t u ds old read short =
     }
 
 -- predictions of splits are splits
-split_few : (l a c : Option ℕ) → ((s : ℕ) → l ≡ Some s → s ≤ 2) → ((s : ℕ) → a ≡ Some s → s ≤ 2) → ((s : ℕ) → c ≡ Some s → s ≤ 2) → split_of l a c ≤ 2
+split_few : (l a c : Option ℕ) → OfSome (λ s. s ≤ 2) l → OfSome (λ s. s ≤ 2) a → OfSome (λ s. s ≤ 2) c → split_of l a c ≤ 2
 split_few None None c p q r = omega arith
-split_few (Some l) None c p q r = p l refl
-split_few None (Some a) c p q r = q a refl
+split_few (Some l) None c p q r = p
+split_few None (Some a) c p q r = q
 split_few (Some l) (Some a) None p q r = omega arith
-split_few (Some l) (Some a) (Some c) p q r =
-    let h = p l refl in
-    let k = q a refl in
-    let m = r c refl in
-    omega arith
-
-some_is : (a b : ℕ) → (let o : Option ℕ = Some a in o ≡ Some b) → a ≡ b
-some_is a b e = cc
-
-none_is : (b : ℕ) → (let o : Option ℕ = None in o ≡ Some b) → ⊥
-none_is b e = cc
+split_few (Some l) (Some a) (Some c) p q r = omega arith
 
 pub splits_few : (t : BlockTable) (x y : ℕ) → IsBlockTable t → split_at t x y ≤ 2
 splits_few t x y inv =
@@ -94,22 +84,9 @@ splits_few t x y inv =
 pub predicted_few : (t : BlockTable) (sx sy : ℕ) → IsBlockTable t → predicted_split t sx sy ≤ 2
 predicted_few t sx sy inv =
     let f : ℕ → ℕ → Option ℕ = λ x y. Some (split_at t x y) in
+    let R : Option ℕ → Option ℕ → Type 0 = λ o p. OfSome (λ s. s ≤ 2) o in
     split_few (left_of f sx sy) (above_of f sx sy) (corner_of f sx sy)
-    (λ s e. elim (cases_eq sx 0) [
-      | inl none ↦ absurd (none_is s (rw (eq-eqb sx 0 none) at e))
-      | inr some ↦ subst (λ (n : ℕ). n ≤ 2) (some_is (split_at t (sx - 1) sy) s (rw (ne_eqb sx 0 some) at e)) (splits_few t (sx - 1) sy inv)
-    ])
-    (λ s e. elim (cases_eq sy 0) [
-      | inl none ↦ absurd (none_is s (rw (eq-eqb sy 0 none) at e))
-      | inr some ↦ subst (λ (n : ℕ). n ≤ 2) (some_is (split_at t sx (sy - 1)) s (rw (ne_eqb sy 0 some) at e)) (splits_few t sx (sy - 1) inv)
-    ])
-    (λ s e. elim (cases_eq sx 0) [
-      | inl none ↦ absurd (none_is s (rw (eq-eqb sx 0 none) at e))
-      | inr some ↦ elim (cases_eq sy 0) [
-        | inl none ↦ absurd (none_is s (rw (ne_eqb sx 0 some, eq-eqb sy 0 none) at e))
-        | inr more ↦ subst (λ (n : ℕ). n ≤ 2) (some_is (split_at t (sx - 1) (sy - 1)) s (rw (ne_eqb sx 0 some, ne_eqb sy 0 more) at e)) (splits_few t (sx - 1) (sy - 1) inv)
-      ]
-    ])
+    (left_holds R f f sx sy tt (λ n. splits_few t (sx - 1) sy inv)) (above_holds R f f sx sy tt (λ n. splits_few t sx (sy - 1) inv)) (corner_holds R f f sx sy tt (λ n n'. splits_few t (sx - 1) (sy - 1) inv))
 
 pub least_sum : (s p : ℕ) → s ≤ 2 → p ≤ 2 → ((s + 3 - p) % 3 + p) % 3 ≡ s
 least_sum s p h k = omega arith

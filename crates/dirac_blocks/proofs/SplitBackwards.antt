@@ -15,7 +15,7 @@ use Rattle.dirac_blocks.specs.Grammar.{Progress, Step, repeated, with_split, spl
 use Rattle.dirac_blocks.specs.Laws.{ReadSplitsAreCarried}
 use Rattle.dirac_blocks.specs.Reached.{AllGrey, SameBlocks, progress}
 use Rattle.dirac_blocks.specs.Tables.{BlockTable, IsBlockTable, split_at}
-use Rattle.dirac_blocks.proofs.Backwards.{passed, same_answer}
+use Rattle.dirac_blocks.proofs.Backwards.{passed, moved_to}
 use Rattle.dirac_blocks.proofs.Fills.{split_lawful}
 use Rattle.dirac_blocks.proofs.Putting.{split_inside}
 use Rattle.dirac_blocks.proofs.Repeating.{blocks_join, blocks_refl}
@@ -44,6 +44,14 @@ value_there f n v k l = rw (ne_eqb k n (λ e. omega arith)) refl
 pub value_here : {A : Type 0} (f : ℕ → A) (n : ℕ) (v : A) (k : ℕ) → k ≡ n → with_value f n v k ≡ v
 value_here f n v k e = rw (eq-eqb k n e) refl
 
+-- what holds of the values of a choice holds of it with one more
+value_holds : {A : Type 0} (P : ℕ → A → Type 0) (f : ℕ → A) (n : ℕ) (v : A) (k : ℕ) → k ≤ n → P n v → (k < n → P k (f k)) → P k (with_value f n v k)
+value_holds P f n v k few here there =
+    elim (cases_eq k n) [
+      | inl is ↦ subst (P k) (sym (value_here f n v k is)) (subst (λ j. P j v) (sym is) here)
+      | inr not ↦ subst (P k) (sym (value_there f n v k (omega arith))) (there (omega arith))
+    ]
+
 -- places of a row that aren't among its first n, and all other rows
 abbrev pub IsBeside : ℕ → ℕ → ℕ → ℕ → Type 0
 IsBeside sy n x y = (n ≤ x) ⊎ ((y < sy) ⊎ (sy < y))
@@ -63,9 +71,6 @@ pub row_came : (m t : BlockTable) (sy n : ℕ) (r s : Reading) → IsBlockTable 
     → repeated (split_step sy) n (progress m r) ≡ Ok (progress t s) → RowCame m r t s sy n
 unfolding split_row repeated split_step
 row_came m t sy zero r s inv grey few hy led e =
-    let one = same_answer (progress m r) (progress t s) e in
-    let table : m ≡ t = ap (λ x. x.table) one in
-    let place : r ≡ s = ap (λ x. x.reading) one in
     let here : RowCame m r m r sy 0 = record {
       lawful = inv;
       rest = blocks_refl m;
@@ -76,7 +81,7 @@ row_came m t sy zero r s inv grey few hy led e =
       are = λ u w k l. absurd (omega arith);
       reads = reads_nothing r;
     } in
-    subst (λ (x : BlockTable). RowCame m r x s sy 0) table (subst (λ (x : Reading). RowCame m r m x sy 0) place here)
+    moved_to (λ (x : BlockTable) (y : Reading). RowCame m r x y sy 0) e here
 row_came m t sy (suc n) r s inv grey few hy led e =
     let q = passed (repeated (split_step sy) n (progress m r)) (split_step sy n) (progress t s) e in
     let mid = q.value.table in
@@ -89,9 +94,6 @@ row_came m t sy (suc n) r s inv grey few hy led e =
     let number = last.value.0 in
     let v = (number + predicted_split mid n sy) % 3 in
     let new = with_split mid n sy v in
-    let one = same_answer (progress new last.value.1) (progress t s) last.next in
-    let table : new ≡ t = ap (λ x. x.table) one in
-    let place : last.value.1 ≡ s = ap (λ x. x.reading) one in
     let leads = number_leads q.value.reading last.value.1 (22 ∷ 23 ∷ []) 24 number g.led last.first in
     let numbers = with_value g.numbers n number in
     let row = split_row (λ y. numbers) sy n in
@@ -106,29 +108,17 @@ row_came m t sy (suc n) r s inv grey few hy led e =
       outside = λ x y p o. beside x y p (never sy n x y o) ∙ g.outside x y p (wider sy n x y o);
       led = led_more q.value.reading last.value.1 (spelling (22 ∷ 23 ∷ []) 24 number) g.led leads.1;
       numbers = numbers;
-      small = λ k l.
-          elim (cases_eq k n) [
-            | inl is ↦ subst (λ (w : ℕ). w < 2 ^ 39 - 1) (sym (value_here g.numbers n number k is)) leads.0
-            | inr not ↦ subst (λ (w : ℕ). w < 2 ^ 39 - 1) (sym (value_there g.numbers n number k (omega arith))) (g.small k (omega arith))
-          ];
+      small = λ k l. value_holds (λ j w. w < 2 ^ 39 - 1) g.numbers n number k (omega arith) leads.0 (λ p. g.small k p);
       are = λ u w k l.
           let before : SameSplits mid u n (sy + 1) = record { each = λ x y a b. sym (beside x y (omega arith) (λ c d. omega arith)) ∙ w.each x y (omega arith) b } in
           let over : SameSplits mid u (n + 1) sy = record { each = λ x y a b. sym (beside x y (omega arith) (λ c d. omega arith)) ∙ w.each x y (omega arith) (omega arith) } in
-          elim (cases_eq k n) [
-            | inl is ↦
-                let near = split_near mid u n sy before over in
-                let sum : (numbers n + predicted_split u n sy) % 3 ≡ split_at u n sy =
-                ap (λ (a : ℕ). (a + predicted_split u n sy) % 3) (value_here g.numbers n number n refl) ∙ ap (λ (b : ℕ). (number + b) % 3) (sym near)
-                ∙ sym told ∙ w.each n sy (omega arith) (omega arith) in
-                subst (λ (j : ℕ). (numbers j + predicted_split u j sy) % 3 ≡ split_at u j sy) (sym is) sum
-            | inr not ↦
-                ap (λ (a : ℕ). (a + predicted_split u k sy) % 3) (value_there g.numbers n number k (omega arith)) ∙ g.are u before k (omega arith)
-          ];
+          value_holds (λ j v. (v + predicted_split u j sy) % 3 ≡ split_at u j sy) g.numbers n number k (omega arith)
+          (ap (λ (b : ℕ). (number + b) % 3) (sym (split_near mid u n sy before over)) ∙ sym told ∙ w.each n sy (omega arith) (omega arith)) (λ p. g.are u before k p);
       reads = subst (λ (ds : List Decision). Reads r ds last.value.1)
           (ap₂ (λ (a b : List Decision). a ++ b) same_row same_last)
           (reads_more r q.value.reading last.value.1 (split_row (λ y. g.numbers) sy n) (spelling (22 ∷ 23 ∷ []) 24 number) g.reads leads.1);
     } in
-    subst (λ (x : BlockTable). RowCame m r x s sy (suc n)) table (subst (λ (x : Reading). RowCame m r new x sy (suc n)) place here)
+    moved_to (λ (x : BlockTable) (y : Reading). RowCame m r x y sy (suc n)) last.next here
   where
     never : (sy n x y : ℕ) → IsBeside sy (suc n) x y → x ≡ n → y ≡ sy → ⊥
     never sy n x y (inl l) a b = omega arith
@@ -153,9 +143,6 @@ pub rows_came : (m t : BlockTable) (n : ℕ) (r s : Reading) → IsBlockTable m 
     → repeated (λ sy. repeated (split_step sy) m.across) n (progress m r) ≡ Ok (progress t s) → RowsCame m r t s n
 unfolding split_rows repeated
 rows_came m t zero r s inv grey few led e =
-    let one = same_answer (progress m r) (progress t s) e in
-    let table : m ≡ t = ap (λ x. x.table) one in
-    let place : r ≡ s = ap (λ x. x.reading) one in
     let here : RowsCame m r m r 0 = record {
       lawful = inv;
       rest = blocks_refl m;
@@ -165,7 +152,7 @@ rows_came m t zero r s inv grey few led e =
       are = λ u w x y p l. absurd (omega arith);
       reads = reads_nothing r;
     } in
-    subst (λ (x : BlockTable). RowsCame m r x s 0) table (subst (λ (x : Reading). RowsCame m r m x 0) place here)
+    moved_to (λ (x : BlockTable) (y : Reading). RowsCame m r x y 0) e here
 rows_came m t (suc n) r s inv grey few led e =
     let step : ℕ → Step = λ sy. repeated (split_step sy) m.across in
     let q = passed (repeated step n (progress m r)) (step n) (progress t s) e in
@@ -185,22 +172,11 @@ rows_came m t (suc n) r s inv grey few led e =
       rest = blocks_join m mid t g.rest h.rest;
       led = h.led;
       numbers = numbers;
-      small = λ x y p l.
-          elim (cases_eq y n) [
-            | inl is ↦ subst (λ (f : ℕ → ℕ). f x < 2 ^ 39 - 1) (sym (value_here g.numbers n h.numbers y is)) (h.small x p)
-            | inr not ↦ subst (λ (f : ℕ → ℕ). f x < 2 ^ 39 - 1) (sym (value_there g.numbers n h.numbers y (omega arith))) (g.small x y p (omega arith))
-          ];
+      small = λ x y p l. value_holds (λ j f. f x < 2 ^ 39 - 1) g.numbers n h.numbers y (omega arith) (h.small x p) (λ q. g.small x y p q);
       are = λ u w x y p l.
-          elim (cases_eq y n) [
-            | inl is ↦
-                let here = h.are u (record { each = λ a b c d. w.each a b c (omega arith) }) x p in
-                let sum : (numbers n x + predicted_split u x n) % 3 ≡ split_at u x n =
-                ap (λ (f : ℕ → ℕ). (f x + predicted_split u x n) % 3) (value_here g.numbers n h.numbers n refl) ∙ here in
-                subst (λ (j : ℕ). (numbers j x + predicted_split u x j) % 3 ≡ split_at u x j) (sym is) sum
-            | inr not ↦
-                ap (λ (f : ℕ → ℕ). (f x + predicted_split u x y) % 3) (value_there g.numbers n h.numbers y (omega arith))
-                ∙ g.are u (record { each = λ a b c d. sym (h.outside a b (omega arith) (inr (inl d))) ∙ w.each a b c (omega arith) }) x y p (omega arith)
-          ];
+          value_holds (λ j f. (f x + predicted_split u x j) % 3 ≡ split_at u x j) g.numbers n h.numbers y (omega arith)
+          (h.are u (record { each = λ a b c d. w.each a b c (omega arith) }) x p)
+          (λ q. g.are u (record { each = λ a b c d. sym (h.outside a b (omega arith) (inr (inl d))) ∙ w.each a b c (omega arith) }) x y p q);
       reads = subst (λ (ds : List Decision). Reads r ds s) (ap₂ (λ (a b : List Decision). a ++ b) same_rows same_last)
           (reads_more r q.value.reading s (split_rows m.across g.numbers n) (split_row (λ y. h.numbers) n m.across) g.reads h.reads);
     }

@@ -1,6 +1,6 @@
 -- The splits that a block carries are read.
-use Rattle.std.proofs.Common.{◌≡◌, ℕ, zero, suc, ◌+◌, ◌-◌, ◌*◌, ◌/◌, ◌%◌, ◌^◌, ◌<◌, ◌≤◌, inl, inr, [], ◌∷◌, length, length-set, get_or, Option, Some, Result, Ok, sym, ap, ◌∙◌, arith, subst, ext_get_or}
-use Rattle.std.proofs.lemmas.Bool.{cases_lt, cases_eq}
+use Rattle.std.proofs.Common.{◌≡◌, ℕ, zero, suc, ◌+◌, ◌-◌, ◌*◌, ◌%◌, ◌^◌, ◌<◌, ◌≤◌, inl, inr, [], ◌∷◌, length, length-set, get_or, Option, Some, Result, Ok, refl, sym, ap, ◌∙◌, arith, subst}
+use Rattle.std.proofs.lemmas.Bool.{cases_eq}
 use Rattle.std.proofs.lemmas.List.{get_or-set_same, get_or-set_other}
 use Rattle.std.proofs.lemmas.Nat.{mul-add-lt, same_from_place}
 use Rattle.dirac_types.specs.declared.faults.Cause.{Cause}
@@ -15,12 +15,14 @@ use Rattle.dirac_blocks.specs.Grammar.{Progress, Step, repeated, with_split, spl
 use Rattle.dirac_blocks.specs.Laws.{CarriedSplitsAreRead}
 use Rattle.dirac_blocks.specs.Reached.{SameBlocks, progress}
 use Rattle.dirac_blocks.specs.Tables.{BlockTable, IsBlockTable, split_at}
-use Rattle.dirac_blocks.proofs.Filled.{place_row, same_table}
+use Rattle.dirac_blocks.proofs.Filled.{same_places, same_table}
+use Rattle.dirac_blocks.proofs.Going.{Same, Goes, nothing_goes, beside_goes, below_goes, kept, grown, none_left, none_above}
+use Rattle.dirac_blocks.proofs.Repeating.{repeated_sizes}
 use Rattle.dirac_blocks.proofs.Nearby.{predicted_same}
 
 -- the same splits left of column `right` and above row `bottom`
-pub record SameSplits (t u : BlockTable) (right bottom : ℕ) : Type 0 where
-  pub each : (x y : ℕ) → x < right → y < bottom → split_at t x y ≡ split_at u x y
+abbrev pub SameSplits : BlockTable → BlockTable → ℕ → ℕ → Type 0
+SameSplits t u right bottom = Same split_at t u right bottom
 
 -- a table on its way to a finished one: it lacks splits alone
 pub record SplitsToward (m u : BlockTable) : Type 0 where
@@ -28,12 +30,8 @@ pub record SplitsToward (m u : BlockTable) : Type 0 where
   pub len : length m.splits ≡ u.down * u.across
 
 -- a step leads toward the finished table, and fills a rectangle
-pub record SplitsGo (u : BlockTable) (step : Step) (m : BlockTable) (r s : Reading) (left right top bottom : ℕ) : Type 0 where
-  pub table : BlockTable
-  pub is : step (progress m r) ≡ Ok (progress table s)
-  pub toward : SplitsToward table u
-  pub inside : (x y : ℕ) → left ≤ x → x < right → top ≤ y → y < bottom → split_at table x y ≡ split_at u x y
-  pub keeps : (x y : ℕ) → x < u.across → split_at m x y ≡ split_at u x y → split_at table x y ≡ split_at u x y
+abbrev pub SplitsGo : BlockTable → Step → BlockTable → Reading → Reading → ℕ → ℕ → ℕ → ℕ → Type 0
+SplitsGo u step m r s left right top bottom = Goes (λ t. SplitsToward t u) split_at u.across u step m r s left right top bottom
 
 -- predictions read splits that are the same
 pub split_near : (t u : BlockTable) (sx sy : ℕ) → SameSplits t u sx (sy + 1) → SameSplits t u (sx + 1) sy → predicted_split t sx sy ≡ predicted_split u sx sy
@@ -96,37 +94,15 @@ pub splits_go : (u m : BlockTable) (numbers : Numbers) (sy n : ℕ) (r s : Readi
     → SplitsGo u (λ x. repeated (split_step sy) n x) m r s 0 n sy (sy + 1)
 unfolding split_row repeated
 splits_go u m numbers sy zero r s toward all few hy over led reads =
-    record {
-      table = m;
-      is = ap (λ (q : Reading). let x : Result Progress Cause = Ok (progress m q) in x) (sym reads.moved);
-      toward = toward;
-      inside = λ x y a c d e. absurd (omega arith);
-      keeps = λ x y p agree. agree;
-    }
+    nothing_goes refl toward reads (λ x y a b c d. omega arith)
 splits_go u m numbers sy (suc n) r s toward all few hy over led reads =
     let parted = reads_parted r s (split_row numbers sy n) (spelling (22 ∷ 23 ∷ []) 24 (numbers sy n)) led reads in
     let g = splits_go u m numbers sy n r parted.mid toward all (omega arith) hy over led parted.first in
-    let near_left : SameSplits g.table u n (sy + 1) = record {
-      each = λ x y p q.
-          elim (cases_lt y sy) [
-            | inl o ↦ g.keeps x y (omega arith) (over.each x y (omega arith) o)
-            | inr o ↦ g.inside x y (omega arith) p o q
-          ];
-    } in
-    let near_over : SameSplits g.table u (n + 1) sy = record { each = λ x y p q. g.keeps x y (omega arith) (over.each x y (omega arith) q) } in
+    let near_left = grown (sy + 1) (omega arith) (omega arith) (omega arith) (omega arith) g (none_left (sy + 1)) over in
+    let near_over = kept (n + 1) sy (omega arith) (omega arith) (omega arith) g over in
     let led' = led_more r parted.mid (split_row numbers sy n) led parted.first in
     let h = split_goes u g.table n sy (numbers sy n) parted.mid s g.toward (omega arith) hy (all.are n sy (omega arith) hy) (all.small n sy (omega arith) hy) near_left near_over led' parted.then in
-    record {
-      table = h.table;
-      is = rw g.is h.is;
-      toward = h.toward;
-      inside = λ x y a c d e.
-          elim (cases_lt x n) [
-            | inl l ↦ h.keeps x y (omega arith) (g.inside x y a l d e)
-            | inr l ↦ h.inside x y l (omega arith) d e
-          ];
-      keeps = λ x y p agree. h.keeps x y p (g.keeps x y p agree);
-    }
+    beside_goes (suc n) (omega arith) (omega arith) g h
 
 -- n rows of superblocks
 pub split_rows_go : (u m : BlockTable) (numbers : Numbers) (n : ℕ) (r s : Reading) → SplitsToward m u → AreNumbers u numbers → n ≤ u.down
@@ -134,42 +110,20 @@ pub split_rows_go : (u m : BlockTable) (numbers : Numbers) (n : ℕ) (r s : Read
     → SplitsGo u (λ x. repeated (λ sy. repeated (split_step sy) u.across) n x) m r s 0 u.across 0 n
 unfolding split_rows repeated
 split_rows_go u m numbers zero r s toward all few led reads =
-    record {
-      table = m;
-      is = ap (λ (q : Reading). let x : Result Progress Cause = Ok (progress m q) in x) (sym reads.moved);
-      toward = toward;
-      inside = λ x y a c d e. absurd (omega arith);
-      keeps = λ x y p agree. agree;
-    }
+    nothing_goes refl toward reads (λ x y a b c d. omega arith)
 split_rows_go u m numbers (suc n) r s toward all few led reads =
     let parted = reads_parted r s (split_rows u.across numbers n) (split_row numbers n u.across) led reads in
     let g = split_rows_go u m numbers n r parted.mid toward all (omega arith) led parted.first in
-    let near_over : SameSplits g.table u u.across n = record { each = λ x y p q. g.inside x y (omega arith) p (omega arith) q } in
+    let near_over = grown n (omega arith) (omega arith) (omega arith) (omega arith) g (none_left n) (none_above u.across) in
     let led' = led_more r parted.mid (split_rows u.across numbers n) led parted.first in
     let h = splits_go u g.table numbers n u.across parted.mid s g.toward all (omega arith) (omega arith) near_over led' parted.then in
-    record {
-      table = h.table;
-      is = rw g.is h.is;
-      toward = h.toward;
-      inside = λ x y a c d e.
-          elim (cases_lt y n) [
-            | inl l ↦ h.keeps x y c (g.inside x y a c d l)
-            | inr l ↦ h.inside x y a c l (omega arith)
-          ];
-      keeps = λ x y p agree. h.keeps x y p (g.keeps x y p agree);
-    }
+    below_goes (suc n) (omega arith) (omega arith) g h
 
 -- tables that differ in splits, whose splits are the same, are one
 one_split_table : (t u : BlockTable) → IsBlockTable u → SplitsToward t u → ((x y : ℕ) → x < u.across → y < u.down → split_at t x y ≡ split_at u x y) → t ≡ u
 one_split_table t u inv s all =
     same_table t u s.rest.across s.rest.down s.rest.refs
-    (ext_get_or 0 t.splits u.splits (s.len ∙ sym inv.splits_len)
-    (λ k l.
-    let parts = place_row u.across u.down k (omega (arith, s.len)) in
-    let here = all (k % u.across) (k / u.across) parts.2 parts.1 in
-    let wide : get_or t.splits (k / u.across * u.across + k % u.across) 0 ≡ get_or u.splits (k / u.across * u.across + k % u.across) 0 =
-    ap (λ (n : ℕ). get_or t.splits (k / u.across * n + k % u.across) 0) (sym s.rest.across) ∙ here in
-    ap (λ (n : ℕ). get_or t.splits n 0) (sym parts.3) ∙ wide ∙ ap (λ (n : ℕ). get_or u.splits n 0) parts.3))
+    (same_places 0 t.splits u.splits u.across u.down s.len inv.splits_len (λ x y p q. ap (λ (n : ℕ). get_or t.splits (y * n + x) 0) (sym s.rest.across) ∙ all x y p q))
     s.rest.blocks
 
 pub carried_splits_are_read : CarriedSplitsAreRead
@@ -185,6 +139,5 @@ carried_splits_are_read former t block inv h =
     (carried_reads block (split_rows t.across h.numbers t.down) h.carried) in
     let one : g.table ≡ t = one_split_table g.table t h.lawful g.toward (λ x y p q. g.inside x y (omega arith) p (omega arith) q) in
     let at_across : repeated (λ sy. repeated (split_step sy) former.across) former.down (progress former (begin block)) ≡ Ok (progress g.table s) =
-    subst (λ (n : ℕ). repeated (λ sy. repeated (split_step sy) n) former.down (progress former (begin block)) ≡ Ok (progress g.table s)) rest.across
-    (subst (λ (n : ℕ). repeated (λ sy. repeated (split_step sy) t.across) n (progress former (begin block)) ≡ Ok (progress g.table s)) rest.down g.is) in
+    repeated_sizes split_step (progress former (begin block)) rest.across rest.down g.is in
     (s, subst (λ (x : BlockTable). splits_step (progress former (begin block)) ≡ Ok (progress x s)) one at_across)

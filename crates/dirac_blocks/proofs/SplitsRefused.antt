@@ -17,10 +17,11 @@ use Rattle.dirac_blocks.specs.Laws.{BrokenSplitsAreRefused}
 use Rattle.dirac_blocks.specs.Reached.{progress}
 use Rattle.dirac_blocks.specs.Refused.{CarriesSplitBreak}
 use Rattle.dirac_blocks.specs.Tables.{BlockTable, split_at}
-use Rattle.dirac_blocks.proofs.Repeating.{repeated_stops}
+use Rattle.dirac_blocks.proofs.Going.{grown, none_left, none_above}
+use Rattle.dirac_blocks.proofs.Repeating.{repeated_sizes, repeated_stops}
 use Rattle.dirac_blocks.proofs.Spelled.{least_sum, predicted_few, splits_few}
 use Rattle.dirac_blocks.proofs.SplitBackwards.{split_row_same, split_rows_same}
-use Rattle.dirac_blocks.proofs.SplitForwards.{SameSplits, SplitsToward, AreNumbers, splits_go, split_rows_go}
+use Rattle.dirac_blocks.proofs.SplitForwards.{SplitsToward, AreNumbers, splits_go, split_rows_go}
 
 -- the numbers that were read, and the least ones from there on
 abbrev filled_up : BlockTable → Numbers → ℕ → ℕ → Numbers
@@ -38,38 +39,31 @@ behind_row t f sy sx y x e l = rw (le-ltb y sy (omega arith), eq-eqb y sy e, le-
 behind_rows : (t : BlockTable) (f : Numbers) (sy sx y x : ℕ) → sy < y → filled_up t f sy sx y x ≡ least_numbers t y x
 behind_rows t f sy sx y x l = rw (le-ltb y sy (omega arith), ne_eqb y sy (λ e. omega arith)) refl
 
+-- what holds of the numbers that were read and of the least ones holds of these
+filled_holds : (t : BlockTable) (f : Numbers) (sy sx : ℕ) (P : ℕ → Type 0) (y x : ℕ) → (y < sy → P (f y x)) → (y ≡ sy → x < sx → P (f y x)) → P (least_numbers t y x)
+    → P (filled_up t f sy sx y x)
+filled_holds t f sy sx P y x rows row least =
+    elim (cases_lt y sy) [
+      | inl l ↦ subst P (sym (in_rows t f sy sx y x l)) (rows l)
+      | inr l ↦ elim (cases_eq y sy) [
+        | inr n ↦ subst P (sym (behind_rows t f sy sx y x (omega arith))) least
+        | inl e ↦ elim (cases_lt x sx) [
+          | inr m ↦ subst P (sym (behind_row t f sy sx y x e m)) least
+          | inl m ↦ subst P (sym (in_row t f sy sx y x e m)) (row e m)
+        ]
+      ]
+    ]
+
 filled_are : (former : BlockTable) (block : List ℕ) (h : CarriesSplitBreak former block) → AreNumbers h.table (filled_up h.table h.numbers h.sy h.sx)
 filled_are former block h =
     let t = h.table in
-    let least = λ (x y : ℕ). least_sum (split_at t x y) (predicted_split t x y) (splits_few t x y h.lawful) (predicted_few t x y h.lawful) in
-    let sum = λ (n x y : ℕ) (e : filled_up t h.numbers h.sy h.sx y x ≡ n) (s : (n + predicted_split t x y) % 3 ≡ split_at t x y).
-    ap (λ (a : ℕ). (a + predicted_split t x y) % 3) e ∙ s in
+    let sum = λ (x y n : ℕ). (n + predicted_split t x y) % 3 ≡ split_at t x y in
     record {
       are = λ x y p q.
-          elim (cases_lt y h.sy) [
-            | inl l ↦ sum (h.numbers y x) x y (in_rows t h.numbers h.sy h.sx y x l) (h.rows_are x y p l)
-            | inr l ↦ elim (cases_eq y h.sy) [
-              | inr n ↦ sum (least_numbers t y x) x y (behind_rows t h.numbers h.sy h.sx y x (omega arith)) (least x y)
-              | inl e ↦ elim (cases_lt x h.sx) [
-                | inr m ↦ sum (least_numbers t y x) x y (behind_row t h.numbers h.sy h.sx y x e m) (least x y)
-                | inl m ↦
-                    sum (h.numbers y x) x y (in_row t h.numbers h.sy h.sx y x e m)
-                    (subst (λ (j : ℕ). (h.numbers j x + predicted_split t x j) % 3 ≡ split_at t x j) (sym e) (h.row_is x m))
-              ]
-            ]
-          ];
+          filled_holds t h.numbers h.sy h.sx (sum x y) y x (h.rows_are x y p) (λ e m. subst (λ (j : ℕ). sum x j (h.numbers j x)) (sym e) (h.row_is x m))
+          (least_sum (split_at t x y) (predicted_split t x y) (splits_few t x y h.lawful) (predicted_few t x y h.lawful));
       small = λ x y p q.
-          elim (cases_lt y h.sy) [
-            | inl l ↦ subst (λ (a : ℕ). a < 2 ^ 39 - 1) (sym (in_rows t h.numbers h.sy h.sx y x l)) (h.rows_small x y p l)
-            | inr l ↦ elim (cases_eq y h.sy) [
-              | inr n ↦ subst (λ (a : ℕ). a < 2 ^ 39 - 1) (sym (behind_rows t h.numbers h.sy h.sx y x (omega arith))) (omega arith)
-              | inl e ↦ elim (cases_lt x h.sx) [
-                | inr m ↦ subst (λ (a : ℕ). a < 2 ^ 39 - 1) (sym (behind_row t h.numbers h.sy h.sx y x e m)) (omega arith)
-                | inl m ↦
-                    subst (λ (a : ℕ). a < 2 ^ 39 - 1) (sym (in_row t h.numbers h.sy h.sx y x e m)) (subst (λ (j : ℕ). h.numbers j x < 2 ^ 39 - 1) (sym e) (h.row_small x m))
-              ]
-            ]
-          ];
+          filled_holds t h.numbers h.sy h.sx (λ n. n < 2 ^ 39 - 1) y x (h.rows_small x y p) (λ e m. subst (λ (j : ℕ). h.numbers j x < 2 ^ 39 - 1) (sym e) (h.row_small x m)) (omega arith);
     }
 
 split_refused : (sy sx : ℕ) (m : BlockTable) (r s : Reading) (digits : List Bool) → IsLed r → length digits ≡ 38 → Reads r (spelt (22 ∷ 23 ∷ []) 24 digits false) s
@@ -91,7 +85,7 @@ splits_refused t m numbers sy sx r s digits toward all hx hy led long reads =
     let g = split_rows_go t m numbers sy r one.mid toward all (omega arith) led one.first in
     let led1 = led_more r one.mid d led one.first in
     let two = reads_parted one.mid s e far led1 one.then in
-    let over : SameSplits g.table t t.across sy = record { each = λ x y p q. g.inside x y (omega arith) p (omega arith) q } in
+    let over = grown sy (omega arith) (omega arith) (omega arith) (omega arith) g (none_left sy) (none_above t.across) in
     let h = splits_go t g.table numbers sy sx one.mid two.mid g.toward all (omega arith) hy over led1 two.first in
     let led2 = led_more one.mid two.mid e led1 two.first in
     let last = split_refused sy sx h.table two.mid s digits led2 long two.then in
@@ -118,5 +112,4 @@ broken_splits_are_refused former block inv h =
     let s = after_all (begin block) ds in
     let reads : Reads (begin block) es s = subst (λ (l : List Decision). Reads (begin block) l s) same (carried_reads block ds h.carried) in
     let refused = splits_refused t former numbers h.sy h.sx (begin block) s h.digits toward (filled_are former block h) h.column h.row (led_begin block) h.long reads in
-    subst (λ (n : ℕ). repeated (λ y. repeated (split_step y) n) former.down (progress former (begin block)) ≡ Err cause.NumberTooLong) rest.across
-    (subst (λ (n : ℕ). repeated (λ y. repeated (split_step y) t.across) n (progress former (begin block)) ≡ Err cause.NumberTooLong) rest.down refused)
+    repeated_sizes split_step (progress former (begin block)) rest.across rest.down refused

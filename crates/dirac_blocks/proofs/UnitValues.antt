@@ -1,5 +1,5 @@
 -- What is read of a unit.
-use Rattle.std.proofs.Common.{◌≡◌, ℕ, ℤ, ◌+ℤ◌, Bool, true, false, ◌||◌, not, List, Result, Ok, Err, refl, sym, ap}
+use Rattle.std.proofs.Common.{arith, ◌≡◌, ℕ, ℤ, ◌+ℤ◌, Bool, true, false, ◌||◌, not, List, Result, Ok, Err, refl, sym, ap}
 use Rattle.std.proofs.lemmas.Bool.{both_ways}
 use Rattle.dirac_types.specs.declared.faults.Cause.{Cause}
 use Rattle.dirac_arith.specs.Deciding.{signed_read}
@@ -32,94 +32,17 @@ into_found true b put value old new v is read = rw read refl
 into_found false b put value old new v is read = absurd (both_ways false refl is)
 
 pub across_lawful : (refs : ℕ) (k : Reference) (b : Block) (v : ℤ) → IsBlock refs b → uses k b ≡ true → IsShort v → IsBlock refs (with_across k b v)
-across_lawful refs references.First b v h is short =
-    record {
-      second = h.second;
-      v1 = record { x = short; y = h.v1.y };
-      v2 = h.v2;
-      dc_y = h.dc_y;
-      dc_u = h.dc_u;
-      dc_v = h.dc_v;
-      no_v1 = λ e. absurd (both_ways b.ref1 e is);
-      no_v2 = h.no_v2;
-      no_dc = h.no_dc;
-    }
-across_lawful refs references.Second b v h is short =
-    record {
-      second = h.second;
-      v1 = h.v1;
-      v2 = record { x = short; y = h.v2.y };
-      dc_y = h.dc_y;
-      dc_u = h.dc_u;
-      dc_v = h.dc_v;
-      no_v1 = h.no_v1;
-      no_v2 = λ e. absurd (both_ways b.ref2 e is);
-      no_dc = h.no_dc;
-    }
+across_lawful refs references.First b v h is short = grind arith
+across_lawful refs references.Second b v h is short = grind arith
 
 pub down_lawful : (refs : ℕ) (k : Reference) (b : Block) (v : ℤ) → IsBlock refs b → uses k b ≡ true → IsShort v → IsBlock refs (with_down k b v)
-down_lawful refs references.First b v h is short =
-    record {
-      second = h.second;
-      v1 = record { x = h.v1.x; y = short };
-      v2 = h.v2;
-      dc_y = h.dc_y;
-      dc_u = h.dc_u;
-      dc_v = h.dc_v;
-      no_v1 = λ e. absurd (both_ways b.ref1 e is);
-      no_v2 = h.no_v2;
-      no_dc = h.no_dc;
-    }
-down_lawful refs references.Second b v h is short =
-    record {
-      second = h.second;
-      v1 = h.v1;
-      v2 = record { x = h.v2.x; y = short };
-      dc_y = h.dc_y;
-      dc_u = h.dc_u;
-      dc_v = h.dc_v;
-      no_v1 = h.no_v1;
-      no_v2 = λ e. absurd (both_ways b.ref2 e is);
-      no_dc = h.no_dc;
-    }
+down_lawful refs references.First b v h is short = grind arith
+down_lawful refs references.Second b v h is short = grind arith
 
 pub dc_lawful : (refs : ℕ) (c : Component) (b : Block) (v : ℤ) → IsBlock refs b → (b.ref1 || b.ref2) ≡ false → IsShort v → IsBlock refs (with_dc c b v)
-dc_lawful refs components.Y b v h is short =
-    record {
-      second = h.second;
-      v1 = h.v1;
-      v2 = h.v2;
-      dc_y = short;
-      dc_u = h.dc_u;
-      dc_v = h.dc_v;
-      no_v1 = h.no_v1;
-      no_v2 = h.no_v2;
-      no_dc = λ e. absurd (both_ways (b.ref1 || b.ref2) is e);
-    }
-dc_lawful refs components.U b v h is short =
-    record {
-      second = h.second;
-      v1 = h.v1;
-      v2 = h.v2;
-      dc_y = h.dc_y;
-      dc_u = short;
-      dc_v = h.dc_v;
-      no_v1 = h.no_v1;
-      no_v2 = h.no_v2;
-      no_dc = λ e. absurd (both_ways (b.ref1 || b.ref2) is e);
-    }
-dc_lawful refs components.V b v h is short =
-    record {
-      second = h.second;
-      v1 = h.v1;
-      v2 = h.v2;
-      dc_y = h.dc_y;
-      dc_u = h.dc_u;
-      dc_v = short;
-      no_v1 = h.no_v1;
-      no_v2 = h.no_v2;
-      no_dc = λ e. absurd (both_ways (b.ref1 || b.ref2) is e);
-    }
+dc_lawful refs components.Y b v h is short = grind arith
+dc_lawful refs components.U b v h is short = grind arith
+dc_lawful refs components.V b v h is short = grind arith
 
 pub is_dc_from : (b : Block) → (b.ref1 || b.ref2) ≡ false → is_dc b ≡ true
 is_dc_from b e = ap not e
