@@ -1,4 +1,6 @@
 pub mod Bounds
+pub mod Coefficients
+pub mod JoinedRows
 pub mod Levels
 pub mod Maps
 pub mod Sizes

@@ -4,6 +4,7 @@
 
 mod clip;
 mod cut;
+mod join;
 mod plane;
 mod restore;
 

@@ -5,8 +5,9 @@ ghost use Rattle.dirac_residual.specs.Fits.{AreBandsOf, IsBesides};
 ghost use Rattle.dirac_residual.specs.Residual.{after_levels, residual, restored_band, summed};
 
 use crate::cut::cut_to;
+use crate::join::join_restored;
 use crate::restore::restore_band;
-use dirac_bands::{dc_add, join_bands};
+use dirac_bands::dc_add;
 use dirac_coeffs::CodedBand;
 use dirac_lift::synth_level;
 use dirac_types::{Kind, NoMemory, Wide};
@@ -49,10 +50,7 @@ fn next_level(
     ensures value { IfOk result (λ t. t ≡ level wavelet low.now (restored_band kind hl.now) (restored_band kind lh.now) (restored_band kind hh.now)) }
     ensures growth { IfOk result (λ t. (b : ℕ) → 2 ^ 64 ≤ b → All (λ v. unsigned_abs v ≤ b) low.now.values → All (λ v. unsigned_abs v ≤ 72 * b + 40) t.values) }
 {
-    let hl = restore_band(alloc, hl, kind)?;
-    let lh = restore_band(alloc, lh, kind)?;
-    let hh = restore_band(alloc, hh, kind)?;
-    let mut plane = join_bands(alloc, low, &hl, &lh, &hh)?;
+    let mut plane = join_restored(alloc, low, hl, lh, hh, kind)?;
     synth_level(wavelet, &mut plane);
     Ok(plane)
 }

@@ -1,4 +1,4 @@
-ghost use Rattle.std.specs.Prelude.{◌≡◌, ◌-◌, ◌^◌, ◌<◌, ◌≤◌, length, map, unsigned_abs, IfOk};
+ghost use Rattle.std.specs.Prelude.{◌≡◌, ◌≢◌, ℕ, pos, ◌+◌, ◌-◌, ◌*◌, ◌%◌, ◌^◌, ◌<◌, ◌≤◌, length, map, slice_index_or, unsigned_abs, IfOk};
 ghost use Rattle.std.specs.List.{All};
 ghost use Rattle.dirac_quant.specs.Quantiser.{restored};
 ghost use Rattle.dirac_residual.specs.Residual.{restored_band};
@@ -18,6 +18,22 @@ fn restore_values(coded: &[i64], index: u8, kind: Kind, values: &mut [i128])
 {
     for i in 0..coded.len() {
         values[i] = restore(coded[i], index, kind);
+    }
+}
+
+/// Writes the coefficient that each coded number stands for to the places 2n + `first` of a line of twice the length;
+/// its other values stay.
+#[inline(always)]
+pub fn restore_into(coded: &[i64], index: u8, kind: Kind, first: usize, line: &mut [i128])
+    requires line { length line.old ≡ 2 * length coded.now }
+    requires first { first ≤ 1 }
+    requires index { index ≤ 99 }
+    requires small { All (λ v. unsigned_abs v < 2 ^ 39 - 1) coded.now }
+    ensures written { (n : ℕ) → n < length coded.now → slice_index_or line.new (2 * n + first) (pos 0) ≡ restored (slice_index_or coded.now n (pos 0)) index kind }
+    ensures others { (x : ℕ) → x % 2 ≢ first → slice_index_or line.new x (pos 0) ≡ slice_index_or line.old x (pos 0) }
+{
+    for n in 0..coded.len() {
+        line[2 * n + first] = restore(coded[n], index, kind);
     }
 }
 
