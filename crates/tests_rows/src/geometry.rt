@@ -1,4 +1,4 @@
-use dirac_bands::{band_size, dc_add, dc_subtract, edge, padded};
+use dirac_bands::{band_size, dc_add, dc_subtract, edge, join_bands, padded, split_bands};
 use dirac_types::{NoMemory, Wide};
 
 #[test]
@@ -24,5 +24,22 @@ fn differences_of_a_row(rt: HostRuntime) -> Result<(), NoMemory> {
     dc_add(&mut table);
     assert_eq!(rt; table.at(0, 0), 4);
     assert_eq!(rt; table.at(1, 0), 6);
+    Ok(())
+}
+
+#[test]
+fn bands_joined_and_split(rt: HostRuntime) -> Result<(), NoMemory> {
+    let alloc = rt.alloc();
+    let ll = Wide::try_new(alloc, 1, 1, 1)?;
+    let hl = Wide::try_new(alloc, 1, 1, 2)?;
+    let lh = Wide::try_new(alloc, 1, 1, 3)?;
+    let hh = Wide::try_new(alloc, 1, 1, 4)?;
+    let plane = join_bands(alloc, &ll, &hl, &lh, &hh)?;
+    assert!(rt; plane.values() == [1i128, 2, 3, 4].as_slice());
+    let bands = split_bands(alloc, &plane)?;
+    assert_eq!(rt; bands.ll.at(0, 0), 1);
+    assert_eq!(rt; bands.hl.at(0, 0), 2);
+    assert_eq!(rt; bands.lh.at(0, 0), 3);
+    assert_eq!(rt; bands.hh.at(0, 0), 4);
     Ok(())
 }
