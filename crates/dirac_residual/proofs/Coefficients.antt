@@ -60,7 +60,7 @@ signed_small : (v : ℤ) (magnitude b : ℕ) → magnitude < b → unsigned_abs 
 signed_small (pos n) magnitude b l = l
 signed_small (negsuc n) magnitude b l = omega (arith, l, negated_size magnitude)
 
-restored_small : (v : ℤ) (index : ℕ) (kind : Kind) → unsigned_abs v < 2 ^ 39 - 1 → index ≤ 99 → unsigned_abs (restored v index kind) < 2 ^ 64
+pub restored_small : (v : ℤ) (index : ℕ) (kind : Kind) → unsigned_abs v < 2 ^ 39 - 1 → index ≤ 99 → unsigned_abs (restored v index kind) < 2 ^ 64
 restored_small v index kind small most =
     signed_small v (restored_magnitude (unsigned_abs v) index kind) (2 ^ 64) (magnitude_small (unsigned_abs v) index kind small most)
 

@@ -31,7 +31,7 @@ fn even_row(low: &[i128], right: &[i64], index: u8, kind: Kind, line: &mut [i128
     ensures { line.new ≡ interleaved low.now (map (λ v. restored v index kind) right.now) }
 {
     copy_into(low, line);
-    restore_into(right, index, kind, 1, line);
+    restore_into(right, index, kind, 2, 1, line);
 }
 
 /// An odd row of a joined plane: coefficients of LH, and in turn with them those of HH.
@@ -52,8 +52,8 @@ fn odd_row(
     requires right_small { All (λ v. unsigned_abs v < 2 ^ 39 - 1) right.now }
     ensures { line.new ≡ interleaved (map (λ v. restored v left_index kind) left.now) (map (λ v. restored v right_index kind) right.now) }
 {
-    restore_into(left, left_index, kind, 0, line);
-    restore_into(right, right_index, kind, 1, line);
+    restore_into(left, left_index, kind, 2, 0, line);
+    restore_into(right, right_index, kind, 2, 1, line);
 }
 
 /// The plane that an LL band and what the three coded bands of its level stand for interleave to: each coefficient is

@@ -8,6 +8,28 @@ use dirac_quant::restore;
 use dirac_types::{Kind, NoMemory, Wide};
 use std::alloc::Global;
 
+/// Writes the coefficient that each coded number stands for to the places n * `step` + `first` of a line; its other
+/// values stay.
+pub fn restore_into(
+    coded: &[i64],
+    index: u8,
+    kind: Kind,
+    step: usize,
+    first: usize,
+    line: &mut [i128],
+)
+    requires line { length line.old ≡ length coded.now * step }
+    requires first { first < step }
+    requires index { index ≤ 99 }
+    requires small { All (λ v. unsigned_abs v < 2 ^ 39 - 1) coded.now }
+    ensures written { (n : ℕ) → n < length coded.now → slice_index_or line.new (n * step + first) (pos 0) ≡ restored (slice_index_or coded.now n (pos 0)) index kind }
+    ensures others { (x : ℕ) → x % step ≢ first → slice_index_or line.new x (pos 0) ≡ slice_index_or line.old x (pos 0) }
+{
+    for n in 0..coded.len() {
+        line[n * step + first] = restore(coded[n], index, kind);
+    }
+}
+
 /// Writes the coefficient that each coded number stands for.
 fn restore_values(coded: &[i64], index: u8, kind: Kind, values: &mut [i128])
     requires len { length values.old ≡ length coded.now }
@@ -16,25 +38,7 @@ fn restore_values(coded: &[i64], index: u8, kind: Kind, values: &mut [i128])
     ensures value { values.new ≡ map (λ v. restored v index kind) coded.now }
     ensures bound { All (λ v. unsigned_abs v < 2 ^ 64) values.new }
 {
-    for i in 0..coded.len() {
-        values[i] = restore(coded[i], index, kind);
-    }
-}
-
-/// Writes the coefficient that each coded number stands for to the places 2n + `first` of a line of twice the length;
-/// its other values stay.
-#[inline(always)]
-pub fn restore_into(coded: &[i64], index: u8, kind: Kind, first: usize, line: &mut [i128])
-    requires line { length line.old ≡ 2 * length coded.now }
-    requires first { first ≤ 1 }
-    requires index { index ≤ 99 }
-    requires small { All (λ v. unsigned_abs v < 2 ^ 39 - 1) coded.now }
-    ensures written { (n : ℕ) → n < length coded.now → slice_index_or line.new (2 * n + first) (pos 0) ≡ restored (slice_index_or coded.now n (pos 0)) index kind }
-    ensures others { (x : ℕ) → x % 2 ≢ first → slice_index_or line.new x (pos 0) ≡ slice_index_or line.old x (pos 0) }
-{
-    for n in 0..coded.len() {
-        line[2 * n + first] = restore(coded[n], index, kind);
-    }
+    restore_into(coded, index, kind, 1, 0, values);
 }
 
 /// The coefficients that a coded band stands for (inverse quantisation, Dirac specification).
