@@ -1,0 +1,12 @@
+-- How many bits spell numbers and vectors.
+use Rattle.std.specs.Prelude.{ℕ, ℤ, ◌+◌, length}
+use Rattle.dirac_types.specs.Numbers.{sint}
+use Rattle.dirac_types.specs.declared.formats.Vector.{Vector}
+
+-- how many bits spell a signed number
+abbrev pub bits_of : ℤ → ℕ
+bits_of v = length (sint v)
+
+-- how many bits spell a vector's two components
+abbrev pub bits_of_vector : Vector → ℕ
+bits_of_vector v = bits_of v.x + bits_of v.y
