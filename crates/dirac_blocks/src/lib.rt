@@ -25,5 +25,6 @@ pub use block::Block;
 pub use laws::{carried_lists_are_read, read_lists_are_carried, refused_lists_break_off};
 pub use lists::{Blocks, Splits};
 pub use reader::read_blocks;
-pub use table::BlockData;
+pub use superblock::{unit_blocks, units_across};
+pub use table::{BlockData, grey_block};
 pub use writer::write_blocks;

@@ -171,7 +171,7 @@ impl BlockData {
 }
 
 /// A DC block of value 0.
-fn grey_block() -> Block
+pub fn grey_block() -> Block
     ensures { result ≡ grey }
 {
     let nowhere = Vector { x: 0, y: 0 };
