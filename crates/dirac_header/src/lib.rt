@@ -10,6 +10,6 @@ mod write;
 
 pub use counts::Counts;
 pub use header::{PictureHeader, is_reference, read_header, references};
-pub use prediction::{Prediction, read_prediction};
+pub use prediction::{Prediction, block_grid, read_prediction};
 pub use transform::{Transform, read_transform};
 pub use write::{write_header, write_prediction, write_transform};

@@ -126,11 +126,11 @@ fn read_block_grid(r: &mut BitReader<'_>, chroma: Chroma) -> Result<BlockGrid, R
             cause: Cause::BlockPreset,
         });
     }
-    Ok(grid(index))
+    Ok(block_grid(index))
 }
 
-/// Block parameters 2, 3 and 4.
-fn grid(index: u64) -> BlockGrid
+/// Block lengths and separations of index 2, 3 or 4: block parameters, Dirac specification.
+pub fn block_grid(index: u64) -> BlockGrid
     requires { (2 ≤ index) × (index ≤ 4) }
     ensures value { result ≡ grammar.grid_of index }
     ensures grid { (chroma : TheChroma) → IsTrue (grammar.is_grid chroma result) }
