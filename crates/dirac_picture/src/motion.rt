@@ -20,8 +20,8 @@ pub fn is_intra(code: u8) -> bool
     code == 0x08 || code == 0x0C
 }
 
-/// How many superblocks cover so many samples.
-fn superblocks_over(size: u32, separation: u32) -> u32
+/// How many superblocks cover so many luma samples, each four block separations long.
+pub fn superblocks_over(size: u32, separation: u32) -> u32
     requires some { 1 ≤ size }
     requires few { size ≤ 4096 }
     requires separation { 1 ≤ separation }
