@@ -9,3 +9,4 @@ pub mod Runs
 pub mod Signed
 pub mod Undone
 pub mod Weighted
+pub mod ZerosKept

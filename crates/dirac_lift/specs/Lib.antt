@@ -4,3 +4,4 @@ pub mod Lifting
 pub mod Places
 pub mod Safety
 pub mod Wavelets
+pub mod Zeros

@@ -3,10 +3,12 @@
 //! The wavelet transforms as lifting steps in place.
 
 mod columns;
+mod laws;
 mod levels;
 mod lines;
 mod step;
 mod tables;
 
+pub use laws::zeros_stay_zeros;
 pub use levels::{analyse_level, synth_level};
 pub use lines::{analyse_line, synth_line};
