@@ -1,5 +1,5 @@
 -- The picture that a coded picture stands for.
-use Rattle.std.specs.Prelude.{◌≡◌, ℕ, ℤ, pos, ◌*◌, IsTrue, List, [], Option, None, Some, replicate, option_map}
+use Rattle.std.specs.Prelude.{◌≡◌, ℕ, ℤ, IsTrue, List, [], Option, None, Some, option_map}
 use Rattle.std.specs.List.{All}
 use Rattle.std.specs.Option.{ForSome}
 use Rattle.dirac_types.specs.declared.formats.Kind.{Kind}
@@ -20,6 +20,7 @@ use Rattle.dirac_picture.specs.declared.coded.CodedPicture.{CodedPicture}
 use Rattle.dirac_picture.specs.declared.coded.CodedResidual.{CodedResidual}
 use Rattle.dirac_picture.specs.Grammar.{are_listed, chroma_width, chroma_height}
 use Rattle.dirac_residual.specs.Residual.{residual, clipped, with_prediction}
+pub use Rattle.dirac_residual.specs.Zeros.{zeros}
 
 -- the columns of a plane
 abbrev pub width_of : Sequence → Part → ℕ
@@ -44,10 +45,6 @@ abbrev pub bands_of : CodedResidual → Part → List CodedBand
 bands_of r part.Y = r.y
 bands_of r part.U = r.u
 bands_of r part.V = r.v
-
--- a plane of zeros
-abbrev pub zeros : ℕ → ℕ → Table
-zeros width height = record { width = width; height = height; values = replicate (width * height) (pos 0) }
 
 -- the residual of a plane; where none is coded it is 0
 abbrev pub residual_among : Sequence → Kind → Part → Option CodedResidual → Table

@@ -4,3 +4,4 @@ pub mod JoinedRows
 pub mod Levels
 pub mod Maps
 pub mod Sizes
+pub mod ZeroBands

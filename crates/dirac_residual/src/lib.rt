@@ -5,8 +5,10 @@
 mod clip;
 mod cut;
 mod join;
+mod laws;
 mod plane;
 mod restore;
 
 pub use clip::{clipped, clipped_sum};
+pub use laws::zero_bands_stand_for_zeros;
 pub use plane::plane_residual;
