@@ -12,6 +12,7 @@ pub mod Predictions
 pub mod Ramps
 pub mod Rounding
 pub mod RowsAdded
+pub mod SamplesPredicted
 pub mod Shares
 pub mod SixtyFour
 pub mod Totals

@@ -3,4 +3,5 @@ pub mod Compensation
 pub mod Directions
 pub mod Given
 pub mod Lending
+pub mod OfSamples
 pub mod Weights

@@ -3,6 +3,7 @@
 
 mod direction;
 mod motion;
+mod of_samples;
 mod predict;
 mod predicted;
 mod rows;
@@ -12,6 +13,7 @@ mod values;
 mod weights;
 
 pub use motion::{Motion, Part};
+pub use of_samples::samples_predict_samples;
 pub use predict::{predict_plane, predict_rows};
 pub use predicted::Predicted;
 pub use weights::{dc_blocks_predict_their_value, weight, weights_sum_to_64, weights_sum_to_eight};
