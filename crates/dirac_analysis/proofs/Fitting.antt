@@ -7,6 +7,8 @@ use Rattle.std.proofs.lemmas.Int.{ints}
 use Rattle.std.proofs.lemmas.List.{get_or-map, get_or_default, length-map}
 use Rattle.std.proofs.lemmas.Nat.{div-mul-add, div_below, mul-le, pow_pos}
 use Rattle.std.proofs.lemmas.Option.{slice_get_within}
+use Rattle.dirac_types.specs.declared.formats.Kind.{Kind}
+use Rattle.dirac_types.specs.declared.formats.Kind.TheVariants.{Intra, Inter}
 use Rattle.dirac_types.specs.Table.{Table, table_at}
 use Rattle.dirac_types.specs.Samples.{clip}
 use Rattle.dirac_types.proofs.Bounds.{all_weaker, told_bound, values_bound}
@@ -18,8 +20,8 @@ use Rattle.dirac_bands.proofs.Predictions.{DifferencesFrom, differences_bound}
 use Rattle.dirac_coeffs.specs.declared.spot.CodedBand.{CodedBand}
 use Rattle.dirac_coeffs.specs.Written.{is_zero_band}
 use Rattle.dirac_lift.specs.Level.{analysed}
-use Rattle.dirac_analysis.specs.Analysis.{coded, coded_bands, differences, padded, reduced_values}
-use Rattle.dirac_analysis.specs.Fits.{AreLevelBands, AreSamples, IsLevelBand, IsDivisible, grown}
+use Rattle.dirac_analysis.specs.Analysis.{coded, coded_bands, coded_lowest, differences, padded, reduced_values}
+use Rattle.dirac_analysis.specs.Fits.{AreDifferences, AreLevelBands, AreSamples, IsLevelBand, IsDivisible, grown}
 use Rattle.dirac_analysis.specs.Laws.{PlanesFit}
 use Rattle.dirac_analysis.proofs.OneLevel.{length-filled, level_grows, low_divisible, padded_divisible}
 use Rattle.dirac_analysis.proofs.Undone.{differences_sum, front_get}
@@ -52,7 +54,7 @@ small_lowest n xs few all = all_weaker (grown n) (2 ^ 36) xs (grown_four n few) 
 pub small_above : (n : ℕ) (xs : List ℤ) → n ≤ 3 → All (λ v. unsigned_abs v ≤ grown n) xs → All (λ v. unsigned_abs v ≤ 2 ^ 29) xs
 small_above n xs few all = all_weaker (grown n) (2 ^ 29) xs (omega (arith, grown_three n few)) all
 
-grown_least : (n : ℕ) → 128 ≤ grown n
+grown_least : (n : ℕ) → 255 ≤ grown n
 unfolding grown
 grown_least zero = omega arith
 grown_least (suc n) = omega (arith, grown_least n)
@@ -62,16 +64,15 @@ sample_small : (v : ℤ) → clip v ≡ v → unsigned_abs v ≤ 128
 sample_small (pos n) is = grind (arith, ints)
 sample_small (negsuc n) is = grind (arith, ints)
 
-samples_small : (xs : List ℤ) → AreSamples xs → All (λ v. unsigned_abs v ≤ 128) xs
-samples_small xs all k d l = sample_small (get_or xs k d) (all k d l)
+pub samples_small : (xs : List ℤ) → AreSamples xs → AreDifferences xs
+samples_small xs all k d l = omega (arith, sample_small (get_or xs k d) (all k d l))
 
 -- and so is what is padded
-pub padded_small : (n depth : ℕ) (t : Table) → AreSamples t.values → All (λ v. unsigned_abs v ≤ grown n) (padded depth t).values
+pub padded_small : (n depth : ℕ) (t : Table) → AreDifferences t.values → All (λ v. unsigned_abs v ≤ grown n) (padded depth t).values
 padded_small n depth t all =
-    let small = samples_small t.values all in
-    let told : All (λ v. unsigned_abs v ≤ 128) (padded depth t).values = told_bound 128 (padded_size t.width depth) (padded_size t.height depth) (λ x y. table_at t (min x (t.width - 1)) (min y (t.height - 1)))
-    (λ x y. values_bound 128 t.values small (min y (t.height - 1) * t.width + min x (t.width - 1))) in
-    all_weaker 128 (grown n) (padded depth t).values (grown_least n) told
+    let told : All (λ v. unsigned_abs v ≤ 255) (padded depth t).values = told_bound 255 (padded_size t.width depth) (padded_size t.height depth) (λ x y. table_at t (min x (t.width - 1)) (min y (t.height - 1)))
+    (λ x y. values_bound 255 t.values all (min y (t.height - 1) * t.width + min x (t.width - 1))) in
+    all_weaker 255 (grown n) (padded depth t).values (grown_least n) told
 
 -- the values of a band are among those of the plane
 band_bound : (b right below : ℕ) (t : Table) → All (λ v. unsigned_abs v ≤ b) t.values → All (λ v. unsigned_abs v ≤ b) (band_of t right below).values
@@ -197,10 +198,11 @@ differences_small b t len all =
           differences_bound b t.width t.values (differences t).values 0 all_from (omega (arith, some)) all
     ]
 
-lowest_coded : (t : Table) → length t.values ≡ t.width * t.height → All (λ v. unsigned_abs v ≤ 2 ^ 36) t.values → IsLevelBand t.width t.height (coded 0 (differences t))
-lowest_coded t len small =
+lowest_coded : (kind : Kind) (index : ℕ) (t : Table) → index ≤ 99 → length t.values ≡ t.width * t.height → All (λ v. unsigned_abs v ≤ 2 ^ 36) t.values → IsLevelBand t.width t.height (coded_lowest kind index t)
+lowest_coded Intra index t few len small =
     coded_fits 0 (differences t) (omega arith) (sym (differences_sum t len).len ∙ len)
     (all_under (2 * 2 ^ 36) (2 ^ 38) (differences t).values (omega arith) (differences_small (2 ^ 36) t len small))
+lowest_coded Inter index t few len small = coded_fits index t few len (all_under (2 ^ 36) (2 ^ 38) t.values (omega arith) small)
 
 -- ---- the bands as they are defined
 
@@ -226,18 +228,18 @@ high_coded wavelet index depth right below t l few is small =
     coded_fits index (band_of (analysed wavelet t) right below) few (length-filled (t.width / 2) (t.height / 2) (λ x y. table_at (analysed wavelet t) (2 * x + right) (2 * y + below)))
     (band_under (128 * 2 ^ 29 + 32) right below (analysed wavelet t) (band_of (analysed wavelet t) right below) (omega arith) refl grows)
 
-bands_coded : (wavelet index n depth : ℕ) (t : Table) → wavelet ≤ 6 → index ≤ 99 → n + depth ≤ 4 → (is : IsDivisible depth t) → All (λ v. unsigned_abs v ≤ grown n) t.values → AreLevelBands is.across is.down depth (coded_bands wavelet index t depth)
+bands_coded : (kind : Kind) (wavelet index n depth : ℕ) (t : Table) → wavelet ≤ 6 → index ≤ 99 → n + depth ≤ 4 → (is : IsDivisible depth t) → All (λ v. unsigned_abs v ≤ grown n) t.values → AreLevelBands is.across is.down depth (coded_bands kind wavelet index t depth)
 unfolding coded_bands
-bands_coded wavelet index n zero t l few levels is all =
-    one_coded is.across is.down (coded 0 (differences t)) t.width t.height is.width is.height (lowest_coded t is.len (small_lowest n t.values (omega arith) all))
-bands_coded wavelet index n (suc depth) t l few levels is all =
+bands_coded kind wavelet index n zero t l few levels is all =
+    one_coded is.across is.down (coded_lowest kind index t) t.width t.height is.width is.height (lowest_coded kind index t few is.len (small_lowest n t.values (omega arith) all))
+bands_coded kind wavelet index n (suc depth) t l few levels is all =
     let mid : Table = analysed wavelet t in
     let low : IsDivisible depth (band_of mid 0 0) = low_divisible wavelet depth t is in
     let small : All (λ v. unsigned_abs v ≤ 2 ^ 29) t.values = small_above n t.values (omega arith) all in
-    more_coded is.across is.down depth (coded_bands wavelet index (band_of mid 0 0) depth) (coded index (band_of mid 1 0)) (coded index (band_of mid 0 1)) (coded index (band_of mid 1 1)) (t.width / 2) (t.height / 2)
-    low.width low.height (bands_coded wavelet index (suc n) depth (band_of mid 0 0) l few (omega arith) low (low_small wavelet n depth t l is all))
+    more_coded is.across is.down depth (coded_bands kind wavelet index (band_of mid 0 0) depth) (coded index (band_of mid 1 0)) (coded index (band_of mid 0 1)) (coded index (band_of mid 1 1)) (t.width / 2) (t.height / 2)
+    low.width low.height (bands_coded kind wavelet index (suc n) depth (band_of mid 0 0) l few (omega arith) low (low_small wavelet n depth t l is all))
     (high_coded wavelet index depth 1 0 t l few is small) (high_coded wavelet index depth 0 1 t l few is small) (high_coded wavelet index depth 1 1 t l few is small)
 
 pub planes_fit : PlanesFit
-planes_fit wavelet depth index t l levels few samples =
-    bands_coded wavelet index 0 depth (padded depth t) l few (omega arith) (padded_divisible depth t) (padded_small 0 depth t samples)
+planes_fit kind wavelet depth index t l levels few samples =
+    bands_coded kind wavelet index 0 depth (padded depth t) l few (omega arith) (padded_divisible depth t) (padded_small 0 depth t samples)

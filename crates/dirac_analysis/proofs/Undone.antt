@@ -4,7 +4,8 @@ use Rattle.std.specs.Prelude.{slice_get, min}
 use Rattle.std.proofs.lemmas.Bool.{cases_eq, ne_eqb}
 use Rattle.std.proofs.lemmas.Int.{ints}
 use Rattle.std.proofs.lemmas.List.{ext_get_or}
-use Rattle.dirac_types.specs.declared.formats.Kind.TheVariants.{Intra}
+use Rattle.dirac_types.specs.declared.formats.Kind.{Kind}
+use Rattle.dirac_types.specs.declared.formats.Kind.TheVariants.{Intra, Inter}
 use Rattle.dirac_types.specs.Table.{Table, table_at}
 use Rattle.dirac_types.proofs.Rows.{filled_at}
 use Rattle.dirac_quant.specs.Quantiser.{factor_of, reduced, restored, restored_magnitude}
@@ -16,9 +17,9 @@ use Rattle.dirac_bands.proofs.Undoing.{table_is}
 use Rattle.dirac_coeffs.specs.declared.spot.CodedBand.{CodedBand}
 use Rattle.dirac_coeffs.specs.Written.{is_zero_band}
 use Rattle.dirac_lift.specs.Level.{analysed, level}
-use Rattle.dirac_residual.specs.Residual.{after_levels, cut, restored_among, restored_band}
+use Rattle.dirac_residual.specs.Residual.{after_levels, cut, restored_among, restored_band, summed}
 use Rattle.dirac_residual.proofs.Sizes.{size_within}
-use Rattle.dirac_analysis.specs.Analysis.{coded, coded_bands, coded_level, differences, padded, plane_bands, reduced_values}
+use Rattle.dirac_analysis.specs.Analysis.{coded, coded_bands, coded_level, coded_lowest, differences, padded, plane_bands, reduced_values}
 use Rattle.dirac_analysis.specs.Fits.{IsDivisible}
 use Rattle.dirac_analysis.specs.Laws.{PlanesAreKept}
 use Rattle.dirac_analysis.proofs.OneLevel.{length-filled, level_back, low_divisible, padded_divisible, sizes_even}
@@ -28,30 +29,30 @@ use Rattle.dirac_analysis.proofs.OneLevel.{length-filled, level_back, low_divisi
 whole_step : (m : ℕ) → 4 * m / factor_of 0 ≡ m
 whole_step m = omega arith
 
-back : (m : ℕ) → restored_magnitude m 0 Intra ≡ m
-back zero = refl
-back (suc m) =
+back : (kind : Kind) (m : ℕ) → restored_magnitude m 0 kind ≡ m
+back kind zero = refl
+back kind (suc m) =
     let parts : (suc m * 4 + 1 + 2) / 4 ≡ suc m = omega arith in
     rw (ne_eqb (suc m) 0 (λ e. omega arith)) parts
 
-value_again : (v : ℤ) → restored (reduced v 0) 0 Intra ≡ v
-value_again (pos n) = ap (λ m. restored (pos m) 0 Intra) (whole_step n) ∙ ap pos (back n)
-value_again (negsuc n) = ap (λ m. restored (neg_ℤ (pos m)) 0 Intra) (whole_step (suc n)) ∙ ap (λ m. neg_ℤ (pos m)) (back (suc n))
+value_again : (kind : Kind) (v : ℤ) → restored (reduced v 0) 0 kind ≡ v
+value_again kind (pos n) = ap (λ m. restored (pos m) 0 kind) (whole_step n) ∙ ap pos (back kind n)
+value_again kind (negsuc n) = ap (λ m. restored (neg_ℤ (pos m)) 0 kind) (whole_step (suc n)) ∙ ap (λ m. neg_ℤ (pos m)) (back kind (suc n))
 
-values_again : (xs : List ℤ) → map (λ v. restored v 0 Intra) (map (λ v. reduced v 0) xs) ≡ xs
-values_again [] = refl
-values_again (x ∷ xs) = ap₂ (λ (y : ℤ) (ys : List ℤ). y ∷ ys) (value_again x) (values_again xs)
+values_again : (kind : Kind) (xs : List ℤ) → map (λ v. restored v 0 kind) (map (λ v. reduced v 0) xs) ≡ xs
+values_again kind [] = refl
+values_again kind (x ∷ xs) = ap₂ (λ (y : ℤ) (ys : List ℤ). y ∷ ys) (value_again kind x) (values_again kind xs)
 
 nought : (b : Bool) → let index : ℕ = if b then 0 else 0 in index ≡ 0
 nought true = refl
 nought false = refl
 
 -- a band coded at index 0
-band_again : (t : Table) → restored_band Intra (coded 0 t) ≡ t
-band_again t =
-    let told : ℕ → List ℤ → Table = λ index xs. record { width = t.width; height = t.height; values = map (λ v. restored v index Intra) xs } in
+band_again : (kind : Kind) (t : Table) → restored_band kind (coded 0 t) ≡ t
+band_again kind t =
+    let told : ℕ → List ℤ → Table = λ index xs. record { width = t.width; height = t.height; values = map (λ v. restored v index kind) xs } in
     ap (λ index. told index (reduced_values 0 t)) (nought (is_zero_band (reduced_values 0 t)))
-    ∙ ap (λ xs. record { width = t.width; height = t.height; values = xs }) (values_again t.values)
+    ∙ ap (λ xs. record { width = t.width; height = t.height; values = xs }) (values_again kind t.values)
 
 -- ---- the LL band
 
@@ -97,38 +98,38 @@ back_get (x ∷ xs) ys n zero e = absurd (omega arith)
 back_get (x ∷ xs) ys n (suc k) e = back_get xs ys n k (omega arith)
 
 -- the first levels read the first bands alone
-levels_front : (wavelet : ℕ) (xs ys : List CodedBand) (n : ℕ) → 3 * n + 1 ≤ length xs → after_levels wavelet Intra (xs ++ ys) n ≡ after_levels wavelet Intra xs n
+levels_front : (kind : Kind) (wavelet : ℕ) (xs ys : List CodedBand) (n : ℕ) → 3 * n + 1 ≤ length xs → after_levels wavelet kind (xs ++ ys) n ≡ after_levels wavelet kind xs n
 unfolding after_levels
-levels_front wavelet xs ys zero few = ap (λ o. dc_sum (restored_among Intra o)) (front_get xs ys 0 (omega arith))
-levels_front wavelet xs ys (suc n) few =
-    rw (levels_front wavelet xs ys n (omega arith), front_get xs ys (3 * n + 1) (omega arith), front_get xs ys (3 * n + 2) (omega arith), front_get xs ys (3 * n + 3) (omega arith)) refl
+levels_front kind wavelet xs ys zero few = ap (λ o. summed kind (restored_among kind o)) (front_get xs ys 0 (omega arith))
+levels_front kind wavelet xs ys (suc n) few =
+    rw (levels_front kind wavelet xs ys n (omega arith), front_get xs ys (3 * n + 1) (omega arith), front_get xs ys (3 * n + 2) (omega arith), front_get xs ys (3 * n + 3) (omega arith)) refl
 
 -- one level more
-level_more : (wavelet : ℕ) (xs : List CodedBand) (h l d : CodedBand) (n : ℕ) → length xs ≡ 3 * n + 1
-    → after_levels wavelet Intra (xs ++ h ∷ l ∷ d ∷ []) (suc n) ≡ level wavelet (after_levels wavelet Intra xs n) (restored_band Intra h) (restored_band Intra l) (restored_band Intra d)
+level_more : (kind : Kind) (wavelet : ℕ) (xs : List CodedBand) (h l d : CodedBand) (n : ℕ) → length xs ≡ 3 * n + 1
+    → after_levels wavelet kind (xs ++ h ∷ l ∷ d ∷ []) (suc n) ≡ level wavelet (after_levels wavelet kind xs n) (restored_band kind h) (restored_band kind l) (restored_band kind d)
 unfolding after_levels
-level_more wavelet xs h l d n len =
+level_more kind wavelet xs h l d n len =
     let ys : List CodedBand = h ∷ l ∷ d ∷ [] in
-    rw (levels_front wavelet xs ys n (omega arith), back_get xs ys 0 (3 * n + 1) (omega arith), back_get xs ys 1 (3 * n + 2) (omega arith), back_get xs ys 2 (3 * n + 3) (omega arith)) refl
+    rw (levels_front kind wavelet xs ys n (omega arith), back_get xs ys 0 (3 * n + 1) (omega arith), back_get xs ys 1 (3 * n + 2) (omega arith), back_get xs ys 2 (3 * n + 3) (omega arith)) refl
 
 -- ---- the bands as they are defined
 
-length-coded_bands : (wavelet index : ℕ) (t : Table) (depth : ℕ) → length (coded_bands wavelet index t depth) ≡ 3 * depth + 1
+length-coded_bands : (kind : Kind) (wavelet index : ℕ) (t : Table) (depth : ℕ) → length (coded_bands kind wavelet index t depth) ≡ 3 * depth + 1
 unfolding coded_bands
-length-coded_bands wavelet index t zero = refl
-length-coded_bands wavelet index t (suc depth) =
-    omega (arith, length-append (coded_bands wavelet index (band_of (analysed wavelet t) 0 0) depth) (coded_level index (analysed wavelet t)), length-coded_bands wavelet index (band_of (analysed wavelet t) 0 0) depth)
+length-coded_bands kind wavelet index t zero = refl
+length-coded_bands kind wavelet index t (suc depth) =
+    omega (arith, length-append (coded_bands kind wavelet index (band_of (analysed wavelet t) 0 0) depth) (coded_level index (analysed wavelet t)), length-coded_bands kind wavelet index (band_of (analysed wavelet t) 0 0) depth)
 
-pub levels_are : (wavelet index depth n : ℕ) (xs bs : List CodedBand) (h l d : CodedBand) (low plane : Table) → depth ≡ suc n → bs ≡ xs ++ h ∷ l ∷ d ∷ [] → xs ≡ coded_bands wavelet index low n
+pub levels_are : (kind : Kind) (wavelet index depth n : ℕ) (xs bs : List CodedBand) (h l d : CodedBand) (low plane : Table) → depth ≡ suc n → bs ≡ xs ++ h ∷ l ∷ d ∷ [] → xs ≡ coded_bands kind wavelet index low n
     → low ≡ band_of (analysed wavelet plane) 0 0 → h ≡ coded index (band_of (analysed wavelet plane) 1 0) → l ≡ coded index (band_of (analysed wavelet plane) 0 1) → d ≡ coded index (band_of (analysed wavelet plane) 1 1)
-    → bs ≡ coded_bands wavelet index plane depth
+    → bs ≡ coded_bands kind wavelet index plane depth
 unfolding coded_bands
-levels_are wavelet index depth n xs bs h l d low plane next is below low_is h_is l_is d_is =
-    is ∙ rw (below, low_is, h_is, l_is, d_is) refl ∙ ap (coded_bands wavelet index plane) (sym next)
+levels_are kind wavelet index depth n xs bs h l d low plane next is below low_is h_is l_is d_is =
+    is ∙ rw (below, low_is, h_is, l_is, d_is) refl ∙ ap (coded_bands kind wavelet index plane) (sym next)
 
-pub lowest_are : (wavelet index : ℕ) (bs : List CodedBand) (b : CodedBand) (plane : Table) → bs ≡ b ∷ [] → b ≡ coded 0 (differences plane) → bs ≡ coded_bands wavelet index plane 0
+pub lowest_are : (kind : Kind) (wavelet index : ℕ) (bs : List CodedBand) (b : CodedBand) (plane : Table) → bs ≡ b ∷ [] → b ≡ coded_lowest kind index plane → bs ≡ coded_bands kind wavelet index plane 0
 unfolding coded_bands
-lowest_are wavelet index bs b plane is one = is ∙ ap (λ x. x ∷ []) one
+lowest_are kind wavelet index bs b plane is one = is ∙ ap (λ x. x ∷ []) one
 
 -- ---- padding
 
@@ -150,21 +151,26 @@ empty_again t u none len =
 
 -- ---- a plane
 
+-- the LL band at index 0 holds its table
+lowest_kept : (kind : Kind) (t : Table) → 1 ≤ t.width → length t.values ≡ t.width * t.height → summed kind (restored_band kind (coded_lowest kind 0 t)) ≡ t
+lowest_kept Intra t some len = ap dc_sum (band_again Intra (differences t)) ∙ sums_again t some len
+lowest_kept Inter t some len = band_again Inter t
+
 -- the bands at index 0 hold the table
-bands_kept : (wavelet depth : ℕ) (t : Table) → wavelet ≤ 6 → 1 ≤ t.width → IsDivisible depth t → after_levels wavelet Intra (coded_bands wavelet 0 t depth) depth ≡ t
+bands_kept : (kind : Kind) (wavelet depth : ℕ) (t : Table) → wavelet ≤ 6 → 1 ≤ t.width → IsDivisible depth t → after_levels wavelet kind (coded_bands kind wavelet 0 t depth) depth ≡ t
 unfolding after_levels coded_bands
-bands_kept wavelet zero t l some is = ap dc_sum (band_again (differences t)) ∙ sums_again t some is.len
-bands_kept wavelet (suc depth) t l some is =
+bands_kept kind wavelet zero t l some is = lowest_kept kind t some is.len
+bands_kept kind wavelet (suc depth) t l some is =
     let mid : Table = analysed wavelet t in
     let low : Table = band_of mid 0 0 in
-    level_more wavelet (coded_bands wavelet 0 low depth) (coded 0 (band_of mid 1 0)) (coded 0 (band_of mid 0 1)) (coded 0 (band_of mid 1 1)) depth (length-coded_bands wavelet 0 low depth)
-    ∙ rw (bands_kept wavelet depth low l (omega (arith, (sizes_even (suc depth) depth t refl is).0)) (low_divisible wavelet depth t is), band_again (band_of mid 1 0), band_again (band_of mid 0 1), band_again (band_of mid 1 1))
+    level_more kind wavelet (coded_bands kind wavelet 0 low depth) (coded 0 (band_of mid 1 0)) (coded 0 (band_of mid 0 1)) (coded 0 (band_of mid 1 1)) depth (length-coded_bands kind wavelet 0 low depth)
+    ∙ rw (bands_kept kind wavelet depth low l (omega (arith, (sizes_even (suc depth) depth t refl is).0)) (low_divisible wavelet depth t is), band_again kind (band_of mid 1 0), band_again kind (band_of mid 0 1), band_again kind (band_of mid 1 1))
     (level_back wavelet depth t l some is)
 
 pub planes_kept : PlanesAreKept
-planes_kept wavelet depth t l len = elim (cases_eq t.width 0) [
-  | inl none ↦ empty_again t (after_levels wavelet Intra (plane_bands wavelet depth 0 t) depth) none len
+planes_kept kind wavelet depth t l len = elim (cases_eq t.width 0) [
+  | inl none ↦ empty_again t (after_levels wavelet kind (plane_bands kind wavelet depth 0 t) depth) none len
   | inr some ↦
-      ap (cut t.width t.height) (bands_kept wavelet depth (padded depth t) l (omega (arith, some, size_within t.width depth)) (padded_divisible depth t))
+      ap (cut t.width t.height) (bands_kept kind wavelet depth (padded depth t) l (omega (arith, some, size_within t.width depth)) (padded_divisible depth t))
       ∙ cut_again depth t (omega (arith, some)) len
 ]

@@ -1,5 +1,7 @@
--- From the samples of an intra picture's plane to its quantised subbands.
+-- From the values of a plane, samples or what a prediction leaves of them, to its quantised subbands.
 use Rattle.std.specs.Prelude.{ℕ, ℤ, zero, suc, ◌-◌, ◌-ℤ◌, List, [], ◌∷◌, ◌++◌, map, min, if◌then◌else◌}
+use Rattle.dirac_types.specs.declared.formats.Kind.{Kind}
+use Rattle.dirac_types.specs.declared.formats.Kind.TheVariants.{Intra, Inter}
 use Rattle.dirac_types.specs.Table.{Table, table_at, table_of}
 use Rattle.dirac_quant.specs.Quantiser.{reduced}
 use Rattle.dirac_bands.specs.DcSum.{prediction}
@@ -33,13 +35,17 @@ coded index t = record {
 abbrev pub coded_level : ℕ → Table → List CodedBand
 coded_level index t = coded index (band_of t 1 0) ∷ coded index (band_of t 0 1) ∷ coded index (band_of t 1 1) ∷ []
 
--- the subbands of a table that is analysed so often: its LL band is analysed in turn, and the last one is coded at index 0,
--- less its predictions
-unfoldable pub coded_bands : ℕ → ℕ → Table → ℕ → List CodedBand
-coded_bands wavelet index t zero = coded 0 (differences t) ∷ []
-coded_bands wavelet index t (suc depth) =
-    coded_bands wavelet index (band_of (analysed wavelet t) 0 0) depth ++ coded_level index (analysed wavelet t)
+-- the last LL band coded: an intra picture's at index 0, less its predictions
+abbrev pub coded_lowest : Kind → ℕ → Table → CodedBand
+coded_lowest Intra index t = coded 0 (differences t)
+coded_lowest Inter index t = coded index t
+
+-- the subbands of a table that is analysed so often: its LL band is analysed in turn
+unfoldable pub coded_bands : Kind → ℕ → ℕ → Table → ℕ → List CodedBand
+coded_bands kind wavelet index t zero = coded_lowest kind index t ∷ []
+coded_bands kind wavelet index t (suc depth) =
+    coded_bands kind wavelet index (band_of (analysed wavelet t) 0 0) depth ++ coded_level index (analysed wavelet t)
 
 -- the subbands of a plane
-abbrev pub plane_bands : ℕ → ℕ → ℕ → Table → List CodedBand
-plane_bands wavelet depth index t = coded_bands wavelet index (padded depth t) depth
+abbrev pub plane_bands : Kind → ℕ → ℕ → ℕ → Table → List CodedBand
+plane_bands kind wavelet depth index t = coded_bands kind wavelet index (padded depth t) depth

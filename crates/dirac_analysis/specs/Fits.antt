@@ -11,9 +11,13 @@ use Rattle.dirac_coeffs.specs.Written.{is_zero_band}
 abbrev pub AreSamples : List ℤ → Type 0
 AreSamples xs = All (λ v. clip v ≡ v) xs
 
+-- two samples are at most 255 apart: samples less what is predicted for them, or samples themselves
+abbrev pub AreDifferences : List ℤ → Type 0
+AreDifferences xs = All (λ v. unsigned_abs v ≤ 255) xs
+
 -- how large the values of a plane are at most after so many levels
 unfoldable pub grown : ℕ → ℕ
-grown zero = 128
+grown zero = 255
 grown (suc levels) = 128 * grown levels + 32
 
 -- a table with all its values that can be analysed so often: its sizes are multiples of 2 ^ depth

@@ -2,7 +2,7 @@ ghost use Rattle.std.specs.Prelude.{◌≡◌, ◌-◌, ◌%◌, ◌≤◌, ◌^
 ghost use Rattle.std.specs.List.{All};
 ghost use Rattle.dirac_bands.specs.Interleaving.{band_of};
 ghost use Rattle.dirac_lift.specs.Level.{analysed};
-ghost use Rattle.dirac_analysis.specs.Analysis.{coded, coded_bands, differences};
+ghost use Rattle.dirac_analysis.specs.Analysis.{coded, coded_bands, coded_lowest, differences};
 ghost use Rattle.dirac_analysis.specs.Fits.{IsDivisible, grown};
 
 use crate::coded::code_band;
@@ -10,7 +10,7 @@ use dirac_bands::{dc_subtract, split_bands};
 use dirac_coeffs::CodedBand;
 use dirac_lift::analyse_level;
 use dirac_picture::PlaneBands;
-use dirac_types::{NoMemory, Wide};
+use dirac_types::{Kind, NoMemory, Wide};
 use std::alloc::Global;
 
 /// One level of an analysis: its LL band, and the other three coded.
@@ -22,8 +22,22 @@ struct Level {
     hh: CodedBand,
 }
 
-/// The differences of a table from the predictions of its values, coded at index 0.
-fn code_lowest(alloc: Global, mut low: Wide) -> Result<CodedBand, NoMemory>
+/// The last LL band. An intra picture's is coded at index 0, less its predictions.
+fn code_lowest(alloc: Global, kind: Kind, low: Wide, index: u8) -> Result<CodedBand, NoMemory>
+    requires index { index ≤ 99 }
+    requires across { low.width ≤ 8192 }
+    requires down { low.height ≤ 8192 }
+    requires small { All (λ v. unsigned_abs v ≤ 2 ^ 36) low.values }
+    ensures { IfOk result (λ b. b ≡ coded_lowest kind index low) }
+{
+    match kind {
+        Kind::Intra => code_differences(alloc, low),
+        Kind::Inter => code_band(alloc, &low, index),
+    }
+}
+
+/// A table less the predictions of its values, coded at index 0.
+fn code_differences(alloc: Global, mut low: Wide) -> Result<CodedBand, NoMemory>
     requires across { low.width ≤ 8192 }
     requires down { low.height ≤ 8192 }
     requires small { All (λ v. unsigned_abs v ≤ 2 ^ 36) low.values }
@@ -62,6 +76,7 @@ fn split_level(alloc: Global, mut plane: Wide, wavelet: u8, index: u8) -> Result
 /// The subbands of a table that is analysed `depth` times, those of the lowest level first.
 pub(crate) fn code_levels(
     alloc: Global,
+    kind: Kind,
     plane: Wide,
     wavelet: u8,
     index: u8,
@@ -74,15 +89,15 @@ pub(crate) fn code_levels(
     requires down { plane.height ≤ 8192 }
     requires whole { IsDivisible depth plane }
     requires small { All (λ v. unsigned_abs v ≤ grown (4 - depth)) plane.values }
-    ensures { IfOk result (λ b. b ≡ coded_bands wavelet index plane depth) }
+    ensures { IfOk result (λ b. b ≡ coded_bands kind wavelet index plane depth) }
 {
     if depth == 0 {
-        let lowest = code_lowest(alloc, plane)?;
+        let lowest = code_lowest(alloc, kind, plane, index)?;
         let bands = single(alloc, lowest)?;
         return Ok(bands);
     }
     let Level { low, hl, lh, hh } = split_level(alloc, plane, wavelet, index)?;
-    let lower = code_levels(alloc, low, wavelet, index, depth - 1)?;
+    let lower = code_levels(alloc, kind, low, wavelet, index, depth - 1)?;
     let bands = with_level(lower, hl, lh, hh)?;
     Ok(bands)
 }

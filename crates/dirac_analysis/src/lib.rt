@@ -1,4 +1,5 @@
-//! From the samples of an intra picture's plane to its quantised subbands: what the decoder's residual undoes.
+//! From the samples of a plane, or from what a prediction leaves of them, to its quantised subbands: what the decoder's
+//! residual undoes.
 #![tactic(auto)]
 
 mod coded;

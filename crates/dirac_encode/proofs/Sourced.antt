@@ -12,7 +12,7 @@ use Rattle.dirac_picture.specs.Grammar.{chroma_height, chroma_width, picture_rea
 use Rattle.dirac_residual.specs.Residual.{clipped, residual}
 use Rattle.dirac_analysis.specs.Analysis.{plane_bands}
 use Rattle.dirac_analysis.specs.Fits.{AreLevelBands}
-use Rattle.dirac_analysis.proofs.Fitting.{planes_fit}
+use Rattle.dirac_analysis.proofs.Fitting.{planes_fit, samples_small}
 use Rattle.dirac_analysis.proofs.Undone.{planes_kept}
 use Rattle.dirac_header.specs.declared.transform.Transform.{Transform}
 use Rattle.dirac_coeffs.specs.declared.spot.CodedBand.{CodedBand}
@@ -28,7 +28,8 @@ use Rattle.dirac_encode.proofs.Written.{payload_read}
 
 plane_fits : (t : Settings) (width height : ℕ) (plane : Table) → IsCodable t → IsPlane width height plane
     → AreLevelBands (lowest_size plane.width t.depth) (lowest_size plane.height t.depth) t.depth (bands_of t plane)
-plane_fits t width height plane codable is = planes_fit t.wavelet t.depth t.index plane codable.wavelet codable.depth.1 codable.index is.samples
+plane_fits t width height plane codable is =
+    planes_fit Intra t.wavelet t.depth t.index plane codable.wavelet codable.depth.1 codable.index (samples_small plane.values is.samples)
 
 -- the residual of a source can be written
 pub source_written : (t : Settings) (p : Picture) → IsCodable t → IsSource t p → IsWritten (sequence_of t) (residual_of t p)
@@ -68,8 +69,8 @@ plane_kept : (t : Settings) (width height : ℕ) (plane : Table) → IsCodable t
     → clipped (residual t.wavelet t.depth Intra (bands_of t plane) plane.width plane.height) ≡ plane
 plane_kept t width height plane codable is whole none =
     ap clipped
-    (ap (λ index. residual t.wavelet t.depth Intra (plane_bands t.wavelet t.depth index plane) plane.width plane.height) none
-    ∙ planes_kept t.wavelet t.depth plane codable.wavelet whole)
+    (ap (λ index. residual t.wavelet t.depth Intra (plane_bands Intra t.wavelet t.depth index plane) plane.width plane.height) none
+    ∙ planes_kept Intra t.wavelet t.depth plane codable.wavelet whole)
     ∙ clipped_again plane is.samples
 
 -- a source is shown again at index 0

@@ -1,5 +1,6 @@
 -- The coded picture that an intra picture becomes.
 use Rattle.std.specs.Prelude.{◌≡◌, ℕ, zero, suc, ◌+◌, ◌==◌, if◌then◌else◌, List, [], ◌∷◌, ◌++◌, min, Some, None}
+use Rattle.dirac_types.specs.declared.formats.Kind.TheVariants.{Intra}
 use Rattle.dirac_types.specs.declared.picture.Picture.{Picture}
 use Rattle.dirac_types.specs.declared.settings.Settings.{Settings}
 use Rattle.dirac_types.specs.Table.{Table}
@@ -30,7 +31,7 @@ transform_of t = record { wavelet = t.wavelet; depth = t.depth; counts = counts_
 
 -- the bands of a plane with these settings
 abbrev pub bands_of : Settings → Table → List CodedBand
-bands_of t plane = plane_bands t.wavelet t.depth t.index plane
+bands_of t plane = plane_bands Intra t.wavelet t.depth t.index plane
 
 abbrev pub residual_of : Settings → Picture → CodedResidual
 residual_of t p = record { transform = transform_of t; y = bands_of t p.y; u = bands_of t p.u; v = bands_of t p.v }

@@ -27,7 +27,7 @@ use dirac_io::RowGate;
 use dirac_plan::Planned;
 use dirac_refs::RefBuffer;
 use dirac_sequence::{Sequence, sequence_of};
-use dirac_types::{NoMemory, Picture, Plane, Settings};
+use dirac_types::{Kind, NoMemory, Picture, Plane, Settings};
 use std::alloc::Global;
 use std::thread::Threads;
 
@@ -49,6 +49,7 @@ fn code_plane(alloc: Global, plane: &Plane, settings: &Settings) -> Result<Plane
 {
     analyse_plane(
         alloc,
+        Kind::Intra,
         plane,
         settings.wavelet as u8,
         settings.depth as u8,

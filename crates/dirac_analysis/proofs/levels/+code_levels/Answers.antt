@@ -9,7 +9,7 @@ code_lowest-requires-clause-small t c = small_lowest (4 - c.args.depth) c.args.p
 
 pub returns-then-depth-eq0 : goal.returns-then-depth-eq0
 returns-then-depth-eq0 t c =
-    rw c.if-depth-eq0.true (lowest_are c.args.wavelet c.args.index c.in_ok-bands.bands c.in_ok-lowest.lowest c.args.plane c.in_ok-bands.ensures c.in_ok-lowest.ensures)
+    rw c.if-depth-eq0.true (lowest_are c.args.kind c.args.wavelet c.args.index c.in_ok-bands.bands c.in_ok-lowest.lowest c.args.plane c.in_ok-bands.ensures c.in_ok-lowest.ensures)
 
 pub split_level-requires-clause-across : goal.split_level-requires-clause-across
 split_level-requires-clause-across t c = ((sizes_even c.args.depth (c.args.depth - 1) c.args.plane (omega (arith, c.if-depth-eq0.false)) c.requires.whole).0, c.requires.across)
@@ -29,5 +29,5 @@ code_levels-requires t c =
 pub returns : goal.returns
 returns t c =
     let l = c.in_ok-low.field-0 in
-    levels_are c.args.wavelet c.args.index c.args.depth (c.args.depth - 1) c.in_ok-lower.lower c.in_ok-bands-2.bands l.hl l.lh l.hh l.low c.args.plane (omega (arith, c.if-depth-eq0.false)) c.in_ok-bands-2.ensures c.in_ok-lower.ensures
+    levels_are c.args.kind c.args.wavelet c.args.index c.args.depth (c.args.depth - 1) c.in_ok-lower.lower c.in_ok-bands-2.bands l.hl l.lh l.hh l.low c.args.plane (omega (arith, c.if-depth-eq0.false)) c.in_ok-bands-2.ensures c.in_ok-lower.ensures
     c.in_ok-low.ensures.low c.in_ok-low.ensures.hl c.in_ok-low.ensures.lh c.in_ok-low.ensures.hh

@@ -11,15 +11,15 @@ pub code_levels-requires-clause-whole : goal.code_levels-requires-clause-whole
 code_levels-requires-clause-whole c = rw c.in_ok-table.ensures (padded_divisible c.args.depth c.args.plane.now)
 
 pub code_levels-requires-clause-small : goal.code_levels-requires-clause-small
-code_levels-requires-clause-small c = rw c.in_ok-table.ensures (padded_small (4 - c.args.depth) c.args.depth c.args.plane.now c.requires.samples)
+code_levels-requires-clause-small c = rw c.in_ok-table.ensures (padded_small (4 - c.args.depth) c.args.depth c.args.plane.now c.requires.small)
 
 pub returns-clause-fits : goal.returns-clause-fits
 returns-clause-fits c =
     let a = c.args in
     ok_weaker c.code_levels.result
     (λ b is.
-    let value : b ≡ plane_bands a.wavelet a.depth a.index a.plane.now = is ∙ ap (λ (t : Table). coded_bands a.wavelet a.index t a.depth) c.in_ok-table.ensures in
-    rw value (planes_fit a.wavelet a.depth a.index a.plane.now c.requires.wavelet c.requires.depth.1 c.requires.index c.requires.samples))
+    let value : b ≡ plane_bands a.kind a.wavelet a.depth a.index a.plane.now = is ∙ ap (λ (t : Table). coded_bands a.kind a.wavelet a.index t a.depth) c.in_ok-table.ensures in
+    rw value (planes_fit a.kind a.wavelet a.depth a.index a.plane.now c.requires.wavelet c.requires.depth.1 c.requires.index c.requires.small))
     c.code_levels.ensures
 
 pub returns-clause-lossless : goal.returns-clause-lossless
@@ -27,6 +27,6 @@ returns-clause-lossless c =
     let a = c.args in
     ok_weaker c.code_levels.result
     (λ b is none.
-    let value : b ≡ plane_bands a.wavelet a.depth 0 a.plane.now = is ∙ ap₂ (λ (i : ℕ) (t : Table). coded_bands a.wavelet i t a.depth) none c.in_ok-table.ensures in
-    rw value (planes_kept a.wavelet a.depth a.plane.now c.requires.wavelet c.width.ensures.whole))
+    let value : b ≡ plane_bands a.kind a.wavelet a.depth 0 a.plane.now = is ∙ ap₂ (λ (i : ℕ) (t : Table). coded_bands a.kind a.wavelet i t a.depth) none c.in_ok-table.ensures in
+    rw value (planes_kept a.kind a.wavelet a.depth a.plane.now c.requires.wavelet c.width.ensures.whole))
     c.code_levels.ensures

@@ -3,7 +3,7 @@ use Rattle.dirac_residual.proofs.Maps.{ok_weaker}
 use Rattle.dirac_analysis.specs.Analysis.{coded}
 use Rattle.dirac_analysis.proofs.Undone.{differences_are}
 use Rattle.dirac_analysis.proofs.Fitting.{all_under}
-use Rattle.dirac_analysis.proofs.levels.code_lowest.Goals as goal
+use Rattle.dirac_analysis.proofs.levels.code_differences.Goals as goal
 
 pub code_band-requires-clause-small : goal.code_band-requires-clause-small
 code_band-requires-clause-small c = all_under (2 * 2 ^ 36) (2 ^ 38) c.dc_subtract.new.ll.values (omega arith) (c.dc_subtract.ensures.growth (2 ^ 36) c.requires.small)
