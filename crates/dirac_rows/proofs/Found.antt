@@ -1,13 +1,11 @@
 -- Pairs of rows and answers, as workers find them, and their order.
-use Rattle.std.proofs.Common.{◌≡◌, ℕ, Bool, true, false, zero, suc, ◌+◌, ◌-◌, ◌<◌, ◌≤◌, List, [], ◌∷◌, ◌++◌, map, length, sym, refl, ap, ◌∙◌, subst, All, Result, Ok, Err, OnOk, IfOk, is_ok, arith}
+use Rattle.std.proofs.Common.{◌≡◌, ℕ, true, suc, ◌+◌, ◌-◌, ◌<◌, ◌≤◌, List, [], ◌∷◌, ◌++◌, sym, refl, ap, ◌∙◌, subst, All, Result, Ok, Err, OnOk, IfOk, is_ok, arith}
 use Rattle.std.proofs.lemmas.List.{map-append}
 use Rattle.std.proofs.lemmas.List.Elements.{All-nil, All-append, All-push, All-contains}
 use Rattle.std.specs.Prelude.{slice_index_or, Contains}
-use Rattle.dirac_rows.specs.Weights.{total, times}
+use Rattle.dirac_rows.specs.Weights.{times}
 use Rattle.dirac_rows.specs.Answers.{AnswerRows, Gathers, rows_of}
 use Rattle.dirac_rows.proofs.Sums.{one_if, weight_at, total-append}
-use mathlib.Core.Logic.{dite}
-use native.Mathlib.Decide.{dec_le}
 
 module _ {T : Type 0} (answers : ℕ → T → Type 0) (rows : ℕ) where
   pub gathers_nil : Gathers answers rows [] []

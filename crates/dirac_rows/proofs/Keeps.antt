@@ -1,5 +1,5 @@
 -- Each kind of step keeps the rule, and what a seat keeps at the end.
-use Rattle.std.proofs.Common.{if◌then◌else◌, ◌≡◌, ℕ, Bool, true, false, zero, suc, ◌+◌, ◌-◌, ◌%◌, ◌<◌, ◌≤◌, ◌≢◌, ◌⊎◌, List, [], ◌∷◌, ◌++◌, length, set, get_or, sym, refl, ap, ◌∙◌, subst, inl, inr, ⊎_elim, nat_lt, lt-ltb, le-ltb, length-set, get_or-set_same, arith}
+use Rattle.std.proofs.Common.{if◌then◌else◌, ◌≡◌, ℕ, Bool, true, false, suc, ◌+◌, ◌%◌, ◌<◌, ◌≤◌, ◌≢◌, ◌⊎◌, List, [], ◌∷◌, set, get_or, sym, refl, ap, ◌∙◌, subst, inl, inr, ⊎_elim, nat_lt, lt-ltb, le-ltb, length-set, get_or-set_same, arith}
 use mathlib.Core.Logic.{dite}
 use native.Mathlib.Decide.{dec_le}
 use mathlib.Core.Option.{none, some}
@@ -7,7 +7,7 @@ use lib.ListN.{get_elem?}
 use Rattle.atomic_table.specs.Table.{State, Me, step, keeps, Allows, Splits, Joins, Final, Seen}
 use Rattle.atomic_table.proofs.Lists.{at_set, at_snoc, set_else}
 use Rattle.dirac_rows.specs.Weights.{total, total_below, times, past_rows}
-use Rattle.dirac_rows.specs.Rule.{view, spent_view, left_by_split, made_by_split, made_by_join, made_by_claim, Draws, FitsTerms, KeepsRule}
+use Rattle.dirac_rows.specs.Rule.{spent_view, left_by_split, made_by_split, made_by_join, made_by_claim, Draws, FitsTerms, KeepsRule}
 use Rattle.dirac_rows.specs.declared.view.View.{View}
 use Rattle.dirac_rows.specs.declared.view.Terms.{Terms}
 use Rattle.dirac_rows.proofs.Sums.{one_if, zero_if, one_if_le, weight_at, weight_past, total-append, total-set, term_le, terms_le, total_only, total_le, below_only, below_past, all_below}

@@ -1,5 +1,5 @@
 -- Items put into places by their rows, and taken out in the order of the rows.
-use Rattle.std.proofs.Common.{◌≡◌, ◌≢◌, ℕ, zero, suc, ◌+◌, ◌<◌, ◌≤◌, ◌⊎◌, inl, inr, ⊎_elim, List, [], ◌∷◌, ◌++◌, map, length, set, get_or, sym, refl, ap, ◌∙◌, subst, Option, Some, None, ne_eqb, get_or-set_same, get_or-set_other, length-set, All, arith}
+use Rattle.std.proofs.Common.{◌≡◌, ℕ, zero, suc, ◌+◌, ◌<◌, ◌≤◌, ◌⊎◌, inl, inr, ⊎_elim, List, [], ◌∷◌, ◌++◌, length, set, get_or, sym, refl, ap, ◌∙◌, subst, Option, Some, None, ne_eqb, get_or-set_same, get_or-set_other, length-set, All, arith}
 use Rattle.std.specs.Prelude.{slice_index_or, Contains}
 use Rattle.std.proofs.lemmas.List.{map-append, length-append}
 use Rattle.std.proofs.Math.Seq.{get_or-append_seam}
@@ -8,7 +8,7 @@ use Rattle.std.proofs.lemmas.List.Elements.{All-pop}
 use Rattle.std.proofs.lemmas.Option.{same_Some}
 use mathlib.Core.Logic.{dite}
 use native.Mathlib.Decide.{ℕ_discrete}
-use Rattle.dirac_rows.specs.Weights.{total, times}
+use Rattle.dirac_rows.specs.Weights.{times}
 use Rattle.dirac_rows.specs.Answers.{AnswerRows, rows_of}
 use Rattle.dirac_rows.proofs.Sums.{one_if, weight_at, total-append}
 

@@ -1,11 +1,11 @@
 -- Sums over lists that change at one place, and over the numbers below n.
-use Rattle.std.proofs.Common.{if◌then◌else◌, ◌≡◌, ℕ, Bool, true, false, zero, suc, ◌+◌, ◌<◌, ◌≤◌, ◌≢◌, ◌⊎◌, List, [], ◌∷◌, ◌++◌, length, set, sym, refl, ap, ◌==◌, nat_lt, eq-eqb, ne_eqb, lt-ltb, le-ltb, All, arith}
+use Rattle.std.proofs.Common.{if◌then◌else◌, ◌≡◌, ℕ, Bool, true, false, zero, suc, ◌+◌, ◌<◌, ◌≤◌, ◌≢◌, List, [], ◌∷◌, ◌++◌, set, sym, refl, ap, ◌==◌, nat_lt, eq-eqb, ne_eqb, lt-ltb, le-ltb, All, arith}
 use Rattle.std.proofs.lemmas.List.Elements.{All-nil, All-cons}
 use mathlib.Core.Logic.{dite}
 use native.Mathlib.Decide.{ℕ_discrete, dec_le}
 use mathlib.Core.Option.{some, some-injective, some-ne-none}
 use lib.ListN.{get_elem?}
-use Rattle.dirac_rows.specs.Weights.{total, total_below, times, past_rows}
+use Rattle.dirac_rows.specs.Weights.{total, total_below, times}
 
 abbrev pub one_if : Bool → ℕ
 one_if b = if b then 1 else 0

@@ -9,7 +9,7 @@ pub record Claims : Type 0 where
   pub rows : ℕ
   pub seats : ℕ
 
--- the claims that a seat comes from, the numbers that it keeps, its shares, the shares given up in it, and whether it had None
+-- the claims that a seat comes from, the numbers that it keeps, its shares, those given up in it, and if it had None
 pub record Seated : Type 0 where
   pub claims : Claims
   pub kept : List ℕ

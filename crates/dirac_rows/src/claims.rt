@@ -79,7 +79,8 @@ impl RowClaims {
         Ok((claims, seat))
     }
 
-    /// Draws the next number by one atomic step, and answers it where it is a row. A seat that had `None` draws no more.
+    /// Draws the next number by one atomic step, and answers it where it is a row. A seat that had `None` draws no
+    /// more.
     pub fn claim(&self, seat: &mut RowSeat) -> Option<u32>
         requires { seat.old.claims ≡ self.now }
         ensures after_none { seat.old.had_none ≡ true → (result ≡ None) × (seat.new ≡ seat.old) }

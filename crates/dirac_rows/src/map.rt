@@ -49,7 +49,8 @@ fn claimed_by<T: Drop, G: RowGate, F: Fn(u32) -> Result<T, NoMemory>>(
     ensures own { result.0.claims ≡ claims.now }
     ensures shares { result.0.shares + result.0.given_up ≡ seat.shares + seat.given_up }
     ensures had_none { OnOk result.1 (result.0.had_none ≡ true) }
-    ensures found { IfOk result.1 (λ v. Gathers (λ r x. F.post work.now r (Ok x)) claims.now.rows result.0.kept v.items) }
+    ensures found { IfOk result.1 (λ v. Gathers (λ r x. F.post work.now r (Ok x)) claims.now.rows
+        result.0.kept v.items) }
 {
     let found = claim_all(alloc, claims, &mut seat, gate, work);
     (seat, found)
@@ -93,7 +94,8 @@ fn claimed_by_all<
     ensures own { result.0.claims ≡ claims.now }
     ensures shares { result.0.shares + result.0.given_up ≡ seat.shares + seat.given_up }
     ensures had_none { OnOk result.1 (result.0.had_none ≡ true) }
-    ensures found { IfOk result.1 (λ v. Gathers (λ r x. F.post work.now r (Ok x)) claims.now.rows result.0.kept v.items) }
+    ensures found { IfOk result.1 (λ v. Gathers (λ r x. F.post work.now r (Ok x)) claims.now.rows
+        result.0.kept v.items) }
 {
     if workers <= 1 {
         return claimed_by(alloc, claims, seat, gate, work);

@@ -1,4 +1,4 @@
-use Rattle.std.proofs.Common.{◌≡◌, ◌-◌, false, Ok}
+use Rattle.std.proofs.Common.{◌≡◌, ◌-◌, Ok}
 use Rattle.dirac_rows.specs.Answers.{Gathers}
 use Rattle.dirac_rows.proofs.Found.{top}
 use Rattle.dirac_rows.proofs.map.claim_all.Given as goal
