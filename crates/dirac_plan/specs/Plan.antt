@@ -1,7 +1,69 @@
--- Which pictures are coded, and how.
-use Rattle.std.specs.Prelude.{ℕ, None}
+-- Which pictures are coded, in which order, and what each of them refers to. Groups and anchors count frames; a frame
+-- is one picture.
+use Rattle.std.specs.Prelude.{ℕ, zero, suc, ◌+◌, ◌-◌, ◌*◌, ◌/◌, ◌==◌, min, nat_le, ◌&&◌, if◌then◌else◌, List, ◌∷◌, map, Option, None, Some}
+use Rattle.std.specs.List.{flat_map, range_with_len}
+use Rattle.dirac_types.specs.declared.settings.Settings.{Settings}
 use Rattle.dirac_plan.specs.declared.planned.Planned.{Planned}
 
 -- the picture that opens a group: an intra picture to which others may refer, which retires none
 abbrev pub opening : ℕ → Planned
 opening number = record { number = number; code = 0x0C; ref1 = None; ref2 = None; retire = None }
+
+-- a picture to which others may refer, which refers to the anchor before it, and to a second one if there is one
+abbrev pub anchor_of : ℕ → ℕ → Option ℕ → Option ℕ → Planned
+anchor_of number before None retired =
+    record { number = number; code = 0x0D; ref1 = Some before; ref2 = None; retire = retired }
+anchor_of number before (Some second) retired =
+    record { number = number; code = 0x0E; ref1 = Some before; ref2 = Some second; retire = retired }
+
+-- a picture between two anchors, to which none refers: with one reference to the anchor before it, with two also to the
+-- one behind it
+abbrev pub between_of : ℕ → ℕ → ℕ → ℕ → Planned
+between_of references before after number =
+    if references == 2
+    then record { number = number; code = 0x0A; ref1 = Some before; ref2 = Some after; retire = None }
+    else record { number = number; code = 0x09; ref1 = Some before; ref2 = None; retire = None }
+
+-- how far anchor k stands behind the first frame of its group, which has len frames: a group's last frame is an anchor
+abbrev pub anchor_offset : Settings → ℕ → ℕ → ℕ
+anchor_offset s len zero = 0
+anchor_offset s len (suc k) = min (anchor_offset s len k + s.between + 1) (len - 1)
+
+-- how many anchors follow the first frame of a group
+abbrev pub anchors_behind : Settings → ℕ → ℕ
+anchors_behind s len = (len - 1 + s.between) / (s.between + 1)
+
+-- what the anchor behind anchor k refers to besides anchor k: with two references the group's first frame, if that is
+-- another one
+abbrev pub second_of : Settings → ℕ → ℕ → Option ℕ
+second_of s first k = if s.references == 2 && nat_le 1 k then Some first else None
+
+-- what it retires: the anchor before anchor k, if that isn't the group's first frame
+abbrev pub retired_of : Settings → ℕ → ℕ → ℕ → Option ℕ
+retired_of s len first zero = None
+retired_of s len first (suc zero) = None
+retired_of s len first (suc (suc k)) = Some (first + anchor_offset s len (suc k))
+
+-- the step from anchor k to the next one: that one is coded first, then the pictures between them
+abbrev pub step : Settings → ℕ → ℕ → ℕ → List Planned
+step s len first k =
+    let before = first + anchor_offset s len k in
+    let after = first + anchor_offset s len (suc k) in
+    anchor_of after before (second_of s first k) (retired_of s len first k)
+    ∷ map (between_of s.references before after) (range_with_len (before + 1) (after - before - 1))
+
+-- a group of len frames, of which the first has this number
+abbrev pub group : Settings → ℕ → ℕ → List Planned
+group s len first = opening first ∷ flat_map (step s len first) (range_with_len 0 (anchors_behind s len))
+
+-- group number i of n frames; the last group may be shorter
+abbrev pub group_at : Settings → ℕ → ℕ → List Planned
+group_at s n i = group s (min s.gop (n - i * s.gop)) (i * s.gop)
+
+-- how many groups there are
+abbrev pub group_count : Settings → ℕ → ℕ
+group_count s n = (n + (s.gop - 1)) / s.gop
+
+-- n pictures in coding order
+unfoldable pub plan : ℕ → Settings → List Planned
+plan n s = flat_map (group_at s n) (range_with_len 0 (group_count s n))

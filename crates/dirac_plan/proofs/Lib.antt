@@ -1,0 +1,10 @@
+pub mod Accepted
+pub mod Anchors
+pub mod Giving
+pub mod Items
+pub mod Lists
+pub mod Numbers
+pub mod Planners
+pub mod Queue
+pub mod Rows
+pub mod Waiting

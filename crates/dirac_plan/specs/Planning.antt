@@ -1,0 +1,83 @@
+-- Planning while pictures still come.
+use Rattle.std.specs.Prelude.{◌≡◌, ℕ, ◌+◌, ◌-◌, ◌%◌, ◌==◌, ◌≤◌, min, nat_lt, not, ◌||◌, ◌&&◌, if◌then◌else◌, Bool, false, List, [], ◌∷◌, ◌++◌, length, slice_get, Option, None, Some}
+use Rattle.dirac_types.specs.declared.picture.Picture.{Picture}
+use Rattle.dirac_types.specs.declared.settings.Settings.{Settings}
+use Rattle.dirac_plan.specs.declared.planned.Planned.{Planned}
+use Rattle.dirac_plan.specs.Plan.{plan}
+
+-- how many pictures a planner accepted, how many planned ones it gave, whether the pictures have ended, and those that
+-- wait, oldest first
+pub record Planning : Type 0 where
+  pub settings : Settings
+  pub accepted : ℕ
+  pub given : ℕ
+  pub ended : Bool
+  pub waiting : List Picture
+
+-- before the first picture
+abbrev pub empty_planning : Settings → Planning
+empty_planning s = record { settings = s; accepted = 0; given = 0; ended = false; waiting = [] }
+
+-- with one picture more
+abbrev pub with_picture : Planning → Picture → Planning
+with_picture p picture =
+    record {
+      settings = p.settings;
+      accepted = p.accepted + 1;
+      given = p.given;
+      ended = p.ended;
+      waiting = p.waiting ++ picture ∷ [];
+    }
+
+-- told whether the pictures have ended
+abbrev pub with_end : Planning → Bool → Planning
+with_end p ended =
+    record { settings = p.settings; accepted = p.accepted; given = p.given; ended = ended; waiting = p.waiting }
+
+-- the next planned picture, by those accepted so far
+abbrev pub next_planned : Planning → Option Planned
+next_planned p = slice_get (plan p.accepted p.settings) p.given
+
+-- a planned picture stands between two anchors: none refers to it
+abbrev pub stands_between : Option Planned → Bool
+stands_between None = false
+stands_between (Some p) = p.code == 0x09 || p.code == 0x0A
+
+-- no picture is accepted for now: four wait, or pictures between two anchors are still to be taken
+abbrev pub is_closed : Planning → Bool
+is_closed p = length p.waiting == 4 || stands_between (next_planned p)
+
+-- how many waiting pictures the next planned one needs, unless it stands between two anchors: one that opens a group
+-- needs itself; an anchor all those up to it, or all that the group can still have
+abbrev pub pictures_needed : Settings → ℕ → ℕ
+pictures_needed s given =
+    if given % s.gop == 0 then 1 else min (s.between + 1) (s.gop - given % s.gop)
+
+-- while pictures may still come, so many waiting ones are too few for the next planned one
+abbrev pub are_too_few : Settings → ℕ → ℕ → Bool → ℕ → Bool
+are_too_few s accepted given ended waiting =
+    not ended && not (stands_between (slice_get (plan accepted s) given)) && nat_lt waiting (pictures_needed s given)
+
+-- no planned picture is given: none waits, or too few do
+abbrev pub gives_none : Planning → Bool → Bool
+gives_none p ended =
+    length p.waiting == 0 || are_too_few p.settings p.accepted p.given ended (length p.waiting)
+
+-- a planned picture is the next one in each plan of so many pictures or more
+abbrev pub IsLasting : Planning → Planned → Type 0
+IsLasting p planned = (m : ℕ) → p.accepted ≤ m → slice_get (plan m p.settings) p.given ≡ Some planned
+
+-- the next planned picture is given with the picture of its number, which waits no longer
+pub record Takes (ended : Bool) (old new : Planning) (planned : Planned) (picture : Picture) : Type 0 where
+  pub next : next_planned old ≡ Some planned
+  -- while pictures may still come it is the next one however many come
+  pub lasting : ended ≡ false → IsLasting old planned
+  pub same : picture.number ≡ planned.number
+  pub before : List Picture
+  pub after : List Picture
+  pub waited : old.waiting ≡ before ++ picture ∷ after
+  pub waiting : new.waiting ≡ before ++ after
+  pub settings : new.settings ≡ old.settings
+  pub accepted : new.accepted ≡ old.accepted
+  pub given : new.given ≡ old.given + 1
+  pub told : new.ended ≡ ended
