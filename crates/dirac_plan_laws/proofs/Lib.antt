@@ -1,0 +1,11 @@
+pub mod Coding
+pub mod Counts
+pub mod Delivering
+pub mod Each
+pub mod Headers
+pub mod Lasting
+pub mod Listing
+pub mod Near
+pub mod Plans
+pub mod Rows
+pub mod Serving

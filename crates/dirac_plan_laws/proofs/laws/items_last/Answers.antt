@@ -1,0 +1,5 @@
+use Rattle.dirac_plan_laws.proofs.Lasting as lasting
+use Rattle.dirac_plan_laws.proofs.laws.items_last.Goals as goal
+
+pub returns : goal.returns
+returns c = lasting.items_last

@@ -1,0 +1,60 @@
+-- The references of planned pictures, and the list of reference pictures that coded ones leave behind.
+use Rattle.std.specs.Prelude.{◌≡◌, ℕ, true, if◌then◌else◌, List, [], ◌∷◌, ◌++◌, map, Option, None, Some, ⊤}
+use Rattle.dirac_types.specs.declared.picture.Picture.{Picture}
+use Rattle.dirac_types.specs.declared.settings.Settings.{Settings}
+use Rattle.dirac_header.specs.Codes.{is_reference}
+use Rattle.dirac_refs.specs.References.{Commit, committed, refs_of}
+use Rattle.dirac_picture.specs.Grammar.{are_listed}
+use Rattle.dirac_plan.specs.declared.planned.Planned.{Planned}
+use Rattle.dirac_plan.specs.Plan.{plan}
+use Rattle.dirac_plan.specs.Waiting.{number_of}
+use Rattle.dirac_plan_laws.specs.Headers.{header_of}
+
+-- the number of a planned picture
+abbrev pub planned_number : Planned → ℕ
+planned_number p = p.number
+
+-- these pictures have the numbers of the planned ones: they are what those become
+abbrev pub ArePlanned : List Planned → List Picture → Type 0
+ArePlanned planned pictures = map number_of pictures ≡ map planned_number planned
+
+-- what a planned picture becomes, if others may refer to it
+abbrev pub reference_of : Planned → Picture → Option Picture
+reference_of p coded = if is_reference p.code then Some coded else None
+
+-- the list once a planned picture is coded as this one
+abbrev pub list_with : List Picture → Planned → Picture → List Picture
+list_with list p coded = committed list p.retire (reference_of p coded)
+
+-- all that a planned picture refers to is listed
+abbrev pub AreListed : List Picture → Planned → Type 0
+AreListed list p = are_listed list (header_of p) ≡ true
+
+-- each planned picture finds what it refers to in the list, where those before it become these pictures
+abbrev pub AreFound : List Picture → List Planned → List Picture → Type 0
+AreFound list [] pictures = ⊤
+AreFound list (p ∷ planned) [] = ⊤
+AreFound list (p ∷ planned) (coded ∷ pictures) = AreListed list p × AreFound (list_with list p coded) planned pictures
+
+-- each finds it, whatever pictures of their numbers those before it become
+abbrev pub AreServed : List Picture → List Planned → Type 0
+AreServed list [] = ⊤
+AreServed list (p ∷ planned) =
+    AreListed list p × ((coded : Picture) → coded.number ≡ p.number → AreServed (list_with list p coded) planned)
+
+-- every plan is served, from an empty list on
+abbrev pub ReferencesAreListed : Type 0
+ReferencesAreListed = (s : Settings) (n : ℕ) → AreServed [] (plan n s)
+
+-- what planned pictures do to the list, where they become these
+abbrev pub commits : List Planned → List Picture → List Commit
+commits [] pictures = []
+commits (p ∷ planned) [] = []
+commits (p ∷ planned) (coded ∷ pictures) =
+    record { retired = p.retire; reference = reference_of p coded } ∷ commits planned pictures
+
+-- what a planned picture refers to is in the list of the pictures coded before it
+abbrev pub ReferencesAreKept : Type 0
+ReferencesAreKept =
+    (s : Settings) (n : ℕ) (before after : List Planned) (p : Planned) (pictures : List Picture)
+    → plan n s ≡ before ++ p ∷ after → ArePlanned before pictures → AreListed (refs_of (commits before pictures)) p
