@@ -1,0 +1,100 @@
+-- Sums of eight columns at a time, in lanes, and of four rows at a time.
+use Rattle.std.proofs.Common.{◌≡◌, ◌≢◌, ℕ, suc, ℤ, pos, ◌+◌, ◌*◌, ◌<◌, ◌≤◌, ◌+ℤ◌, List, length, get_or, set, refl, ap, ap₂, sym, ◌∙◌, arith, inl, inr, get_or-set_same, get_or-set_other}
+use Rattle.std.proofs.lemmas.Int.{ints}
+use Rattle.std.proofs.lemmas.Bool.{cases_eq}
+use Rattle.dirac_types.specs.Table.{Table}
+use Rattle.dirac_types.specs.declared.formats.Vector.{Vector}
+use Rattle.dirac_windows.specs.Sums.{sum_below}
+use Rattle.dirac_windows.specs.declared.window.Window.{Window}
+use Rattle.dirac_windows.proofs.Sums.{sum_added, sum_same}
+use Rattle.dirac_search.specs.Rows.{IsRowNearest, apart_at, four_rows_apart, row_apart, whole_rows}
+use Rattle.dirac_search.proofs.Differences.{rows_inside}
+
+-- the lanes before place k have been added to, the others not yet
+pub record LanesAt (lanes init : List ℕ) (f : ℕ → ℕ) (k : ℕ) : Type 0 where
+  pub done : (j : ℕ) → j < k → get_or lanes j 0 ≡ get_or init j 0 + f j
+  pub rest : (j : ℕ) → k ≤ j → get_or lanes j 0 ≡ get_or init j 0
+  pub more : (j : ℕ) → j < k → get_or lanes j 0 ≤ get_or init j 0 + 65535
+
+pub lanes_more : (lanes init : List ℕ) (f : ℕ → ℕ) (k n v : ℕ) → k < length lanes → n ≡ k + 1 → v ≡ get_or lanes k 0 + f k → f k ≤ 65535 → LanesAt lanes init f k → LanesAt (set lanes k v) init f n
+lanes_more lanes init f k n v fits en ev small at =
+    let here : get_or (set lanes k v) k 0 ≡ get_or init k 0 + f k = get_or-set_same lanes k v 0 fits ∙ ev ∙ ap (λ a. a + f k) (at.rest k (omega arith)) in
+    record {
+      done = λ j l. elim (cases_eq j k) [
+        | inl same ↦ ap (λ i. get_or (set lanes k v) i 0) same ∙ here ∙ ap (λ i. get_or init i 0 + f i) (sym same)
+        | inr other ↦ get_or-set_other lanes k j v 0 other ∙ at.done j (omega arith)
+      ];
+      rest = λ j l. let other : j ≢ k = omega arith in get_or-set_other lanes k j v 0 other ∙ at.rest j (omega arith);
+      more = λ j l. elim (cases_eq j k) [
+        | inl same ↦ let e : get_or (set lanes k v) j 0 ≡ get_or init j 0 + f k = ap (λ i. get_or (set lanes k v) i 0) same ∙ here ∙ ap (λ i. get_or init i 0 + f k) (sym same) in omega (arith, e, small)
+        | inr other ↦ omega (arith, get_or-set_other lanes k j v 0 other, at.more j (omega arith))
+      ];
+    }
+
+-- four rows of eight, lane by lane and row by row
+pub four_lanes : (l0 l1 l2 l3 l4 : List ℕ) (a b c d : ℕ → ℕ) → ((k : ℕ) → k < 8 → get_or l0 k 0 ≡ 0)
+    → ((k : ℕ) → k < 8 → get_or l1 k 0 ≡ get_or l0 k 0 + a k) → ((k : ℕ) → k < 8 → get_or l2 k 0 ≡ get_or l1 k 0 + b k)
+    → ((k : ℕ) → k < 8 → get_or l3 k 0 ≡ get_or l2 k 0 + c k) → ((k : ℕ) → k < 8 → get_or l4 k 0 ≡ get_or l3 k 0 + d k)
+    → sum_below (λ k. get_or l4 k 0) 8 ≡ ((sum_below a 8 + sum_below b 8) + sum_below c 8) + sum_below d 8
+four_lanes l0 l1 l2 l3 l4 a b c d none ha hb hc hd =
+    sum_same (λ k. get_or l4 k 0) (λ k. ((a k + b k) + c k) + d k) 8 (λ k l. omega (arith, none k l, ha k l, hb k l, hc k l, hd k l))
+    ∙ sum_added (λ k. (a k + b k) + c k) d 8
+    ∙ ap (λ n. n + sum_below d 8) (sum_added (λ k. a k + b k) c 8 ∙ ap (λ n. n + sum_below c 8) (sum_added a b 8))
+
+-- eight samples of two rows that have them
+eight_apart : (s r : Table) (x y across : ℕ) (down : ℤ) (a b : List ℤ) → IsRowNearest s (pos y) a → IsRowNearest r down b → x + 8 ≤ s.width → across + 8 ≤ r.width
+    → sum_below (apart_at a x b across) 8 ≡ row_apart s r (pos x) (pos y) (pos across) down 8
+unfolding apart_at
+eight_apart s r x y across down a b ha hb fx fa =
+    rows_inside s r (pos x) (pos y) (pos across) down a b x across 8 ha hb refl refl (omega (arith, ints)) (omega (arith, ints))
+
+-- four rows of eight samples, added in lanes
+pub four_rows_are : (s r : Table) (x across y sum : ℕ) (p : ℤ) (l0 l1 l2 l3 l4 : List ℕ) (a0 a1 a2 a3 b0 b1 b2 b3 : List ℤ)
+    → sum ≡ sum_below (λ k. get_or l4 k 0) 8 → ((k : ℕ) → k < 8 → get_or l0 k 0 ≡ 0)
+    → ((k : ℕ) → k < 8 → get_or l1 k 0 ≡ get_or l0 k 0 + apart_at a0 x b0 across k) → ((k : ℕ) → k < 8 → get_or l2 k 0 ≡ get_or l1 k 0 + apart_at a1 x b1 across k)
+    → ((k : ℕ) → k < 8 → get_or l3 k 0 ≡ get_or l2 k 0 + apart_at a2 x b2 across k) → ((k : ℕ) → k < 8 → get_or l4 k 0 ≡ get_or l3 k 0 + apart_at a3 x b3 across k)
+    → IsRowNearest s (pos y) a0 → IsRowNearest s (pos (y + 1)) a1 → IsRowNearest s (pos (y + 2)) a2 → IsRowNearest s (pos (y + 3)) a3
+    → IsRowNearest r (pos y +ℤ p) b0 → IsRowNearest r (pos (y + 1) +ℤ p) b1 → IsRowNearest r (pos (y + 2) +ℤ p) b2 → IsRowNearest r (pos (y + 3) +ℤ p) b3
+    → x + 8 ≤ s.width → across + 8 ≤ r.width → sum ≡ four_rows_apart s r x across y p 8
+four_rows_are s r x across y sum p l0 l1 l2 l3 l4 a0 a1 a2 a3 b0 b1 b2 b3 e none h0 h1 h2 h3 sa0 sa1 sa2 sa3 rb0 rb1 rb2 rb3 fx fa =
+    let first : y ≡ y + 0 = omega arith in
+    e ∙ four_lanes l0 l1 l2 l3 l4 (apart_at a0 x b0 across) (apart_at a1 x b1 across) (apart_at a2 x b2 across) (apart_at a3 x b3 across) none h0 h1 h2 h3
+    ∙ ap₂ (λ (a b : ℕ). a + b) (ap₂ (λ (a b : ℕ). a + b) (ap₂ (λ (a b : ℕ). a + b)
+    (eight_apart s r x y across (pos y +ℤ p) a0 b0 sa0 rb0 fx fa ∙ ap (λ n. row_apart s r (pos x) (pos n) (pos across) (pos n +ℤ p) 8) first)
+    (eight_apart s r x (y + 1) across (pos (y + 1) +ℤ p) a1 b1 sa1 rb1 fx fa))
+    (eight_apart s r x (y + 2) across (pos (y + 2) +ℤ p) a2 b2 sa2 rb2 fx fa))
+    (eight_apart s r x (y + 3) across (pos (y + 3) +ℤ p) a3 b3 sa3 rb3 fx fa)
+
+-- four more numbers
+four_more : (f : ℕ → ℕ) (k n : ℕ) → n ≡ k + 1 → sum_below f (4 * n) ≡ (((sum_below f (4 * k) + f (4 * k)) + f (4 * k + 1)) + f (4 * k + 2)) + f (4 * k + 3)
+four_more f k n e =
+    let m = 4 * k in
+    let whole : 4 * n ≡ suc (suc (suc (suc (4 * k)))) = omega arith in
+    let one : suc (4 * k) ≡ 4 * k + 1 = omega arith in
+    let two : suc (suc (4 * k)) ≡ 4 * k + 2 = omega arith in
+    let three : suc (suc (suc (4 * k))) ≡ 4 * k + 3 = omega arith in
+    ap (sum_below f) whole
+    ∙ ap₂ (λ (a b : ℕ). a + b) (ap₂ (λ (a b : ℕ). a + b) (ap (λ a. (sum_below f m + f m) + a) (ap f one)) (ap f two)) (ap f three)
+
+-- a row of a window of eight columns
+row_is : (s r : Table) (w : Window) (v : Vector) (y y' : ℕ) (across p : ℤ) → y ≡ y' → across ≡ pos w.x +ℤ v.x → p ≡ v.y → w.columns ≡ 8
+    → row_apart s r (pos w.x) (pos y) across (pos y +ℤ p) 8 ≡ row_apart s r (pos w.x) (pos y') (pos w.x +ℤ v.x) (pos y' +ℤ v.y) w.columns
+row_is s r w v y y' across p ey ea ep ec =
+    ap (λ n. row_apart s r (pos w.x) (pos n) across (pos n +ℤ p) 8) ey
+    ∙ ap₂ (λ (a q : ℤ). row_apart s r (pos w.x) (pos y') a (pos y' +ℤ q) 8) ea ep
+    ∙ ap (row_apart s r (pos w.x) (pos y') (pos w.x +ℤ v.x) (pos y' +ℤ v.y)) (sym ec)
+
+-- four more rows of a window
+pub four_more_rows : (s r : Table) (w : Window) (v : Vector) (across : ℕ) (p : ℤ) (k n sum y : ℕ) → y ≡ w.y + 4 * k → pos across ≡ pos w.x +ℤ v.x → p ≡ v.y → w.columns ≡ 8 → n ≡ k + 1
+    → sum ≡ four_rows_apart s r w.x across y p 8 → whole_rows s r w v (4 * k) + sum ≡ whole_rows s r w v (4 * n)
+four_more_rows s r w v across p k n sum y ey ea ep ec en e =
+    let f : ℕ → ℕ = λ i. row_apart s r (pos w.x) (pos (w.y + i)) (pos w.x +ℤ v.x) (pos (w.y + i) +ℤ v.y) w.columns in
+    let e0 = row_is s r w v (y + 0) (w.y + 4 * k) (pos across) p (omega arith) ea ep ec in
+    let e1 = row_is s r w v (y + 1) (w.y + (4 * k + 1)) (pos across) p (omega arith) ea ep ec in
+    let e2 = row_is s r w v (y + 2) (w.y + (4 * k + 2)) (pos across) p (omega arith) ea ep ec in
+    let e3 = row_is s r w v (y + 3) (w.y + (4 * k + 3)) (pos across) p (omega arith) ea ep ec in
+    let rows : sum ≡ ((f (4 * k) + f (4 * k + 1)) + f (4 * k + 2)) + f (4 * k + 3) = e ∙ ap₂ (λ (a b : ℕ). a + b) (ap₂ (λ (a b : ℕ). a + b) (ap₂ (λ (a b : ℕ). a + b) e0 e1) e2) e3 in
+    sum_up (sum_below f (4 * k)) (f (4 * k)) (f (4 * k + 1)) (f (4 * k + 2)) (f (4 * k + 3)) sum rows ∙ sym (four_more f k n en)
+  where
+    sum_up : (t a b c d m : ℕ) → m ≡ ((a + b) + c) + d → t + m ≡ (((t + a) + b) + c) + d
+    sum_up t a b c d m e = omega arith

@@ -1,0 +1,10 @@
+pub mod Accepted
+mod Bounds
+mod Choosing
+mod Differences
+mod Examples
+mod Gathered
+mod InLanes
+mod Lists
+mod Reaches
+mod Repeats

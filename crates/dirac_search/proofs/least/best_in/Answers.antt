@@ -1,0 +1,15 @@
+use Rattle.std.proofs.Common.{◌∙◌, ap}
+use Rattle.dirac_windows.specs.Least.{first_least}
+use Rattle.dirac_windows.specs.declared.window.Window.{Window}
+use Rattle.dirac_search.specs.Candidates.{no_motion}
+use Rattle.dirac_search.specs.Costs.{cost_of, window_cost}
+use Rattle.dirac_search.specs.Fields.{best_of}
+use Rattle.dirac_search.specs.Given.{given}
+use Rattle.dirac_search.proofs.least.best_in.Goals as goal
+
+pub returns : goal.returns
+unfolding best_of
+returns c =
+    c.least_of.ensures
+    ∙ ap (λ (w : Window). first_least (window_cost (given c.args.search.now) c.args.settings.now.bias c.args.stage w) no_motion c.push_choice.new.list) c.window-window.ensures.value
+    ∙ c.in_ok-push_choice.ensures.chooses_as_all (cost_of (given c.args.search.now) c.args.settings.now.bias c.args.stage c.args.i c.args.j)

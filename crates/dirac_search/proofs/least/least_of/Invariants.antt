@@ -1,0 +1,12 @@
+use Rattle.std.proofs.Common.{◌≡◌, take}
+use Rattle.dirac_windows.specs.Least.{first_least}
+use Rattle.dirac_search.specs.Candidates.{no_motion}
+use Rattle.dirac_search.specs.Costs.{window_cost}
+use Rattle.dirac_search.specs.Given.{given}
+use Rattle.dirac_search.proofs.least.least_of.Given as goal
+
+abbrev pub invariant-loop-k : goal.invariant-loop-k
+invariant-loop-k l = record {
+  found : l.found ≡ first_least (window_cost (given l.search) l.bias l.stage l.window) no_motion (take l.k l.list);
+  least : l.least ≡ window_cost (given l.search) l.bias l.stage l.window l.found;
+}

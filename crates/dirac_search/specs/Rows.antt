@@ -1,0 +1,54 @@
+-- Sums of absolute differences by the rows of a window.
+use Rattle.std.specs.Prelude.{◌≡◌, ℕ, ℤ, pos, ◌+◌, ◌*◌, ◌^◌, ◌<◌, ◌+ℤ◌, ◌-ℤ◌, unsigned_abs, List, slice_index_or}
+use Rattle.dirac_types.specs.Table.{Table, clamped_at, clamped_to, table_at}
+use Rattle.dirac_types.specs.declared.formats.Vector.{Vector}
+use Rattle.dirac_upconvert.specs.SubSamples.{Up, sub_sample}
+use Rattle.dirac_windows.specs.Sums.{sum_below}
+use Rattle.dirac_windows.specs.Windows.{row_from, values_apart, values_from}
+use Rattle.dirac_windows.specs.declared.window.Window.{Window}
+
+-- a list of the samples of the row of a plane that is nearest to place y
+abbrev pub IsRowNearest : Table → ℤ → List ℤ → Type 0
+IsRowNearest t y row = (x : ℕ) → x < t.width → slice_index_or row x (pos 0) ≡ table_at t x (clamped_to y t.height)
+
+-- the samples of a row of a plane from a position on, each position clamped
+abbrev pub clamped_row : Table → ℤ → ℤ → ℕ → ℤ
+clamped_row t x y k = clamped_at t (x +ℤ pos k) y
+
+-- the sum of absolute differences of so many samples of two such rows
+unfoldable pub row_apart : Table → Table → ℤ → ℤ → ℤ → ℤ → ℕ → ℕ
+row_apart source reference x y across down count =
+    values_apart (clamped_row source x y) (clamped_row reference across down) count
+
+-- the same for column x of row y and the whole samples to which a vector leads
+abbrev pub whole_row_apart : Table → Table → ℕ → ℕ → Vector → ℕ → ℕ
+whole_row_apart source reference x y v count =
+    row_apart source reference (pos x) (pos y) (pos x +ℤ v.x) (pos y +ℤ v.y) count
+
+-- the samples to which a vector in parts of a sample leads from column x of row y on
+abbrev pub sub_row_from : Up → ℕ → ℕ → ℕ → Vector → ℕ → ℤ
+sub_row_from up q x y v k =
+    sub_sample up q ((pos (2 ^ q * x) +ℤ v.x) +ℤ pos (2 ^ q * k)) (pos (2 ^ q * y) +ℤ v.y)
+
+-- the sum of absolute differences of so many samples of row y of a plane and of those
+unfoldable pub sub_row_apart : Table → Up → ℕ → ℕ → ℕ → Vector → ℕ → ℕ
+sub_row_apart source up q x y v count = values_apart (row_from source x y) (sub_row_from up q x y v) count
+
+-- the same for four rows from row y on, where whole samples from column `across` on are moved down by `part`
+abbrev pub four_rows_apart : Table → Table → ℕ → ℕ → ℕ → ℤ → ℕ → ℕ
+four_rows_apart source reference x across y part count =
+    let row = λ (r : ℕ). row_apart source reference (pos x) (pos (y + r)) (pos across) (pos (y + r) +ℤ part) count in
+    ((row 0 + row 1) + row 2) + row 3
+
+-- the differences of the first rows of a window and of the whole samples to which a vector leads
+abbrev pub whole_rows : Table → Table → Window → Vector → ℕ → ℕ
+whole_rows source reference w v rows =
+    sum_below (λ r. whole_row_apart source reference w.x (w.y + r) v w.columns) rows
+
+-- the same, where the vector counts parts of a sample
+abbrev pub sub_rows : Table → Up → ℕ → Window → Vector → ℕ → ℕ
+sub_rows source up q w v rows = sum_below (λ r. sub_row_apart source up q w.x (w.y + r) v w.columns) rows
+
+-- how far two values are apart, k places behind two places
+unfoldable pub apart_at : List ℤ → ℕ → List ℤ → ℕ → ℕ → ℕ
+apart_at a first b second k = unsigned_abs (values_from a first k -ℤ values_from b second k)

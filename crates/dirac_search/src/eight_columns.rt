@@ -1,0 +1,119 @@
+ghost use Rattle.std.specs.Prelude.{◌≡◌, ℕ, pos, ◌+◌, ◌^◌, ◌<◌, ◌≤◌, ◌+ℤ◌, unsigned_abs, length, slice_index};
+ghost use Rattle.dirac_windows.specs.Sums.{sum_below};
+ghost use Rattle.dirac_search.specs.Rows.{IsRowNearest, apart_at, four_rows_apart};
+
+use crate::places::{moved, nearest_row};
+use dirac_types::Plane;
+use dirac_windows::difference;
+
+/// How far two samples are apart, `k` places behind two places.
+#[inline(always)]
+#[tactic(auto, unfolding(crate::specs::Rows::apart_at))]
+fn difference_behind(a: &[i16], first: usize, b: &[i16], second: usize, k: usize) -> u32
+    requires inside_a { first + k < length a.now }
+    requires inside_b { second + k < length b.now }
+    ensures value { result ≡ apart_at a.now first b.now second k }
+    ensures at_most_65535 { result ≤ 65535 }
+{
+    difference(a[first + k], b[second + k])
+}
+
+/// Adds the absolute differences of eight samples of two rows, each from a place on, to eight sums.
+#[inline(always)]
+fn add_eight(lanes: &mut [u32], a: &[i16], first: usize, b: &[i16], second: usize)
+    requires eight_lanes { length lanes.old ≡ 8 }
+    requires at_most_196605 { (k : ℕ) → k < 8 → slice_index lanes.old k ≤ 196605 }
+    requires inside_a { first + 8 ≤ length a.now }
+    requires inside_b { second + 8 ≤ length b.now }
+    ensures added { (k : ℕ) → k < 8 → slice_index lanes.new k ≡ slice_index lanes.old k + apart_at a.now first b.now second k }
+    ensures at_most_65535_more { (k : ℕ) → k < 8 → slice_index lanes.new k ≤ slice_index lanes.old k + 65535 }
+{
+    for k in 0..8 {
+        lanes[k] += difference_behind(a, first, b, second, k);
+    }
+}
+
+/// The sum of eight sums.
+#[inline(always)]
+fn sum_of_eight(lanes: &[u32]) -> u32
+    requires eight_lanes { length lanes.now ≡ 8 }
+    requires at_most_262140 { (k : ℕ) → k < 8 → slice_index lanes.now k ≤ 262140 }
+    ensures value { result ≡ sum_below (slice_index lanes.now) 8 }
+    ensures at_most_2097120 { result ≤ 2097120 }
+{
+    let mut sum = 0;
+    for k in 0..8 {
+        sum += lanes[k];
+    }
+    sum
+}
+
+/// Lends row `y` of the source, or the nearest one.
+#[inline(always)]
+fn source_row(source: &Plane, y: u32) -> &[i16]
+    ensures value { IsRowNearest source.now (pos y) result.now }
+    ensures len { length result.now ≡ source.now.width }
+{
+    nearest_row(source, i64::from(y))
+}
+
+/// Lends the row of the reference to which a component of a vector leads from row `y`, or the nearest one.
+#[inline(always)]
+fn reference_row(reference: &Plane, y: u32, component: i32) -> &[i16]
+    requires y { y ≤ 2 ^ 20 }
+    requires component { unsigned_abs component ≤ 2 ^ 24 }
+    ensures value { IsRowNearest reference.now (pos y +ℤ component) result.now }
+    ensures len { length result.now ≡ reference.now.width }
+{
+    nearest_row(reference, moved(y, component))
+}
+
+/// The sum of absolute differences of eight samples of four rows of the source, from row `y` on, and of those of the
+/// reference to which a component of a vector leads, where all these columns lie inside.
+#[inline(always)]
+pub fn four_rows(
+    source: &Plane,
+    x: usize,
+    reference: &Plane,
+    across: usize,
+    y: u32,
+    component: i32,
+) -> u32
+    requires y { y ≤ 2 ^ 19 }
+    requires component { unsigned_abs component ≤ 2 ^ 24 }
+    requires x { x + 8 ≤ source.now.width }
+    requires across { across + 8 ≤ reference.now.width }
+    ensures value { result ≡ four_rows_apart source.now reference.now x across y component 8 }
+    ensures at_most_2097120 { result ≤ 2097120 }
+{
+    let mut lanes = [0u32; 8];
+    add_eight(
+        &mut lanes,
+        source_row(source, y),
+        x,
+        reference_row(reference, y, component),
+        across,
+    );
+    add_eight(
+        &mut lanes,
+        source_row(source, y + 1),
+        x,
+        reference_row(reference, y + 1, component),
+        across,
+    );
+    add_eight(
+        &mut lanes,
+        source_row(source, y + 2),
+        x,
+        reference_row(reference, y + 2, component),
+        across,
+    );
+    add_eight(
+        &mut lanes,
+        source_row(source, y + 3),
+        x,
+        reference_row(reference, y + 3, component),
+        across,
+    );
+    sum_of_eight(&lanes)
+}

@@ -1,0 +1,149 @@
+ghost use Rattle.std.specs.Prelude.{◌≡◌, ◌*◌, ◌^◌, ◌<◌, ◌≤◌, IsTrue, IfOk, IfSome, IfNone, option_map};
+ghost use Rattle.std.specs.List.{All};
+ghost use Rattle.dirac_windows.specs.Least.{first_least};
+ghost use Rattle.dirac_search.specs.Candidates.{HasFormer, IsWithinReach, no_motion};
+ghost use Rattle.dirac_search.specs.Costs.{HasLevel, HasPrecision, IsBlockWindow, window_cost};
+ghost use Rattle.dirac_search.specs.Fields.{IsSearch, IsStage, best_of};
+ghost use Rattle.dirac_search.specs.Given.{given};
+
+use crate::candidate_list::CandidateList;
+use crate::field::Field;
+use crate::stage::{Search, Stage};
+use crate::stage_candidates::push_choice;
+use crate::window_costs::{cost_below, whole_cost, window};
+use dirac_types::{NoMemory, Settings, Vector};
+use dirac_windows::Window;
+use std::alloc::Global;
+
+/// Whether two vectors are the same.
+#[inline(always)]
+fn are_same(a: Vector, b: Vector) -> bool
+    ensures { IsTrue result → a ≡ b }
+{
+    a.x == b.x && a.y == b.y
+}
+
+/// What a vector costs a window, where that is less than what the best one so far costs.
+#[inline(always)]
+fn better_cost(
+    search: &Search<'_>,
+    stage: Stage,
+    bias: u32,
+    window: Window,
+    v: Vector,
+    found: Vector,
+    least: u32,
+) -> Option<u32>
+    requires levels { HasLevel (given search.now) stage }
+    requires precision { HasPrecision stage }
+    requires at_most_255 { bias ≤ 255 }
+    requires window { IsBlockWindow window }
+    requires v { IsWithinReach (2 ^ 24) v }
+    requires least { least ≡ window_cost (given search.now) bias stage window found }
+    ensures below { IfSome result (λ cost. (cost ≡ window_cost (given search.now) bias stage window v) × (cost < least)) }
+    ensures above { IfNone result (least ≤ window_cost (given search.now) bias stage window v) }
+{
+    // Candidates come again, the best one too: its cost would be summed to the end.
+    if are_same(v, found) {
+        return None;
+    }
+    cost_below(search, stage, bias, window, v, least)
+}
+
+/// The first of least cost, of the vector of no motion and these behind it.
+fn least_of(
+    search: &Search<'_>,
+    stage: Stage,
+    bias: u32,
+    window: Window,
+    list: &CandidateList,
+) -> Vector
+    requires levels { HasLevel (given search.now) stage }
+    requires precision { HasPrecision stage }
+    requires at_most_255 { bias ≤ 255 }
+    requires window { IsBlockWindow window }
+    requires list { All (IsWithinReach (2 ^ 24)) list.now }
+    ensures { result ≡ first_least (window_cost (given search.now) bias stage window) no_motion list.now }
+{
+    let mut found = Vector { x: 0, y: 0 };
+    let mut least = whole_cost(search, stage, bias, window, found);
+    for k in 0..list.len() {
+        let v = list.at(k);
+        match better_cost(search, stage, bias, window, v, found, least) {
+            Some(cost) => {
+                found = v;
+                least = cost;
+            }
+            None => {}
+        }
+    }
+    found
+}
+
+/// The room that the search of a block takes: for candidates, and for their centres.
+#[derive(Drop)]
+pub struct Room {
+    list: CandidateList,
+    centres: CandidateList,
+}
+
+/// Room that holds nothing yet.
+pub fn new_room(alloc: Global) -> Room {
+    Room {
+        list: CandidateList::new(alloc),
+        centres: CandidateList::new(alloc),
+    }
+}
+
+/// The first candidate of least cost for block `i` of row `j` at a stage.
+pub fn best_in(
+    search: &Search<'_>,
+    stage: Stage,
+    settings: &Settings,
+    before: Option<&Field>,
+    i: u32,
+    j: u32,
+    room: &mut Room,
+) -> Result<Vector, NoMemory>
+    requires search { IsSearch (given search.now) settings.now }
+    requires stage { IsStage settings.now stage }
+    requires former { HasFormer stage (option_map (λ f. f.now) before) i j }
+    requires column { i < 4 * search.now.across }
+    requires row { j < 4 * search.now.down }
+    ensures { IfOk result (λ v. v ≡ best_of (given search.now) settings.now stage (option_map (λ f. f.now) before.entry) i j) }
+{
+    room.list.clear();
+    push_choice(
+        &mut room.list,
+        &mut room.centres,
+        stage,
+        settings,
+        before,
+        i,
+        j,
+    )?;
+    let window = window(search, stage, i, j);
+    Ok(least_of(search, stage, settings.bias, window, &room.list))
+}
+
+/// The first candidate of least cost for block `i` of row `j` at a stage. `before` has the former
+/// stage's vectors; the first stage has none.
+pub fn best(
+    alloc: Global,
+    search: &Search<'_>,
+    stage: Stage,
+    settings: &Settings,
+    before: Option<&Field>,
+    i: u32,
+    j: u32,
+) -> Result<Vector, NoMemory>
+    requires search { IsSearch (given search.now) settings.now }
+    requires stage { IsStage settings.now stage }
+    requires former { HasFormer stage (option_map (λ f. f.now) before) i j }
+    requires column { i < 4 * search.now.across }
+    requires row { j < 4 * search.now.down }
+    ensures { IfOk result (λ v. v ≡ best_of (given search.now) settings.now stage (option_map (λ f. f.now) before.entry) i j) }
+{
+    let mut room = new_room(alloc);
+    best_in(search, stage, settings, before, i, j, &mut room)
+}

@@ -1,0 +1,28 @@
+use dirac_pyramid::Pyramid;
+use dirac_types::BlockGrid;
+use dirac_upconvert::UpPlane;
+
+/// A stage of the search.
+#[derive(Clone, Copy, Debug, PartialEq, Eq)]
+pub enum Stage {
+    /// All vectors in a range, in whole samples of this level: the top one.
+    Coarse(u8),
+    /// Round the vectors of the level above, in whole samples of this level.
+    Finer(u8),
+    /// Round the former stage's vector, in 2 to this power parts of a sample.
+    Sub(u8),
+}
+
+/// What is searched: the luma of a picture and of a reference as pyramids, the reference with its half samples, and
+/// the blocks.
+#[derive(Clone, Copy)]
+pub struct Search<'a> {
+    pub source: &'a Pyramid,
+    pub reference: &'a Pyramid,
+    pub up: &'a UpPlane,
+    pub grid: BlockGrid,
+    /// The number of superblocks across.
+    pub across: u32,
+    /// The number of superblocks down.
+    pub down: u32,
+}

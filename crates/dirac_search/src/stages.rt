@@ -1,0 +1,172 @@
+ghost use Rattle.std.specs.Prelude.{◌≡◌, ℕ, pos, ◌+◌, ◌-◌, ◌*◌, ◌^◌, ◌<◌, ◌≤◌, ◌++◌, length, Some, None, IfOk, option_map};
+ghost use Rattle.std.specs.List.{All, flat_map};
+ghost use Rattle.dirac_vectors.specs.Predictions.{IsShortVector};
+ghost use Rattle.dirac_search.specs.ByRows.{row_values};
+ghost use Rattle.dirac_search.specs.Candidates.{IsWithinReach};
+ghost use Rattle.dirac_search.specs.Fields.{AnswerRows, HasFormerField, IsSearch, IsStage, after_finer, best_of, field, stage_field, superblock_row};
+ghost use Rattle.dirac_search.specs.Given.{given};
+
+use crate::field::Field;
+use crate::least::{Room, best_in, new_room};
+use crate::stage::{Search, Stage};
+use dirac_io::RowGate;
+use dirac_types::{NoMemory, Settings, Vector};
+use std::alloc::Global;
+
+/// Appends the best vectors of a row of blocks.
+fn push_block_row(
+    search: &Search<'_>,
+    stage: Stage,
+    settings: &Settings,
+    before: Option<&Field>,
+    j: u32,
+    room: &mut Room,
+    vectors: &mut Vec<Vector>,
+) -> Result<(), NoMemory>
+    requires search { IsSearch (given search.now) settings.now }
+    requires stage { IsStage settings.now stage }
+    requires former { HasFormerField (given search.now) stage (option_map (λ f. f.now) before) }
+    requires row { j < 4 * search.now.down }
+    ensures { IfOk result (λ _. vectors.new.items ≡ vectors.old.items ++ row_values (4 * search.now.across) (best_of (given search.now) settings.now stage (option_map (λ f. f.now) before.entry)) j) }
+{
+    for i in 0..4 * search.across {
+        vectors.push(best_in(search, stage, settings, before, i, j, room)?)?;
+    }
+    Ok(())
+}
+
+/// The best vectors of the four block rows of superblock row `row`, by rows. `before` has the former stage's vectors; the
+/// first stage has none.
+pub fn search_rows(
+    alloc: Global,
+    search: &Search<'_>,
+    stage: Stage,
+    settings: &Settings,
+    before: Option<&Field>,
+    row: u32,
+) -> Result<Vec<Vector>, NoMemory>
+    requires search { IsSearch (given search.now) settings.now }
+    requires stage { IsStage settings.now stage }
+    requires former { HasFormerField (given search.now) stage (option_map (λ f. f.now) before) }
+    requires row { row < search.now.down }
+    ensures { IfOk result (λ v. v.items ≡ superblock_row (given search.now) settings.now stage (option_map (λ f. f.now) before.entry) row) }
+{
+    let mut room = new_room(alloc);
+    let mut vectors = Vec::new(alloc);
+    for k in 0..4 {
+        push_block_row(
+            search,
+            stage,
+            settings,
+            before,
+            4 * row + k,
+            &mut room,
+            &mut vectors,
+        )?;
+    }
+    Ok(vectors)
+}
+
+/// The best vectors of each row of superblocks. The gate is called before each row.
+fn stage_rows<G: RowGate>(
+    alloc: Global,
+    search: &Search<'_>,
+    stage: Stage,
+    settings: &Settings,
+    before: Option<&Field>,
+    gate: &G,
+) -> Result<Vec<Vec<Vector>>, NoMemory>
+    requires search { IsSearch (given search.now) settings.now }
+    requires stage { IsStage settings.now stage }
+    requires former { HasFormerField (given search.now) stage (option_map (λ f. f.now) before) }
+    ensures { IfOk result (λ rows. AnswerRows (λ r v. v.items ≡ superblock_row (given search.now) settings.now stage (option_map (λ f. f.now) before.entry) r) search.now.down rows.items) }
+{
+    let mut rows = Vec::new(alloc);
+    for row in 0..search.down {
+        gate.enter(row);
+        rows.push(search_rows(alloc, search, stage, settings, before, row)?)?;
+    }
+    Ok(rows)
+}
+
+/// The vectors of these rows, one row after another.
+fn joined(alloc: Global, rows: &[Vec<Vector>]) -> Result<Vec<Vector>, NoMemory>
+    ensures { IfOk result (λ v. v.items ≡ flat_map (λ row. row.items) rows.now) }
+{
+    let mut vectors = Vec::new(alloc);
+    for k in 0..rows.len() {
+        vectors.extend_from_slice(rows[k].as_slice())?;
+    }
+    Ok(vectors)
+}
+
+/// The best vectors of all blocks at a stage.
+fn search_stage<G: RowGate>(
+    alloc: Global,
+    search: &Search<'_>,
+    stage: Stage,
+    settings: &Settings,
+    before: Option<&Field>,
+    gate: &G,
+) -> Result<Field, NoMemory>
+    requires search { IsSearch (given search.now) settings.now }
+    requires stage { IsStage settings.now stage }
+    requires former { HasFormerField (given search.now) stage (option_map (λ f. f.now) before) }
+    ensures { IfOk result (λ f. f ≡ stage_field (given search.now) settings.now stage (option_map (λ f. f.now) before.entry)) }
+{
+    let rows = stage_rows(alloc, search, stage, settings, before, gate)?;
+    let vectors = joined(alloc, rows.as_slice())?;
+    Ok(Field::new(search.across, search.down, vectors))
+}
+
+/// The vectors after all stages in whole samples.
+fn search_whole<G: RowGate>(
+    alloc: Global,
+    search: &Search<'_>,
+    settings: &Settings,
+    gate: &G,
+) -> Result<Field, NoMemory>
+    requires { IsSearch (given search.now) settings.now }
+    ensures { IfOk result (λ f. f ≡ after_finer (given search.now) settings.now settings.now.pyramid) }
+{
+    let levels = settings.pyramid as u8;
+    let mut field = search_stage(alloc, search, Stage::Coarse(levels), settings, None, gate)?;
+    for k in 0..levels {
+        field = search_stage(
+            alloc,
+            search,
+            Stage::Finer(levels - 1 - k),
+            settings,
+            Some(&field),
+            gate,
+        )?;
+    }
+    Ok(field)
+}
+
+/// The vectors after the last stage. The gate is called before each row of superblocks of each stage.
+pub fn search_field<G: RowGate>(
+    alloc: Global,
+    search: &Search<'_>,
+    settings: &Settings,
+    gate: &G,
+) -> Result<Field, NoMemory>
+    requires { IsSearch (given search.now) settings.now }
+    ensures value { IfOk result (λ f. f ≡ field (given search.now) settings.now) }
+    ensures sizes { IfOk result (λ f. (f.across ≡ search.now.across) × (f.down ≡ search.now.down)) }
+    ensures within_2175 { IfOk result (λ f. All (IsWithinReach 2175) f.vectors) }
+    ensures of_16_bits { IfOk result (λ f. All IsShortVector f.vectors) }
+{
+    let mut field = search_whole(alloc, search, settings, gate)?;
+    for q in 0..settings.precision as u8 {
+        field = search_stage(
+            alloc,
+            search,
+            Stage::Sub(q + 1),
+            settings,
+            Some(&field),
+            gate,
+        )?;
+    }
+    Ok(field)
+}

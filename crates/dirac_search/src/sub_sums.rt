@@ -1,0 +1,81 @@
+ghost use Rattle.std.specs.Prelude.{◌≡◌, ◌+◌, ◌*◌, ◌^◌, ◌<◌, ◌≤◌, IfSome, IfNone, length};
+ghost use Rattle.dirac_search.specs.Candidates.{IsWithinReach};
+ghost use Rattle.dirac_search.specs.Costs.{IsBlockWindow};
+ghost use Rattle.dirac_search.specs.Rows.{sub_row_apart, sub_rows};
+
+use crate::places::moved;
+use dirac_types::{Plane, Vector};
+use dirac_upconvert::UpPlane;
+use dirac_windows::{Window, row_differences};
+
+/// A place counted in 2 to the power `precision` parts of a sample.
+#[inline(always)]
+fn parts(place: u32, precision: u8) -> u32
+    requires place { place ≤ 2 ^ 20 }
+    requires precision { precision ≤ 3 }
+    ensures value { result ≡ 2 ^ precision * place }
+    ensures at_most_8388608 { result ≤ 2 ^ 23 }
+{
+    match precision {
+        0 => place,
+        1 => 2 * place,
+        2 => 4 * place,
+        _ => 8 * place,
+    }
+}
+
+/// The sum of absolute differences of row `y` of the source, from column `x` on, and of the samples to which a vector in
+/// parts of a sample leads. `samples` is room for these samples.
+#[inline(always)]
+fn sum_sub_row(
+    source: &Plane,
+    up: &UpPlane,
+    precision: u8,
+    x: u32,
+    y: u32,
+    v: Vector,
+    samples: &mut [i16],
+) -> u32
+    requires x { x ≤ 2 ^ 20 }
+    requires y { y ≤ 2 ^ 20 }
+    requires precision { precision ≤ 3 }
+    requires v { IsWithinReach (2 ^ 24) v }
+    requires at_most_16 { length samples.old ≤ 16 }
+    ensures value { result ≡ sub_row_apart source.now up.now precision x y v (length samples.old) }
+    ensures at_most_65535_each { result ≤ 65535 * length samples.old }
+{
+    let across = moved(parts(x, precision), v.x);
+    let down = moved(parts(y, precision), v.y);
+    up.sub_row(precision, across, down, samples);
+    row_differences(source, x, y, samples)
+}
+
+/// `first` and the absolute differences of a window and of the samples to which a vector in parts of a sample leads,
+/// where all of it is below a limit. The summing ends as soon as it isn't.
+pub fn sub_below(
+    source: &Plane,
+    up: &UpPlane,
+    precision: u8,
+    window: Window,
+    v: Vector,
+    first: u32,
+    limit: u32,
+) -> Option<u32>
+    requires precision { precision ≤ 3 }
+    requires window { IsBlockWindow window }
+    requires v { IsWithinReach (2 ^ 24) v }
+    requires at_most_66300 { first ≤ 66300 }
+    ensures below { IfSome result (λ sum. (sum ≡ first + sub_rows source.now up.now precision window v window.rows) × (sum < limit)) }
+    ensures above { IfNone result ((limit ≤ first + sub_rows source.now up.now precision window v window.rows) × (limit < 2 ^ 25)) }
+{
+    let mut room = [0i16; 16];
+    let samples = &mut room[..window.columns as usize];
+    let mut sum = first;
+    'rows: for k in 0..window.rows {
+        if sum >= limit {
+            return None;
+        }
+        sum += sum_sub_row(source, up, precision, window.x, window.y + k, v, samples);
+    }
+    if sum < limit { Some(sum) } else { None }
+}

@@ -1,0 +1,161 @@
+ghost use Rattle.std.specs.Prelude.{◌≡◌, ◌+◌, ◌*◌, ◌^◌, ◌<◌, ◌≤◌, length, IfSome, IfNone};
+ghost use Rattle.dirac_search.specs.declared.stage.Stage.TheVariants as stage;
+ghost use Rattle.dirac_search.specs.Candidates.{IsWithinReach};
+ghost use Rattle.dirac_search.specs.Costs.{HasLevel, HasPrecision, IsBlockWindow, cost_of, distortion, level_of_stage, window_cost, window_of, window_size, window_start};
+ghost use Rattle.dirac_search.specs.Fields.{IsSearch, IsStage};
+ghost use Rattle.dirac_search.specs.Given.{given};
+
+use crate::stage::{Search, Stage};
+use crate::sub_sums::sub_below;
+use crate::whole_sums::whole_below;
+use dirac_types::{Settings, Vector};
+use dirac_windows::{Window, vector_bits};
+
+/// The level of the pyramids on which a stage compares.
+fn level_of(stage: Stage) -> u8
+    ensures { result ≡ level_of_stage stage }
+{
+    match stage {
+        Stage::Coarse(level) | Stage::Finer(level) => level,
+        Stage::Sub(_) => 0,
+    }
+}
+
+/// Where a block begins at a level, in a direction with this separation.
+fn first_place(block: u32, separation: u32, level: u8) -> u32
+    requires block { block < 4096 }
+    requires separation { separation ≤ 16 }
+    requires level { level ≤ 4 }
+    ensures value { result ≡ window_start block separation level }
+    ensures at_most_65536 { result ≤ 65536 }
+{
+    block * separation >> level
+}
+
+/// How many samples its window has there.
+fn size(separation: u32, level: u8) -> u32
+    requires separation { separation ≤ 16 }
+    requires level { level ≤ 4 }
+    ensures value { result ≡ window_size separation level }
+    ensures at_most_16 { result ≤ 16 }
+{
+    let size = separation >> level;
+    if size == 0 { 1 } else { size }
+}
+
+/// The window of block `i` of row `j` at a stage.
+pub fn window(search: &Search<'_>, stage: Stage, i: u32, j: u32) -> Window
+    requires level { level_of_stage stage ≤ 4 }
+    requires x_separation { search.now.grid.xbsep ≤ 16 }
+    requires y_separation { search.now.grid.ybsep ≤ 16 }
+    requires column { i < 4096 }
+    requires row { j < 4096 }
+    ensures value { result ≡ window_of (given search.now) stage i j }
+    ensures within { IsBlockWindow result }
+{
+    let level = level_of(stage);
+    Window {
+        x: first_place(i, search.grid.xbsep, level),
+        y: first_place(j, search.grid.ybsep, level),
+        columns: size(search.grid.xbsep, level),
+        rows: size(search.grid.ybsep, level),
+    }
+}
+
+/// `bits` and the differences of a window on a level, where all of it is below a limit.
+#[inline(always)]
+fn whole_cost_below(
+    search: &Search<'_>,
+    level: u8,
+    window: Window,
+    v: Vector,
+    bits: u32,
+    limit: u32,
+) -> Option<u32>
+    requires levels { (level < length (given search.now).source) × (level < length (given search.now).reference) }
+    requires window { IsBlockWindow window }
+    requires v { IsWithinReach (2 ^ 24) v }
+    requires at_most_66300 { bits ≤ 66300 }
+    ensures below { IfSome result (λ cost. (cost ≡ bits + distortion (given search.now) (stage.Coarse level) window v) × (cost < limit)) }
+    ensures above { IfNone result ((limit ≤ bits + distortion (given search.now) (stage.Coarse level) window v) × (limit < 2 ^ 25)) }
+{
+    whole_below(
+        search.source.level(level),
+        search.reference.level(level),
+        window,
+        v,
+        bits,
+        limit,
+    )
+}
+
+/// What a vector costs a window, where that is below a limit. The summing ends as soon as it isn't.
+pub fn cost_below(
+    search: &Search<'_>,
+    stage: Stage,
+    bias: u32,
+    window: Window,
+    v: Vector,
+    limit: u32,
+) -> Option<u32>
+    requires levels { HasLevel (given search.now) stage }
+    requires precision { HasPrecision stage }
+    requires at_most_255 { bias ≤ 255 }
+    requires window { IsBlockWindow window }
+    requires v { IsWithinReach (2 ^ 24) v }
+    ensures below { IfSome result (λ cost. (cost ≡ window_cost (given search.now) bias stage window v) × (cost < limit)) }
+    ensures above { IfNone result ((limit ≤ window_cost (given search.now) bias stage window v) × (limit < 2 ^ 25)) }
+{
+    let bits = bias * vector_bits(v);
+    match stage {
+        Stage::Coarse(level) => whole_cost_below(search, level, window, v, bits, limit),
+        Stage::Finer(level) => whole_cost_below(search, level, window, v, bits, limit),
+        Stage::Sub(precision) => sub_below(
+            search.source.level(0),
+            search.up,
+            precision,
+            window,
+            v,
+            bits,
+            limit,
+        ),
+    }
+}
+
+/// More than any vector costs any block.
+const MORE_THAN_ANY_COST: u32 = 1 << 25;
+
+/// What a vector costs a window.
+pub fn whole_cost(search: &Search<'_>, stage: Stage, bias: u32, window: Window, v: Vector) -> u32
+    requires levels { HasLevel (given search.now) stage }
+    requires precision { HasPrecision stage }
+    requires at_most_255 { bias ≤ 255 }
+    requires window { IsBlockWindow window }
+    requires v { IsWithinReach (2 ^ 24) v }
+    ensures { result ≡ window_cost (given search.now) bias stage window v }
+{
+    match cost_below(search, stage, bias, window, v, MORE_THAN_ANY_COST) {
+        Some(cost) => cost,
+        None => MORE_THAN_ANY_COST,
+    }
+}
+
+/// What a vector costs block `i` of row `j` at a stage: the sum of absolute differences over the block's window, and the
+/// bias for each bit of the vector.
+pub fn cost(
+    search: &Search<'_>,
+    stage: Stage,
+    settings: &Settings,
+    i: u32,
+    j: u32,
+    v: Vector,
+) -> u64
+    requires search { IsSearch (given search.now) settings.now }
+    requires stage { IsStage settings.now stage }
+    requires column { i < 4 * search.now.across }
+    requires row { j < 4 * search.now.down }
+    requires v { IsWithinReach (2 ^ 24) v }
+    ensures { result ≡ cost_of (given search.now) settings.now.bias stage i j v }
+{
+    u64::from(whole_cost(search, stage, settings.bias, window(search, stage, i, j), v))
+}
