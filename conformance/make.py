@@ -481,11 +481,11 @@ def numbers_that_wrap():
 
 @stream
 def delivery_before_a_fault():
-    """pictures wait when a fault comes: they are delivered before it is answered (MissingReference of the sixth picture)"""
+    """nine reference pictures, coded as 4, 0, 1, 8, 2, 3, 7, 5, 6, and one that refers to picture 4, which has left the list: those that wait are delivered before MissingReference is answered"""
     made = Stream().sequence((12, 8))
-    for number in [0, 4, 3, 1, 2]:
+    for number in [4, 0, 1, 8, 2, 3, 7, 5, 6]:
         made.intra(number, noise(380 + number))
-    return made.inter(INTER_1, 5, (2,), mixed_motion(385, 1)).end()
+    return made.inter(INTER_1, 9, (-5,), mixed_motion(385, 1)).end()
 
 
 # Faults
@@ -496,9 +496,19 @@ def behind_a_picture(code, bits):
     return small().unit(code, bits.payload()).end()
 
 
-def behind_a_sequence(**fields):
-    """A whole sequence of one picture, and then a sequence header with these fields."""
-    return small().end().unit(SEQUENCE_HEADER, sequence_header(**({"size": (8, 8)} | fields))).end()
+def behind_a_sequence(name, first_bit, **fields):
+    """A whole sequence of one picture, and then a sequence header with these fields.
+
+    The one of this name is moved, by profiles of different lengths and by a rate of its own, to where its flag, or itself where it has
+    none, is as near before the `first_bit` of a byte as it can be, so that what stands behind it is in another byte.
+    """
+    headers = []
+    for profile in (0, 1, 3, 7):
+        for rate in (None, 1):
+            marks = {}
+            header = sequence_header(**({"size": (8, 8), "profile": profile, "rate": rate} | fields), marks=marks)
+            headers.append(((first_bit - 1 - marks[name]) % 8, len(header), header))
+    return small().end().unit(SEQUENCE_HEADER, min(headers)[2]).end()
 
 
 def inter_header(code=INTER_1, offset=-1):
@@ -598,7 +608,7 @@ def fault_unit_short_block():
 @stream
 def fault_number_too_long():
     """NumberTooLong: the level of a sequence header has 39 digits"""
-    return behind_a_sequence(level=2**39 - 1)
+    return behind_a_sequence("level", 8, level=2**39 - 1)
 
 
 @stream
@@ -611,67 +621,67 @@ def fault_number_too_long_in_a_block():
 @stream
 def fault_version():
     """Version: major version 3"""
-    return behind_a_sequence(version=(3, 0))
+    return behind_a_sequence("version", 8, version=(3, 0))
 
 
 @stream
 def fault_preset():
     """Preset: base video format 17"""
-    return behind_a_sequence(base=17)
+    return behind_a_sequence("base", 8, base=17)
 
 
 @stream
 def fault_size():
     """Size: width 4097"""
-    return behind_a_sequence(size=(4097, 8))
+    return behind_a_sequence("size", 7, size=(4097, 8))
 
 
 @stream
 def fault_size_of_chroma():
     """Size: 8 by 7 in 4:2:0"""
-    return behind_a_sequence(size=(8, 7))
+    return behind_a_sequence("chroma", 8, size=(8, 7), chroma=2)
 
 
 @stream
 def fault_chroma_format():
     """ChromaFormat: 3"""
-    return behind_a_sequence(chroma=3)
+    return behind_a_sequence("chroma", 7, chroma=3)
 
 
 @stream
 def fault_sampling():
     """Sampling: 2"""
-    return behind_a_sequence(sampling=2)
+    return behind_a_sequence("sampling", 7, sampling=2)
 
 
 @stream
 def fault_rate_index():
     """RateIndex: 11"""
-    return behind_a_sequence(rate=11)
+    return behind_a_sequence("rate", 7, rate=11)
 
 
 @stream
 def fault_aspect_index():
     """AspectIndex: 7"""
-    return behind_a_sequence(aspect=7)
+    return behind_a_sequence("aspect", 7, aspect=7)
 
 
 @stream
 def fault_signal_range():
     """SignalRange: 5"""
-    return behind_a_sequence(signal=5)
+    return behind_a_sequence("signal", 7, signal=5)
 
 
 @stream
 def fault_depth8():
     """Depth8: signal range 3, of 10 bits"""
-    return behind_a_sequence(signal=3)
+    return behind_a_sequence("signal", 8, signal=3)
 
 
 @stream
 def fault_fields():
     """Fields: picture coding mode 1"""
-    return behind_a_sequence(mode=1)
+    return behind_a_sequence("mode", 8, mode=1)
 
 
 @stream
@@ -708,7 +718,7 @@ def fault_global_motion():
 @stream
 def fault_prediction_mode():
     """PredictionMode: 1"""
-    return behind_a_picture(INTER_1, prediction(mode=1))
+    return behind_a_picture(INTER_1, prediction(precision=1, mode=1))
 
 
 @stream
@@ -726,19 +736,19 @@ def fault_wavelet():
 @stream
 def fault_depth():
     """Depth: 6"""
-    return behind_a_picture(INTRA, intra_header().unsigned(0, 6))
+    return behind_a_picture(INTRA, intra_header().unsigned(3, 6))
 
 
 @stream
 def fault_codeblocks():
-    """Codeblocks: 5 across at level 0, where luma has 4 columns"""
-    return behind_a_picture(INTRA, intra_header().unsigned(0, 1).flag(1).unsigned(5, 1, 1, 1, 0))
+    """Codeblocks: 5 across at level 1, where luma has 4 columns"""
+    return behind_a_picture(INTRA, intra_header().unsigned(3, 1).flag(1).unsigned(1, 1, 5, 1, 0))
 
 
 @stream
 def fault_codeblock_mode():
     """CodeblockMode: 1"""
-    return behind_a_picture(INTRA, intra_header().unsigned(0, 1).flag(1).unsigned(1, 1, 1, 1, 1))
+    return behind_a_picture(INTRA, intra_header().unsigned(3, 1).flag(1).unsigned(1, 1, 2, 1, 1))
 
 
 @stream

@@ -156,34 +156,47 @@ def sequence_header(
     profile=0,
     level=0,
     behind=b"",
+    marks=None,
 ):
-    """A payload: a group is custom where it is given, an index or, where a tuple, index 0 and these values."""
-    bits = Bits().unsigned(*version, profile, level, base)
+    """A payload: a group is custom where it is given, an index or, where a tuple, index 0 and these values.
 
-    def custom(value):
+    `marks`, a dictionary, gets the place in bits of each group's flag, or of a field without one.
+    """
+    bits = Bits()
+    marks = {} if marks is None else marks
+
+    def field(name, *values):
+        marks[name] = len(bits.bits)
+        bits.unsigned(*values)
+
+    def group(name, value):
+        marks[name] = len(bits.bits)
         bits.flag(value is not None)
-        if isinstance(value, tuple):
-            bits.unsigned(*value)
-        elif value is not None:
-            bits.unsigned(value)
+        if value is not None:
+            bits.unsigned(*(value if isinstance(value, tuple) else (value,)))
 
-    def index_or_values(value):
-        custom((0, *value) if isinstance(value, tuple) else value)
+    def index_or_values(name, value):
+        group(name, (0, *value) if isinstance(value, tuple) else value)
 
-    custom(size)
-    custom(chroma)
-    custom(sampling)
-    index_or_values(rate)
-    index_or_values(aspect)
-    custom(clean)
-    index_or_values(signal)
+    field("version", *version)
+    field("profile", profile)
+    field("level", level)
+    field("base", base)
+    group("size", size)
+    group("chroma", chroma)
+    group("sampling", sampling)
+    index_or_values("rate", rate)
+    index_or_values("aspect", aspect)
+    group("clean", clean)
+    index_or_values("signal", signal)
     if isinstance(colour, tuple):
-        bits.flag(1).unsigned(0)
+        group("colour", 0)
         for index in colour:
-            custom(index)
+            group("part of the colour", index)
     else:
-        custom(colour)
-    return bits.unsigned(mode).payload() + behind
+        group("colour", colour)
+    field("mode", mode)
+    return bits.payload() + behind
 
 
 # Subbands
