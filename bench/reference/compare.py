@@ -367,6 +367,18 @@ def make_unit_row(source):
     return list_case(stream)
 
 
+# the settings of inter pictures; the coarse search reaches less far than it may, for the plain encoder is slow
+SEARCH_RANGES = [
+    ("blocks", 2, 4),
+    ("precision", 0, 3),
+    ("references", 1, 2),
+    ("between", 0, 3),
+    ("range", 0, 2),
+    ("pyramid", 0, 4),
+    ("bias", 0, 255),
+]
+
+
 def random_settings(source):
     """Settings in their ranges, of small pictures."""
     settings = encoder.default_settings(source.choice([0, 0, 0, 2, 7, 8, 15]))
@@ -380,9 +392,10 @@ def random_settings(source):
         settings.update(profile=source.randrange(256), level=source.randrange(256))
     if source.random() < 0.2:
         settings["pictures"] = source.randrange(1, 5)
-    without_effect = ("blocks", "precision", "references", "between", "range", "pyramid", "bias")
-    for name, lowest, highest in encoder.SETTING_RANGES:
-        if name in without_effect and source.random() < 0.2:
+    settings.update(gop=min(source.choice([1, 2, 3, 4, 6, 12]), encoder.LONGEST_GROUP))
+    settings.update(workers=min(source.choice([1, 1, 2, 3, 64]), encoder.MOST_WORKERS))
+    for name, lowest, highest in SEARCH_RANGES:
+        if source.random() < 0.5:
             settings[name] = source.randrange(lowest, highest + 1)
     return settings
 

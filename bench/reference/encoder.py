@@ -1,23 +1,28 @@
-"""A plain encoder of this project's intra streams, to compare the product with.
+"""A plain encoder of this project's streams, to compare the product with.
 
 It was written from the descriptions of the encoder and of the format alone, apart from the product, by someone who had
 seen nothing of the product; the rules are those of docs/ENCODER.md. It is slow and plain on purpose: the low end of the
-arithmetic coder's interval is one long exact number. It shares tables, contexts and lifting with the plain decoder, and
-takes the pictures that decoders will show from it.
-
-Left out: inter pictures. The settings that belong to them are checked and change nothing.
+arithmetic coder's interval is one long exact number, and the search takes sample by sample. It shares tables, contexts,
+predictions and lifting with the plain decoder, and takes the pictures that decoders will show from it.
 
 encode(settings, data) gives the stream, the pictures that decoders will show, and the answer as status and text;
-out_of_range(settings) names the first setting that is out of its range.
+out_of_range(settings) names the first setting that is out of its range; plan(count, settings) is the coding order.
 """
 from typing import NamedTuple
 
 import decoder
 
 INTRA_REFERENCE_PICTURE = 0x0C
+INTER_REFERENCE_PICTURES = {1: 0x0D, 2: 0x0E}
+INTER_PICTURES = {1: 0x09, 2: 0x0A}
 UNIT_TOO_LONG = 6
 TOO_MANY_PICTURES = 7
 PARTIAL_PICTURE = 5
+
+# What the product takes so far. Once it writes groups these are 65535, 12 and 64.
+LONGEST_GROUP = 1
+DEFAULT_GROUP = 1
+MOST_WORKERS = 1
 
 # name, lowest, highest, in the order of their check
 SETTING_RANGES = [
@@ -36,12 +41,12 @@ SETTING_RANGES = [
     ("blocks", 2, 4),
     ("precision", 0, 3),
     ("references", 1, 2),
-    ("gop", 1, 1),
+    ("gop", 1, LONGEST_GROUP),
     ("between", 0, 3),
     ("range", 0, 16),
     ("pyramid", 0, 4),
     ("bias", 0, 255),
-    ("workers", 1, 1),
+    ("workers", 1, MOST_WORKERS),
     ("pictures", 1, 2147483647),
     ("unit_bytes", 14, 4294967295),
 ]
@@ -56,7 +61,7 @@ SETTING_DEFAULTS = {
     "blocks": 2,
     "precision": 2,
     "references": 2,
-    "gop": 1,
+    "gop": DEFAULT_GROUP,
     "between": 2,
     "range": 4,
     "pyramid": 3,
@@ -131,6 +136,11 @@ class BitWriter:
         return bytes(int("".join(map(str, bits[place : place + 8])), 2) for place in places)
 
 
+def signed_bits(value):
+    """How many bits a signed number takes."""
+    return len(BitWriter().signed(value).bits)
+
+
 class ArithmeticEncoder:
     """Writes decisions; low is exact, after so many doublings."""
 
@@ -157,13 +167,16 @@ class ArithmeticEncoder:
             self.range *= 2
             self.doublings += 1
 
-    def signed(self, follow_contexts, digit_context, sign_context, value):
+    def unsigned(self, follow_contexts, digit_context, value):
         last = len(follow_contexts) - 1
-        digits = bin(abs(value) + 1)[3:]
+        digits = bin(value + 1)[3:]
         for n, digit in enumerate(digits):
             self.decision(follow_contexts[min(n, last)], 0)
             self.decision(digit_context, int(digit))
         self.decision(follow_contexts[min(len(digits), last)], 1)
+
+    def signed(self, follow_contexts, digit_context, sign_context, value):
+        self.unsigned(follow_contexts, digit_context, abs(value))
         if value != 0:
             self.decision(sign_context, int(value < 0))
 
@@ -222,15 +235,364 @@ def quantise_subband(rows, index):
     return decoder.Subband(len(rows[0]), len(rows), index if any(values) else 0, values)
 
 
-def plane_subbands(plane, settings):
+def plane_subbands(plane, settings, is_intra):
     """The quantised subbands of a plane, in the order of the stream."""
     low_low = pad(plane, 2 ** settings["depth"])
     others = []
     for _ in range(settings["depth"]):
         low_low, *level = analyse_level(low_low, settings["wavelet"])
         others = level + others
-    bands = [quantise_subband(low_low_differences(low_low), 0)]
+    if is_intra:
+        bands = [quantise_subband(low_low_differences(low_low), 0)]
+    else:
+        bands = [quantise_subband(low_low, settings["index"])]
     return bands + [quantise_subband(rows, settings["index"]) for rows in others]
+
+
+# The plan
+
+
+class Planned(NamedTuple):
+    """A picture as it is coded: its number, its parse code, the numbers of its references, what it retires or None."""
+
+    number: int
+    code: int
+    references: list
+    retired: int
+
+
+def anchor_offsets(length, between):
+    """The places of the anchors in a group of so many pictures."""
+    offsets = [0]
+    while offsets[-1] < length - 1:
+        offsets.append(min(offsets[-1] + between + 1, length - 1))
+    return offsets
+
+
+def plan_group(first, length, settings):
+    anchors = [first + offset for offset in anchor_offsets(length, settings["between"])]
+    has_two = settings["references"] == 2
+    planned = [Planned(first, INTRA_REFERENCE_PICTURE, [], None)]
+    for k in range(1, len(anchors)):
+        references = [anchors[k - 1]]
+        if has_two and k >= 2:
+            references.append(anchors[0])
+        retired = anchors[k - 2] if k >= 3 else None
+        planned.append(Planned(anchors[k], INTER_REFERENCE_PICTURES[len(references)], references, retired))
+        references = [anchors[k - 1], anchors[k]] if has_two else [anchors[k - 1]]
+        for number in range(anchors[k - 1] + 1, anchors[k]):
+            planned.append(Planned(number, INTER_PICTURES[len(references)], references, None))
+    return planned
+
+
+def plan(count, settings):
+    """So many pictures in coding order."""
+    planned = []
+    for first in range(0, count, settings["gop"]):
+        planned += plan_group(first, min(settings["gop"], count - first), settings)
+    return planned
+
+
+# The search
+
+
+def half_plane(plane):
+    """The plane with half its columns and rows, rounded up."""
+    width, height = decoder.divide_up(len(plane[0]), 2), decoder.divide_up(len(plane), 2)
+
+    def sample(x, y):
+        total = 2
+        for row, column in ((2 * y, 2 * x), (2 * y, 2 * x + 1), (2 * y + 1, 2 * x), (2 * y + 1, 2 * x + 1)):
+            total += decoder.clamped_sample(plane, column, row)
+        return total >> 2
+
+    return [[sample(x, y) for x in range(width)] for y in range(height)]
+
+
+def pyramid(plane, levels):
+    """The plane and so many levels above it."""
+    planes = [plane]
+    for _ in range(levels):
+        planes.append(half_plane(planes[-1]))
+    return planes
+
+
+class Grid(NamedTuple):
+    """Blocks across and down, and their separations in luma samples."""
+
+    across: int
+    down: int
+    xbsep: int
+    ybsep: int
+
+    def places(self):
+        return [(i, j) for j in range(self.down) for i in range(self.across)]
+
+    def window(self, i, j, level=0):
+        """Columns and rows of a block's window at a level of the pyramid."""
+        left, top = (i * self.xbsep) >> level, (j * self.ybsep) >> level
+        columns, rows = max(1, self.xbsep >> level), max(1, self.ybsep >> level)
+        return range(left, left + columns), range(top, top + rows)
+
+
+def block_grid(settings):
+    _, separation = decoder.BLOCK_PRESETS[settings["blocks"]]
+    across = 4 * decoder.divide_up(settings["width"], 4 * separation)
+    down = 4 * decoder.divide_up(settings["height"], 4 * separation)
+    return Grid(across, down, separation, separation)
+
+
+def window_distortion(source, window, reference_sample):
+    """The sum of absolute differences of a window, from samples of the reference by column and row."""
+    columns, rows = window
+    return sum(abs(decoder.clamped_sample(source, x, y) - reference_sample(x, y)) for y in rows for x in columns)
+
+
+def vector_bits(vector):
+    return signed_bits(vector[0]) + signed_bits(vector[1])
+
+
+def first_of_least(candidates, cost):
+    """The first candidate whose cost is the least, and that cost."""
+    costs = [cost(candidate) for candidate in candidates]
+    least = min(costs)
+    return candidates[costs.index(least)], least
+
+
+def around(centre, distance):
+    """The vectors around a centre, by rows."""
+    reach = range(-distance, distance + 1)
+    return [(centre[0] + x, centre[1] + y) for y in reach for x in reach]
+
+
+def twice(vector):
+    return 2 * vector[0], 2 * vector[1]
+
+
+class Search:
+    """The search for the vectors of all blocks to one reference, stage by stage."""
+
+    def __init__(self, settings, source, reference):
+        self.settings = settings
+        self.grid = block_grid(settings)
+        self.sources = pyramid(source, settings["pyramid"])
+        self.references = pyramid(reference, settings["pyramid"])
+        self.reference = decoder.Reference(reference, decoder.upconvert(reference))
+        self.known_samples = {}
+
+    def sub_sample(self, precision, vector, x, y):
+        place = (precision, (x << precision) + vector[0], (y << precision) + vector[1])
+        if place not in self.known_samples:
+            self.known_samples[place] = decoder.sub_sample(*self.reference, *place)
+        return self.known_samples[place]
+
+    def whole_cost(self, level, place, vector):
+        plane = self.references[level]
+
+        def sample(x, y):
+            return decoder.clamped_sample(plane, x + vector[0], y + vector[1])
+
+        distortion = window_distortion(self.sources[level], self.grid.window(*place, level), sample)
+        return distortion + self.settings["bias"] * vector_bits(vector)
+
+    def sub_cost(self, precision, place, vector):
+        def sample(x, y):
+            return self.sub_sample(precision, vector, x, y)
+
+        distortion = window_distortion(self.sources[0], self.grid.window(*place), sample)
+        return distortion + self.settings["bias"] * vector_bits(vector)
+
+    def coarse(self):
+        candidates = [(0, 0)] + around((0, 0), self.settings["range"])
+        level = self.settings["pyramid"]
+        return {
+            place: first_of_least(candidates, lambda vector: self.whole_cost(level, place, vector))[0]
+            for place in self.grid.places()
+        }
+
+    def finer(self, level, before):
+        vectors = {}
+        for i, j in self.grid.places():
+            candidates = [(0, 0)]
+            for place in ((i, j), (i - 1, j), (i + 1, j), (i, j - 1), (i, j + 1)):
+                if place in before:
+                    candidates += around(twice(before[place]), 1)
+            vectors[i, j], _ = first_of_least(candidates, lambda vector: self.whole_cost(level, (i, j), vector))
+        return vectors
+
+    def sub(self, precision, before):
+        vectors = {}
+        for place in self.grid.places():
+            centre = twice(before[place])
+            candidates = [(0, 0), centre] + around(centre, 1)
+            vectors[place], _ = first_of_least(candidates, lambda vector: self.sub_cost(precision, place, vector))
+        return vectors
+
+    def vectors(self):
+        """The final vector of each block."""
+        vectors = self.coarse()
+        for level in reversed(range(self.settings["pyramid"])):
+            vectors = self.finer(level, vectors)
+        for precision in range(1, self.settings["precision"] + 1):
+            vectors = self.sub(precision, vectors)
+        return vectors
+
+
+# Modes and splits
+
+
+class Mode(NamedTuple):
+    """What a unit uses: a vector for each reference or None, and DC values where it uses none."""
+
+    vectors: tuple
+    dc_values: tuple
+
+
+class Decision:
+    """The choice of modes and splits for a picture."""
+
+    def __init__(self, settings, source_planes, searches):
+        self.settings = settings
+        self.planes = source_planes
+        self.searches = searches
+        self.fields = [search.vectors() for search in searches]
+        self.grid = block_grid(settings)
+
+    def blocks_of(self, unit):
+        places = range(unit.size)
+        return [(unit.x + x, unit.y + y) for y in places for x in places]
+
+    def distortion(self, unit, sample):
+        windows = [self.grid.window(*place) for place in self.blocks_of(unit)]
+        return sum(window_distortion(self.planes[0], window, sample) for window in windows)
+
+    def best_vector(self, unit, reference):
+        """The first of the blocks' vectors whose cost over the unit is the least, and that cost."""
+        search, precision = self.searches[reference], self.settings["precision"]
+
+        def cost(vector):
+            distortion = self.distortion(unit, lambda x, y: search.sub_sample(precision, vector, x, y))
+            return distortion + self.settings["bias"] * vector_bits(vector)
+
+        return first_of_least([self.fields[reference][place] for place in self.blocks_of(unit)], cost)
+
+    def dc_value(self, unit, plane):
+        across, down = decoder.CHROMA_RATIOS[self.settings["chroma"]] if plane > 0 else (1, 1)
+        width, height = self.grid.xbsep // across, self.grid.ybsep // down
+        columns = range(unit.x * width, (unit.x + unit.size) * width)
+        rows = range(unit.y * height, (unit.y + unit.size) * height)
+        samples = [decoder.clamped_sample(self.planes[plane], x, y) for y in rows for x in columns]
+        return (2 * sum(samples) + len(samples)) // (2 * len(samples))
+
+    def unit_mode(self, unit):
+        """The first mode of least cost, and that cost."""
+        bias, precision = self.settings["bias"], self.settings["precision"]
+        best = [self.best_vector(unit, reference) for reference in range(len(self.searches))]
+        modes = [(Mode((best[0][0], None), (0, 0, 0)), best[0][1])]
+        if len(best) == 2:
+            first, second = best[0][0], best[1][0]
+            modes.append((Mode((None, second), (0, 0, 0)), best[1][1]))
+
+            def mean(x, y):
+                one = self.searches[0].sub_sample(precision, first, x, y)
+                other = self.searches[1].sub_sample(precision, second, x, y)
+                return (one + other + 1) >> 1
+
+            cost = self.distortion(unit, mean) + bias * (vector_bits(first) + vector_bits(second))
+            modes.append((Mode((first, second), (0, 0, 0)), cost))
+        values = tuple(self.dc_value(unit, plane) for plane in range(3))
+        cost = self.distortion(unit, lambda x, y: values[0]) + bias * sum(map(signed_bits, values))
+        modes.append((Mode((None, None), values), cost))
+        return first_of_least(modes, lambda mode: mode[1])[0]
+
+    def superblock(self, x, y):
+        """The split, and the modes of its units."""
+        choices = []
+        for split in range(3):
+            units = decoder.prediction_units({(x, y): split})
+            modes = [self.unit_mode(unit) for unit in units]
+            choices.append((split, [mode for mode, _ in modes], sum(cost for _, cost in modes)))
+        split, modes, _ = first_of_least(choices, lambda choice: choice[2])[0]
+        return split, modes
+
+    def table(self):
+        """The split of each superblock, and each prediction unit with its mode, in the order of the stream."""
+        splits, modes = {}, []
+        for y in range(self.grid.down // 4):
+            for x in range(self.grid.across // 4):
+                splits[x, y], unit_modes = self.superblock(x, y)
+                modes += unit_modes
+        return splits, list(zip(decoder.prediction_units(splits), modes))
+
+
+# Block tables
+
+
+def write_block(writer, encoder):
+    block = encoder.block()
+    writer.align().unsigned(len(block)).align().bytes(block)
+
+
+def write_splits(writer, splits):
+    encoder = ArithmeticEncoder()
+    for (x, y), split in splits.items():
+        predicted = decoder.corner_prediction(splits, x, y, decoder.mean_of_three)
+        encoder.unsigned(decoder.SPLIT_FOLLOW, decoder.SPLIT_DIGITS, (split - predicted) % 3)
+    write_block(writer, encoder)
+
+
+def write_reference_bits(writer, units, reference_count):
+    """Writes them, and gives the tables of which block uses which reference."""
+    encoder = ArithmeticEncoder()
+    uses = [{}, {}]
+    for unit, mode in units:
+        for reference in range(2):
+            value = int(mode.vectors[reference] is not None)
+            if reference < reference_count:
+                predicted = decoder.corner_prediction(uses[reference], unit.x, unit.y, decoder.majority)
+                encoder.decision(decoder.REFERENCE_BITS[reference], value ^ predicted)
+            unit.fill(uses[reference], value)
+    write_block(writer, encoder)
+    return uses
+
+
+def write_vectors(writer, units, uses, reference, component):
+    encoder = ArithmeticEncoder()
+    values = {}
+    for unit, mode in units:
+        value = 0
+        if mode.vectors[reference] is not None:
+            value = mode.vectors[reference][component]
+            near = [values[place] for place in unit.neighbours() if uses[reference][place]]
+            difference = value - decoder.predict_vector(near)
+            encoder.signed(decoder.VECTOR_FOLLOW, decoder.VECTOR_DIGITS, decoder.VECTOR_SIGN, difference)
+        unit.fill(values, value)
+    write_block(writer, encoder)
+
+
+def write_dc_values(writer, units, uses, plane):
+    encoder = ArithmeticEncoder()
+    values = {}
+    for unit, mode in units:
+        value = 0
+        if mode.vectors == (None, None):
+            value = mode.dc_values[plane]
+            near = [values[place] for place in unit.neighbours() if not uses[0][place] and not uses[1][place]]
+            difference = value - decoder.predict_dc_value(near)
+            encoder.signed(decoder.DC_FOLLOW, decoder.DC_DIGITS, decoder.DC_SIGN, difference)
+        unit.fill(values, value)
+    write_block(writer, encoder)
+
+
+def write_block_tables(writer, splits, units, reference_count):
+    writer.align()
+    write_splits(writer, splits)
+    uses = write_reference_bits(writer, units, reference_count)
+    for reference in range(reference_count):
+        for component in range(2):
+            write_vectors(writer, units, uses, reference, component)
+    for plane in range(3):
+        write_dc_values(writer, units, uses, plane)
 
 
 # Payloads
@@ -284,6 +646,10 @@ def write_custom(writer, value, base_value):
         writer.unsigned(value)
 
 
+def sequence_of(settings):
+    return decoder.Sequence(settings["width"], settings["height"], settings["chroma"])
+
+
 def codeblock_counts(settings):
     """The counts across and down of each level."""
     depth, most = settings["depth"], settings["codeblocks"]
@@ -295,8 +661,14 @@ def codeblock_counts(settings):
     return counts
 
 
-def picture_payload(settings, number, planes):
-    writer = BitWriter().bytes(number.to_bytes(4, "big")).signed(0).align()
+def write_residual(writer, settings, planes, is_intra):
+    """Transform parameters and subbands; in an inter picture behind the zero residual flag."""
+    subbands = [plane_subbands(plane, settings, is_intra) for plane in planes]
+    if not is_intra:
+        is_zero = not any(any(band.values) for bands in subbands for band in bands)
+        writer.flag(is_zero)
+        if is_zero:
+            return
     writer.unsigned(settings["wavelet"]).unsigned(settings["depth"])
     counts = codeblock_counts(settings)
     is_partitioned = any(count != (1, 1) for count in counts)
@@ -305,12 +677,71 @@ def picture_payload(settings, number, planes):
         for across, down in counts:
             writer.unsigned(across).unsigned(down)
         writer.unsigned(0)
-    for plane in planes:
-        bands = plane_subbands(plane, settings)
+    for bands in subbands:
         for position, band in enumerate(bands):
             level, orientation = decoder.subband_kind(position)
             parent = bands[position - 3] if level >= 2 else None
             write_subband(writer, orientation, band, counts[level], parent)
+
+
+def offset_from(number, other):
+    """What is added to a number to get another one, modulo 2^32."""
+    return (other - number + 2**31) % 2**32 - 2**31
+
+
+def write_picture_header(writer, planned):
+    writer.bytes(planned.number.to_bytes(4, "big"))
+    for reference in planned.references:
+        writer.signed(offset_from(planned.number, reference))
+    if planned.code in decoder.REFERENCE_PICTURES:
+        writer.signed(0 if planned.retired is None else offset_from(planned.number, planned.retired))
+
+
+def predicted_planes(settings, splits, units, references):
+    """What the decoder predicts of these blocks."""
+    uses, vectors = [{}, {}], [({}, {}), ({}, {})]
+    dc_values = [{}, {}, {}]
+    for unit, mode in units:
+        for reference in range(2):
+            unit.fill(uses[reference], int(mode.vectors[reference] is not None))
+            for component in range(2):
+                vector = mode.vectors[reference] or (0, 0)
+                unit.fill(vectors[reference][component], vector[component])
+        for plane in range(3):
+            unit.fill(dc_values[plane], mode.dc_values[plane])
+    grid = block_grid(settings)
+    tables = decoder.BlockTables(grid.across, grid.down, uses, vectors, dc_values)
+    length, separation = decoder.BLOCK_PRESETS[settings["blocks"]]
+    lengths = (length, length, separation, separation)
+    parameters = decoder.PredictionParameters(*lengths, settings["precision"], 1, (1, 1))
+    sizes = decoder.plane_sizes(sequence_of(settings))
+    planes = []
+    for n, size in enumerate(sizes):
+        reference_planes = [reference.planes[n] for reference in references]
+        prediction = decoder.PlanePrediction(parameters, tables, reference_planes, n, settings["chroma"], size)
+        planes.append(prediction.rows())
+    return planes
+
+
+def subtract_planes(left, right):
+    return [[a - b for a, b in zip(*rows)] for rows in zip(left, right)]
+
+
+def picture_payload(settings, planned, planes, references):
+    """The payload of a picture; references are the pictures that it refers to, in order."""
+    writer = BitWriter()
+    write_picture_header(writer, planned)
+    writer.align()
+    if references:
+        searches = [Search(settings, planes[0], reference.planes[0]) for reference in references]
+        splits, units = Decision(settings, planes, searches).table()
+        # no global motion, prediction mode 0, no custom weights
+        writer.unsigned(settings["blocks"]).unsigned(settings["precision"]).flag(0).unsigned(0).flag(0)
+        write_block_tables(writer, splits, units, len(references))
+        writer.align()
+        predictions = predicted_planes(settings, splits, units, references)
+        planes = [subtract_planes(*pair) for pair in zip(planes, predictions)]
+    write_residual(writer, settings, planes, is_intra=not references)
     return writer.align().payload()
 
 
@@ -358,30 +789,53 @@ class Encoded(NamedTuple):
     text: str
 
 
+class PictureCoder:
+    """Codes pictures in coding order, and keeps what a decoder of them keeps."""
+
+    def __init__(self, settings):
+        self.settings = settings
+        self.sequence = sequence_of(settings)
+        self.references = []
+        self.delivery = decoder.Delivery()
+
+    def payload(self, planned, planes):
+        used = [decoder.find_reference(self.references, number) for number in planned.references]
+        return picture_payload(self.settings, planned, planes, used)
+
+    def take(self, planned, payload):
+        """What a decoder does with the payload."""
+        picture, retired = decoder.decode_picture(planned.code, self.sequence, self.references, payload)
+        if retired is not None:
+            self.references = [listed for listed in self.references if listed.number != retired]
+        if planned.code in decoder.REFERENCE_PICTURES:
+            self.references = decoder.list_reference(self.references, picture)
+        self.delivery.add(picture)
+
+
 def encode(settings, data):
-    sequence = decoder.Sequence(settings["width"], settings["height"], settings["chroma"])
-    sizes = decoder.plane_sizes(sequence)
+    sizes = decoder.plane_sizes(sequence_of(settings))
     length = sum(width * height for width, height in sizes)
     whole = len(data) // length
     writer = StreamWriter()
     header = sequence_header(settings)
-    shown = []
-    for number in range(min(whole, settings["pictures"])):
-        planes = raw_planes(data[number * length : (number + 1) * length], sizes)
-        payload = picture_payload(settings, number, planes)
-        writer.add(decoder.SEQUENCE_HEADER, header)
+    coder = PictureCoder(settings)
+    for planned in plan(min(whole, settings["pictures"]), settings):
+        raw = data[planned.number * length : (planned.number + 1) * length]
+        payload = coder.payload(planned, raw_planes(raw, sizes))
+        if not planned.references:
+            writer.add(decoder.SEQUENCE_HEADER, header)
         if decoder.PARSE_INFO_LENGTH + len(payload) > settings["unit_bytes"]:
-            delivered = shown[: max(0, len(shown) - decoder.MOST_WAITING)]
-            return Encoded(writer.stream, b"".join(delivered), UNIT_TOO_LONG, f"unit too long: picture {number}\n")
-        writer.add(INTRA_REFERENCE_PICTURE, payload)
-        picture, _ = decoder.decode_picture(INTRA_REFERENCE_PICTURE, sequence, [], payload)
-        shown.append(picture.raw())
+            text = f"unit too long: picture {planned.number}\n"
+            return Encoded(writer.stream, b"".join(coder.delivery.delivered), UNIT_TOO_LONG, text)
+        writer.add(planned.code, payload)
+        coder.take(planned, payload)
     if writer.stream == b"":
         writer.add(decoder.SEQUENCE_HEADER, header)
     writer.add(decoder.END_OF_SEQUENCE, b"", 0)
+    coder.delivery.end_sequence()
     status, text = 0, ""
     if whole > settings["pictures"]:
         status, text = TOO_MANY_PICTURES, "too many pictures\n"
     elif len(data) % length != 0:
         status, text = PARTIAL_PICTURE, f"partial picture: {len(data) % length} bytes\n"
-    return Encoded(writer.stream, b"".join(shown), status, text)
+    return Encoded(writer.stream, b"".join(coder.delivery.delivered), status, text)
