@@ -1,0 +1,34 @@
+use Rattle.dirac_stream.proofs.Headers.{header_read, header_short}
+use Rattle.dirac_stream.proofs.Showing.{streams_cut, streams_shown}
+use Rattle.dirac_stream.proofs.Kept.{jobs_kept, sources_kept}
+use Rattle.dirac_stream.proofs.Reading.{jobs_read, jobs_small}
+use Rattle.dirac_stream.proofs.Recovered.{raws_recovered}
+use Rattle.dirac_stream.proofs.Sourcing.{sources_shown}
+use Rattle.dirac_stream.proofs.laws.streams_show_their_pictures.Goals as goal
+
+pub returns-clause-headers : goal.returns-clause-headers
+returns-clause-headers c = λ t accepted. (header_read t accepted, header_short t)
+
+pub returns-clause-cut : goal.returns-clause-cut
+returns-clause-cut c = streams_cut c.infos_are_read_as_written.ensures
+
+pub returns-clause-shown : goal.returns-clause-shown
+returns-clause-shown c = streams_shown c.infos_are_read_as_written.ensures
+
+pub returns-clause-sources_shown : goal.returns-clause-sources_shown
+returns-clause-sources_shown c = sources_shown (streams_shown c.infos_are_read_as_written.ensures) jobs_read
+
+pub returns-clause-sources : goal.returns-clause-sources
+returns-clause-sources c = jobs_read
+
+pub returns-clause-sources_shown_again : goal.returns-clause-sources_shown_again
+returns-clause-sources_shown_again c = jobs_kept
+
+pub returns-clause-sources_kept : goal.returns-clause-sources_kept
+returns-clause-sources_kept c = sources_kept
+
+pub returns-clause-coefficients : goal.returns-clause-small
+returns-clause-coefficients c = jobs_small
+
+pub returns-clause-recovered : goal.returns-clause-recovered
+returns-clause-recovered c = raws_recovered (streams_shown c.infos_are_read_as_written.ensures) (streams_cut c.infos_are_read_as_written.ensures)

@@ -1,0 +1,135 @@
+-- The coded picture that a planned picture becomes.
+use Rattle.std.specs.Prelude.{◌≡◌, ℕ, ℤ, zero, suc, ◌+◌, ◌-ℤ◌, ◌==◌, ◌&&◌, if◌then◌else◌, Bool, true, false, List, [], ◌∷◌, ◌++◌, min, Option, Some, None}
+use Rattle.std.specs.List.{list_all}
+use Rattle.std.specs.Simd.Lanes.{zip2}
+use Rattle.dirac_types.specs.declared.formats.Kind.{Kind}
+use Rattle.dirac_types.specs.declared.formats.Kind.TheVariants.{Intra, Inter}
+use Rattle.dirac_types.specs.declared.picture.Picture.{Picture}
+use Rattle.dirac_types.specs.declared.settings.Settings.{Settings}
+use Rattle.dirac_types.specs.Table.{Table}
+use Rattle.dirac_sequence.specs.Written.{sequence_of}
+use Rattle.dirac_header.specs.declared.header.PictureHeader.{PictureHeader}
+use Rattle.dirac_header.specs.declared.transform.Transform.{Transform}
+use Rattle.dirac_header.specs.Transform.{band_length}
+use Rattle.dirac_header.specs.Written.{prediction_of}
+use Rattle.dirac_blocks.specs.Tables.{BlockTable}
+use Rattle.dirac_coeffs.specs.declared.spot.CodedBand.{CodedBand}
+use Rattle.dirac_coeffs.specs.Written.{is_zero_band}
+use Rattle.dirac_obmc.specs.declared.motion.Part.{Part}
+use Rattle.dirac_obmc.specs.declared.motion.Part.TheVariants as part
+use Rattle.dirac_picture.specs.declared.coded.CodedMotion.{CodedMotion}
+use Rattle.dirac_picture.specs.declared.coded.CodedPicture.{CodedPicture}
+use Rattle.dirac_picture.specs.declared.coded.CodedResidual.{CodedResidual}
+use Rattle.dirac_picture.specs.Grammar.{chroma_width, chroma_height, is_intra}
+use Rattle.dirac_analysis.specs.Analysis.{plane_bands}
+use Rattle.dirac_analysis.specs.Fits.{AreSamples}
+use Rattle.dirac_decode.specs.Content.{named, plane_of, predicted_among}
+use Rattle.dirac_plan.specs.declared.planned.Planned.{Planned}
+use Rattle.dirac_stream.specs.Planning.{chosen}
+
+-- the codeblocks of a level, across or down: one at level 0, above as many as asked for, but no more than the luma
+-- bands have columns or rows
+abbrev pub count_of : ℕ → ℕ → ℕ → ℕ → ℕ
+count_of codeblocks size depth level = if level == 0 then 1 else min codeblocks (band_length size depth level)
+
+-- those of the first levels
+unfoldable pub counts_below : Settings → ℕ → List (ℕ × ℕ)
+counts_below t zero = []
+counts_below t (suc level) =
+    counts_below t level
+    ++ (count_of t.codeblocks t.width t.depth level, count_of t.codeblocks t.height t.depth level) ∷ []
+
+-- the transform parameters of these settings
+abbrev pub transform_of : Settings → Transform
+transform_of t = record { wavelet = t.wavelet; depth = t.depth; counts = counts_below t (t.depth + 1) }
+
+-- the header of a planned picture
+abbrev pub header_of : Planned → PictureHeader
+header_of q = record { number = q.number; ref1 = q.ref1; ref2 = q.ref2; retire = q.retire }
+
+-- an inter picture's motion by a block table, with block index and precision of the settings, without global motion,
+-- with default weights
+abbrev pub motion_with : Settings → BlockTable → CodedMotion
+motion_with t b = record { prediction = prediction_of t.blocks t.precision; blocks = b }
+
+-- the same, if there is a table
+abbrev pub motion_among : Settings → Option BlockTable → Option CodedMotion
+motion_among t None = None
+motion_among t (Some b) = Some (motion_with t b)
+
+-- the motion of a planned picture with these pictures listed: an intra picture has none, an inter picture that of the
+-- blocks chosen for it
+abbrev pub motion_of : Settings → List Picture → Planned → Picture → Option CodedMotion
+motion_of t refs q p = if is_intra q.code then None else Some (motion_with t (chosen t refs q p))
+
+-- just an inter picture has motion
+abbrev pub kind_of : Option CodedMotion → Kind
+kind_of None = Intra
+kind_of (Some m) = Inter
+
+-- the samples of a plane less what is predicted for them, by rows; nothing is clipped
+abbrev pub less_prediction : Table → List ℤ → Table
+less_prediction t predicted = record {
+  width = t.width;
+  height = t.height;
+  values = zip2 (λ v other. v -ℤ other) t.values predicted;
+}
+
+-- the residual of a plane of a source: of an intra picture the plane itself, of an inter picture the plane less what is
+-- predicted for it
+abbrev pub left_of : Settings → List Picture → PictureHeader → Option CodedMotion → Picture → Part → Table
+left_of t refs head None p part = plane_of p part
+left_of t refs head (Some m) p part =
+    less_prediction (plane_of p part)
+    (predicted_among (sequence_of t) m (named refs head.ref1) (named refs head.ref2) part)
+
+-- its quantised bands
+abbrev pub bands_of : Settings → Kind → Table → List CodedBand
+bands_of t kind plane = plane_bands kind t.wavelet t.depth t.index plane
+
+-- the coded residual of a source
+abbrev pub residual_of : Settings → List Picture → PictureHeader → Option CodedMotion → Picture → CodedResidual
+residual_of t refs head m p = record {
+  transform = transform_of t;
+  y = bands_of t (kind_of m) (left_of t refs head m p part.Y);
+  u = bands_of t (kind_of m) (left_of t refs head m p part.U);
+  v = bands_of t (kind_of m) (left_of t refs head m p part.V);
+}
+
+-- all coefficients of these bands are zero
+abbrev pub are_zero_bands : List CodedBand → Bool
+are_zero_bands bands = list_all (λ (b : CodedBand). is_zero_band b.table.values) bands
+
+-- those of all planes
+abbrev pub is_zero_residual : CodedResidual → Bool
+is_zero_residual r = are_zero_bands r.y && are_zero_bands r.u && are_zero_bands r.v
+
+-- the residual that is written: an inter picture leaves it out exactly where all its bands are zero
+abbrev pub residual_unless_zero : Option CodedMotion → CodedResidual → Option CodedResidual
+residual_unless_zero None r = Some r
+residual_unless_zero (Some m) r = if is_zero_residual r then None else Some r
+
+-- the coded picture of a planned source with this motion
+abbrev pub coded_with : Settings → List Picture → Planned → Picture → Option CodedMotion → CodedPicture
+coded_with t refs q p m = record {
+  code = q.code;
+  header = header_of q;
+  motion = m;
+  residual = residual_unless_zero m (residual_of t refs (header_of q) m p);
+}
+
+-- the coded picture of a planned source, with these pictures listed
+abbrev pub coded_of : Settings → List Picture → Planned → Picture → CodedPicture
+coded_of t refs q p = coded_with t refs q p (motion_of t refs q p)
+
+-- a plane of this size, its samples from -128 to 127
+pub record IsPlane (width height : ℕ) (t : Table) : Type 0 where
+  pub across : t.width ≡ width
+  pub down : t.height ≡ height
+  pub samples : AreSamples t.values
+
+-- a picture that can be coded with these settings
+pub record IsSource (t : Settings) (p : Picture) : Type 0 where
+  pub y : IsPlane t.width t.height p.y
+  pub u : IsPlane (chroma_width (sequence_of t)) (chroma_height (sequence_of t)) p.u
+  pub v : IsPlane (chroma_width (sequence_of t)) (chroma_height (sequence_of t)) p.v

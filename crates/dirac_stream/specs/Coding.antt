@@ -1,0 +1,94 @@
+-- The recursion over coding order: each picture is coded with the reconstructions that are listed by then.
+use Rattle.std.specs.Prelude.{ℕ, zero, suc, ◌+◌, List, [], ◌∷◌, ◌++◌, length, map, pos, slice_index_or}
+use Rattle.std.specs.Option.{option_to_list}
+use Rattle.dirac_types.specs.declared.picture.Picture.{Picture}
+use Rattle.dirac_types.specs.declared.settings.Settings.{Settings}
+use Rattle.dirac_sequence.specs.Written.{sequence_of}
+use Rattle.dirac_refs.specs.declared.waiting.Waiting.{Waiting}
+use Rattle.dirac_refs.specs.Delivery.{key_of}
+use Rattle.dirac_refs.specs.References.{committed, listed}
+use Rattle.dirac_picture.specs.declared.coded.CodedPicture.{CodedPicture}
+use Rattle.dirac_decode.specs.Content.{rebuilt}
+use Rattle.dirac_decode.specs.Course.{as_reference}
+use Rattle.dirac_plan.specs.declared.planned.Planned.{Planned}
+use Rattle.dirac_stream.specs.Coded.{coded_of}
+use Rattle.dirac_stream.specs.Payload.{payload_of}
+use Rattle.dirac_stream.specs.Planning.{plan_of}
+
+-- a planned picture and its source
+pub record Job : Type 0 where
+  pub planned : Planned
+  pub source : Picture
+
+-- what it becomes: the coded picture, its payload, and its reconstruction, the picture that decoders show for it
+pub record Made : Type 0 where
+  pub coded : CodedPicture
+  pub payload : List ℕ
+  pub shown : Picture
+
+-- what a coded picture becomes, with these pictures listed
+abbrev pub made_from : Settings → List Picture → CodedPicture → Made
+made_from t refs coded = record {
+  coded = coded;
+  payload = payload_of t coded;
+  shown = rebuilt (sequence_of t) refs coded;
+}
+
+-- what a planned source becomes, with these pictures listed
+abbrev pub made : Settings → List Picture → Job → Made
+made t refs j = made_from t refs (coded_of t refs j.planned j.source)
+
+-- the list of references behind it
+abbrev pub refs_after : List Picture → Made → List Picture
+refs_after refs m = committed refs m.coded.header.retire (as_reference m.coded.code m.shown)
+
+-- what planned sources become one after another, with these pictures listed before the first
+unfoldable pub coded_from : Settings → List Picture → List Job → List Made
+coded_from t refs [] = []
+coded_from t refs (j ∷ jobs) = made t refs j ∷ coded_from t (refs_after refs (made t refs j)) jobs
+
+-- a picture without samples
+abbrev pub blank : Picture
+blank = record {
+  number = 0;
+  y = record { width = 0; height = 0; values = [] };
+  u = record { width = 0; height = 0; values = [] };
+  v = record { width = 0; height = 0; values = [] };
+}
+
+-- a planned picture with its source, among pictures whose numbers are their places
+abbrev pub job_of : List Picture → Planned → Job
+job_of pictures q = record { planned = q; source = slice_index_or pictures q.number blank }
+
+-- the sources in the order of the plan
+abbrev pub jobs_of : Settings → List Picture → List Job
+jobs_of t pictures = map (job_of pictures) (plan_of t (length pictures))
+
+-- what these pictures become, in coding order; no picture is listed before the first
+abbrev pub coding : Settings → List Picture → List Made
+coding t pictures = coded_from t [] (jobs_of t pictures)
+
+-- the reconstruction
+abbrev pub shown_of : Made → Picture
+shown_of m = m.shown
+
+-- the pictures of the numbers below n among these, by rising number
+abbrev pub by_number : ℕ → List Picture → List Picture
+by_number zero pictures = []
+by_number (suc n) pictures = by_number n pictures ++ option_to_list (listed pictures n)
+
+-- the reconstructions of these pictures, by number
+abbrev pub reconstructions : Settings → List Picture → List Picture
+reconstructions t pictures = by_number (length pictures) (map shown_of (coding t pictures))
+
+-- a picture with its key, as it is pushed for delivery: the first picture of the sequence has number 0
+abbrev pub waiting_as : Picture → Waiting
+waiting_as p = record { key = key_of 0 p.number; picture = p }
+
+-- a reconstruction with its key
+abbrev pub waiting_of : Made → Waiting
+waiting_of m = waiting_as m.shown
+
+-- the reconstructions of coded pictures, with their keys
+abbrev pub pushed : List Made → List Waiting
+pushed ms = map waiting_of ms

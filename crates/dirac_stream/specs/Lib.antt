@@ -1,0 +1,13 @@
+pub mod Planning
+pub mod Coded
+pub mod Payload
+pub mod Coding
+pub mod Stream
+pub mod Raw
+pub mod Encoding
+pub mod Writable
+pub mod Plans
+pub mod Tables
+pub mod Laws
+pub mod Steps
+pub mod Standing

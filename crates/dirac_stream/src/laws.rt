@@ -1,0 +1,33 @@
+//! What holds of every stream, as the contract of a function that does nothing.
+
+ghost use Rattle.dirac_stream.specs.Stream.{HeadersAreRead, StreamsAreCut};
+ghost use Rattle.dirac_stream.specs.Laws.{JobsAreKept, JobsAreRead, JobsAreSmall, RawPicturesAreRecovered, SourcesAreKept, SourcesShowReconstructions, StreamsShowTheirPictures};
+ghost use Rattle.dirac_stream.specs.Tables.{TablesAreChosen};
+
+use dirac_units::infos_are_read_as_written;
+
+/// The stream of coded pictures has no fault, and shows their reconstructions in order.
+pub fn streams_show_their_pictures()
+    // The sequence header of accepted settings is read as their sequence.
+    ensures headers { HeadersAreRead }
+    // A stream is cut into just its units: a sequence header before each intra picture, the pictures and the end unit.
+    ensures cut { StreamsAreCut }
+    // A stream whose payloads are read as they were coded, the references found, shows its pictures in the order of
+    // delivery.
+    ensures shown { StreamsShowTheirPictures }
+    // A planned source's payload is read again as it was coded.
+    ensures sources { TablesAreChosen → JobsAreRead }
+    // Its coded coefficients stay below 2^38.
+    ensures coefficients { TablesAreChosen → JobsAreSmall }
+    // At index 0 it is shown again.
+    ensures sources_shown_again { JobsAreKept }
+    // The stream of sources has no fault and shows their reconstructions in order.
+    ensures sources_shown { SourcesShowReconstructions }
+    // At index 0 these are the sources.
+    ensures sources_kept { SourcesAreKept }
+    // Where no unit is longer than the settings allow, the stream of raw pictures shows their reconstructions, at
+    // index 0 the pictures themselves.
+    ensures recovered { RawPicturesAreRecovered }
+{
+    infos_are_read_as_written();
+}
