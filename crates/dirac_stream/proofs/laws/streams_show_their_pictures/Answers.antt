@@ -27,7 +27,7 @@ returns-clause-sources_shown_again c = jobs_kept
 pub returns-clause-sources_kept : goal.returns-clause-sources_kept
 returns-clause-sources_kept c = sources_kept
 
-pub returns-clause-coefficients : goal.returns-clause-small
+pub returns-clause-coefficients : goal.returns-clause-coefficients
 returns-clause-coefficients c = jobs_small
 
 pub returns-clause-recovered : goal.returns-clause-recovered
