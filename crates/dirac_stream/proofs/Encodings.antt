@@ -11,11 +11,12 @@ use Rattle.dirac_refs.specs.Delivery.{Leaving, deliver, delivered, flush, flushe
 use Rattle.dirac_decode.proofs.Flushing.{pushed_append}
 use Rattle.dirac_stream.specs.declared.answers.Encoded.{Encoded}
 use Rattle.dirac_stream.specs.declared.answers.Encoded.TheVariants as encoded
-use Rattle.dirac_stream.specs.Coding.{Job, Made, by_number, coded_from, made, pushed, refs_after, shown_of, waiting_of}
+use Rattle.dirac_stream.specs.Coding.{Job, Made, coded_from, made, pushed, refs_after, shown_of, waiting_of}
 use Rattle.dirac_stream.specs.Encoding.{Encoding, before_long, encoding_by, first_long, is_short, stream_before}
 use Rattle.dirac_stream.specs.Standing.{AreShort, Leave, pushed_now}
 use Rattle.dirac_stream.specs.Steps.{last_units, leaving, picture_units}
 use Rattle.dirac_stream.specs.Stream.{closing, header_before, last_length, picture_length, picture_unit, stream_from, units_of, end_unit, header_length, header_unit}
+use Rattle.dirac_plan_laws.specs.Order.{by_number}
 
 -- ---- the first long unit
 

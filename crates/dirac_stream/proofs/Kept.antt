@@ -28,17 +28,19 @@ use Rattle.dirac_analysis.specs.Analysis.{plane_bands}
 use Rattle.dirac_analysis.proofs.Undone.{planes_kept}
 use Rattle.dirac_decode.specs.Content.{bands_of as bands_in, compensation, height_of, named, plane_of, plane_samples, predicted_among, rebuilt, residual_among, samples_from, width_of, zeros}
 use Rattle.dirac_plan.specs.declared.planned.Planned.{Planned}
-use Rattle.dirac_stream.specs.Coded.{IsPlane, IsSource, are_zero_bands, bands_of, coded_of, coded_with, header_of, is_zero_residual, kind_of, left_of, less_prediction, motion_of, residual_of, residual_unless_zero, transform_of}
-use Rattle.dirac_stream.specs.Coding.{Job, Made, blank, by_number, coded_from, coding, job_of, made, reconstructions, refs_after, shown_of}
+use Rattle.dirac_stream.specs.Coded.{IsPlane, IsSource, are_zero_bands, bands_of, coded_of, coded_with, is_zero_residual, kind_of, left_of, less_prediction, motion_of, residual_of, residual_unless_zero, transform_of}
+use Rattle.dirac_stream.specs.Coding.{Job, Made, blank, coded_from, coding, job_of, made, reconstructions, refs_after, shown_of}
 use Rattle.dirac_stream.specs.Laws.{AreMade, AreNumbered, AreSources, IsMade, IsWhole, JobsAreKept, SourcesAreKept}
-use Rattle.dirac_stream.specs.Plans.{IsPlan, IsPlanned, PlansHold}
-use Rattle.dirac_stream.specs.Planning.{plan_of}
 use Rattle.dirac_stream.specs.Writable.{IsCodable}
 use Rattle.dirac_stream.proofs.Coding.{clipped_again, codable}
 use Rattle.dirac_stream.proofs.Lefts.{found_is}
 use Rattle.dirac_stream.proofs.Reading.{jobs_read, source_plane}
 use Rattle.dirac_stream.proofs.Sourcing.{picture_at, sources_made}
 use Rattle.dirac_stream.proofs.Zeros.{length-filled, residual_zero}
+use Rattle.dirac_plan.specs.Plan.{plan}
+use Rattle.dirac_plan_laws.specs.Headers.{IsPlanned, header_of}
+use Rattle.dirac_plan_laws.specs.Order.{by_number}
+use Rattle.dirac_plan_laws.specs.Plans.{IsPlan, PlansCanBeCoded}
 
 -- ---- a plane
 
@@ -205,13 +207,13 @@ kept_from t pictures refs (q ∷ qs) accepted sources whole below planned number
 pub jobs_kept : JobsAreKept
 jobs_kept t refs j accepted source whole planned found number none = source_kept t refs j.planned j.source accepted source whole planned found number none
 
-pub sources_kept : SourcesAreKept
+pub sources_kept : PlansCanBeCoded → SourcesAreKept
 sources_kept plans tables t pictures is numbered whole none =
     let n = length pictures in
-    let qs = plan_of t n in
-    let plan = plans t n is.accepted is.few in
+    let qs = plan n t in
+    let law = plans t n is.accepted (omega (arith, is.few)) in
     let all = sources_made plans (jobs_read tables) t pictures is in
-    let numbers = each_numbered pictures qs numbered plan.below in
-    ap (by_number n) (kept_from t pictures [] qs is.accepted is.each whole plan.below plan.each numbers all.0 none)
-    ∙ by_take pictures (map (source_of pictures) qs) n (omega arith) (λ k l. let found = plan.all k l in number_listed pictures qs k found.0 found.1 found.2 found.3 numbers)
+    let numbers = each_numbered pictures qs numbered law.below in
+    ap (by_number n) (kept_from t pictures [] qs is.accepted is.each whole law.below law.each numbers all.0 none)
+    ∙ by_take pictures (map (source_of pictures) qs) n (omega arith) (λ k l. let found = law.all k l in number_listed pictures qs k found.0 found.1 found.2 found.3 numbers)
     ∙ take_all n pictures (omega arith)

@@ -46,13 +46,12 @@ use Rattle.dirac_analysis.specs.Fits.{AreDifferences, AreLevelBands, AreSamples}
 use Rattle.dirac_analysis.proofs.Fitting.{planes_fit, samples_small}
 use Rattle.dirac_decode.specs.Content.{height_of, named, plane_of, width_of}
 use Rattle.dirac_plan.specs.declared.planned.Planned.{Planned}
-use Rattle.dirac_stream.specs.Coded.{IsPlane, IsSource, bands_of, coded_of, coded_with, header_of, is_zero_residual, kind_of, left_of, motion_with, residual_of, residual_unless_zero, transform_of}
+use Rattle.dirac_stream.specs.Coded.{IsPlane, IsSource, bands_of, coded_of, coded_with, is_zero_residual, kind_of, left_of, motion_with, residual_of, residual_unless_zero, transform_of}
 use Rattle.dirac_stream.specs.Coding.{Job, made}
 use Rattle.dirac_stream.specs.Laws.{JobsAreRead, JobsAreSmall}
-use Rattle.dirac_stream.specs.Plans.{IsPlanned}
 use Rattle.dirac_stream.specs.Tables.{IsChosen, TablesAreChosen}
 use Rattle.dirac_stream.specs.Payload.{payload_of, with_blocks, with_coefficients, with_flag, with_motion, with_picture, with_residual}
-use Rattle.dirac_stream.specs.Planning.{chosen}
+use Rattle.dirac_stream.specs.Chosen.{chosen}
 use Rattle.dirac_stream.specs.Writable.{AreSmall, IsCodable, IsWritten}
 use Rattle.dirac_stream.specs.Stream.{picture_length}
 use Rattle.dirac_stream.proofs.Behind.{behind_gap, whole_starts}
@@ -62,6 +61,7 @@ use Rattle.dirac_stream.proofs.InBytes.{bytes_again}
 use Rattle.dirac_stream.proofs.Lefts.{IsPredicting, differences_small, found_is, named_is, picture_is, predicted_small, samples_are}
 use Rattle.dirac_stream.proofs.Pictures.{behind_align, fields_spelled, flag_spelled, left_out, motion_spelled, no_flag, no_motion, not_left_out, picture_spelled}
 use Rattle.dirac_stream.proofs.Written.{residual_written}
+use Rattle.dirac_plan_laws.specs.Headers.{IsPlanned, header_of}
 
 -- ---- settings
 

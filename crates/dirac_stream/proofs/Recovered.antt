@@ -21,7 +21,6 @@ use Rattle.dirac_stream.specs.Encoding.{IsRecovered, first_long, is_short}
 use Rattle.dirac_stream.specs.Raw.{chroma_bytes, luma_bytes, picture_from, pictures_in, raw_length, sample_of, sources, whole_pictures}
 use Rattle.dirac_stream.specs.Coding.{Made, coding, reconstructions}
 use Rattle.dirac_stream.specs.Laws.{AreNumbered, AreSources, IsWhole, RawPicturesAreRecovered, StreamsShowTheirPictures}
-use Rattle.dirac_stream.specs.Plans.{PlansHold}
 use Rattle.dirac_stream.specs.Tables.{TablesAreChosen}
 use Rattle.dirac_stream.specs.Stream.{StreamsAreCut, picture_length, stream_of, stream_units}
 use Rattle.dirac_stream.proofs.Accepted.{most_bytes, most_pictures}
@@ -32,6 +31,7 @@ use Rattle.dirac_stream.proofs.Showing.{each_unit}
 use Rattle.dirac_stream.proofs.Sourcing.{sources_made, sources_shown}
 use Rattle.dirac_stream.proofs.RawBytes.{below_drop, below_take, raw_again}
 use Rattle.dirac_stream.proofs.Sources.{length-pictures_in, numbered_in}
+use Rattle.dirac_plan_laws.specs.Plans.{PlansCanBeCoded}
 
 -- ---- bytes
 
@@ -138,7 +138,7 @@ each_short t (m ∷ ms) accepted none =
 
 -- ---- all together
 
-pub recovered : StreamsShowTheirPictures → StreamsAreCut → PlansHold → TablesAreChosen → (t : Settings) (n : ℕ) (bytes : List ℕ) → IsAccepted t → n * raw_length t ≤ length bytes → n ≤ t.pictures → AreBytes (take (n * raw_length t) bytes)
+pub recovered : StreamsShowTheirPictures → StreamsAreCut → PlansCanBeCoded → TablesAreChosen → (t : Settings) (n : ℕ) (bytes : List ℕ) → IsAccepted t → n * raw_length t ≤ length bytes → n ≤ t.pictures → AreBytes (take (n * raw_length t) bytes)
     → sources t bytes ≡ pictures_in t n 0 bytes → first_long t (coding t (sources t bytes)) ≡ None → IsRecovered t bytes
 recovered law cuts plans tables t n bytes accepted some few all is short =
     let ps = pictures_in t n 0 bytes in
@@ -162,7 +162,7 @@ whole_fit t bytes =
     let fits : whole * r ≤ length bytes = div-mul-le_self (length bytes) r in
     omega (arith, fits, mul-le (min whole t.pictures) r whole r (omega arith) (omega arith))
 
-pub raws_recovered : StreamsShowTheirPictures → StreamsAreCut → RawPicturesAreRecovered
+pub raws_recovered : StreamsShowTheirPictures → StreamsAreCut → PlansCanBeCoded → RawPicturesAreRecovered
 raws_recovered law cuts plans tables t bytes accepted all short =
     let n = min (whole_pictures t bytes) t.pictures in
     recovered law cuts plans tables t n bytes accepted (whole_fit t bytes) (omega arith) (below_take (n * raw_length t) bytes all) refl short

@@ -26,9 +26,10 @@ use Rattle.dirac_decode.specs.Sequences.{flushed_behind}
 use Rattle.dirac_decode.specs.Shown.{Outcome, IsShown, follows, outcome, with_front}
 use Rattle.dirac_stream.specs.Coding.{Made, pushed, refs_after, waiting_of}
 use Rattle.dirac_stream.specs.Laws.{AreMade, Begins, IsMade, StreamsShowTheirPictures}
-use Rattle.dirac_stream.specs.Stream.{IsPictureCode, IsUnit, StreamsAreCut, end_info, end_text, end_unit, header_before, header_length, header_text, header_texts, header_unit, info_for, last_length, length_before, picture_length, picture_text, picture_unit, stream_from, unit, units_from, units_in, units_of}
+use Rattle.dirac_stream.specs.Stream.{IsUnit, StreamsAreCut, end_info, end_text, end_unit, header_before, header_length, header_text, header_texts, header_unit, info_for, last_length, length_before, picture_length, picture_text, picture_unit, stream_from, unit, units_from, units_in, units_of}
 use Rattle.dirac_stream.proofs.Cutting.{nothing_left, one_cut, unit_front_is}
 use Rattle.dirac_stream.proofs.Headers.{header_read, header_short}
+use Rattle.dirac_plan_laws.specs.Headers.{IsPictureCode}
 
 -- ---- the units
 

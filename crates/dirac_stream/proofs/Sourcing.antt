@@ -31,13 +31,17 @@ use Rattle.dirac_decode.specs.Course.{as_reference}
 use Rattle.dirac_decode.specs.Shown.{Outcome, IsShown}
 use Rattle.dirac_header.specs.Codes.{is_reference}
 use Rattle.dirac_plan.specs.declared.planned.Planned.{Planned}
-use Rattle.dirac_stream.specs.Coded.{IsPlane, IsSource, coded_of, header_of}
-use Rattle.dirac_stream.specs.Coding.{Job, Made, blank, by_number, coded_from, coding, job_of, jobs_of, made, pushed, reconstructions, refs_after, shown_of, waiting_as, waiting_of}
+use Rattle.dirac_stream.specs.Coded.{IsPlane, IsSource, coded_of}
+use Rattle.dirac_stream.specs.Coding.{Job, Made, blank, coded_from, coding, job_of, jobs_of, made, pushed, reconstructions, refs_after, shown_of, waiting_of}
 use Rattle.dirac_stream.specs.Laws.{AreMade, AreSources, Begins, IsMade, JobsAreRead, SourcesShowReconstructions, StreamsShowTheirPictures}
-use Rattle.dirac_stream.specs.Plans.{AreFound, ArePlanned, BeginsPlan, IsPlan, IsPlanned, PlansHold, number_of, planned_number}
 use Rattle.dirac_stream.specs.Tables.{TablesAreChosen}
-use Rattle.dirac_stream.specs.Planning.{plan_of}
-use Rattle.dirac_stream.specs.Stream.{IsPictureCode, IsUnit, picture_length, stream_from, stream_of}
+use Rattle.dirac_stream.specs.Stream.{IsUnit, picture_length, stream_from, stream_of}
+use Rattle.dirac_plan.specs.Plan.{plan}
+use Rattle.dirac_plan.specs.Waiting.{number_of}
+use Rattle.dirac_plan_laws.specs.Headers.{IsPictureCode, IsPlanned, header_of}
+use Rattle.dirac_plan_laws.specs.Order.{as_waiting, by_number}
+use Rattle.dirac_plan_laws.specs.Plans.{BeginsPlan, IsPlan, PlansCanBeCoded}
+use Rattle.dirac_plan_laws.specs.References.{AreFound, ArePlanned, planned_number}
 
 -- ---- what is rebuilt is a picture of these settings
 
@@ -158,28 +162,28 @@ unfolding coded_from
 begins t pictures [] is = tt
 begins t pictures (q ∷ qs) is = (is.0, is.1)
 
-pushed_shown : (ms : List Made) → pushed ms ≡ map waiting_as (map shown_of ms)
+pushed_shown : (ms : List Made) → pushed ms ≡ map as_waiting (map shown_of ms)
 pushed_shown [] = refl
 pushed_shown (m ∷ ms) = ap (λ ws. waiting_of m ∷ ws) (pushed_shown ms)
 
 -- the list of what sources become, with nothing listed at first
-pub sources_made : PlansHold → JobsAreRead → (t : Settings) (pictures : List Picture) → AreSources t pictures → AreMade t [] (coding t pictures) × Begins (coding t pictures)
+pub sources_made : PlansCanBeCoded → JobsAreRead → (t : Settings) (pictures : List Picture) → AreSources t pictures → AreMade t [] (coding t pictures) × Begins (coding t pictures)
 sources_made plans law t pictures is =
     let n = length pictures in
-    let qs = plan_of t n in
-    let plan = plans t n is.accepted is.few in (
-      all_made law t pictures [] qs is.accepted is.each tt plan.below plan.each (plan.found (map shown_of (coding t pictures)) (are_planned t pictures [] qs)) is.short,
-      begins t pictures qs plan.begins,
+    let qs = plan n t in
+    let is_plan = plans t n is.accepted (omega (arith, is.few)) in (
+      all_made law t pictures [] qs is.accepted is.each tt is_plan.below is_plan.each (is_plan.found (map shown_of (coding t pictures)) (are_planned t pictures [] qs)) is.short,
+      begins t pictures qs is_plan.begins,
     )
 
 -- they leave by rising number
-pub sources_leave : PlansHold → (t : Settings) (pictures : List Picture) → IsAccepted t → length pictures < 2 ^ 31 → flush (pushed (coding t pictures)) ≡ reconstructions t pictures
+pub sources_leave : PlansCanBeCoded → (t : Settings) (pictures : List Picture) → IsAccepted t → length pictures < 2 ^ 31 → flush (pushed (coding t pictures)) ≡ reconstructions t pictures
 sources_leave plans t pictures accepted few =
     let n = length pictures in
     let ms = coding t pictures in
-    ap flush (pushed_shown ms) ∙ (plans t n accepted few).order (map shown_of ms) (are_planned t pictures [] (plan_of t n))
+    ap flush (pushed_shown ms) ∙ (plans t n accepted (omega (arith, few))).order (map shown_of ms) (are_planned t pictures [] (plan n t))
 
-pub sources_shown : StreamsShowTheirPictures → (TablesAreChosen → JobsAreRead) → SourcesShowReconstructions
+pub sources_shown : StreamsShowTheirPictures → (TablesAreChosen → JobsAreRead) → PlansCanBeCoded → SourcesShowReconstructions
 sources_shown shown reads plans tables t pictures is =
     let all = sources_made plans (reads tables) t pictures is in
     let o = shown t (coding t pictures) is.accepted all.0 all.1 in

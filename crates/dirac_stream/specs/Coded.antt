@@ -25,7 +25,8 @@ use Rattle.dirac_analysis.specs.Analysis.{plane_bands}
 use Rattle.dirac_analysis.specs.Fits.{AreSamples}
 use Rattle.dirac_decode.specs.Content.{named, plane_of, predicted_among}
 use Rattle.dirac_plan.specs.declared.planned.Planned.{Planned}
-use Rattle.dirac_stream.specs.Planning.{chosen}
+pub use Rattle.dirac_plan_laws.specs.Headers.{header_of}
+use Rattle.dirac_stream.specs.Chosen.{chosen}
 
 -- the codeblocks of a level, across or down: one at level 0, above as many as asked for, but no more than the luma
 -- bands have columns or rows
@@ -42,10 +43,6 @@ counts_below t (suc level) =
 -- the transform parameters of these settings
 abbrev pub transform_of : Settings → Transform
 transform_of t = record { wavelet = t.wavelet; depth = t.depth; counts = counts_below t (t.depth + 1) }
-
--- the header of a planned picture
-abbrev pub header_of : Planned → PictureHeader
-header_of q = record { number = q.number; ref1 = q.ref1; ref2 = q.ref2; retire = q.retire }
 
 -- an inter picture's motion by a block table, with block index and precision of the settings, without global motion,
 -- with default weights

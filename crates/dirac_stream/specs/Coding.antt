@@ -13,7 +13,8 @@ use Rattle.dirac_decode.specs.Course.{as_reference}
 use Rattle.dirac_plan.specs.declared.planned.Planned.{Planned}
 use Rattle.dirac_stream.specs.Coded.{coded_of}
 use Rattle.dirac_stream.specs.Payload.{payload_of}
-use Rattle.dirac_stream.specs.Planning.{plan_of}
+use Rattle.dirac_plan.specs.Plan.{plan}
+pub use Rattle.dirac_plan_laws.specs.Order.{as_waiting, by_number}
 
 -- a planned picture and its source
 pub record Job : Type 0 where
@@ -62,7 +63,7 @@ job_of pictures q = record { planned = q; source = slice_index_or pictures q.num
 
 -- the sources in the order of the plan
 abbrev pub jobs_of : Settings → List Picture → List Job
-jobs_of t pictures = map (job_of pictures) (plan_of t (length pictures))
+jobs_of t pictures = map (job_of pictures) (plan (length pictures) t)
 
 -- what these pictures become, in coding order; no picture is listed before the first
 abbrev pub coding : Settings → List Picture → List Made
@@ -72,22 +73,13 @@ coding t pictures = coded_from t [] (jobs_of t pictures)
 abbrev pub shown_of : Made → Picture
 shown_of m = m.shown
 
--- the pictures of the numbers below n among these, by rising number
-abbrev pub by_number : ℕ → List Picture → List Picture
-by_number zero pictures = []
-by_number (suc n) pictures = by_number n pictures ++ option_to_list (listed pictures n)
-
 -- the reconstructions of these pictures, by number
 abbrev pub reconstructions : Settings → List Picture → List Picture
 reconstructions t pictures = by_number (length pictures) (map shown_of (coding t pictures))
 
--- a picture with its key, as it is pushed for delivery: the first picture of the sequence has number 0
-abbrev pub waiting_as : Picture → Waiting
-waiting_as p = record { key = key_of 0 p.number; picture = p }
-
 -- a reconstruction with its key
 abbrev pub waiting_of : Made → Waiting
-waiting_of m = waiting_as m.shown
+waiting_of m = as_waiting m.shown
 
 -- the reconstructions of coded pictures, with their keys
 abbrev pub pushed : List Made → List Waiting

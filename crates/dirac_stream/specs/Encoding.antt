@@ -10,9 +10,10 @@ use Rattle.dirac_decode.specs.Raw.{raws}
 use Rattle.dirac_decode.specs.Shown.{Outcome, IsShown}
 use Rattle.dirac_stream.specs.declared.answers.Encoded.{Encoded}
 use Rattle.dirac_stream.specs.declared.answers.Encoded.TheVariants as encoded
-use Rattle.dirac_stream.specs.Coding.{Made, by_number, coding, pushed, reconstructions, shown_of}
+use Rattle.dirac_stream.specs.Coding.{Made, coding, pushed, reconstructions, shown_of}
 use Rattle.dirac_stream.specs.Raw.{left_over, raw_length, sources, whole_pictures}
 use Rattle.dirac_stream.specs.Stream.{header_before, last_length, picture_length, stream_from, stream_of, stream_units, units_of}
+use Rattle.dirac_plan_laws.specs.Order.{by_number}
 
 -- the unit of a picture, parse info and payload, is no longer than the settings allow
 abbrev pub is_short : Settings → Made → Bool

@@ -9,15 +9,15 @@ use Rattle.dirac_refs.specs.Delivery.{flush}
 use Rattle.dirac_picture.specs.Grammar.{are_listed, is_intra, picture_read}
 use Rattle.dirac_decode.specs.Content.{rebuilt}
 use Rattle.dirac_decode.specs.Shown.{Outcome, IsShown}
-use Rattle.dirac_stream.specs.Coded.{IsSource, coded_of, header_of, motion_of, residual_of}
+use Rattle.dirac_stream.specs.Coded.{IsSource, coded_of, motion_of, residual_of}
 use Rattle.dirac_stream.specs.Coding.{Job, Made, coding, made, pushed, reconstructions, refs_after}
 use Rattle.dirac_stream.specs.Encoding.{IsRecovered, first_long}
 use Rattle.dirac_stream.specs.Raw.{sources}
 use Rattle.dirac_stream.specs.Payload.{payload_of}
 use Rattle.dirac_stream.specs.Writable.{AreSmall}
 use Rattle.dirac_stream.specs.Stream.{IsUnit, picture_length, stream_from, stream_of}
-use Rattle.dirac_stream.specs.Plans.{IsPlanned, PlansHold}
 use Rattle.dirac_stream.specs.Tables.{TablesAreChosen}
+use Rattle.dirac_plan_laws.specs.Headers.{IsPlanned, header_of}
 
 -- a picture whose payload is read as it was coded and rebuilt as it is shown, with these pictures listed
 pub record IsMade (t : Settings) (refs : List Picture) (m : Made) : Type 0 where
@@ -87,17 +87,17 @@ pub record AreSources (t : Settings) (pictures : List Picture) : Type 0 where
 -- their stream has no fault, and shows their reconstructions in order
 abbrev pub SourcesShowReconstructions : Type 0
 SourcesShowReconstructions =
-    PlansHold → TablesAreChosen → (t : Settings) (pictures : List Picture) → AreSources t pictures
+    TablesAreChosen → (t : Settings) (pictures : List Picture) → AreSources t pictures
     → (o : Outcome) × IsShown (stream_of t pictures) o × (o.shown ≡ reconstructions t pictures) × (o.end ≡ None)
 
 -- at index 0 these are the sources
 abbrev pub SourcesAreKept : Type 0
 SourcesAreKept =
-    PlansHold → TablesAreChosen → (t : Settings) (pictures : List Picture) → AreSources t pictures
+    TablesAreChosen → (t : Settings) (pictures : List Picture) → AreSources t pictures
     → AreNumbered 0 pictures → AllByRecursion IsWhole pictures → t.index ≡ 0 → reconstructions t pictures ≡ pictures
 
 -- raw pictures are recovered from their stream where no unit is longer than the settings allow
 abbrev pub RawPicturesAreRecovered : Type 0
 RawPicturesAreRecovered =
-    PlansHold → TablesAreChosen → (t : Settings) (bytes : List ℕ) → IsAccepted t → AllByRecursion (λ b. b < 2 ^ 8) bytes
+    TablesAreChosen → (t : Settings) (bytes : List ℕ) → IsAccepted t → AllByRecursion (λ b. b < 2 ^ 8) bytes
     → first_long t (coding t (sources t bytes)) ≡ None → IsRecovered t bytes

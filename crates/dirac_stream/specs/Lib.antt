@@ -1,4 +1,4 @@
-pub mod Planning
+pub mod Chosen
 pub mod Coded
 pub mod Payload
 pub mod Coding
@@ -6,7 +6,6 @@ pub mod Stream
 pub mod Raw
 pub mod Encoding
 pub mod Writable
-pub mod Plans
 pub mod Tables
 pub mod Laws
 pub mod Steps

@@ -6,11 +6,12 @@ use Rattle.dirac_types.specs.declared.picture.Picture.{Picture}
 use Rattle.dirac_types.specs.declared.settings.Settings.{Settings}
 use Rattle.dirac_refs.specs.Delivery.{Leaving, flush, pushed_all}
 use Rattle.dirac_decode.specs.Raw.{raws}
-use Rattle.dirac_stream.specs.Coding.{Job, Made, by_number, coded_from, coding, jobs_of, pushed, shown_of}
+use Rattle.dirac_stream.specs.Coding.{Job, Made, coded_from, coding, jobs_of, pushed, shown_of}
 use Rattle.dirac_stream.specs.Encoding.{is_short}
 use Rattle.dirac_stream.specs.Raw.{sources}
 use Rattle.dirac_stream.specs.Steps.{Progress}
 use Rattle.dirac_stream.specs.Stream.{last_length, units_of}
+use Rattle.dirac_plan_laws.specs.Order.{by_number}
 
 -- each unit is short enough
 abbrev pub AreShort : Settings → List Made → Type 0

@@ -7,6 +7,8 @@ use Rattle.dirac_types.specs.declared.settings.Settings.{Settings}
 use Rattle.dirac_refs.specs.declared.waiting.Waiting.{Waiting}
 use Rattle.dirac_refs.specs.Delivery.{Leaving, delivered, flushed}
 use Rattle.dirac_decode.specs.Raw.{raws}
+use Rattle.dirac_stream.specs.declared.answers.Encoded.{Encoded}
+use Rattle.dirac_stream.specs.declared.answers.Encoded.TheVariants as encoded
 use Rattle.dirac_stream.specs.Coding.{Made, refs_after, waiting_of}
 use Rattle.dirac_stream.specs.Encoding.{is_short}
 use Rattle.dirac_stream.specs.Stream.{end_unit, header_before, header_length, header_unit, picture_length, picture_unit}
@@ -67,3 +69,28 @@ pub record IsEnded (t : Settings) (old : Progress) (out out' side side' : Option
 pub record EndsEarly (t : Settings) (old : Progress) (out out' side side' : Option (List ℕ)) : Type 0 where
   pub written : AppendsFront out out' (last_units t old.count old.previous)
   pub delivered : AppendsFront side side' (raws (flushed old.delivery))
+
+-- before the first picture
+abbrev pub no_progress : Progress
+no_progress = record { count = 0; previous = 0; refs = []; delivery = [] }
+
+-- why a picture isn't coded
+abbrev pub StopsPicture : Settings → Made → Progress → Encoded →
+    Option (List ℕ) → Option (List ℕ) → Option (List ℕ) → Option (List ℕ) → Type 0
+StopsPicture t m old (encoded.UnitTooLong number) out out' side side' = IsTooLong t m number old out out' side side'
+StopsPicture t m old encoded.WriteFault out out' side side' = BreaksOff t m old out out' side side'
+StopsPicture t m old encoded.SideFault out out' side side' = BreaksOff t m old out out' side side'
+StopsPicture t m old encoded.NoMemory out out' side side' = BreaksOff t m old out out' side side'
+StopsPicture t m old answer out out' side side' = ⊥
+
+-- a fault of a sink, or want of memory
+abbrev pub IsFault : Encoded → Type 0
+IsFault encoded.WriteFault = ⊤
+IsFault encoded.SideFault = ⊤
+IsFault encoded.NoMemory = ⊤
+IsFault answer = ⊥
+
+-- such a fault, or a unit that is too long
+abbrev pub StopsCoding : Encoded → Type 0
+StopsCoding (encoded.UnitTooLong number) = ⊤
+StopsCoding answer = IsFault answer

@@ -12,6 +12,7 @@ use Rattle.dirac_units.specs.Writing.{info_bytes}
 use Rattle.dirac_sequence.specs.Grammar.{sequence_read}
 use Rattle.dirac_sequence.specs.Written.{sequence_of, sequence_payload}
 use Rattle.dirac_picture.specs.Grammar.{is_intra}
+pub use Rattle.dirac_plan_laws.specs.Headers.{IsPictureCode}
 use Rattle.dirac_stream.specs.Coding.{Made, coding}
 
 -- a unit's parse info: its next offset is the unit's length
@@ -109,12 +110,6 @@ units_in t (m ∷ ms) = units_from t 0 (m ∷ ms)
 -- the units of the stream of these sources
 abbrev pub stream_units : Settings → List Picture → List UnitText
 stream_units t pictures = units_in t (coding t pictures)
-
--- a parse code of pictures
-pub record IsPictureCode (code : ℕ) : Type 0 where
-  pub read : fields_are_read code ≡ true
-  pub other : (code == 0x00) ≡ false
-  pub kind : unit_kind code ≡ Ok kind.Picture
 
 -- a picture whose unit has a length that its offset can hold
 pub record IsUnit (m : Made) : Type 0 where

@@ -12,9 +12,9 @@ use Rattle.dirac_blocks.specs.Tables.{BlockTable, IsBlockTable}
 use Rattle.dirac_upconvert.specs.HalfSamples.{IsSample}
 use Rattle.dirac_picture.specs.Grammar.{are_listed, is_intra, superblocks_over}
 use Rattle.dirac_plan.specs.declared.planned.Planned.{Planned}
-use Rattle.dirac_stream.specs.Coded.{IsSource, header_of}
-use Rattle.dirac_stream.specs.Planning.{chosen}
-use Rattle.dirac_stream.specs.Plans.{IsPlanned}
+use Rattle.dirac_stream.specs.Coded.{IsSource}
+use Rattle.dirac_stream.specs.Chosen.{chosen}
+use Rattle.dirac_plan_laws.specs.Headers.{IsPlanned, header_of}
 
 -- DC values that are samples
 pub record HasSamples (b : Block) : Type 0 where

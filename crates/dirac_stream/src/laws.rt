@@ -4,6 +4,7 @@ ghost use Rattle.dirac_stream.specs.Stream.{HeadersAreRead, StreamsAreCut};
 ghost use Rattle.dirac_stream.specs.Laws.{JobsAreKept, JobsAreRead, JobsAreSmall, RawPicturesAreRecovered, SourcesAreKept, SourcesShowReconstructions, StreamsShowTheirPictures};
 ghost use Rattle.dirac_stream.specs.Tables.{TablesAreChosen};
 
+use dirac_plan_laws::plans_can_be_coded;
 use dirac_units::infos_are_read_as_written;
 
 /// The stream of coded pictures has no fault, and shows their reconstructions in order.
@@ -30,4 +31,5 @@ pub fn streams_show_their_pictures()
     ensures recovered { RawPicturesAreRecovered }
 {
     infos_are_read_as_written();
+    plans_can_be_coded();
 }

@@ -16,7 +16,7 @@ pub returns-clause-shown : goal.returns-clause-shown
 returns-clause-shown c = streams_shown c.infos_are_read_as_written.ensures
 
 pub returns-clause-sources_shown : goal.returns-clause-sources_shown
-returns-clause-sources_shown c = sources_shown (streams_shown c.infos_are_read_as_written.ensures) jobs_read
+returns-clause-sources_shown c = sources_shown (streams_shown c.infos_are_read_as_written.ensures) jobs_read c.plans_can_be_coded.ensures
 
 pub returns-clause-sources : goal.returns-clause-sources
 returns-clause-sources c = jobs_read
@@ -25,10 +25,10 @@ pub returns-clause-sources_shown_again : goal.returns-clause-sources_shown_again
 returns-clause-sources_shown_again c = jobs_kept
 
 pub returns-clause-sources_kept : goal.returns-clause-sources_kept
-returns-clause-sources_kept c = sources_kept
+returns-clause-sources_kept c = sources_kept c.plans_can_be_coded.ensures
 
 pub returns-clause-coefficients : goal.returns-clause-coefficients
 returns-clause-coefficients c = jobs_small
 
 pub returns-clause-recovered : goal.returns-clause-recovered
-returns-clause-recovered c = raws_recovered (streams_shown c.infos_are_read_as_written.ensures) (streams_cut c.infos_are_read_as_written.ensures)
+returns-clause-recovered c = raws_recovered (streams_shown c.infos_are_read_as_written.ensures) (streams_cut c.infos_are_read_as_written.ensures) c.plans_can_be_coded.ensures
