@@ -22,6 +22,6 @@ pub use decoder::Decoder;
 pub use dirac_picture::{CodedMotion, CodedPicture, CodedResidual, PlaneBands, read_picture};
 pub use laws::a_stream_shows_its_sequences;
 pub use opened::Opened;
-pub use picture::rebuild;
+pub use picture::{predicted_samples, rebuild};
 pub use stream::decode_stream;
 pub use written::put_picture;

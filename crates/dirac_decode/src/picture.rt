@@ -1,8 +1,10 @@
-ghost use Rattle.std.specs.Prelude.{◌≡◌, ◌≤◌, length, IfErr, IfOk, IfSome, IsTrue};
+ghost use Rattle.std.specs.Prelude.{◌≡◌, ◌*◌, ◌≤◌, length, IfErr, IfOk, IfSome, IsTrue};
 ghost use Rattle.std.specs.List.{All};
+ghost use Rattle.dirac_types.specs.declared.formats.Kind.TheVariants.{Inter};
 ghost use Rattle.dirac_sequence.specs.Lawful.{IsSequence};
 ghost use Rattle.dirac_picture.specs.Fits.{FitsSequence, IsMotion, IsResidual, NamesReferences};
 ghost use Rattle.dirac_picture.specs.Grammar.{is_picture, picture_read};
+ghost use Rattle.dirac_residual.specs.Residual.{clipped as clipped_table, with_prediction};
 ghost use Rattle.dirac_decode.specs.Content as content;
 ghost use Rattle.dirac_decode.specs.Content.{AreReferences, IsPicture, rebuilt};
 ghost use Rattle.dirac_decode.specs.Course.{as_reference};
@@ -34,6 +36,24 @@ fn intra_samples(
     clipped(alloc, &residual)
 }
 
+/// The samples of a plane of an inter picture, from what is predicted for them, by rows: each with its residual,
+/// clipped.
+pub fn predicted_samples(
+    alloc: Global,
+    sequence: &Sequence,
+    residual: &Option<CodedResidual>,
+    predicted: &[i32],
+    part: Part,
+) -> Result<Plane, NoMemory>
+    requires sequence { IsSequence sequence.now }
+    requires fits { IfSome residual.now (IsResidual sequence.now) }
+    requires predicted { length predicted.now ≡ content.width_of sequence.now part * content.height_of sequence.now part }
+    ensures value { IfOk result (λ t. t ≡ clipped_table (with_prediction (content.residual_among sequence.now Inter part residual.now) predicted.now)) }
+{
+    let residual = residual_of(alloc, sequence, Kind::Inter, part, residual)?;
+    clipped_sum(alloc, &residual, predicted)
+}
+
 /// The samples of a plane of an inter picture: its residual and what is predicted, clipped.
 fn inter_samples(
     alloc: Global,
@@ -53,8 +73,7 @@ fn inter_samples(
     ensures value { IfOk result (λ t. t ≡ content.inter_samples sequence.now refs.now header.now motion.now residual.now part) }
 {
     let predicted = predict(alloc, code, sequence, refs, header, motion, part)?;
-    let residual = residual_of(alloc, sequence, Kind::Inter, part, residual)?;
-    clipped_sum(alloc, &residual, predicted.values())
+    predicted_samples(alloc, sequence, residual, predicted.values(), part)
 }
 
 /// The samples of a plane.
