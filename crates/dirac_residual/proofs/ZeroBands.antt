@@ -42,7 +42,7 @@ replicated zero k = refl
 replicated (suc n) zero = refl
 replicated (suc n) (suc k) = replicated n k
 
-length-filled : (w h : ℕ) (f : ℕ → ℕ → ℤ) → length (filled w h f) ≡ w * h
+pub length-filled : (w h : ℕ) (f : ℕ → ℕ → ℤ) → length (filled w h f) ≡ w * h
 unfolding filled
 length-filled w h f = length-map-range_with_len (λ p. f (p % w) (p / w)) 0 (w * h)
 

@@ -36,7 +36,7 @@ use Rattle.dirac_stream.proofs.Coding.{clipped_again, codable}
 use Rattle.dirac_stream.proofs.Lefts.{found_is}
 use Rattle.dirac_stream.proofs.Reading.{jobs_read, source_plane}
 use Rattle.dirac_stream.proofs.Sourcing.{picture_at, sources_made}
-use Rattle.dirac_stream.proofs.Zeros.{length-filled, residual_zero}
+use Rattle.dirac_residual.proofs.ZeroBands.{length-filled, zeros_stand}
 use Rattle.dirac_plan.specs.Plan.{plan}
 use Rattle.dirac_plan_laws.specs.Headers.{IsPlanned, header_of}
 use Rattle.dirac_plan_laws.specs.Order.{by_number}
@@ -88,7 +88,7 @@ zero_part r part.V e = (and_parts (are_zero_bands r.y && are_zero_bands r.u) (ar
 -- a residual that is left out, being zero, is the same as one that is written
 left_out_again : (s : Sequence) (r : CodedResidual) (o : Part) (b : Bool) → is_zero_residual r ≡ b
     → residual_among s Inter o (if b then None else Some r) ≡ residual r.transform.wavelet r.transform.depth Inter (bands_in r o) (width_of s o) (height_of s o)
-left_out_again s r o true e = sym (residual_zero r.transform.wavelet r.transform.depth (bands_in r o) (width_of s o) (height_of s o) (zero_part r o e))
+left_out_again s r o true e = sym (zeros_stand r.transform.wavelet r.transform.depth (bands_in r o) (width_of s o) (height_of s o) (zero_part r o e))
 left_out_again s r o false e = refl
 
 length-predicted : (s : Sequence) (m : CodedMotion) (first second : Option Picture) (o : Part) → (first ≡ None → ⊥) → length (predicted_among s m first second o) ≡ width_of s o * height_of s o
@@ -142,15 +142,19 @@ parts_same : (n n' : ℕ) (a a' b b' c c' : Table) → n ≡ n' → a ≡ a' →
 parts_same n n' a a' b b' c c' e f g h = rw (e, f, g, h) refl
 
 -- a source is shown again
+pub kept_with : (t : Settings) (refs : List Picture) (q : Planned) (p : Picture) (m : Option CodedMotion) → IsAccepted t → IsSource t p → IsWhole p → IsPlanned q → are_listed refs (header_of q) ≡ true
+    → (m ≡ None → is_intra q.code ≡ true) → ((x : CodedMotion) → m ≡ Some x → is_intra q.code ≡ false) → p.number ≡ q.number → t.index ≡ 0 → rebuilt (sequence_of t) refs (coded_with t refs q p m) ≡ p
+kept_with t refs q p m accepted source whole planned found stays moves number none =
+    let codes = codable t accepted in
+    let kept : (o : Part) → samples_from (sequence_of t) refs (header_of q) m (residual_unless_zero m (residual_of t refs (header_of q) m p)) o ≡ plane_of p o =
+    λ o. plane_kept t refs q p m o codes source whole (first_found refs q planned found) none stays moves in
+    parts_same q.number p.number _ p.y _ p.u _ p.v (sym number) (kept part.Y) (kept part.U) (kept part.V)
+
 pub source_kept : (t : Settings) (refs : List Picture) (q : Planned) (p : Picture) → IsAccepted t → IsSource t p → IsWhole p → IsPlanned q → are_listed refs (header_of q) ≡ true
     → p.number ≡ q.number → t.index ≡ 0 → rebuilt (sequence_of t) refs (coded_of t refs q p) ≡ p
 source_kept t refs q p accepted source whole planned found number none =
-    let codes = codable t accepted in
-    let m = motion_of t refs q p in
     let known = motion_is t refs q p (is_intra q.code) _ refl in
-    let kept : (o : Part) → samples_from (sequence_of t) refs (header_of q) m (residual_unless_zero m (residual_of t refs (header_of q) m p)) o ≡ plane_of p o =
-    λ o. plane_kept t refs q p m o codes source whole (first_found refs q planned found) none known.0 known.1 in
-    parts_same q.number p.number _ p.y _ p.u _ p.v (sym number) (kept part.Y) (kept part.U) (kept part.V)
+    kept_with t refs q p (motion_of t refs q p) accepted source whole planned found known.0 known.1 number none
 
 -- ---- the pictures by number
 

@@ -28,7 +28,7 @@ use Rattle.dirac_upconvert.proofs.Halves.{half_samples}
 use Rattle.dirac_obmc.specs.declared.motion.Part.{Part}
 use Rattle.dirac_obmc.specs.declared.motion.Part.TheVariants as part
 use Rattle.dirac_obmc.specs.Compensation as obmc
-use Rattle.dirac_obmc.specs.Directions.{IsSound}
+use Rattle.dirac_obmc.proofs.SamplesPredicted.{planes_predicted}
 use Rattle.dirac_picture.specs.declared.coded.CodedMotion.{CodedMotion}
 use Rattle.dirac_picture.specs.Fits as fits
 use Rattle.dirac_picture.specs.Grammar.{chroma_height, chroma_width, is_listed}
@@ -40,7 +40,6 @@ use Rattle.dirac_decode.specs.Content.{compensation, height_of, named, plane_of,
 use Rattle.dirac_decode.proofs.Covering.{from_one, from_two}
 use Rattle.dirac_stream.specs.Coded.{IsPlane, IsSource, less_prediction, motion_with}
 use Rattle.dirac_stream.specs.Tables.{HasSamples, IsChosen}
-use Rattle.dirac_stream.proofs.Predicted.{IsPlain, plane_small}
 
 -- ---- sources are pictures of the sequence
 
@@ -50,9 +49,6 @@ sample_least (negsuc n) is = record { least = grind (arith, ints); most = grind 
 
 pub samples_are : (xs : List ℤ) → AreSamples xs → All IsSample xs
 samples_are xs all k d l = sample_least (get_or xs k d) (all k d l)
-
-pub sample_small : (v : ℤ) → IsSample v → unsigned_abs v ≤ 128
-sample_small v is = omega (arith, ints, is.least, is.most)
 
 pub picture_is : (t : Settings) (p : Picture) → IsSource t p → content.IsPicture (sequence_of t) p
 unfolding sequence_of
@@ -144,44 +140,53 @@ motion_of s o m lawful w h is =
       two = is.two;
     }
 
-none_small : All (λ v. unsigned_abs v ≤ 128) []
-none_small k d l = absurd (omega (arith, l))
+none_are : All IsSample []
+none_are k d l = absurd (omega (arith, l))
 
-pub predicted_small : (t : Settings) (code : ℕ) (b : BlockTable) (first second : Option Picture) (o : Part) → IsPredicting t → IsChosen t code b → ForSome first (IsSource t) → ForSome second (IsSource t)
-    → (references_of code ≡ 2 → second ≡ None → ⊥) → All (λ v. unsigned_abs v ≤ 128) (predicted_among (sequence_of t) (motion_with t b) first second o)
-predicted_small t code b None second o is c one two there = none_small
-predicted_small t code b (Some p) None o is c one two there =
+-- what samples predict with the default weights are samples
+pub predicted_are : (t : Settings) (code : ℕ) (b : BlockTable) (first second : Option Picture) (o : Part) → IsPredicting t → IsChosen t code b → ForSome first (IsSource t) → ForSome second (IsSource t)
+    → (references_of code ≡ 2 → second ≡ None → ⊥) → All IsSample (predicted_among (sequence_of t) (motion_with t b) first second o)
+predicted_are t code b None second o is c one two there = none_are
+predicted_are t code b (Some p) None o is c one two there =
     let s = sequence_of t in
     let m = motion_with t b in
     let picture = picture_is t p (one p refl) in
     let predictable = from_one code s m p (up_of (plane_of p o)) o is.lawful (motion_fits t code b is c) picture refl (λ refs. there (sym c.refs ∙ refs) refl) in
-    plane_small (compensation s m p None o) (motion_of s o (compensation s m p None o) is.lawful refl refl predictable)
-    (record { blocks = c.table; first = half_samples (plane_of p o) (plane_samples s p o picture); second = λ u e. absurd cc })
-    (record { bits = refl; first = refl; second = refl; dcs = λ i j. dc_at b.blocks (j * (4 * b.across) + i) o c.dcs })
-predicted_small t code b (Some p) (Some q) o is c one two there =
+    planes_predicted (compensation s m p None o) (motion_of s o (compensation s m p None o) is.lawful refl refl predictable)
+    (record {
+      weights = record { weight_bits = refl; weight1 = refl; weight2 = refl };
+      first = half_samples (plane_of p o) (plane_samples s p o picture);
+      second = λ u e. absurd cc;
+      dc = λ i j k l. dc_at b.blocks (j * (4 * b.across) + i) o c.dcs;
+    })
+predicted_are t code b (Some p) (Some q) o is c one two there =
     let s = sequence_of t in
     let m = motion_with t b in
     let picture = picture_is t p (one p refl) in
     let other = picture_is t q (two q refl) in
     let predictable = from_two code s m p q (up_of (plane_of p o)) (up_of (plane_of q o)) o is.lawful (motion_fits t code b is c) picture other refl refl in
-    plane_small (compensation s m p (Some q) o) (motion_of s o (compensation s m p (Some q) o) is.lawful refl refl predictable)
+    planes_predicted (compensation s m p (Some q) o) (motion_of s o (compensation s m p (Some q) o) is.lawful refl refl predictable)
     (record {
-      blocks = c.table;
+      weights = record { weight_bits = refl; weight1 = refl; weight2 = refl };
       first = half_samples (plane_of p o) (plane_samples s p o picture);
       second = λ u e. let same : up_of (plane_of q o) ≡ u = cc in subst (λ (x : Up). All IsSample x.table.values) same (half_samples (plane_of q o) (plane_samples s q o other));
+      dc = λ i j k l. dc_at b.blocks (j * (4 * b.across) + i) o c.dcs;
     })
-    (record { bits = refl; first = refl; second = refl; dcs = λ i j. dc_at b.blocks (j * (4 * b.across) + i) o c.dcs })
 
 -- ---- differences
 
-zip_small : (vs ps : List ℤ) → All IsSample vs → All (λ v. unsigned_abs v ≤ 128) ps → AreDifferences (zip2 (λ v other. v -ℤ other) vs ps)
+-- two samples are at most 255 apart
+apart : (v p : ℤ) → IsSample v → IsSample p → unsigned_abs (v -ℤ p) ≤ 255
+apart v p a b = omega (arith, ints, a.least, a.most, b.least, b.most)
+
+zip_small : (vs ps : List ℤ) → All IsSample vs → All IsSample ps → AreDifferences (zip2 (λ v other. v -ℤ other) vs ps)
 zip_small [] ps first second k d l = absurd (omega (arith, l))
 zip_small (v ∷ vs) [] first second k d l = absurd (omega (arith, l))
-zip_small (v ∷ vs) (p ∷ ps) first second zero d l = omega (arith, ints, sample_small v (first 0 d (omega arith)), second 0 d (omega arith))
+zip_small (v ∷ vs) (p ∷ ps) first second zero d l = apart v p (first 0 d (omega arith)) (second 0 d (omega arith))
 zip_small (v ∷ vs) (p ∷ ps) first second (suc k) d l =
     zip_small vs ps (λ i e n. first (suc i) e (omega (arith, n))) (λ i e n. second (suc i) e (omega (arith, n))) k d (omega (arith, l))
 
-pub differences_small : (t : Table) (predicted : List ℤ) → All IsSample t.values → All (λ v. unsigned_abs v ≤ 128) predicted → AreDifferences (less_prediction t predicted).values
+pub differences_small : (t : Table) (predicted : List ℤ) → All IsSample t.values → All IsSample predicted → AreDifferences (less_prediction t predicted).values
 differences_small t predicted samples small = zip_small t.values predicted samples small
 
 -- ---- references that are found

@@ -9,10 +9,8 @@ pub mod Counting
 pub mod Pictures
 pub mod Written
 pub mod Coding
-pub mod Predicted
 pub mod Lefts
 pub mod Reading
-pub mod Zeros
 pub mod Kept
 pub mod Sources
 pub mod Streams

@@ -50,7 +50,7 @@ use Rattle.dirac_stream.specs.Coded.{IsPlane, IsSource, bands_of, coded_of, code
 use Rattle.dirac_stream.specs.Coding.{Job, made}
 use Rattle.dirac_stream.specs.Laws.{JobsAreRead, JobsAreSmall}
 use Rattle.dirac_stream.specs.Tables.{IsChosen, TablesAreChosen}
-use Rattle.dirac_stream.specs.Payload.{payload_of, with_blocks, with_coefficients, with_flag, with_motion, with_picture, with_residual}
+use Rattle.dirac_stream.specs.Payload.{HasSpelledBlocks, payload_of, with_blocks, with_coefficients, with_flag, with_motion, with_picture, with_residual}
 use Rattle.dirac_stream.specs.Chosen.{chosen}
 use Rattle.dirac_stream.specs.Writable.{AreSmall, IsCodable, IsWritten}
 use Rattle.dirac_stream.specs.Stream.{picture_length}
@@ -58,7 +58,7 @@ use Rattle.dirac_stream.proofs.Behind.{behind_gap, whole_starts}
 use Rattle.dirac_stream.proofs.Coding.{bands_fit, bands_noughts, bands_small, codable, is_written, sequence_lawful}
 use Rattle.dirac_stream.proofs.Headers.{length-bytes_in}
 use Rattle.dirac_stream.proofs.InBytes.{bytes_again}
-use Rattle.dirac_stream.proofs.Lefts.{IsPredicting, differences_small, found_is, named_is, picture_is, predicted_small, samples_are}
+use Rattle.dirac_stream.proofs.Lefts.{IsPredicting, differences_small, found_is, named_is, picture_is, predicted_are, samples_are}
 use Rattle.dirac_stream.proofs.Pictures.{behind_align, fields_spelled, flag_spelled, left_out, motion_spelled, no_flag, no_motion, not_left_out, picture_spelled}
 use Rattle.dirac_stream.proofs.Written.{residual_written}
 use Rattle.dirac_plan_laws.specs.Headers.{IsPlanned, header_of}
@@ -88,10 +88,10 @@ source_plane t p part.Y is = is.y
 source_plane t p part.U is = is.u
 source_plane t p part.V is = is.v
 
--- what is known of the motion of a planned picture
-pub data Moves (t : Settings) (refs : List Picture) (q : Planned) (p : Picture) : Option CodedMotion → Type 0 where
-  stays : is_intra q.code ≡ true → Moves t refs q p None
-  moves : is_intra q.code ≡ false → IsChosen t q.code (chosen t refs q p) → Moves t refs q p (Some (motion_with t (chosen t refs q p)))
+-- the motion of a planned picture: just an inter picture has one, by a block table that fits it
+pub data Moves (t : Settings) (q : Planned) : Option CodedMotion → Type 0 where
+  stays : is_intra q.code ≡ true → Moves t q None
+  moves : (b : BlockTable) → is_intra q.code ≡ false → IsChosen t q.code b → Moves t q (Some (motion_with t b))
 
 pub second_found : (refs : List Picture) (q : Planned) → IsPlanned q → are_listed refs (header_of q) ≡ true → references_of q.code ≡ 2 → named refs q.ref2 ≡ None → ⊥
 second_found refs q is found two =
@@ -99,17 +99,17 @@ second_found refs q is found two =
     found_is refs q.ref2 some (and_parts (is_listed refs q.ref1) (is_listed refs q.ref2) found).1
 
 pub left_fits : (t : Settings) (refs : List Picture) (q : Planned) (p : Picture) (m : Option CodedMotion) (o : Part) → IsAccepted t → AllByRecursion (IsSource t) refs → IsSource t p → IsPlanned q → are_listed refs (header_of q) ≡ true
-    → Moves t refs q p m → IsLeft (width_of (sequence_of t) o) (height_of (sequence_of t) o) (left_of t refs (header_of q) m p o)
+    → Moves t q m → IsLeft (width_of (sequence_of t) o) (height_of (sequence_of t) o) (left_of t refs (header_of q) m p o)
 left_fits t refs q p None o accepted listed source planned found (stays intra) =
     let plane = source_plane t p o source in
     record { across = plane.across; down = plane.down; small = samples_small (plane_of p o).values plane.samples }
-left_fits t refs q p (Some m) o accepted listed source planned found (moves inter chose) =
+left_fits t refs q p (Some m) o accepted listed source planned found (moves b inter chose) =
     let plane = source_plane t p o source in
     record {
       across = plane.across;
       down = plane.down;
       small = differences_small (plane_of p o) _ (samples_are (plane_of p o).values plane.samples)
-          (predicted_small t q.code (chosen t refs q p) (named refs q.ref1) (named refs q.ref2) o (predicting t accepted) chose (named_is (IsSource t) refs q.ref1 listed) (named_is (IsSource t) refs q.ref2 listed)
+          (predicted_are t q.code b (named refs q.ref1) (named refs q.ref2) o (predicting t accepted) chose (named_is (IsSource t) refs q.ref1 listed) (named_is (IsSource t) refs q.ref2 listed)
           (second_found refs q planned found));
     }
 
@@ -120,7 +120,7 @@ level_bands t kind width height plane codes is =
     (planes_fit kind t.wavelet t.depth t.index plane codes.wavelet codes.depth.1 codes.index is.small))
 
 pub residual_fits : (t : Settings) (refs : List Picture) (q : Planned) (p : Picture) (m : Option CodedMotion) → IsAccepted t → AllByRecursion (IsSource t) refs → IsSource t p → IsPlanned q → are_listed refs (header_of q) ≡ true
-    → Moves t refs q p m → IsWritten (sequence_of t) (residual_of t refs (header_of q) m p)
+    → Moves t q m → IsWritten (sequence_of t) (residual_of t refs (header_of q) m p)
 unfolding sequence_of
 residual_fits t refs q p m accepted listed source planned found is =
     let codes = codable t accepted in
@@ -159,25 +159,30 @@ lists_short (ds ∷ more) bits small =
 byte_whole : (bits : List Bool) → IsWhole (up_to_byte bits)
 byte_whole bits = omega (arith, length-append bits (gap bits), length-replicate ((8 - length bits % 8) % 8) false)
 
-fields_written : (t : Settings) (code : ℕ) (b : BlockTable) (old : List Bool) → IsPredicting t → IsChosen t code b → length (with_blocks t b old) < 2 ^ 40
+fields_written : (t : Settings) (code : ℕ) (b : BlockTable) (old : List Bool) → IsPredicting t → IsChosen t code b → HasSpelledBlocks t (Some (motion_with t b)) old
     → SpelledBehind (prediction_fields code (sequence_of t)) (motion_with t b) old (with_blocks t b old)
 unfolding blocks
-fields_written t code b old is c small =
+fields_written t code b old is c table =
     let s = sequence_of t in
     let mid = old ++ prediction_bits old t.blocks t.precision in
-    let lists = block_decisions b (least_numbers b) in
-    let new = with_lists lists (up_to_byte mid) in
-    let table : SpelledBehind (blocks b.across b.down b.refs) b (up_to_byte mid) new = table_spelled b (up_to_byte mid) c.table (byte_whole mid) (lists_short lists (up_to_byte mid) small) in
+    let new = with_blocks t b old in
     let behind : SpelledBehind (blocks b.across b.down b.refs) b mid new = behind_align _ b mid new table in
     fields_spelled code s (prediction_of t.blocks t.precision) b old mid new
     (prediction_spelled old mid t.blocks t.precision is.some_blocks is.most_blocks is.precision refl code s.chroma) c.across c.down
     (subst (λ n. SpelledBehind (blocks b.across b.down n) b mid new) c.refs behind)
 
-motion_written : (t : Settings) (refs : List Picture) (q : Planned) (p : Picture) (m : Option CodedMotion) (old : List Bool) → IsPredicting t → Moves t refs q p m → length (with_motion t m old) < 2 ^ 40
+motion_written : (t : Settings) (q : Planned) (m : Option CodedMotion) (old : List Bool) → IsPredicting t → Moves t q m → HasSpelledBlocks t m old
     → SpelledBehind (motion q.code (sequence_of t)) m old (with_motion t m old)
-motion_written t refs q p None old is (stays intra) small = no_motion q.code (sequence_of t) old intra
-motion_written t refs q p (Some m) old is (moves inter chose) small =
-    motion_spelled q.code (sequence_of t) (motion_with t (chosen t refs q p)) old (with_blocks t (chosen t refs q p) old) inter (fields_written t q.code (chosen t refs q p) old is chose small)
+motion_written t q None old is (stays intra) spelled = no_motion q.code (sequence_of t) old intra
+motion_written t q (Some m) old is (moves b inter chose) spelled =
+    motion_spelled q.code (sequence_of t) (motion_with t b) old (with_blocks t b old) inter (fields_written t q.code b old is chose spelled)
+
+-- a block table is spelt if it isn't too long
+blocks_spelled : (t : Settings) (q : Planned) (m : Option CodedMotion) (old : List Bool) → Moves t q m → length (with_motion t m old) < 2 ^ 40 → HasSpelledBlocks t m old
+blocks_spelled t q None old (stays intra) small = tt
+blocks_spelled t q (Some m) old (moves b inter chose) small =
+    let start = up_to_byte (old ++ prediction_bits old t.blocks t.precision) in
+    table_spelled b start chose.table (byte_whole (old ++ prediction_bits old t.blocks t.precision)) (lists_short (block_decisions b (least_numbers b)) start small)
 
 -- the flag, and the residual where it is written
 pub record Coefficients (code : ℕ) (s : Sequence) (r : Option CodedResidual) (old new : List Bool) : Type 0 where
@@ -198,7 +203,7 @@ unless_zero code s r false old inter written =
     subst (λ (l : List Bool). Coefficients code s (Some r) old (with_residual s r l)) (sym whole)
     (record { none = false; mid = flagged; flag = flag_spelled code false old inter; rest = not_left_out s r flagged (with_residual s r flagged) (written flagged) })
 
-coefficients_written : (t : Settings) (refs : List Picture) (q : Planned) (p : Picture) (m : Option CodedMotion) (old : List Bool) → IsPredicting t → Moves t refs q p m → IsWritten (sequence_of t) (residual_of t refs (header_of q) m p)
+coefficients_written : (t : Settings) (refs : List Picture) (q : Planned) (p : Picture) (m : Option CodedMotion) (old : List Bool) → IsPredicting t → Moves t q m → IsWritten (sequence_of t) (residual_of t refs (header_of q) m p)
     → Coefficients q.code (sequence_of t) (residual_unless_zero m (residual_of t refs (header_of q) m p)) old (with_coefficients (sequence_of t) q.code (residual_unless_zero m (residual_of t refs (header_of q) m p)) old)
 coefficients_written t refs q p None old is (stays intra) fits =
     let s = sequence_of t in
@@ -206,9 +211,9 @@ coefficients_written t refs q p None old is (stays intra) fits =
     let whole : with_flag q.code false old ≡ old = ap (λ (i : Bool). if i then old else (old ++ false ∷ [])) intra in
     subst (λ (l : List Bool). Coefficients q.code s (Some r) old (with_residual s r l)) (sym whole)
     (record { none = false; mid = old; flag = no_flag q.code old intra; rest = not_left_out s r old (with_residual s r old) (residual_written s r old is.lawful fits) })
-coefficients_written t refs q p (Some m) old is (moves inter chose) fits =
+coefficients_written t refs q p (Some m) old is (moves b inter chose) fits =
     let s = sequence_of t in
-    let mm = motion_with t (chosen t refs q p) in
+    let mm = motion_with t b in
     let r = residual_of t refs (header_of q) (Some mm) p in
     unless_zero q.code s r (is_zero_residual r) old inter (λ start. residual_written s r start is.lawful fits)
 
@@ -219,14 +224,15 @@ spelled_longer s x old new is = omega (arith, ap length is.is, length-append old
 -- ---- the whole
 
 pub moves_so : TablesAreChosen → (t : Settings) (refs : List Picture) (q : Planned) (p : Picture) → IsAccepted t → AllByRecursion (IsSource t) refs → IsSource t p → IsPlanned q → are_listed refs (header_of q) ≡ true
-    → (b : Bool) → is_intra q.code ≡ b → Moves t refs q p (if b then None else Some (motion_with t (chosen t refs q p)))
+    → (b : Bool) → is_intra q.code ≡ b → Moves t q (if b then None else Some (motion_with t (chosen t refs q p)))
 moves_so law t refs q p accepted listed source planned found true e = stays e
-moves_so law t refs q p accepted listed source planned found false e = moves e (law t refs q p accepted listed source planned found e)
+moves_so law t refs q p accepted listed source planned found false e = moves (chosen t refs q p) e (law t refs q p accepted listed source planned found e)
 
-pub read_with : (t : Settings) (refs : List Picture) (q : Planned) (p : Picture) (m : Option CodedMotion) → IsAccepted t → AllByRecursion (IsSource t) refs → IsSource t p → IsPlanned q → are_listed refs (header_of q) ≡ true → Moves t refs q p m
-    → 13 + length (payload_of t (coded_with t refs q p m)) < 2 ^ 32 → picture_read q.code (sequence_of t) refs (payload_of t (coded_with t refs q p m)) ≡ Ok (coded_with t refs q p m)
-unfolding payload_of bytes_in
-read_with t refs q p m accepted listed source planned found is short =
+-- the payload of a coded picture is read again, where its block table is spelt
+pub read_spelled : (t : Settings) (refs : List Picture) (q : Planned) (p : Picture) (m : Option CodedMotion) → IsAccepted t → AllByRecursion (IsSource t) refs → IsSource t p → IsPlanned q → are_listed refs (header_of q) ≡ true → Moves t q m
+    → HasSpelledBlocks t m (header_bits [] q.code (header_of q)) → picture_read q.code (sequence_of t) refs (payload_of t (coded_with t refs q p m)) ≡ Ok (coded_with t refs q p m)
+unfolding payload_of
+read_spelled t refs q p m accepted listed source planned found is blocks =
     let s = sequence_of t in
     let c = coded_with t refs q p m in
     let predicts = predicting t accepted in
@@ -236,16 +242,31 @@ read_with t refs q p m accepted listed source planned found is short =
     let last = coefficients_written t refs q p m (up_to_byte mid) predicts is fits in
     let bits = with_picture t c [] in
     let bytes = bytes_of (up_to_byte bits) in
+    let first = header_spelled [] head q.code (header_of q) planned.range planned.references planned.retires refl in
+    let spelled : SpelledBehind (picture q.code s refs) c [] bits =
+    picture_spelled q.code s refs (header_of q) m last.none c.residual [] head mid last.mid bits first found (motion_written t q m head predicts is blocks) last.flag last.rest in
+    whole_read (picture q.code s refs) c bytes (whole_starts (picture q.code s refs) c [] bits bytes refl spelled (bytes_again bits))
+
+-- and where its unit is shorter than 2^32 bytes, so that its block table is short enough
+pub read_with : (t : Settings) (refs : List Picture) (q : Planned) (p : Picture) (m : Option CodedMotion) → IsAccepted t → AllByRecursion (IsSource t) refs → IsSource t p → IsPlanned q → are_listed refs (header_of q) ≡ true → Moves t q m
+    → 13 + length (payload_of t (coded_with t refs q p m)) < 2 ^ 32 → picture_read q.code (sequence_of t) refs (payload_of t (coded_with t refs q p m)) ≡ Ok (coded_with t refs q p m)
+unfolding payload_of bytes_in
+read_with t refs q p m accepted listed source planned found is short =
+    let s = sequence_of t in
+    let c = coded_with t refs q p m in
+    let fits = residual_fits t refs q p m accepted listed source planned found is in
+    let head = [] ++ header_bits [] q.code (header_of q) in
+    let mid = with_motion t m head in
+    let last = coefficients_written t refs q p m (up_to_byte mid) (predicting t accepted) is fits in
+    let bits = with_picture t c [] in
+    let bytes = bytes_of (up_to_byte bits) in
     let count : length bytes ≡ length (up_to_byte bits) / 8 = length-bytes_in (length (up_to_byte bits) / 8) (up_to_byte bits) in
     let whole : length (up_to_byte bits) ≡ length bits + length (gap bits) = length-append bits (gap bits) in
     let longer = spelled_longer (zero_residual q.code) last.none (up_to_byte mid) last.mid last.flag in
     let longest = spelled_longer (residual_unless last.none s) c.residual last.mid bits last.rest in
     let some : length (up_to_byte mid) ≡ length mid + length (gap mid) = length-append mid (gap mid) in
     let small : length mid < 2 ^ 40 = omega (arith, short, count, whole, longer, longest, some) in
-    let first = header_spelled [] head q.code (header_of q) planned.range planned.references planned.retires refl in
-    let spelled : SpelledBehind (picture q.code s refs) c [] bits =
-    picture_spelled q.code s refs (header_of q) m last.none c.residual [] head mid last.mid bits first found (motion_written t refs q p m head predicts is small) last.flag last.rest in
-    whole_read (picture q.code s refs) c bytes (whole_starts (picture q.code s refs) c [] bits bytes refl spelled (bytes_again bits))
+    read_spelled t refs q p m accepted listed source planned found is (blocks_spelled t q m head is small)
 
 pub jobs_read : TablesAreChosen → JobsAreRead
 jobs_read law t refs j accepted listed source planned found short =
@@ -254,7 +275,7 @@ jobs_read law t refs j accepted listed source planned found short =
     read_with t refs q p _ accepted listed source planned found (moves_so law t refs q p accepted listed source planned found (is_intra q.code) refl) short
 
 pub residual_small : (t : Settings) (refs : List Picture) (q : Planned) (p : Picture) (m : Option CodedMotion) → IsAccepted t → AllByRecursion (IsSource t) refs → IsSource t p → IsPlanned q → are_listed refs (header_of q) ≡ true
-    → Moves t refs q p m → AreSmall (residual_of t refs (header_of q) m p)
+    → Moves t q m → AreSmall (residual_of t refs (header_of q) m p)
 unfolding sequence_of
 residual_small t refs q p m accepted listed source planned found is =
     let codes = codable t accepted in

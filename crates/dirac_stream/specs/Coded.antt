@@ -1,6 +1,5 @@
 -- The coded picture that a planned picture becomes.
 use Rattle.std.specs.Prelude.{◌≡◌, ℕ, ℤ, zero, suc, ◌+◌, ◌-ℤ◌, ◌==◌, ◌&&◌, if◌then◌else◌, Bool, true, false, List, [], ◌∷◌, ◌++◌, min, Option, Some, None}
-use Rattle.std.specs.List.{list_all}
 use Rattle.std.specs.Simd.Lanes.{zip2}
 use Rattle.dirac_types.specs.declared.formats.Kind.{Kind}
 use Rattle.dirac_types.specs.declared.formats.Kind.TheVariants.{Intra, Inter}
@@ -14,7 +13,6 @@ use Rattle.dirac_header.specs.Transform.{band_length}
 use Rattle.dirac_header.specs.Written.{prediction_of}
 use Rattle.dirac_blocks.specs.Tables.{BlockTable}
 use Rattle.dirac_coeffs.specs.declared.spot.CodedBand.{CodedBand}
-use Rattle.dirac_coeffs.specs.Written.{is_zero_band}
 use Rattle.dirac_obmc.specs.declared.motion.Part.{Part}
 use Rattle.dirac_obmc.specs.declared.motion.Part.TheVariants as part
 use Rattle.dirac_picture.specs.declared.coded.CodedMotion.{CodedMotion}
@@ -24,6 +22,7 @@ use Rattle.dirac_picture.specs.Grammar.{chroma_width, chroma_height, is_intra}
 use Rattle.dirac_analysis.specs.Analysis.{plane_bands}
 use Rattle.dirac_analysis.specs.Fits.{AreSamples}
 use Rattle.dirac_decode.specs.Content.{named, plane_of, predicted_among}
+pub use Rattle.dirac_residual.specs.Zeros.{are_zero_bands}
 use Rattle.dirac_plan.specs.declared.planned.Planned.{Planned}
 pub use Rattle.dirac_plan_laws.specs.Headers.{header_of}
 use Rattle.dirac_stream.specs.Chosen.{chosen}
@@ -93,11 +92,7 @@ residual_of t refs head m p = record {
   v = bands_of t (kind_of m) (left_of t refs head m p part.V);
 }
 
--- all coefficients of these bands are zero
-abbrev pub are_zero_bands : List CodedBand → Bool
-are_zero_bands bands = list_all (λ (b : CodedBand). is_zero_band b.table.values) bands
-
--- those of all planes
+-- whether all bands of all planes have zeros alone
 abbrev pub is_zero_residual : CodedResidual → Bool
 is_zero_residual r = are_zero_bands r.y && are_zero_bands r.u && are_zero_bands r.v
 

@@ -7,10 +7,11 @@ use Rattle.dirac_sequence.specs.Written.{sequence_of}
 use Rattle.dirac_header.specs.declared.transform.Transform.{Transform}
 use Rattle.dirac_header.specs.Written.{header_bits, prediction_bits, transform_bits}
 use Rattle.dirac_blocks.specs.Decisions.{block_decisions, least_numbers}
+use Rattle.dirac_blocks.specs.Grammar.{blocks}
 use Rattle.dirac_blocks.specs.Tables.{BlockTable}
 use Rattle.dirac_blocks.specs.Written.{with_lists}
 use Rattle.dirac_coeffs.specs.declared.spot.CodedBand.{CodedBand}
-use Rattle.dirac_coeffs.specs.Written.{up_to_byte, with_band}
+use Rattle.dirac_coeffs.specs.Written.{SpelledBehind, up_to_byte, with_band}
 use Rattle.dirac_picture.specs.declared.coded.CodedMotion.{CodedMotion}
 use Rattle.dirac_picture.specs.declared.coded.CodedPicture.{CodedPicture}
 use Rattle.dirac_picture.specs.declared.coded.CodedResidual.{CodedResidual}
@@ -41,9 +42,16 @@ with_residual s r bits = with_planes s r (bits ++ transform_bits r.transform)
 
 -- with the block index and precision of these settings and a block table behind them
 abbrev pub with_blocks : Settings → BlockTable → List Bool → List Bool
-with_blocks t blocks bits =
-    with_lists (block_decisions blocks (least_numbers blocks))
+with_blocks t table bits =
+    with_lists (block_decisions table (least_numbers table))
     (up_to_byte (bits ++ prediction_bits bits t.blocks t.precision))
+
+-- the block table of a picture's motion is spelt behind these bits, so that it can be read again
+abbrev pub HasSpelledBlocks : Settings → Option CodedMotion → List Bool → Type 0
+HasSpelledBlocks t None bits = Unit {0}
+HasSpelledBlocks t (Some m) bits =
+    SpelledBehind (blocks m.blocks.across m.blocks.down m.blocks.refs) m.blocks
+    (up_to_byte (bits ++ prediction_bits bits t.blocks t.precision)) (with_blocks t m.blocks bits)
 
 -- with those of a picture's motion behind them, if it has any
 abbrev pub with_motion : Settings → Option CodedMotion → List Bool → List Bool
