@@ -1,0 +1,8 @@
+use Rattle.dirac_decide.specs.Given.{given}
+use Rattle.dirac_decide.specs.Rooms.{IsRoom}
+use Rattle.dirac_decide.specs.Splits.{DecidedTo}
+use Rattle.dirac_decide.proofs.superblock.decide_row.Given as goal
+
+abbrev pub invariant-loop-sx : goal.invariant-loop-sx
+invariant-loop-sx l =
+    DecidedTo (given l.inputs) l.sx l.sy l.table × IsRoom (given l.inputs) 0 l.whole.items × IsRoom (given l.inputs) 1 l.quarters.items × IsRoom (given l.inputs) 2 l.sixteenths.items

@@ -1,0 +1,15 @@
+use Rattle.std.proofs.Common.{arith}
+use Rattle.dirac_decide.specs.Given.{given}
+use Rattle.dirac_decide.proofs.Superblocks.{all_decided, none_decided}
+use Rattle.dirac_decide.proofs.superblock.decide_rows.Goals as goal
+
+pub loop-sy-init : goal.loop-sy-init
+loop-sy-init c = (
+  none_decided (given c.args.inputs.now) c.args.table.now c.requires.table,
+  c.requires.whole,
+  c.requires.quarters,
+  c.requires.sixteenths,
+)
+
+pub returns : goal.returns
+returns c = record { table = all_decided (given c.args.inputs.now) c.loop-sy.sy c.loop-sy.table (omega arith) c.loop-sy.invariant.0 }

@@ -1,0 +1,25 @@
+-- What costs least.
+use Rattle.std.specs.Prelude.{◌≡◌, ℕ, ◌*◌, ◌<◌, ◌≤◌, Some}
+use Rattle.dirac_decide.specs.Deciding.{Deciding, View}
+use Rattle.dirac_decide.specs.Modes.{both_mode, choice_of, dc_mode, first_mode, second_mode}
+use Rattle.dirac_decide.specs.Splits.{best_split, split_cost}
+use Rattle.dirac_decide.specs.Units.{best_place, candidate_cost, least_cost}
+use Rattle.dirac_decide.specs.declared.prediction_unit.PredictionUnit.{PredictionUnit}
+
+-- the best vector costs no more than any candidate, and less than all before it
+pub record IsLeastVector (d : Deciding) (r : View) (u : PredictionUnit) : Type 0 where
+  pub least : (k : ℕ) → k < u.size * u.size → least_cost d r u ≤ candidate_cost d r u k
+  pub first : (k : ℕ) → k < best_place d r u → least_cost d r u < candidate_cost d r u k
+
+-- the mode costs no more than any mode
+pub record IsLeastMode (d : Deciding) (u : PredictionUnit) : Type 0 where
+  pub reference_1 : (choice_of d u).cost ≤ (first_mode d u).cost
+  pub reference_2 : (r : View) → d.second ≡ Some r → (choice_of d u).cost ≤ (second_mode d r u).cost
+  pub both : (r : View) → d.second ≡ Some r → (choice_of d u).cost ≤ (both_mode d r u).cost
+  pub dc : (choice_of d u).cost ≤ (dc_mode d u).cost
+
+-- the split costs no more than any split, and less than all lower ones
+pub record IsLeastSplit (d : Deciding) (sx sy : ℕ) : Type 0 where
+  pub least : (split : ℕ) → split ≤ 2 → split_cost d sx sy (best_split d sx sy) ≤ split_cost d sx sy split
+  pub lower : (split : ℕ) → split < best_split d sx sy
+      → split_cost d sx sy (best_split d sx sy) < split_cost d sx sy split

@@ -1,0 +1,9 @@
+pub mod Choosing
+pub mod Deciding
+pub mod Given
+pub mod Laws
+pub mod Modes
+pub mod Predictors
+pub mod Rooms
+pub mod Splits
+pub mod Units

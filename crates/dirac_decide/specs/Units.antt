@@ -1,0 +1,58 @@
+-- Units of blocks: their windows, their candidates, and what these cost.
+use Rattle.std.specs.Prelude.{ℕ, ℤ, pos, ◌+◌, ◌-◌, ◌*◌, ◌/◌, ◌%◌, ◌^◌, ◌+ℤ◌}
+use Rattle.dirac_types.specs.declared.formats.Vector.{Vector}
+use Rattle.dirac_types.specs.declared.formats.BlockGrid.{BlockGrid}
+use Rattle.dirac_upconvert.specs.SubSamples.{Up, sub_sample}
+use Rattle.dirac_windows.specs.declared.window.Window.{Window}
+use Rattle.dirac_windows.specs.Bits.{bits_of_vector}
+use Rattle.dirac_windows.specs.Least.{first_least_to}
+use Rattle.dirac_windows.specs.Sums.{sum_below}
+use Rattle.dirac_windows.specs.Windows.{apart, over, sample_at}
+use Rattle.dirac_search.specs.Candidates.{vector_at}
+use Rattle.dirac_decide.specs.Deciding.{Deciding, View}
+use Rattle.dirac_decide.specs.declared.prediction_unit.PredictionUnit.{PredictionUnit}
+
+-- the window of block i of row j
+abbrev pub block_window : BlockGrid → ℕ → ℕ → Window
+block_window g i j = record { x = i * g.xbsep; y = j * g.ybsep; columns = g.xbsep; rows = g.ybsep }
+
+-- the window of a unit: those of its blocks side by side
+abbrev pub unit_window : BlockGrid → PredictionUnit → Window
+unit_window g u = record { x = u.i * g.xbsep; y = u.j * g.ybsep; columns = u.size * g.xbsep; rows = u.size * g.ybsep }
+
+-- how far the source is from these samples in block i of row j
+abbrev pub block_distortion : Deciding → (ℕ → ℕ → ℤ) → ℕ → ℕ → ℕ
+block_distortion d f i j = over (block_window d.grid i j) (apart (sample_at d.y) f)
+
+-- how far it is from them over the blocks of a unit
+unfoldable pub distortion : Deciding → PredictionUnit → (ℕ → ℕ → ℤ) → ℕ
+distortion d u f = sum_below (λ b. sum_below (λ a. block_distortion d f (u.i + a) (u.j + b)) u.size) u.size
+
+-- the samples of a reference to which a vector leads; both count in 2 ^ precision parts of a sample
+abbrev pub moved : ℕ → Up → Vector → ℕ → ℕ → ℤ
+moved precision up v x y =
+    sub_sample up precision (pos (2 ^ precision * x) +ℤ v.x) (pos (2 ^ precision * y) +ℤ v.y)
+
+-- candidate k of a unit: the vector of its block k, by rows
+abbrev pub candidate : View → PredictionUnit → ℕ → Vector
+candidate r u k = vector_at r.field (u.i + k % u.size) (u.j + k / u.size)
+
+-- what a vector costs
+abbrev pub vector_cost : Deciding → View → PredictionUnit → Vector → ℕ
+vector_cost d r u v = distortion d u (moved d.precision r.up v) + d.bias * bits_of_vector v
+
+-- what candidate k costs
+abbrev pub candidate_cost : Deciding → View → PredictionUnit → ℕ → ℕ
+candidate_cost d r u k = vector_cost d r u (candidate r u k)
+
+-- the number of the first candidate of least cost
+abbrev pub best_place : Deciding → View → PredictionUnit → ℕ
+best_place d r u = first_least_to (candidate_cost d r u) (u.size * u.size - 1)
+
+-- that candidate
+unfoldable pub best_vector : Deciding → View → PredictionUnit → Vector
+best_vector d r u = candidate r u (best_place d r u)
+
+-- what it costs
+abbrev pub least_cost : Deciding → View → PredictionUnit → ℕ
+least_cost d r u = vector_cost d r u (best_vector d r u)

@@ -1,0 +1,21 @@
+#![tactic(auto)]
+
+//! How the blocks of an inter picture are predicted: for each unit of each split the mode that costs least, and for
+//! each superblock the split that does.
+
+mod best;
+mod choice;
+mod costs;
+mod inputs;
+mod laws;
+mod modes;
+mod prediction_unit;
+mod predictor;
+mod shared;
+mod splits;
+mod superblock;
+mod table;
+
+pub use inputs::RefView;
+pub use laws::{best_modes_cost_least, best_splits_cost_least, best_vectors_cost_least};
+pub use table::decide;

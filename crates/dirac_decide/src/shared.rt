@@ -1,0 +1,9 @@
+//! What is handed between threads may be: checked here.
+
+/// Takes any type that threads may share and send.
+fn is_shared<T: Send + Sync>() {}
+
+/// A view of a reference may be shared by threads and sent to them.
+fn are_shared() {
+    is_shared::<crate::RefView<'static>>();
+}
