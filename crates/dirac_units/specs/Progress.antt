@@ -1,5 +1,5 @@
 -- How far the cutting of a source came, and what its next step gives.
-use Rattle.std.specs.Prelude.{◌≡◌, ℕ, ◌+◌, ◌≤◌, length, Bool, ◌&&◌, if◌then◌else◌, List, [], drop, slice_range, Option, Some, IfSome, Ok, Err, ⊤}
+use Rattle.std.specs.Prelude.{◌≡◌, ℕ, ◌+◌, ◌≤◌, length, Bool, ◌&&◌, if◌then◌else◌, List, [], drop, slice_range, Option, None, Some, IfSome, Ok, Err, ⊤}
 use Rattle.std.specs.Io.KnownBytes.{prepend_known, IsAtEnd}
 use Rattle.dirac_types.specs.declared.faults.Fault.{Fault}
 use Rattle.dirac_units.specs.declared.info.ParseInfo.{ParseInfo}
@@ -42,10 +42,10 @@ pub record GivesUnit (keep : Bool) (unit : Unit) (old new : Progress) (held held
   pub next : new.spot ≡ after old.spot unit.info
   pub told : IfSome (prepend_known old.ahead held) (λ bytes. IsFirstUnit keep unit old.spot bytes (prepend_known new.ahead held'))
 
--- no unit is left, but this end or fault; the source was read to its end
+-- no unit is left, but this end or fault; at the lawful end the source was read to its end
 pub record Ends (old : Progress) (held held' : Option (List ℕ)) (end : Option Fault) : Type 0 where
   pub told : IfSome (prepend_known old.ahead held) (λ bytes. front_of old.spot bytes ≡ Err end)
-  pub whole : IsAtEnd held'
+  pub whole : end ≡ None → IsAtEnd held'
 
 -- a fact on the unit, where one was given
 abbrev pub IfUnit : UnitStep → (Unit → Type 0) → Type 0
