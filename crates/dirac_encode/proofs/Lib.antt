@@ -14,7 +14,6 @@ pub mod InBytes
 pub mod Headers
 pub mod Written
 pub mod RawBytes
-pub mod FilledFront
 pub mod Waiting
 pub mod Accepted
 pub mod Stepping

@@ -3,7 +3,6 @@
 
 mod answers;
 mod bands;
-mod filling;
 mod laws;
 mod payload;
 mod picture;

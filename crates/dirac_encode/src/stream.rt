@@ -9,12 +9,11 @@ ghost use Rattle.dirac_encode.specs.Raw.{raw_length as length_of};
 ghost use Rattle.dirac_encode.specs.Encoding.{AnswersEncode, EndsStream, IsRecovered, behind, encoding};
 
 use crate::answers::Encoded;
-use crate::filling::{Filled, fill};
 use crate::laws::streams_show_their_pictures;
 use crate::progress::Progress;
 use crate::raw::raw_length;
 use crate::writing::{put_last, put_next};
-use dirac_io::{RowGate, Sink, Source};
+use dirac_io::{Filled, RowGate, Sink, Source, fill};
 use dirac_sequence::write_sequence;
 use dirac_types::{NoMemory, Settings};
 use std::alloc::Global;

@@ -4,6 +4,7 @@
 
 mod adapters;
 mod failing;
+mod filling;
 mod memory;
 mod null;
 mod row_gate;
@@ -11,6 +12,7 @@ mod sink;
 mod source;
 
 pub use adapters::{ReaderSource, WriterSink};
+pub use filling::{Filled, fill};
 pub use memory::{MemSink, MemSource};
 pub use null::NullSink;
 pub use row_gate::{OpenGate, RowGate};

@@ -1,7 +1,7 @@
 use Rattle.std.proofs.Common.{◌≡◌, ◌+◌, ◌-◌, length, arith, refl, ◌∙◌}
 use borrow.Rule.Slice.PartMut.{put_mid}
-use Rattle.dirac_encode.proofs.FilledFront.{filled_more, length_put}
-use Rattle.dirac_encode.proofs.filling.fill.Goals as goal
+use Rattle.dirac_io.proofs.FilledFront.{filled_more, length_put}
+use Rattle.dirac_io.proofs.filling.fill.Goals as goal
 
 pub filling-preserved : goal.filling-preserved
 filling-preserved g c =
@@ -15,4 +15,5 @@ filling-preserved g c =
       size = same;
       fits = omega (arith, same, c.filling.invariant.size, c.filling.invariant.fits, c.in-Bytes.ensures.bytes.room, size);
       count = omega arith;
+      left = omega (arith, c.filling.invariant.left, c.in-Bytes.ensures.bytes.lower);
     }
