@@ -1,6 +1,5 @@
 pub mod Info
 pub mod Cut
-pub mod Filling
 pub mod Progress
-pub mod Found
+pub mod Taking
 pub mod Writing

@@ -42,6 +42,11 @@ pub record GivesUnit (keep : Bool) (unit : Unit) (old new : Progress) (held held
   pub next : new.spot ≡ after old.spot unit.info
   pub told : IfSome (prepend_known old.ahead held) (λ bytes. IsFirstUnit keep unit old.spot bytes (prepend_known new.ahead held'))
 
+-- the source holds exactly what follows this unit
+abbrev pub HoldsWhatFollows : Unit → Progress → Option (List ℕ) → Option (List ℕ) → Type 0
+HoldsWhatFollows unit old held held' =
+    IfSome (prepend_known old.ahead held) (λ bytes. held' ≡ Some (drop (span_of unit.info) bytes))
+
 -- no unit is left, but this end or fault; at the lawful end the source was read to its end
 pub record Ends (old : Progress) (held held' : Option (List ℕ)) (end : Option Fault) : Type 0 where
   pub told : IfSome (prepend_known old.ahead held) (λ bytes. front_of old.spot bytes ≡ Err end)

@@ -1,11 +1,10 @@
 //! Data units: how the bytes of a stream are cut into units, and the first fault of the cutting.
 #![tactic(auto)]
 
-mod fill;
-mod front;
 mod info;
 mod law;
 mod spot;
+mod take;
 mod unit;
 mod units;
 mod write;

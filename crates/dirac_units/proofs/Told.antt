@@ -1,0 +1,136 @@
+-- What was taken of a source is what it began with.
+use Rattle.std.proofs.Common.{◌≡◌, ℕ, ◌+◌, ◌-◌, ◌≤◌, ◌<◌, List, [], ◌++◌, length, take, drop, sym, ap, ◌∙◌, refl, arith, Option, None, Some, IfSome, Ok, Err, append_assoc, append-nil, length-append, Bool, true, false, if◌then◌else◌, nat_lt, ◌==◌, subst}
+use Rattle.std.proofs.lemmas.Bool.{le-ltb, ne_eqb, lt-ltb}
+use Rattle.std.proofs.lemmas.List.{take_at}
+use Rattle.std.proofs.Math.Seq.{drop-append_seam}
+use Rattle.std.proofs.KnownBytes.{Consumes-trans}
+use Rattle.std.specs.Prelude.{slice_range, ◌&&◌}
+use Rattle.std.specs.Io.KnownBytes.{Consumes, IsAtEnd}
+use Rattle.dirac_types.specs.declared.faults.Cause.TheVariants.{Truncated}
+use Rattle.dirac_types.specs.declared.faults.Fault.{Fault}
+use Rattle.dirac_types.specs.declared.faults.Refusal.{Refusal}
+use Rattle.dirac_units.specs.declared.info.ParseInfo.{ParseInfo}
+use Rattle.dirac_units.specs.declared.spot.Spot.{Spot}
+use Rattle.dirac_units.specs.declared.unit.Unit.{Unit}
+use Rattle.dirac_units.specs.Info.{info_read, span_of, fields_are_read}
+use Rattle.dirac_units.specs.Cut.{front_of, unit_front, fault_at}
+use Rattle.dirac_units.specs.Progress.{IsFirstUnit}
+use Rattle.dirac_units.specs.Taking.{CutsPayload, TakesInfo, TakesNone, TakesPayload}
+use Rattle.dirac_units.specs.declared.take.NoUnit.{NoUnit}
+use Rattle.dirac_units.specs.declared.take.NoUnit.TheVariants as none
+use Rattle.dirac_units.proofs.Fronts.{front_is, not_chosen}
+
+chosen_so : {A : Type 0} (b : Bool) (x y : A) → b ≡ true → (if b then x else y) ≡ x
+chosen_so true x y is = refl
+chosen_so false x y is = cc
+
+-- where 13 bytes stand at the front, they decide
+behind_header : (spot : Spot) (all : List ℕ) → 13 ≤ length all → front_of spot all ≡ unit_front spot all (info_read (take 13 all))
+behind_header spot all long =
+    not_chosen (length all == 0) _ _ (ne_eqb (length all) 0 (λ e. omega arith)) ∙ not_chosen (nat_lt (length all) 13) _ _ (le-ltb (length all) 13 long)
+
+short_front : (spot : Spot) (all : List ℕ) (info : ParseInfo) → 13 ≤ length all → info_read (take 13 all) ≡ Ok info → length all < span_of info
+    → front_of spot all ≡ Err (Some (fault_at spot (length all) Truncated))
+short_front spot all info long read short =
+    behind_header spot all long ∙ ap (unit_front spot all) read ∙ chosen_so (nat_lt (length all) (span_of info)) _ _ (lt-ltb (length all) (span_of info) short)
+
+-- at the end of the source all was taken
+pub told_end : (spot : Spot) (bytes : List ℕ) (held held' : Option (List ℕ)) (end : Option Fault) → Consumes held held' bytes → IsAtEnd held'
+    → front_of spot bytes ≡ Err end → IfSome held (λ all. front_of spot all ≡ Err end)
+told_end spot bytes None held' end taken at is = tt
+told_end spot bytes (Some xs) None end taken at is = absurd taken
+told_end spot bytes (Some xs) (Some ys) end taken at is =
+    ap (front_of spot) (taken ∙ ap (λ l. bytes ++ l) at ∙ append-nil bytes) ∙ is
+
+-- a parse info that is refused, whatever follows it
+pub told_refusal : (spot : Spot) (header : List ℕ) (held held' : Option (List ℕ)) (refusal : Refusal) → Consumes held held' header → length header ≡ 13
+    → info_read header ≡ Err refusal → IfSome held (λ all. front_of spot all ≡ Err (Some (fault_at spot refusal.at refusal.cause)))
+told_refusal spot header None held' refusal taken len read = tt
+told_refusal spot header (Some xs) None refusal taken len read = absurd taken
+told_refusal spot header (Some xs) (Some ys) refusal taken len read =
+    ap (front_of spot) taken ∙ behind_header spot (header ++ ys) (omega (arith, length-append header ys))
+    ∙ ap (unit_front spot (header ++ ys)) (ap info_read (take_at header ys 13 len) ∙ read)
+
+-- a parse info whose payload is cut
+pub told_cut : (spot : Spot) (info : ParseInfo) (header more : List ℕ) (held mid held' : Option (List ℕ)) → Consumes held mid header → length header ≡ 13
+    → info_read header ≡ Ok info → Consumes mid held' more → IsAtEnd held' → length more + 13 < span_of info
+    → IfSome held (λ all. front_of spot all ≡ Err (Some (fault_at spot (13 + length more) Truncated)))
+told_cut spot info header more held mid held' first len read rest at short =
+    let size : length (header ++ more) ≡ 13 + length more = length-append header more ∙ omega (arith, len) in
+    subst (λ n. IfSome held (λ all. front_of spot all ≡ Err (Some (fault_at spot n Truncated)))) size
+    (told_end spot (header ++ more) held held' (Some (fault_at spot (length (header ++ more)) Truncated)) (Consumes-trans held mid held' header more first rest) at
+    (short_front spot (header ++ more) info (omega (arith, size)) (ap info_read (take_at header more 13 len) ∙ read) (omega (arith, size, short))))
+
+-- a parse info and its payload
+pub told_unit : (keep : Bool) (unit : Unit) (spot : Spot) (header more : List ℕ) (held mid held' : Option (List ℕ)) → Consumes held mid header → length header ≡ 13
+    → info_read header ≡ Ok unit.info → Consumes mid held' more → length more + 13 ≡ span_of unit.info
+    → unit.payload ≡ (if keep && fields_are_read unit.info.code then more else []) → IfSome held (λ all. IsFirstUnit keep unit spot all held')
+told_unit keep unit spot header more None mid held' first len read rest size is = tt
+told_unit keep unit spot header more (Some xs) None held' first len read rest size is = absurd first
+told_unit keep unit spot header more (Some xs) (Some ys) None first len read rest size is = absurd rest
+told_unit keep unit spot header more (Some xs) (Some ys) (Some zs) first len read rest size is =
+    let span = span_of unit.info in
+    let parts : xs ≡ header ++ (more ++ zs) = first ∙ ap (λ l. header ++ l) rest in
+    let whole : xs ≡ (header ++ more) ++ zs = parts ∙ sym (append_assoc header more zs) in
+    let long : length (header ++ more) ≡ span = length-append header more ∙ omega (arith, len, size) in
+    let part : slice_range xs 13 span ≡ more =
+    ap (λ l. slice_range l 13 span) parts ∙ ap (take (span - 13)) (ap (λ n. drop n (header ++ (more ++ zs))) (sym len) ∙ drop-append_seam header (more ++ zs))
+    ∙ take_at more zs (span - 13) (omega (arith, size)) in
+    let reads : info_read (take 13 xs) ≡ Ok unit.info = ap info_read (ap (take 13) parts ∙ take_at header (more ++ zs) 13 len) ∙ read in (
+      front_is spot xs unit.info (omega (arith, ap length whole, length-append (header ++ more) zs, long, size)) reads (omega (arith, ap length whole, length-append (header ++ more) zs, long)),
+      is ∙ ap (λ l. if keep && fields_are_read unit.info.code then l else []) (sym part),
+      ap Some (sym (ap (drop span) whole ∙ ap (λ n. drop n ((header ++ more) ++ zs)) (sym long) ∙ drop-append_seam (header ++ more) zs)),
+    )
+
+-- the unit whose payload was taken
+pub told_taken : (keep kept : Bool) (unit : Unit) (spot : Spot) (held mid held' : Option (List ℕ)) → TakesInfo unit.info held mid
+    → TakesPayload (span_of unit.info - 13) kept unit.payload mid held' → 13 ≤ span_of unit.info → kept ≡ (keep && fields_are_read unit.info.code)
+    → IfSome held (λ all. IsFirstUnit keep unit spot all held')
+told_taken keep kept unit spot held mid held' info payload long is =
+    told_unit keep unit spot info.0 payload.0 held mid held' info.3 info.1 info.2 payload.3 (omega (arith, payload.1))
+    (payload.2 ∙ ap (λ (b : Bool). if b then payload.0 else []) is)
+
+-- no more is kept than was taken
+pub payload_fits : (n : ℕ) (keep : Bool) (payload : List ℕ) (held held' : Option (List ℕ)) → TakesPayload n keep payload held held' → length payload ≤ n
+payload_fits n true payload held held' so = omega (arith, ap length so.2, so.1)
+payload_fits n false payload held held' so = omega (arith, ap length so.2)
+
+-- and the one whose payload was cut
+pub told_none : (why : NoUnit) (info : ParseInfo) (spot : Spot) (held mid held' : Option (List ℕ)) → TakesInfo info held mid
+    → CutsPayload why spot (span_of info - 13) mid held' → TakesNone why spot held held'
+told_none (none.End end) info spot held mid held' taken cut = (
+  subst (λ (e : Option Fault). IfSome held (λ all. front_of spot all ≡ Err e)) (sym cut.2)
+      (told_cut spot info taken.0 cut.0 held mid held' taken.3 taken.1 taken.2 cut.3 cut.4 (omega (arith, cut.1))),
+  λ e. cut.4,
+)
+told_none none.ReadFault info spot held mid held' taken cut = tt
+told_none none.NoMemory info spot held mid held' taken cut = tt
+
+-- one more piece of a payload
+pub piece_taken : (n k m : ℕ) (keep : Bool) (payload payload' piece : List ℕ) (held mid held' : Option (List ℕ)) → TakesPayload n keep payload held mid
+    → Consumes mid held' piece → length piece ≡ k → m ≡ n + k → payload' ≡ (if keep then payload ++ piece else payload) → TakesPayload m keep payload' held held'
+piece_taken n k m true payload payload' piece held mid held' so got len sum is = (
+  so.0 ++ piece,
+  length-append so.0 piece ∙ omega (arith, so.1, len, sum),
+  is ∙ ap (λ l. l ++ piece) so.2,
+  Consumes-trans held mid held' so.0 piece so.3 got,
+)
+piece_taken n k m false payload payload' piece held mid held' so got len sum is = (
+  so.0 ++ piece,
+  length-append so.0 piece ∙ omega (arith, so.1, len, sum),
+  is ∙ so.2,
+  Consumes-trans held mid held' so.0 piece so.3 got,
+)
+
+-- the piece in which the input ends
+pub piece_cut : (spot : Spot) (count n k at : ℕ) (keep : Bool) (payload piece : List ℕ) (held mid held' : Option (List ℕ)) (fault : Fault)
+    → TakesPayload n keep payload held mid → Consumes mid held' piece → length piece ≡ k → IsAtEnd held' → n + k < count → at ≡ 13 + n + k
+    → fault ≡ fault_at spot at Truncated → CutsPayload (none.End (Some fault)) spot count held held'
+piece_cut spot count n k at keep payload piece held mid held' fault so got len end few place is =
+    let size : length (so.0 ++ piece) ≡ n + k = length-append so.0 piece ∙ omega (arith, so.1, len) in (
+      so.0 ++ piece,
+      omega (arith, size, few),
+      ap Some (is ∙ ap (λ a. fault_at spot a Truncated) (omega (arith, place, size))),
+      Consumes-trans held mid held' so.0 piece so.3 got,
+      end,
+    )

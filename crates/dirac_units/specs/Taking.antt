@@ -1,0 +1,45 @@
+-- Taking the next unit of a source, and no byte beyond it.
+use Rattle.std.specs.Prelude.{◌≡◌, ℕ, ◌+◌, ◌<◌, ◌≤◌, Bool, if◌then◌else◌, List, [], length, Option, None, Some, IfSome, Ok, Err, ⊤}
+use Rattle.std.specs.Io.KnownBytes.{Consumes, IsAtEnd}
+use Rattle.dirac_types.specs.declared.faults.Cause.TheVariants.{Truncated}
+use Rattle.dirac_units.specs.declared.info.ParseInfo.{ParseInfo}
+use Rattle.dirac_units.specs.declared.spot.Spot.{Spot}
+use Rattle.dirac_units.specs.declared.unit.Unit.{Unit}
+use Rattle.dirac_units.specs.declared.take.NoUnit.{NoUnit}
+use Rattle.dirac_units.specs.declared.take.NoUnit.TheVariants as none
+use Rattle.dirac_units.specs.Info.{IsLawful, info_read, span_of}
+use Rattle.dirac_units.specs.Cut.{fault_at, front_of}
+use Rattle.dirac_units.specs.Progress.{IsFirstUnit}
+
+-- a parse info was taken
+abbrev pub TakesInfo : ParseInfo → Option (List ℕ) → Option (List ℕ) → Type 0
+TakesInfo info held held' =
+    (bytes : List ℕ) × (length bytes ≡ 13) × (info_read bytes ≡ Ok info) × Consumes held held' bytes
+
+-- so many bytes were taken, and where they are kept they are the payload
+abbrev pub TakesPayload : ℕ → Bool → List ℕ → Option (List ℕ) → Option (List ℕ) → Type 0
+TakesPayload count keep payload held held' =
+    (bytes : List ℕ) × (length bytes ≡ count) × (payload ≡ (if keep then bytes else [])) × Consumes held held' bytes
+
+-- the input ends behind fewer bytes of a payload
+abbrev pub CutsPayload : NoUnit → Spot → ℕ → Option (List ℕ) → Option (List ℕ) → Type 0
+CutsPayload (none.End end) spot count held held' =
+    (bytes : List ℕ) × (length bytes < count) × (end ≡ Some (fault_at spot (13 + length bytes) Truncated))
+    × Consumes held held' bytes × IsAtEnd held'
+CutsPayload none.ReadFault spot count held held' = ⊤
+CutsPayload none.NoMemory spot count held held' = ⊤
+
+-- the unit that begins there was taken, and exactly what follows it is held
+pub record TakesUnit (keep : Bool) (unit : Unit) (spot : Spot) (held held' : Option (List ℕ)) : Type 0 where
+  pub index : unit.index ≡ spot.index
+  pub at : unit.at ≡ spot.at
+  pub lawful : IsLawful unit.info
+  pub short : length unit.payload + 13 ≤ span_of unit.info
+  pub told : IfSome held (λ bytes. IsFirstUnit keep unit spot bytes held')
+
+-- no whole unit begins there, but this end or fault does; at the lawful end the source was read to its end
+abbrev pub TakesNone : NoUnit → Spot → Option (List ℕ) → Option (List ℕ) → Type 0
+TakesNone (none.End end) spot held held' =
+    IfSome held (λ bytes. front_of spot bytes ≡ Err end) × (end ≡ None → IsAtEnd held')
+TakesNone none.ReadFault spot held held' = ⊤
+TakesNone none.NoMemory spot held held' = ⊤

@@ -1,0 +1,136 @@
+ghost use Rattle.std.specs.Prelude.{◌≡◌, ℕ, ◌+◌, ◌<◌, ◌≤◌, ◌^◌, length, IfErr, IfOk, None, Some, Err, if◌then◌else◌};
+ghost use Rattle.dirac_io.specs.Faults.{Rose};
+ghost use Rattle.dirac_units.specs.Info.{span_of};
+ghost use Rattle.dirac_units.specs.Cut.{fault_at, front_of};
+ghost use Rattle.dirac_units.specs.Taking.{CutsPayload, TakesInfo, TakesNone, TakesPayload, TakesUnit};
+
+use crate::info::{HEADER_LENGTH, ParseInfo, fields_are_read, read_info};
+use crate::spot::Spot;
+use crate::unit::{Payload, Unit};
+use dirac_io::{Filled, Source, fill};
+use dirac_types::{Cause, Fault};
+use std::alloc::Global;
+
+/// The most bytes of a payload that are read at once.
+pub const PIECE_LENGTH: usize = 4096;
+
+/// Why no unit was taken.
+#[derive(Clone, Copy, Debug, PartialEq, Eq)]
+pub enum NoUnit {
+    /// The lawful end of the input, or the first fault of the cutting.
+    End(Option<Fault>),
+    ReadFault,
+    NoMemory,
+}
+
+/// Takes the unit that begins at the front of a source, and no byte beyond it. Its payload is kept where
+/// `keep` is true and it is a sequence header or a picture; else it is passed over.
+pub fn take_unit<S: Source>(
+    alloc: Global,
+    spot: Spot,
+    keep: bool,
+    source: &mut S,
+) -> Result<Unit, NoUnit>
+    requires place { spot.at + S.left source.old < 2 ^ 63 }
+    ensures unit { IfOk result (λ unit. TakesUnit keep unit spot (S.held source.old) (S.held source.new)) }
+    ensures no_unit { IfErr result (λ why. TakesNone why spot (S.held source.old) (S.held source.new)) }
+    ensures lowers { IfOk result (λ unit. span_of unit.info + S.left source.new ≤ S.left source.old) }
+    ensures never_rises { S.left source.new ≤ S.left source.old }
+    ensures read { result ≡ Err NoUnit.ReadFault → Rose (S.faults source.old) (S.faults source.new) }
+    ensures count { S.faults source.old ≤ S.faults source.new }
+{
+    let info = take_info(spot, source)?;
+    let kept = keep && fields_are_read(info.code);
+    let length = info.span() - HEADER_LENGTH as u64;
+    let payload = take_payload(alloc, spot, length, kept, source)?;
+    Ok(Unit {
+        index: spot.index,
+        at: spot.at,
+        info,
+        payload,
+    })
+}
+
+// Takes the parse info at the front of a source, and no byte beyond it.
+fn take_info<S: Source>(spot: Spot, source: &mut S) -> Result<ParseInfo, NoUnit>
+    requires place { spot.at + S.left source.old < 2 ^ 63 }
+    ensures info { IfOk result (λ info. TakesInfo info (S.held source.old) (S.held source.new)) }
+    ensures no_unit { IfErr result (λ why. TakesNone why spot (S.held source.old) (S.held source.new)) }
+    ensures lowers { IfOk result (λ _. 13 + S.left source.new ≤ S.left source.old) }
+    ensures never_rises { S.left source.new ≤ S.left source.old }
+    ensures read { result ≡ Err NoUnit.ReadFault → Rose (S.faults source.old) (S.faults source.new) }
+    ensures count { S.faults source.old ≤ S.faults source.new }
+{
+    let mut header = [0; HEADER_LENGTH];
+    match fill(source, &mut header) {
+        Filled::Whole => {}
+        Filled::Part(n) => return Err(NoUnit::End(end_in_header(spot, &header[..n]))),
+        Filled::Failed => return Err(NoUnit::ReadFault),
+    }
+    match read_info(&header) {
+        Ok(info) => Ok(info),
+        Err(refusal) => Err(NoUnit::End(Some(spot.fault(refusal.at, refusal.cause)))),
+    }
+}
+
+// Takes a payload of so many bytes, in pieces, and no byte beyond it. It grows as the source gives it: no memory is
+// taken for bytes that don't come.
+fn take_payload<S: Source>(
+    alloc: Global,
+    spot: Spot,
+    count: u64,
+    keep: bool,
+    source: &mut S,
+) -> Result<Payload, NoUnit>
+    requires place { spot.at + 13 + S.left source.old < 2 ^ 64 }
+    ensures payload { IfOk result (λ payload. TakesPayload count keep payload (S.held source.old) (S.held source.new)) }
+    ensures cut { IfErr result (λ why. CutsPayload why spot count (S.held source.old) (S.held source.new)) }
+    ensures lowers { IfOk result (λ _. count + S.left source.new ≤ S.left source.old) }
+    ensures never_rises { S.left source.new ≤ S.left source.old }
+    ensures read { result ≡ Err NoUnit.ReadFault → Rose (S.faults source.old) (S.faults source.new) }
+    ensures count { S.faults source.old ≤ S.faults source.new }
+{
+    let mut buf = [0; PIECE_LENGTH];
+    let mut payload = Vec::new(alloc);
+    let mut rest = count;
+    'pieces: while rest > 0 {
+        let piece = &mut buf[..rest.min(PIECE_LENGTH as u64) as usize];
+        match fill(source, piece) {
+            Filled::Whole => {}
+            Filled::Part(n) => {
+                let at = HEADER_LENGTH as u64 + (count - rest) + n as u64;
+                return Err(NoUnit::End(Some(spot.fault(at, Cause::Truncated))));
+            }
+            Filled::Failed => return Err(NoUnit::ReadFault),
+        }
+        if keep && payload.extend_from_slice(piece).is_err() {
+            return Err(NoUnit::NoMemory);
+        }
+        rest -= piece.len() as u64;
+    }
+    Ok(Payload::of(payload))
+}
+
+// What it means that the input ends behind these bytes, fewer than a parse info has.
+fn end_in_header(spot: Spot, bytes: &[u8]) -> Option<Fault>
+    requires cut { length bytes.now < 13 }
+    requires place { spot.at + length bytes.now < 2 ^ 63 }
+    ensures { front_of spot bytes.now ≡ Err result }
+{
+    if bytes.is_empty() {
+        return ending(spot);
+    }
+    Some(spot.fault(bytes.len() as u64, Cause::Truncated))
+}
+
+// What it means that the input ends where a unit would begin.
+fn ending(spot: Spot) -> Option<Fault>
+    requires { spot.at < 2 ^ 63 }
+    ensures { result ≡ (if spot.closed then None else Some (fault_at spot 0 Cause.MissingEnd)) }
+{
+    if spot.closed {
+        None
+    } else {
+        Some(spot.fault(0, Cause::MissingEnd))
+    }
+}
