@@ -69,14 +69,21 @@ fn lists_units(rt: HostRuntime) -> Result<(), Fail> {
     let end = header(0x10, 0, 0);
     runs(&rt, alloc, &["list"], &end, Ended::Done, "0 0 10 end 0 0\n")?;
     runs(&rt, alloc, &["list"], &STREAM, Ended::Done, LINES)?;
+    // the input ends behind a unit, in a header and just behind it, in a payload and just behind it
     let first = "0 0 00 sequence 19 0\n";
+    let behind = faulty(1, 19, Cause::MissingEnd);
+    runs(&rt, alloc, &["list"], &STREAM[..19], behind, first)?;
+    let begun = faulty(1, 20, Cause::Truncated);
+    runs(&rt, alloc, &["list"], &STREAM[..20], begun, first)?;
     let cut = faulty(1, 31, Cause::Truncated);
     runs(&rt, alloc, &["list"], &STREAM[..31], cut, first)?;
+    let bare = faulty(1, 32, Cause::Truncated);
+    runs(&rt, alloc, &["list"], &STREAM[..32], bare, first)?;
+    let short = faulty(1, 49, Cause::Truncated);
+    runs(&rt, alloc, &["list"], &STREAM[..49], short, first)?;
     let open = faulty(2, 50, Cause::MissingEnd);
     let two = "0 0 00 sequence 19 0\n1 19 0C picture 31 19\n";
     runs(&rt, alloc, &["list"], &STREAM[..50], open, two)?;
-    let short = faulty(1, 49, Cause::Truncated);
-    runs(&rt, alloc, &["list"], &STREAM[..49], short, first)?;
 
     // behind an end unit another sequence may follow, and the stream may end
     let twice = joined(alloc, &[&end, &header(0x10, 13, 13)])?;
@@ -138,7 +145,14 @@ fn names_each_fault_at_its_place(rt: HostRuntime) -> Result<(), Fail> {
     for next in [14, 0x8000_0000, u32::MAX] {
         let truncated = faulty(0, 13, Cause::Truncated);
         runs(&rt, alloc, &["list"], &header(0x30, next, 0), truncated, "")?;
+        // more bytes than come at once, and fewer than the offset says
+        let bytes = joined(alloc, &[&header(0x30, next.max(5015), 0), &[0; 5000]])?;
+        let truncated = faulty(0, 5013, Cause::Truncated);
+        runs(&rt, alloc, &["list"], &bytes, truncated, "")?;
     }
+    let bare = joined(alloc, &[&header(0x30, 13, 0), &header(0x10, 0, 13)])?;
+    let lines = "0 0 30 padding 13 0\n1 13 10 end 0 13\n";
+    runs(&rt, alloc, &["list"], &bare, Ended::Done, lines)?;
     for code in 0x20..0x28 {
         let bytes = joined(alloc, &[&header(code, 14, 7), &[9], &header(0x10, 0, 14)])?;
         let lines = format!(in alloc; "0 0 {code:02X} auxiliary 14 7\n1 14 10 end 0 14\n")?;
@@ -201,7 +215,8 @@ fn fails<R: Abort + Threads + Sync>(
 #[test]
 fn stops_at_the_call_that_fails(rt: HostRuntime) -> Result<(), Fail> {
     let alloc = rt.alloc();
-    for call in 0..11 {
+    // two reads for each of four headers, one, two and two for the payloads, and one of the end
+    for call in 0..14 {
         assert_eq!(rt; fails(&rt, alloc, &[call], &[])?, Ended::ReadFault);
     }
     assert_eq!(rt; fails(&rt, alloc, &[99], &[99])?, Ended::Done);
@@ -323,6 +338,20 @@ fn decodes_up_to_the_first_fault(rt: HostRuntime) -> Result<(), Fail> {
     let broken = joined(alloc, &[&unended, &[0x42, 0x42, 0x43, 0x44]])?;
     let cut = faulty(2, 50, Cause::Truncated);
     decodes(&rt, alloc, &broken, cut, SAMPLES, one)?;
+
+    // a header whose offset is refused, whose payload is too short, or whose payload doesn't come
+    for (next, at, cause) in [
+        (0, 5, Cause::OffsetMissing),
+        (12, 5, Cause::OffsetMissing),
+        (13, 13, Cause::UnitShort),
+        (14, 13, Cause::UnitShort),
+        (113, 13, Cause::NumberTooLong),
+        (114, 113, Cause::Truncated),
+        (u32::MAX, 113, Cause::Truncated),
+    ] {
+        let bytes = joined(alloc, &[&header(0x00, next, 0), &[0; 100]])?;
+        decodes(&rt, alloc, &bytes, faulty(0, at, cause), 0, none)?;
+    }
 
     let headless = faulty(0, 0, Cause::NoSequence);
     decodes(&rt, alloc, &picture, headless, 0, none)?;
@@ -448,10 +477,50 @@ fn fails_to_decode<R: Abort + Threads + Sync>(
     Ok(left.ended)
 }
 
+// Six grey pictures, numbered from 0, and an end unit. It has 209 bytes.
+fn six_pictures(alloc: Global) -> Result<Vec<u8>, Fail> {
+    let mut bytes = joined(alloc, &[&header(0x00, 16, 0), &SEQUENCE])?;
+    let mut previous = 16;
+    for number in 0..6 {
+        bytes.extend_from_slice(&header(0x08, 30, previous))?;
+        bytes.extend_from_slice(&[0, 0, 0, number])?;
+        bytes.extend_from_slice(&GREY[4..])?;
+        previous = 30;
+    }
+    bytes.extend_from_slice(&header(0x10, 0, previous))?;
+    Ok(bytes)
+}
+
+#[test]
+fn shows_pictures_before_the_input_ends(rt: HostRuntime) -> Result<(), Fail> {
+    let alloc = rt.alloc();
+    let bytes = six_pictures(alloc)?;
+    let line = "pictures=6 references=0\n";
+    decodes(&rt, alloc, &bytes, Ended::Done, 6 * SAMPLES, line)?;
+    // the pictures end at 46, 76, 106, 136, 166 and 196, and four of them wait
+    for (call, shown) in [(0, 0), (165, 0), (166, 1), (195, 1), (196, 2), (208, 2)] {
+        let outside = Outside {
+            read: 1,
+            write: 4096,
+            side: 9,
+            reads: &[call],
+            writes: &[],
+            sides: &[],
+        };
+        let left = decoded(&rt, alloc, &bytes, &outside)?;
+        assert_eq!(rt; left.ended, Ended::ReadFault, "read {call}");
+        assert_eq!(rt; left.out.taken().len(), shown * SAMPLES, "read {call}");
+        assert!(rt; left.out.taken().iter().all(|byte| *byte == 0x80));
+        assert!(rt; counts_its_fault(&left));
+    }
+    Ok(())
+}
+
 #[test]
 fn decodes_until_a_call_fails(rt: HostRuntime) -> Result<(), Fail> {
     let alloc = rt.alloc();
-    for call in 0..8 {
+    // two reads for each of three headers, one and two for the payloads, and one of the end
+    for call in 0..10 {
         let ended = fails_to_decode(&rt, alloc, &[call], &[], &[])?;
         assert_eq!(rt; ended, Ended::ReadFault);
     }
@@ -464,7 +533,7 @@ fn decodes_until_a_call_fails(rt: HostRuntime) -> Result<(), Fail> {
         let ended = fails_to_decode(&rt, alloc, &[], &[], &[call])?;
         assert_eq!(rt; ended, Ended::SideFault);
     }
-    let ended = fails_to_decode(&rt, alloc, &[8], &[288], &[3])?;
+    let ended = fails_to_decode(&rt, alloc, &[10], &[288], &[3])?;
     assert_eq!(rt; ended, Ended::Done);
     Ok(())
 }
