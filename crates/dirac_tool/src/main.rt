@@ -28,19 +28,25 @@ use std::alloc::Global;
 use std::env;
 use std::env::Env;
 use std::fs::File;
-use std::io::{ErrorKind, Read, Write};
+use std::io::{BufReader, ErrorKind, Read, Write};
 use std::process::ExitCode;
 use std::thread::Threads;
 
 // The status where the file of the reconstructions can't be made.
 const NO_FILE: u8 = 12;
 
+// How many bytes of standard input are fetched at once at most: what a pipe holds. A read gives what is there.
+const READ_AHEAD: usize = 65_536;
+
 fn main(rt: HostRuntime) -> ExitCode {
     let alloc = rt.alloc();
     let Ok(words) = fetched_words(&rt, alloc) else {
         return ExitCode::from(status(&Ended::NoMemory));
     };
-    let (input, output) = (rt.stdin(), rt.stdout());
+    let Ok(input) = BufReader::with_capacity(alloc, READ_AHEAD, rt.stdin()) else {
+        return ExitCode::from(status(&Ended::NoMemory));
+    };
+    let output = rt.stdout();
     let ended = match recon_path(&words) {
         Some(path) => {
             let Ok(file) = File::create(&rt, path) else {
