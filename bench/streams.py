@@ -3,6 +3,7 @@
 
 streams.py padding MEGABYTES    a stream of padding units of 64 KiB, and an end unit
 streams.py grey PICTURES        intra pictures of 704 by 576, 4:2:0, all of whose subbands are empty
+streams.py long PICTURES        the same in units of 1 MiB: free bytes follow the last field
 streams.py raw PICTURES         raw pictures of 720 by 576, 4:2:2: a slope that moves, with noise in its lowest bits
 """
 import sys
@@ -29,13 +30,18 @@ def padding(megabytes):
     yield 0x10, b""
 
 
-def grey(pictures):
+def grey(pictures, free=0):
     # versions 2 and 2, profile 0, level 0, base format 6, no custom flag, frames
     yield 0x00, bytes.fromhex("6F5804")
     for number in range(pictures):
         # wavelet 0, depth 1, no partition; then four empty subbands for each of three planes
-        yield 0x08, number.to_bytes(4, "big") + b"\x90" + b"\x80" * 12
+        yield 0x08, number.to_bytes(4, "big") + b"\x90" + b"\x80" * 12 + bytes(free)
     yield 0x10, b""
+
+
+def long(pictures):
+    # 13 bytes of parse info and 17 of fields
+    return grey(pictures, (1 << 20) - 30)
 
 
 def write_raw(pictures):
@@ -55,4 +61,4 @@ if __name__ == "__main__":
     if kind == "raw":
         write_raw(count)
     else:
-        write({"padding": padding, "grey": grey}[kind](count))
+        write({"padding": padding, "grey": grey, "long": long}[kind](count))
