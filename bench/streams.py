@@ -4,7 +4,9 @@
 streams.py padding MEGABYTES    a stream of padding units of 64 KiB, and an end unit
 streams.py grey PICTURES        intra pictures of 704 by 576, 4:2:0, all of whose subbands are empty
 streams.py long PICTURES        the same in units of 1 MiB: free bytes follow the last field
-streams.py raw PICTURES         raw pictures of 720 by 576, 4:2:2: a slope that moves, with noise in its lowest bits
+streams.py raw PICTURES [WIDTH HEIGHT CHROMA]
+                                raw pictures: a slope that moves, with noise in its lowest bits; of 720 by 576, 4:2:2 (1)
+                                where no size is given
 """
 import sys
 
@@ -44,21 +46,37 @@ def long(pictures):
     return grey(pictures, (1 << 20) - 30)
 
 
-def write_raw(pictures):
+CHROMA_RATIOS = [(1, 1), (2, 1), (2, 2)]
+
+
+def write_raw(pictures, width=720, height=576, chroma=1):
+    across, down = CHROMA_RATIOS[chroma]
     state = 1
     for number in range(pictures):
         picture = bytearray()
-        for plane, width in enumerate((720, 360, 360)):
-            for y in range(576):
-                for x in range(width):
+        for plane in range(3):
+            columns, rows = (width, height) if plane == 0 else (width // across, height // down)
+            for y in range(rows):
+                for x in range(columns):
                     state = (state * 1103515245 + 12345) & 0x7FFFFFFF
                     picture.append((2 * x + 3 * y + 5 * number + 40 * plane + (state >> 27)) // 4 % 256)
         sys.stdout.buffer.write(picture)
 
 
-if __name__ == "__main__":
-    kind, count = sys.argv[1], int(sys.argv[2])
+def main():
+    kind, *numbers = sys.argv[1:] or [""]
+    makers = {"padding": (padding, 1), "grey": (grey, 1), "long": (long, 1), "raw": (write_raw, 4)}
+    if kind not in makers or not all(number.isdigit() for number in numbers):
+        sys.exit("usage: streams.py padding MEGABYTES | grey PICTURES | long PICTURES | raw PICTURES [WIDTH HEIGHT CHROMA]")
+    make, most = makers[kind]
+    if len(numbers) not in (1, most):
+        sys.exit(f"streams.py: {kind} takes {most} numbers")
+    numbers = [int(number) for number in numbers]
     if kind == "raw":
-        write_raw(count)
+        write_raw(*numbers)
     else:
-        write({"padding": padding, "grey": grey, "long": long}[kind](count))
+        write(make(*numbers))
+
+
+if __name__ == "__main__":
+    main()

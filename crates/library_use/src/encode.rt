@@ -1,6 +1,7 @@
-ghost use Rattle.std.specs.Prelude.{◌≡◌, IfOk};
+ghost use Rattle.std.specs.Prelude.{◌≡◌, IfErr, IfOk};
 ghost use Rattle.dirac_types.specs.Settings.{IsAccepted};
 ghost use Rattle.dirac_encode.specs.Encoding.{IsRecovered, encoding};
+ghost use Rattle.library_use.specs.Calls.{IsWhyNotCoded};
 
 use dirac_encode::{Encoded, encode_stream};
 use dirac_io::{MemSink, MemSource, NullSink, OpenGate};
@@ -28,6 +29,7 @@ pub fn coded<R: Threads + Sync>(
     // The stream has no fault and shows the reconstructions, which are the pictures themselves at index 0.
     ensures recovered { IfOk result (λ stream. IsRecovered settings.now raw.items) }
     ensures accepted { IfOk result (λ stream. IsAccepted settings.now) }
+    ensures why_not { IfErr result (IsWhyNotCoded settings.now) }
 {
     settings.check()?;
     let mut source = MemSource::new(raw, usize::MAX, Vec::new(alloc));
@@ -47,6 +49,10 @@ pub fn coded<R: Threads + Sync>(
 }
 
 impl From<BadSetting> for NotCoded {
+    ghost use Rattle.library_use.specs.declared.encode.NotCoded.TheVariants.{BadSetting};
+
+    ghost from_gives = { λ bad error. error ≡ BadSetting bad };
+
     fn from(bad: BadSetting) -> NotCoded {
         NotCoded::BadSetting(bad)
     }
