@@ -4,8 +4,8 @@
 build.py PROGRAM        PROGRAM is a crate of crates.txt, such as dirac_tool
 
 Each crate is built as soon as those that it stands on are, with one job each: as many at a time as there are processors,
-and as the memory that is free has room for (GIB_EACH each), at least one. What is proved already is built again from
-what was kept. Writes a line for each crate that is done to standard error; where one fails, its log, and ends with 1.
+and as the memory that is free has room for (GIB_EACH each), at least one; RUN_JOBS=N in the environment says how many
+instead. What is proved already is built again from what was kept. Writes a line for each crate that is done to standard error; where one fails, its log, and ends with 1.
 """
 import concurrent.futures
 import os
@@ -58,6 +58,8 @@ def free_gib():
 
 
 def places():
+    if os.environ.get("RUN_JOBS", "").isdigit():
+        return max(1, int(os.environ["RUN_JOBS"]))
     processors = len(os.sched_getaffinity(0)) if hasattr(os, "sched_getaffinity") else os.cpu_count() or 1
     return max(1, min(processors, int(free_gib() / GIB_EACH)))
 
