@@ -64,6 +64,10 @@ def places():
     return max(1, min(processors, int(free_gib() / GIB_EACH)))
 
 
+def log_of(name):
+    return TOP / "crates" / name / "out" / "build.log"
+
+
 class Build:
     """Builds crates in places that are free, those first that most crates wait for."""
 
@@ -88,22 +92,19 @@ class Build:
         """Whether the crate was proved and built."""
         # `rt run` also runs the program once, without words: its status says nothing here
         words = ["rt", "run" if name == self.program else "lib", "--jobs", "1"]
-        log = TOP / "crates" / name / "out" / "build.log"
-        log.parent.mkdir(exist_ok=True)
-        with open(log, "wb") as out:
-            folder = TOP / "crates" / name
+        folder = TOP / "crates" / name
+        log_of(name).parent.mkdir(exist_ok=True)
+        with open(log_of(name), "wb") as out:
             done = subprocess.run(words, cwd=folder, stdin=subprocess.DEVNULL, stdout=out, stderr=subprocess.STDOUT)
         is_built = (folder / "out" / name).exists() if name == self.program else done.returncode == 0
         with self.lock:
             self.done += is_built
             if is_built:
                 self.tell(f"{self.done} of {len(self.crates)} crates are proved: {name}")
-            else:
-                print(f"run: {name} was not built; the log is {log}", file=sys.stderr, flush=True)
         return is_built
 
     def all(self):
-        """Whether all were built."""
+        """Builds all, up to the first that fails; None, or the name of that one."""
         count = places()
         self.tell(f"proving and building {len(self.crates)} crates, {count} at a time: minutes, where they are new")
         waiting, built, running = set(self.crates), set(), {}
@@ -117,9 +118,9 @@ class Build:
                 for one in ended:
                     name = running.pop(one)
                     if not one.result():
-                        return False
+                        return name
                     built.add(name)
-        return True
+        return None
 
 
 def main():
@@ -129,10 +130,11 @@ def main():
     if sys.argv[1] not in crates:
         fail(f"no crate {sys.argv[1]} in crates.txt")
     try:
-        is_built = Build(sys.argv[1], crates).all()
+        failed = Build(sys.argv[1], crates).all()
     except FileNotFoundError:
         fail("no command rt: the toolchain isn't there")
-    sys.exit(0 if is_built else 1)
+    if failed is not None:
+        fail(f"{failed} was not built; the log is {log_of(failed)}")
 
 
 if __name__ == "__main__":
