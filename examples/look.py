@@ -134,7 +134,8 @@ def main():
     pictures = first_pictures(read_stream(stream), stream)
     write_whole(target, png(sheet(pictures)))
     size = pictures[0].sequence
-    print(f"{target}: {len(pictures)} pictures of {size.width} by {size.height}")
+    count = "1 picture" if len(pictures) == 1 else f"{len(pictures)} pictures"
+    print(f"{target}: {count} of {size.width} by {size.height}")
 
 
 if __name__ == "__main__":

@@ -607,6 +607,8 @@ def main():
     if len(sys.argv) not in (3, 4):
         sys.exit("compare.py PROGRAM SECONDS [SEED]")
     program = pathlib.Path(sys.argv[1]).resolve()
+    if not program.is_file():
+        sys.exit(f"compare.py: no such file: {program}")
     end = time.monotonic() + float(sys.argv[2])
     first_seed = int(sys.argv[3]) if len(sys.argv) == 4 else 1
     kinds = [
