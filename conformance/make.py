@@ -256,16 +256,15 @@ def sizes():
 
 @stream
 def base_formats():
-    """all base video formats: 1 and 2 with no custom flag (176 by 120, 176 by 144), each other one with a size of its own, and from 7 on a signal range of 8 bits; a sequence of one intra picture each"""
+    """all base video formats: 1 and 2 with no custom flag (176 by 120, 176 by 144), each other one with a size of its own, its chroma format, and from 7 on a signal range of 8 bits; a sequence of one intra picture each"""
     made = Stream()
-    for base in range(17):
-        if base in (1, 2):
-            made.size, made.chroma = (176, 96 + 24 * base), 2
-            made.unit(SEQUENCE_HEADER, sequence_header(base=base)).intra(base, flat(250, 4)).end()
-            continue
-        fields = {"signal": 1 + base % 2} if base >= 7 else {}
-        made.sequence((8 + 2 * base, 6), base % 3, base=base, **fields)
-        made.intra(base, noise(90 + base, base % 7, 1)).end()
+    chroma_formats = 7 * [2] + 8 * [1] + 2 * [0]
+    for base, made.chroma in enumerate(chroma_formats):
+        made.size = (176, 96 + 24 * base) if base in (1, 2) else (8 + 2 * base, 6)
+        size = None if base in (1, 2) else made.size
+        signal = 1 + base % 2 if base >= 7 else None
+        made.unit(SEQUENCE_HEADER, sequence_header(base=base, size=size, signal=signal))
+        made.intra(base, flat(250, 4) if size is None else noise(90 + base, base % 7, 1)).end()
     return made
 
 
