@@ -22,6 +22,8 @@ mod lifting;
 #[cfg(test)]
 mod lists;
 #[cfg(test)]
+mod planning;
+#[cfg(test)]
 mod predictions;
 #[cfg(test)]
 mod quantiser;
