@@ -1,5 +1,5 @@
 -- The vectors that a block may be given at a stage of the search.
-use Rattle.std.specs.Prelude.{ℕ, ℤ, pos, ◌+◌, ◌-◌, ◌*◌, ◌^◌, ◌<◌, ◌≤◌, nat_lt, ◌+ℤ◌, ◌-ℤ◌, ◌*ℤ◌, unsigned_abs, if◌then◌else◌, Bool, List, [], ◌∷◌, ◌++◌, slice_index_or, Option, Some, None}
+use Rattle.std.specs.Prelude.{◌≡◌, ℕ, ℤ, pos, ◌+◌, ◌-◌, ◌*◌, ◌^◌, ◌<◌, ◌≤◌, nat_lt, ◌+ℤ◌, ◌-ℤ◌, ◌*ℤ◌, unsigned_abs, if◌then◌else◌, Bool, List, [], ◌∷◌, ◌++◌, length, slice_index_or, Option, Some, None}
 use Rattle.std.specs.List.{All, flat_map}
 use Rattle.dirac_types.specs.declared.formats.Vector.{Vector}
 use Rattle.dirac_search.specs.declared.stage.Stage.{Stage}
@@ -30,6 +30,10 @@ pub record Vectors : Type 0 where
   pub across : ℕ
   pub down : ℕ
   pub vectors : List Vector
+
+-- a vector for each of this many blocks
+abbrev pub HasAllBlocks : ℕ → ℕ → List Vector → Type 0
+HasAllBlocks across down vectors = (length vectors ≡ 4 * across * (4 * down)) × (across ≤ 1024) × (down ≤ 1024)
 
 -- the vector of block i of row j
 abbrev pub vector_at : Vectors → ℕ → ℕ → Vector

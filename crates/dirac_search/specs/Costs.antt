@@ -1,5 +1,5 @@
 -- What a vector costs a block at a stage of the search.
-use Rattle.std.specs.Prelude.{ℕ, ℤ, pos, ◌+◌, ◌*◌, ◌/◌, ◌^◌, ◌<◌, ◌≤◌, ◌==◌, ◌+ℤ◌, ◌-ℤ◌, unsigned_abs, if◌then◌else◌, length, slice_index_or}
+use Rattle.std.specs.Prelude.{◌≡◌, ℕ, ℤ, pos, ◌+◌, ◌*◌, ◌/◌, ◌^◌, ◌<◌, ◌≤◌, ◌==◌, ◌+ℤ◌, ◌-ℤ◌, unsigned_abs, if◌then◌else◌, length, slice_index_or}
 use Rattle.dirac_types.specs.Table.{Table, clamped_at}
 use Rattle.dirac_types.specs.declared.formats.Vector.{Vector}
 use Rattle.dirac_upconvert.specs.SubSamples.{sub_sample}
@@ -63,6 +63,14 @@ window_cost g bias stage w v = bias * bits_of_vector v + distortion g stage w v
 -- what a vector costs block i of row j
 abbrev pub cost_of : Searched → ℕ → Stage → ℕ → ℕ → Vector → ℕ
 cost_of g bias stage i j v = window_cost g bias stage (window_of g stage i j) v
+
+-- a number is a cost that is below a limit
+abbrev pub IsBelow : ℕ → ℕ → ℕ → Type 0
+IsBelow limit cost n = (n ≡ cost) × (n < limit)
+
+-- a cost reaches a limit, which then is one that costs can reach
+abbrev pub Reaches : ℕ → ℕ → Type 0
+Reaches limit cost = (limit ≤ cost) × (limit < 2 ^ 25)
 
 -- both pyramids have the level of a stage
 abbrev pub HasLevel : Searched → Stage → Type 0

@@ -13,7 +13,8 @@ use Rattle.dirac_search.specs.Given.{Searched}
 
 -- the first candidate of least cost
 unfoldable pub best_of : Searched → Settings → Stage → Option Vectors → ℕ → ℕ → Vector
-best_of g s stage before i j = first_least (cost_of g s.bias stage i j) no_motion (further_candidates stage s.range before i j)
+best_of g s stage before i j =
+    first_least (cost_of g s.bias stage i j) no_motion (further_candidates stage s.range before i j)
 
 -- the best vectors of the four block rows of a row of superblocks
 abbrev pub superblock_row : Searched → Settings → Stage → Option Vectors → ℕ → List Vector
@@ -78,4 +79,5 @@ HasFormerField g (stage.Sub q) (Some f) = IsFormerField g f
 
 -- there is an item for each row, which answers that row
 abbrev pub AnswerRows : {T : Type 0} → (ℕ → T → Type 0) → ℕ → List T → Type 0
-AnswerRows {T} answers rows items = (length items ≡ rows) × ((r : ℕ) (d : T) → r < rows → answers r (slice_index_or items r d))
+AnswerRows {T} answers rows items =
+    (length items ≡ rows) × ((r : ℕ) (d : T) → r < rows → answers r (slice_index_or items r d))

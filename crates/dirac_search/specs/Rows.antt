@@ -1,5 +1,5 @@
 -- Sums of absolute differences by the rows of a window.
-use Rattle.std.specs.Prelude.{◌≡◌, ℕ, ℤ, pos, ◌+◌, ◌*◌, ◌^◌, ◌<◌, ◌+ℤ◌, ◌-ℤ◌, unsigned_abs, List, slice_index_or}
+use Rattle.std.specs.Prelude.{◌≡◌, ℕ, ℤ, pos, ◌+◌, ◌*◌, ◌^◌, ◌<◌, ◌+ℤ◌, ◌-ℤ◌, unsigned_abs, List, slice_index, slice_index_or}
 use Rattle.dirac_types.specs.Table.{Table, clamped_at, clamped_to, table_at}
 use Rattle.dirac_types.specs.declared.formats.Vector.{Vector}
 use Rattle.dirac_upconvert.specs.SubSamples.{Up, sub_sample}
@@ -9,7 +9,8 @@ use Rattle.dirac_windows.specs.declared.window.Window.{Window}
 
 -- a list of the samples of the row of a plane that is nearest to place y
 abbrev pub IsRowNearest : Table → ℤ → List ℤ → Type 0
-IsRowNearest t y row = (x : ℕ) → x < t.width → slice_index_or row x (pos 0) ≡ table_at t x (clamped_to y t.height)
+IsRowNearest t y row =
+    (x : ℕ) → x < t.width → slice_index_or row x (pos 0) ≡ table_at t x (clamped_to y t.height)
 
 -- the samples of a row of a plane from a position on, each position clamped
 abbrev pub clamped_row : Table → ℤ → ℤ → ℕ → ℤ
@@ -34,10 +35,10 @@ sub_row_from up q x y v k =
 unfoldable pub sub_row_apart : Table → Up → ℕ → ℕ → ℕ → Vector → ℕ → ℕ
 sub_row_apart source up q x y v count = values_apart (row_from source x y) (sub_row_from up q x y v) count
 
--- the same for four rows from row y on, where whole samples from column `across` on are moved down by `part`
+-- the same for four rows from row y on, moved down by `part`, one row after another
 abbrev pub four_rows_apart : Table → Table → ℕ → ℕ → ℕ → ℤ → ℕ → ℕ
-four_rows_apart source reference x across y part count =
-    let row = λ (r : ℕ). row_apart source reference (pos x) (pos (y + r)) (pos across) (pos (y + r) +ℤ part) count in
+four_rows_apart s t x across y part count =
+    let row : ℕ → ℕ = λ r. row_apart s t (pos x) (pos (y + r)) (pos across) (pos (y + r) +ℤ part) count in
     ((row 0 + row 1) + row 2) + row 3
 
 -- the differences of the first rows of a window and of the whole samples to which a vector leads
@@ -52,3 +53,7 @@ sub_rows source up q w v rows = sum_below (λ r. sub_row_apart source up q w.x (
 -- how far two values are apart, k places behind two places
 unfoldable pub apart_at : List ℤ → ℕ → List ℤ → ℕ → ℕ → ℕ
 apart_at a first b second k = unsigned_abs (values_from a first k -ℤ values_from b second k)
+
+-- to each of eight sums a number is added
+abbrev pub AddsEight : List ℕ → List ℕ → (ℕ → ℕ) → Type 0
+AddsEight before after f = (k : ℕ) → k < 8 → slice_index after k ≡ slice_index before k + f k

@@ -1,6 +1,6 @@
 ghost use Rattle.std.specs.Prelude.{◌≡◌, ℕ, pos, ◌+◌, ◌^◌, ◌<◌, ◌≤◌, ◌+ℤ◌, unsigned_abs, length, slice_index};
 ghost use Rattle.dirac_windows.specs.Sums.{sum_below};
-ghost use Rattle.dirac_search.specs.Rows.{IsRowNearest, apart_at, four_rows_apart};
+ghost use Rattle.dirac_search.specs.Rows.{AddsEight, IsRowNearest, apart_at, four_rows_apart};
 
 use crate::places::{moved, nearest_row};
 use dirac_types::Plane;
@@ -25,7 +25,7 @@ fn add_eight(lanes: &mut [u32], a: &[i16], first: usize, b: &[i16], second: usiz
     requires at_most_196605 { (k : ℕ) → k < 8 → slice_index lanes.old k ≤ 196605 }
     requires inside_a { first + 8 ≤ length a.now }
     requires inside_b { second + 8 ≤ length b.now }
-    ensures added { (k : ℕ) → k < 8 → slice_index lanes.new k ≡ slice_index lanes.old k + apart_at a.now first b.now second k }
+    ensures added { AddsEight lanes.old lanes.new (apart_at a.now first b.now second) }
     ensures at_most_65535_more { (k : ℕ) → k < 8 → slice_index lanes.new k ≤ slice_index lanes.old k + 65535 }
 {
     for k in 0..8 {

@@ -13,14 +13,13 @@ pub struct Field {
 }
 
 impl Model for Field {
-    ghost use Rattle.std.specs.Prelude.{◌≡◌, ◌*◌, ◌≤◌, length};
-    ghost use Rattle.dirac_search.specs.Candidates.{Vectors};
+    ghost use Rattle.dirac_search.specs.Candidates.{HasAllBlocks, Vectors};
 
     ghost Value = { Vectors };
 
     ghost view = { λ f. record { across = f.across; down = f.down; vectors = f.vectors.items } };
 
-    ghost invariant = { λ f. (length f.vectors.items ≡ 4 * f.across * (4 * f.down)) × (f.across ≤ 1024) × (f.down ≤ 1024) };
+    ghost invariant = { λ f. HasAllBlocks f.across f.down f.vectors.items };
 }
 
 impl Field {

@@ -1,10 +1,10 @@
-ghost use Rattle.std.specs.Prelude.{◌≡◌, ◌*◌, ◌^◌, ◌<◌, ◌≤◌, IsTrue, IfOk, IfSome, IfNone, option_map};
+ghost use Rattle.std.specs.Prelude.{◌≡◌, ◌*◌, ◌^◌, ◌<◌, ◌≤◌, IsTrue, IfOk, IfSome, IfNone};
 ghost use Rattle.std.specs.List.{All};
 ghost use Rattle.dirac_windows.specs.Least.{first_least};
 ghost use Rattle.dirac_search.specs.Candidates.{HasFormer, IsWithinReach, no_motion};
-ghost use Rattle.dirac_search.specs.Costs.{HasLevel, HasPrecision, IsBlockWindow, window_cost};
+ghost use Rattle.dirac_search.specs.Costs.{HasLevel, HasPrecision, IsBlockWindow, IsBelow, window_cost};
 ghost use Rattle.dirac_search.specs.Fields.{IsSearch, IsStage, best_of};
-ghost use Rattle.dirac_search.specs.Given.{given};
+ghost use Rattle.dirac_search.specs.Given.{given, lent};
 
 use crate::candidate_list::CandidateList;
 use crate::field::Field;
@@ -40,7 +40,7 @@ fn better_cost(
     requires window { IsBlockWindow window }
     requires v { IsWithinReach (2 ^ 24) v }
     requires least { least ≡ window_cost (given search.now) bias stage window found }
-    ensures below { IfSome result (λ cost. (cost ≡ window_cost (given search.now) bias stage window v) × (cost < least)) }
+    ensures below { IfSome result (IsBelow least (window_cost (given search.now) bias stage window v)) }
     ensures above { IfNone result (least ≤ window_cost (given search.now) bias stage window v) }
 {
     // Candidates come again, the best one too: its cost would be summed to the end.
@@ -107,10 +107,10 @@ pub fn best_in(
 ) -> Result<Vector, NoMemory>
     requires search { IsSearch (given search.now) settings.now }
     requires stage { IsStage settings.now stage }
-    requires former { HasFormer stage (option_map (λ f. f.now) before) i j }
+    requires former { HasFormer stage (lent before) i j }
     requires column { i < 4 * search.now.across }
     requires row { j < 4 * search.now.down }
-    ensures { IfOk result (λ v. v ≡ best_of (given search.now) settings.now stage (option_map (λ f. f.now) before.entry) i j) }
+    ensures { IfOk result (λ v. v ≡ best_of (given search.now) settings.now stage (lent before.entry) i j) }
 {
     room.list.clear();
     push_choice(
@@ -139,10 +139,10 @@ pub fn best(
 ) -> Result<Vector, NoMemory>
     requires search { IsSearch (given search.now) settings.now }
     requires stage { IsStage settings.now stage }
-    requires former { HasFormer stage (option_map (λ f. f.now) before) i j }
+    requires former { HasFormer stage (lent before) i j }
     requires column { i < 4 * search.now.across }
     requires row { j < 4 * search.now.down }
-    ensures { IfOk result (λ v. v ≡ best_of (given search.now) settings.now stage (option_map (λ f. f.now) before.entry) i j) }
+    ensures { IfOk result (λ v. v ≡ best_of (given search.now) settings.now stage (lent before.entry) i j) }
 {
     let mut room = new_room(alloc);
     best_in(search, stage, settings, before, i, j, &mut room)

@@ -1,7 +1,8 @@
-ghost use Rattle.std.specs.Prelude.{◌≡◌, pos, ◌+◌, ◌*◌, ◌^◌, ◌<◌, ◌≤◌, ◌*ℤ◌, unsigned_abs, true, [], ◌++◌, Some, IfOk, option_map};
+ghost use Rattle.std.specs.Prelude.{◌≡◌, pos, ◌+◌, ◌*◌, ◌^◌, ◌<◌, ◌≤◌, ◌*ℤ◌, unsigned_abs, true, [], ◌++◌, Some, IfOk};
 ghost use Rattle.std.specs.List.{All};
 ghost use Rattle.dirac_search.specs.Candidates.{HasFormer, IsFormer, IsWithinReach, candidates_of, centre_if, centres, finer_candidates, further_candidates, sub_candidates, twice, vector_at};
 ghost use Rattle.dirac_search.specs.Choices.{ChoosesAs};
+ghost use Rattle.dirac_search.specs.Given.{lent};
 
 use crate::around::{push_around, push_round_all, push_round_each};
 use crate::candidate_list::CandidateList;
@@ -138,9 +139,9 @@ pub fn push_further(
     j: u32,
 ) -> Result<(), NoMemory>
     requires at_most_16 { settings.now.range ≤ 16 }
-    requires former { HasFormer stage (option_map (λ f. f.now) before) i j }
-    ensures value { IfOk result (λ _. list.new ≡ list.old ++ further_candidates stage settings.now.range (option_map (λ f. f.now) before.entry) i j) }
-    ensures within { All (IsWithinReach (2 ^ 24)) (further_candidates stage settings.now.range (option_map (λ f. f.now) before.entry) i j) }
+    requires former { HasFormer stage (lent before) i j }
+    ensures value { IfOk result (λ _. list.new ≡ list.old ++ further_candidates stage settings.now.range (lent before.entry) i j) }
+    ensures within { All (IsWithinReach (2 ^ 24)) (further_candidates stage settings.now.range (lent before.entry) i j) }
 {
     match (stage, before) {
         (Stage::Finer(_), Some(field)) => push_finer(list, room, field, i, j),
@@ -160,8 +161,8 @@ pub fn candidates(
     j: u32,
 ) -> Result<CandidateList, NoMemory>
     requires at_most_16 { settings.now.range ≤ 16 }
-    requires former { HasFormer stage (option_map (λ f. f.now) before) i j }
-    ensures { IfOk result (λ list. list ≡ candidates_of stage settings.now.range (option_map (λ f. f.now) before.entry) i j) }
+    requires former { HasFormer stage (lent before) i j }
+    ensures { IfOk result (λ list. list ≡ candidates_of stage settings.now.range (lent before.entry) i j) }
 {
     let mut list = CandidateList::new(alloc);
     let mut room = CandidateList::new(alloc);
@@ -183,8 +184,8 @@ pub fn push_choice(
 ) -> Result<(), NoMemory>
     requires empty { list.old ≡ [] }
     requires at_most_16 { settings.now.range ≤ 16 }
-    requires former { HasFormer stage (option_map (λ f. f.now) before) i j }
-    ensures chooses_as_all { IfOk result (λ _. ChoosesAs list.new (further_candidates stage settings.now.range (option_map (λ f. f.now) before.entry) i j)) }
+    requires former { HasFormer stage (lent before) i j }
+    ensures chooses_as_all { IfOk result (λ _. ChoosesAs list.new (further_candidates stage settings.now.range (lent before.entry) i j)) }
     ensures within { IfOk result (λ _. All (IsWithinReach (2 ^ 24)) list.new) }
 {
     match (stage, before) {

@@ -1,10 +1,10 @@
-ghost use Rattle.std.specs.Prelude.{◌≡◌, ℕ, pos, ◌+◌, ◌-◌, ◌*◌, ◌^◌, ◌<◌, ◌≤◌, ◌++◌, length, Some, None, IfOk, option_map};
+ghost use Rattle.std.specs.Prelude.{◌≡◌, ℕ, pos, ◌+◌, ◌-◌, ◌*◌, ◌^◌, ◌<◌, ◌≤◌, ◌++◌, length, Some, None, IfOk};
 ghost use Rattle.std.specs.List.{All, flat_map};
 ghost use Rattle.dirac_vectors.specs.Predictions.{IsShortVector};
 ghost use Rattle.dirac_search.specs.ByRows.{row_values};
 ghost use Rattle.dirac_search.specs.Candidates.{IsWithinReach};
 ghost use Rattle.dirac_search.specs.Fields.{AnswerRows, HasFormerField, IsSearch, IsStage, after_finer, best_of, field, stage_field, superblock_row};
-ghost use Rattle.dirac_search.specs.Given.{given};
+ghost use Rattle.dirac_search.specs.Given.{given, lent};
 
 use crate::field::Field;
 use crate::least::{Room, best_in, new_room};
@@ -25,9 +25,9 @@ fn push_block_row(
 ) -> Result<(), NoMemory>
     requires search { IsSearch (given search.now) settings.now }
     requires stage { IsStage settings.now stage }
-    requires former { HasFormerField (given search.now) stage (option_map (λ f. f.now) before) }
+    requires former { HasFormerField (given search.now) stage (lent before) }
     requires row { j < 4 * search.now.down }
-    ensures { IfOk result (λ _. vectors.new.items ≡ vectors.old.items ++ row_values (4 * search.now.across) (best_of (given search.now) settings.now stage (option_map (λ f. f.now) before.entry)) j) }
+    ensures { IfOk result (λ _. vectors.new.items ≡ vectors.old.items ++ row_values (4 * search.now.across) (best_of (given search.now) settings.now stage (lent before.entry)) j) }
 {
     for i in 0..4 * search.across {
         vectors.push(best_in(search, stage, settings, before, i, j, room)?)?;
@@ -35,8 +35,8 @@ fn push_block_row(
     Ok(())
 }
 
-/// The best vectors of the four block rows of superblock row `row`, by rows. `before` has the former stage's vectors; the
-/// first stage has none.
+/// The best vectors of the four block rows of superblock row `row`, by rows. `before` has the former stage's vectors;
+/// the first stage has none.
 pub fn search_rows(
     alloc: Global,
     search: &Search<'_>,
@@ -47,9 +47,9 @@ pub fn search_rows(
 ) -> Result<Vec<Vector>, NoMemory>
     requires search { IsSearch (given search.now) settings.now }
     requires stage { IsStage settings.now stage }
-    requires former { HasFormerField (given search.now) stage (option_map (λ f. f.now) before) }
+    requires former { HasFormerField (given search.now) stage (lent before) }
     requires row { row < search.now.down }
-    ensures { IfOk result (λ v. v.items ≡ superblock_row (given search.now) settings.now stage (option_map (λ f. f.now) before.entry) row) }
+    ensures { IfOk result (λ v. v.items ≡ superblock_row (given search.now) settings.now stage (lent before.entry) row) }
 {
     let mut room = new_room(alloc);
     let mut vectors = Vec::new(alloc);
@@ -78,8 +78,8 @@ fn stage_rows<G: RowGate>(
 ) -> Result<Vec<Vec<Vector>>, NoMemory>
     requires search { IsSearch (given search.now) settings.now }
     requires stage { IsStage settings.now stage }
-    requires former { HasFormerField (given search.now) stage (option_map (λ f. f.now) before) }
-    ensures { IfOk result (λ rows. AnswerRows (λ r v. v.items ≡ superblock_row (given search.now) settings.now stage (option_map (λ f. f.now) before.entry) r) search.now.down rows.items) }
+    requires former { HasFormerField (given search.now) stage (lent before) }
+    ensures { IfOk result (λ rows. AnswerRows (λ r v. v.items ≡ superblock_row (given search.now) settings.now stage (lent before.entry) r) search.now.down rows.items) }
 {
     let mut rows = Vec::new(alloc);
     for row in 0..search.down {
@@ -111,8 +111,8 @@ fn search_stage<G: RowGate>(
 ) -> Result<Field, NoMemory>
     requires search { IsSearch (given search.now) settings.now }
     requires stage { IsStage settings.now stage }
-    requires former { HasFormerField (given search.now) stage (option_map (λ f. f.now) before) }
-    ensures { IfOk result (λ f. f ≡ stage_field (given search.now) settings.now stage (option_map (λ f. f.now) before.entry)) }
+    requires former { HasFormerField (given search.now) stage (lent before) }
+    ensures { IfOk result (λ f. f ≡ stage_field (given search.now) settings.now stage (lent before.entry)) }
 {
     let rows = stage_rows(alloc, search, stage, settings, before, gate)?;
     let vectors = joined(alloc, rows.as_slice())?;

@@ -1,6 +1,6 @@
 ghost use Rattle.std.specs.Prelude.{◌≡◌, ◌+◌, ◌*◌, ◌^◌, ◌<◌, ◌≤◌, IfSome, IfNone, length};
 ghost use Rattle.dirac_search.specs.Candidates.{IsWithinReach};
-ghost use Rattle.dirac_search.specs.Costs.{IsBlockWindow};
+ghost use Rattle.dirac_search.specs.Costs.{IsBlockWindow, Reaches, IsBelow};
 ghost use Rattle.dirac_search.specs.Rows.{sub_row_apart, sub_rows};
 
 use crate::places::moved;
@@ -24,8 +24,8 @@ fn parts(place: u32, precision: u8) -> u32
     }
 }
 
-/// The sum of absolute differences of row `y` of the source, from column `x` on, and of the samples to which a vector in
-/// parts of a sample leads. `samples` is room for these samples.
+/// The sum of absolute differences of row `y` of the source, from column `x` on, and of the samples to which a vector
+/// in parts of a sample leads. `samples` is room for these samples.
 #[inline(always)]
 fn sum_sub_row(
     source: &Plane,
@@ -65,8 +65,8 @@ pub fn sub_below(
     requires window { IsBlockWindow window }
     requires v { IsWithinReach (2 ^ 24) v }
     requires at_most_66300 { first ≤ 66300 }
-    ensures below { IfSome result (λ sum. (sum ≡ first + sub_rows source.now up.now precision window v window.rows) × (sum < limit)) }
-    ensures above { IfNone result ((limit ≤ first + sub_rows source.now up.now precision window v window.rows) × (limit < 2 ^ 25)) }
+    ensures below { IfSome result (IsBelow limit (first + sub_rows source.now up.now precision window v window.rows)) }
+    ensures above { IfNone result (Reaches limit (first + sub_rows source.now up.now precision window v window.rows)) }
 {
     let mut room = [0i16; 16];
     let samples = &mut room[..window.columns as usize];

@@ -1,8 +1,7 @@
 ghost use Rattle.std.specs.Prelude.{◌≡◌, pos, ◌+◌, ◌*◌, ◌%◌, ◌^◌, ◌<◌, ◌≤◌, ◌+ℤ◌, ◌-ℤ◌, ◌≤ℤ◌, IfSome, IfNone, unsigned_abs, length};
-ghost use Rattle.dirac_types.specs.Table.{clamped_at};
 ghost use Rattle.dirac_search.specs.Candidates.{IsWithinReach};
-ghost use Rattle.dirac_search.specs.Costs.{IsBlockWindow};
-ghost use Rattle.dirac_search.specs.Rows.{row_apart, whole_row_apart, whole_rows};
+ghost use Rattle.dirac_search.specs.Costs.{IsBlockWindow, Reaches, IsBelow};
+ghost use Rattle.dirac_search.specs.Rows.{clamped_row, row_apart, whole_row_apart, whole_rows};
 
 use crate::eight_columns::four_rows;
 use crate::places::{column, is_inside, moved, nearest_row, sample_behind};
@@ -23,7 +22,7 @@ fn clamped_difference(
     requires x { unsigned_abs x ≤ 2 ^ 25 }
     requires across { unsigned_abs across ≤ 2 ^ 25 }
     requires at_most_16 { k ≤ 16 }
-    ensures value { result ≡ unsigned_abs (clamped_at source.now (x +ℤ pos k) y -ℤ clamped_at reference.now (across +ℤ pos k) down) }
+    ensures value { result ≡ unsigned_abs (clamped_row source.now x y k -ℤ clamped_row reference.now across down k) }
     ensures at_most_65535 { result ≤ 65535 }
 {
     difference(
@@ -141,8 +140,8 @@ fn whole_below_by_rows(
     requires window { IsBlockWindow window }
     requires v { IsWithinReach (2 ^ 24) v }
     requires at_most_66300 { first ≤ 66300 }
-    ensures below { IfSome result (λ sum. (sum ≡ first + whole_rows source.now reference.now window v window.rows) × (sum < limit)) }
-    ensures above { IfNone result ((limit ≤ first + whole_rows source.now reference.now window v window.rows) × (limit < 2 ^ 25)) }
+    ensures below { IfSome result (IsBelow limit (first + whole_rows source.now reference.now window v window.rows)) }
+    ensures above { IfNone result (Reaches limit (first + whole_rows source.now reference.now window v window.rows)) }
 {
     let mut sum = first;
     'rows: for k in 0..window.rows {
@@ -179,8 +178,8 @@ fn whole_below_by_four(
     requires x { window.x + 8 ≤ source.now.width }
     requires moved_by_v { pos across ≡ pos window.x +ℤ v.x }
     requires across { across + 8 ≤ reference.now.width }
-    ensures below { IfSome result (λ sum. (sum ≡ first + whole_rows source.now reference.now window v window.rows) × (sum < limit)) }
-    ensures above { IfNone result ((limit ≤ first + whole_rows source.now reference.now window v window.rows) × (limit < 2 ^ 25)) }
+    ensures below { IfSome result (IsBelow limit (first + whole_rows source.now reference.now window v window.rows)) }
+    ensures above { IfNone result (Reaches limit (first + whole_rows source.now reference.now window v window.rows)) }
 {
     let mut sum = first;
     'fours: for k in 0..window.rows / 4 {
@@ -212,8 +211,8 @@ pub fn whole_below(
     requires window { IsBlockWindow window }
     requires v { IsWithinReach (2 ^ 24) v }
     requires at_most_66300 { first ≤ 66300 }
-    ensures below { IfSome result (λ sum. (sum ≡ first + whole_rows source.now reference.now window v window.rows) × (sum < limit)) }
-    ensures above { IfNone result ((limit ≤ first + whole_rows source.now reference.now window v window.rows) × (limit < 2 ^ 25)) }
+    ensures below { IfSome result (IsBelow limit (first + whole_rows source.now reference.now window v window.rows)) }
+    ensures above { IfNone result (Reaches limit (first + whole_rows source.now reference.now window v window.rows)) }
 {
     let across = moved(window.x, v.x);
     if window.columns == 8

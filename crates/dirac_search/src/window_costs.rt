@@ -1,7 +1,7 @@
 ghost use Rattle.std.specs.Prelude.{◌≡◌, ◌+◌, ◌*◌, ◌^◌, ◌<◌, ◌≤◌, length, IfSome, IfNone};
 ghost use Rattle.dirac_search.specs.declared.stage.Stage.TheVariants as stage;
 ghost use Rattle.dirac_search.specs.Candidates.{IsWithinReach};
-ghost use Rattle.dirac_search.specs.Costs.{HasLevel, HasPrecision, IsBlockWindow, cost_of, distortion, level_of_stage, window_cost, window_of, window_size, window_start};
+ghost use Rattle.dirac_search.specs.Costs.{HasLevel, HasPrecision, IsBlockWindow, Reaches, IsBelow, cost_of, distortion, level_of_stage, window_cost, window_of, window_size, window_start};
 ghost use Rattle.dirac_search.specs.Fields.{IsSearch, IsStage};
 ghost use Rattle.dirac_search.specs.Given.{given};
 
@@ -76,8 +76,8 @@ fn whole_cost_below(
     requires window { IsBlockWindow window }
     requires v { IsWithinReach (2 ^ 24) v }
     requires at_most_66300 { bits ≤ 66300 }
-    ensures below { IfSome result (λ cost. (cost ≡ bits + distortion (given search.now) (stage.Coarse level) window v) × (cost < limit)) }
-    ensures above { IfNone result ((limit ≤ bits + distortion (given search.now) (stage.Coarse level) window v) × (limit < 2 ^ 25)) }
+    ensures below { IfSome result (IsBelow limit (bits + distortion (given search.now) (stage.Coarse level) window v)) }
+    ensures above { IfNone result (Reaches limit (bits + distortion (given search.now) (stage.Coarse level) window v)) }
 {
     whole_below(
         search.source.level(level),
@@ -103,8 +103,8 @@ pub fn cost_below(
     requires at_most_255 { bias ≤ 255 }
     requires window { IsBlockWindow window }
     requires v { IsWithinReach (2 ^ 24) v }
-    ensures below { IfSome result (λ cost. (cost ≡ window_cost (given search.now) bias stage window v) × (cost < limit)) }
-    ensures above { IfNone result ((limit ≤ window_cost (given search.now) bias stage window v) × (limit < 2 ^ 25)) }
+    ensures below { IfSome result (IsBelow limit (window_cost (given search.now) bias stage window v)) }
+    ensures above { IfNone result (Reaches limit (window_cost (given search.now) bias stage window v)) }
 {
     let bits = bias * vector_bits(v);
     match stage {
@@ -140,8 +140,8 @@ pub fn whole_cost(search: &Search<'_>, stage: Stage, bias: u32, window: Window, 
     }
 }
 
-/// What a vector costs block `i` of row `j` at a stage: the sum of absolute differences over the block's window, and the
-/// bias for each bit of the vector.
+/// What a vector costs block `i` of row `j` at a stage: the sum of absolute differences over the block's window, and
+/// the bias for each bit of the vector.
 pub fn cost(
     search: &Search<'_>,
     stage: Stage,
