@@ -673,8 +673,8 @@ def fault_signal_range():
 
 @stream
 def fault_depth8():
-    """Depth8: signal range 3, of 10 bits"""
-    return behind_a_sequence("signal", 8, signal=3)
+    """Depth8: a chroma excursion of 256, which takes 9 bits; that of luma is 255"""
+    return behind_a_sequence("signal", 8, signal=(0, 255, 128, 256))
 
 
 @stream
