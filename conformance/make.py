@@ -172,7 +172,7 @@ def chroma_422():
 
 @stream
 def quantiser_indices():
-    """quantiser indices 0 to 99, one a band, of values -1, 0 and 1: five intra pictures of 16 by 16, 4:4:4, wavelet 3"""
+    """quantiser indices 0 to 99, one a band, of values from -5 to 5: five intra pictures of 16 by 16, 4:4:4, wavelet 3"""
     made = Stream().sequence((16, 16), 0)
     bands_of_a_picture = 21
     for number in range(5):
@@ -180,7 +180,7 @@ def quantiser_indices():
         indices = iter(range(bands_of_a_picture * number, 100))
 
         def rows(plane, level, kind, width, height, source=source):
-            return [[source.between(-1, 1) for _ in range(width)] for _ in range(height)]
+            return [[source.between(-5, 5) for _ in range(width)] for _ in range(height)]
 
         made.intra(number, Residual(rows, lambda *_, indices=indices: next(indices, 0), 3, 2))
     return made.end()
@@ -195,7 +195,7 @@ def coefficients_up_to_the_longest():
 
         def rows(plane, level, kind, width, height, source=source):
             values = [[0] * width for _ in range(height)]
-            for _ in range(5):
+            for _ in range(width * height // 2):
                 value = 2 ** source.between(1, 39) - source.between(2, 3)
                 values[source.below(height)][source.below(width)] = value if source.below(2) else -max(value, 1)
             return values
@@ -222,12 +222,17 @@ def codeblocks_without_values():
 
 @stream
 def bands_of_zeros():
-    """bands of length 0 beside bands whose block holds zeros alone; an intra picture with no band at all; 4:2:0"""
+    """bands of length 0 beside others; bands whose values are zeros but the last one, so that contexts come to their ends; bands whose block holds zeros alone; a picture with no band: four intra pictures of 128 by 96, 4:2:0"""
+    made = Stream().sequence((128, 96))
     empty = [(0, 0, "LL"), (0, 2, "HL"), (1, 1, "LH"), (2, 0, "LL"), (2, 2, "HH")]
-    made = Stream().sequence((28, 20))
-    made.intra(0, noise(63, 0, 2, empty=empty))
-    zeros = Residual(lambda plane, level, kind, width, height: [[0] * width for _ in range(height)], lambda *_: 7, 0, 2)
-    return made.intra(1, zeros).intra(2, grey(2)).end()
+    made.intra(0, noise(63, 0, 2, zeros=7, empty=empty))
+    for number, last in ((1, -7), (2, 0)):
+
+        def rows(plane, level, kind, width, height, last=last):
+            return [[0] * width] * (height - 1) + [[0] * (width - 1) + [last]]
+
+        made.intra(number, Residual(rows, lambda *_: 7, 0, 2))
+    return made.intra(3, grey(2)).end()
 
 
 @stream
@@ -385,8 +390,8 @@ def vectors_beyond_the_edges():
 
 @stream
 def dc_blocks():
-    """DC blocks alone, at each split: values that are samples, then up to 1,000, then from -32,768 to 32,767"""
-    made = one_anchor()
+    """DC blocks alone, at each split: values that are samples, then up to 1,000, then from -32,768 to 32,767; 64 by 32, whole superblocks"""
+    made = one_anchor((64, 32))
     for number, dc in enumerate([127, 127, 1000, 32767], 1):
         motion = mixed_motion(230 + number, 1, dc=dc, kinds=(0,))
         made.inter(INTER_1_UNLISTED, number, (-number,), motion, faint(235 + number))
@@ -413,8 +418,8 @@ def inter_of(chroma):
 
 @stream
 def inter_residuals():
-    """residuals of inter pictures: every wavelet, the inter offsets of the quantiser, no prediction of LL, codeblocks"""
-    made = one_anchor()
+    """residuals of inter pictures: every wavelet, the inter offsets of the quantiser, no prediction of LL, codeblocks; 64 by 32, whole superblocks"""
+    made = one_anchor((64, 32))
     for number in range(1, 8):
         counts = [(2, 2), (3, 2), (4, 3)] if number % 2 else None
         residual = noise(260 + number, number - 1, 2, counts, zeros=5, finest=4 + number)
