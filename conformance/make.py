@@ -222,14 +222,18 @@ def codeblocks_without_values():
 
 @stream
 def bands_of_zeros():
-    """bands of length 0 beside others; bands whose values are zeros but the last one, so that contexts come to their ends; bands whose block holds zeros alone; a picture with no band: four intra pictures of 128 by 96, 4:2:0"""
+    """bands of length 0 beside others; bands whose values are zeros but the 301st and the last one, so that contexts come to their ends; bands whose block holds zeros alone; a picture with no band: four intra pictures of 128 by 96, 4:2:0"""
     made = Stream().sequence((128, 96))
     empty = [(0, 0, "LL"), (0, 2, "HL"), (1, 1, "LH"), (2, 0, "LL"), (2, 2, "HH")]
     made.intra(0, noise(63, 0, 2, zeros=7, empty=empty))
     for number, last in ((1, -7), (2, 0)):
 
         def rows(plane, level, kind, width, height, last=last):
-            return [[0] * width] * (height - 1) + [[0] * (width - 1) + [last]]
+            values = [[0] * width for _ in range(height)]
+            for n in (300, width * height - 1):
+                if n < width * height:
+                    values[n // width][n % width] = last
+            return values
 
         made.intra(number, Residual(rows, lambda *_: 7, 0, 2))
     return made.intra(3, grey(2)).end()
