@@ -49,7 +49,7 @@ unit_has_chroma d u h some = record {
   rows = omega (arith, mul-le 1 2 u.size d.grid.ybsep some h.rows.0);
 }
 
-dc_has : (d : Deciding) (u : PredictionUnit) → IsDeciding d → 1 ≤ u.size → HasSamples (dc_mode d u).block
+pub dc_has : (d : Deciding) (u : PredictionUnit) → IsDeciding d → 1 ≤ u.size → HasSamples (dc_mode d u).block
 dc_has d u h some =
     let columns : 2 ≤ u.size * d.grid.xbsep = (unit_has_chroma d u h some).columns in
     let rows : 2 ≤ u.size * d.grid.ybsep = (unit_has_chroma d u h some).rows in
@@ -69,13 +69,13 @@ choice_has d u h some =
     subst (λ (c : Choice). HasSamples c.block) (modes_are d u d.second)
     (cheaper_has (motion_mode d u d.second) (dc_mode d u) (motion_has d u d.second) (dc_has d u h some))
 
-some_size : (split : ℕ) → split ≤ 2 → 1 ≤ unit_size split
+pub some_size : (split : ℕ) → split ≤ 2 → 1 ≤ unit_size split
 some_size zero l = omega arith
 some_size (suc zero) l = omega arith
 some_size (suc (suc zero)) l = omega arith
 some_size (suc (suc (suc split))) l = absurd (omega arith)
 
-low_split : (d : Deciding) (sx sy : ℕ) → best_split d sx sy ≤ 2
+pub low_split : (d : Deciding) (sx sy : ℕ) → best_split d sx sy ≤ 2
 unfolding best_split
 low_split d sx sy = (is_first_least (split_cost d sx sy) 2).among
 

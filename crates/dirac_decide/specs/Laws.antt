@@ -1,8 +1,10 @@
--- What costs least.
+-- What the definitions mean.
 use Rattle.std.specs.Prelude.{◌≡◌, ℕ, ◌*◌, ◌<◌, ◌≤◌, Some}
+use Rattle.std.specs.List.{All}
+use Rattle.dirac_blocks.specs.Tables.{IsBlockTable}
 use Rattle.dirac_decide.specs.Deciding.{Deciding, View}
-use Rattle.dirac_decide.specs.Modes.{both_mode, choice_of, dc_mode, first_mode, second_mode}
-use Rattle.dirac_decide.specs.Splits.{best_split, split_cost}
+use Rattle.dirac_decide.specs.Modes.{HasSamples, both_mode, choice_of, dc_mode, first_mode, second_mode}
+use Rattle.dirac_decide.specs.Splits.{best_split, decided, split_cost}
 use Rattle.dirac_decide.specs.Units.{best_place, candidate_cost, least_cost}
 use Rattle.dirac_decide.specs.declared.prediction_unit.PredictionUnit.{PredictionUnit}
 
@@ -23,3 +25,8 @@ pub record IsLeastSplit (d : Deciding) (sx sy : ℕ) : Type 0 where
   pub least : (split : ℕ) → split ≤ 2 → split_cost d sx sy (best_split d sx sy) ≤ split_cost d sx sy split
   pub lower : (split : ℕ) → split < best_split d sx sy
       → split_cost d sx sy (best_split d sx sy) < split_cost d sx sy split
+
+-- the table is one that a picture can have, and its DC values are samples
+pub record IsLawful (d : Deciding) : Type 0 where
+  pub table : IsBlockTable (decided d)
+  pub samples : All HasSamples (decided d).blocks

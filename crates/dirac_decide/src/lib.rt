@@ -17,5 +17,8 @@ mod superblock;
 mod table;
 
 pub use inputs::RefView;
-pub use laws::{best_modes_cost_least, best_splits_cost_least, best_vectors_cost_least};
+pub use laws::{
+    best_modes_cost_least, best_splits_cost_least, best_vectors_cost_least,
+    decided_tables_are_lawful,
+};
 pub use table::decide;
