@@ -1,0 +1,6 @@
+pub mod Asking
+pub mod Bandwise
+pub mod Differences
+pub mod Facts
+pub mod Predicting
+pub mod Taken

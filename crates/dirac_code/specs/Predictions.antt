@@ -1,0 +1,85 @@
+-- The predictions of the planes of an inter picture, and what is made of them.
+use Rattle.std.specs.Prelude.{◌≡◌, ℤ, ◌*◌, ◌≤◌, List, length}
+use Rattle.std.specs.List.{All}
+use Rattle.dirac_types.specs.declared.formats.Kind.TheVariants.{Intra, Inter}
+use Rattle.dirac_types.specs.declared.picture.Picture.{Picture}
+use Rattle.dirac_types.specs.declared.settings.Settings.{Settings}
+use Rattle.dirac_types.specs.Table.{Table}
+use Rattle.dirac_sequence.specs.declared.sequence.Sequence.{Sequence}
+use Rattle.dirac_header.specs.declared.header.PictureHeader.{PictureHeader}
+use Rattle.dirac_upconvert.specs.HalfSamples.{IsSample}
+use Rattle.dirac_obmc.specs.declared.motion.Part.{Part}
+use Rattle.dirac_obmc.specs.declared.motion.Part.TheVariants as part
+use Rattle.dirac_picture.specs.declared.coded.CodedMotion.{CodedMotion}
+use Rattle.dirac_picture.specs.declared.coded.CodedPicture.{CodedPicture}
+use Rattle.dirac_picture.specs.declared.coded.CodedResidual.{CodedResidual}
+use Rattle.dirac_residual.specs.Residual.{clipped, with_prediction}
+use Rattle.dirac_analysis.specs.Fits.{AreSamples}
+use Rattle.dirac_decode.specs.Content.{height_of, named, predicted_among, residual_among, width_of}
+use Rattle.dirac_stream.specs.Coded.{bands_of, less_prediction, transform_of}
+use Rattle.dirac_code.specs.declared.predictions.Predictions.{Predictions}
+
+-- what is predicted for a plane of a picture, by rows: a value for each sample
+pub record IsPrediction (s : Sequence) (refs : List Picture) (head : PictureHeader) (m : CodedMotion) (part : Part) (values : List ℤ) : Type 0 where
+  pub same : values ≡ predicted_among s m (named refs head.ref1) (named refs head.ref2) part
+  pub len : length values ≡ width_of s part * height_of s part
+
+-- what is predicted for its planes
+pub record ArePredictions (s : Sequence) (refs : List Picture) (head : PictureHeader) (m : CodedMotion) (ps : Predictions) : Type 0 where
+  pub y : IsPrediction s refs head m part.Y ps.y.values
+  pub u : IsPrediction s refs head m part.U ps.u.values
+  pub v : IsPrediction s refs head m part.V ps.v.values
+
+-- a plane of samples, of a size that can be analysed
+pub record IsCodablePlane (plane : Table) : Type 0 where
+  pub across : plane.width ≤ 4096
+  pub down : plane.height ≤ 4096
+  pub samples : AreSamples plane.values
+
+-- a picture of such planes
+pub record IsCodableSource (p : Picture) : Type 0 where
+  pub y : IsCodablePlane p.y
+  pub u : IsCodablePlane p.u
+  pub v : IsCodablePlane p.v
+
+-- predictions that can be taken away from a plane: as many as it has samples, and samples themselves
+pub record IsPredictedBy (plane : Table) (values : List ℤ) : Type 0 where
+  pub len : length values ≡ length plane.values
+  pub samples : All IsSample values
+
+-- those of the planes of a picture
+pub record IsPicturePredictedBy (p : Picture) (ps : Predictions) : Type 0 where
+  pub y : IsPredictedBy p.y ps.y.values
+  pub u : IsPredictedBy p.u ps.u.values
+  pub v : IsPredictedBy p.v ps.v.values
+
+-- the coded residual of a source itself
+abbrev pub residual_whole : Settings → Picture → CodedResidual
+residual_whole t p = record {
+  transform = transform_of t;
+  y = bands_of t Intra p.y;
+  u = bands_of t Intra p.u;
+  v = bands_of t Intra p.v;
+}
+
+-- the coded residual of a source less these predictions
+abbrev pub residual_less : Settings → Picture → Predictions → CodedResidual
+residual_less t p ps = record {
+  transform = transform_of t;
+  y = bands_of t Inter (less_prediction p.y ps.y.values);
+  u = bands_of t Inter (less_prediction p.u ps.u.values);
+  v = bands_of t Inter (less_prediction p.v ps.v.values);
+}
+
+-- a plane of a coded picture with these predictions: its residual and they, clipped
+abbrev pub plane_from : Sequence → CodedPicture → Part → List ℤ → Table
+plane_from s coded part values = clipped (with_prediction (residual_among s Inter part coded.residual) values)
+
+-- the picture that a coded picture stands for, with these predictions
+abbrev pub picture_from : Sequence → CodedPicture → Predictions → Picture
+picture_from s coded ps = record {
+  number = coded.header.number;
+  y = plane_from s coded part.Y ps.y.values;
+  u = plane_from s coded part.U ps.u.values;
+  v = plane_from s coded part.V ps.v.values;
+}

@@ -1,0 +1,15 @@
+//! A picture, coded as it is planned: its payload, and the picture that decoders show for it.
+#![tactic(auto)]
+
+mod bands;
+mod difference;
+mod making;
+mod motion;
+mod payload;
+mod picture;
+mod predictions;
+mod residual;
+mod showing;
+mod transform;
+
+pub use picture::{Coded, code_with_blocks};

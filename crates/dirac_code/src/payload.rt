@@ -1,0 +1,154 @@
+//! The payload of a coded picture, written.
+
+ghost use Rattle.std.specs.Prelude.{◌≡◌, ◌<◌, ◌≤◌, ◌^◌, ◌++◌, ◌∷◌, [], List, OnOk, IfSome};
+ghost use Rattle.dirac_sequence.specs.Lawful.{IsSequence};
+ghost use Rattle.dirac_sequence.specs.Written.{sequence_of as sequence_for};
+ghost use Rattle.dirac_header.specs.Codes.{is_reference};
+ghost use Rattle.dirac_header.specs.Written.{HasReferences, MayRetire, header_bits, prediction_bits};
+ghost use Rattle.dirac_blocks.specs.Grammar.{blocks as blocks_grammar};
+ghost use Rattle.dirac_coeffs.specs.Written.{SpelledBehind, up_to_byte};
+ghost use Rattle.dirac_stream.specs.Payload.{HasSpelledBlocks, with_blocks, with_coefficients, with_flag, with_motion, with_picture, with_planes, with_residual};
+ghost use Rattle.dirac_stream.specs.Writable.{IsWritten};
+
+use crate::bands::write_plane;
+use dirac_bits::BitWriter;
+use dirac_blocks::{BlockData, write_blocks};
+use dirac_header::{write_header, write_prediction, write_transform};
+use dirac_picture::{CodedMotion, CodedPicture, CodedResidual, is_intra};
+use dirac_sequence::{Sequence, ratio_across, ratio_down};
+use dirac_types::{NoMemory, Settings};
+use std::alloc::Global;
+
+/// Writes the bands of Y, U and V.
+fn write_planes(
+    alloc: Global,
+    w: &mut BitWriter,
+    sequence: &Sequence,
+    residual: &CodedResidual,
+) -> Result<(), NoMemory>
+    requires sequence { IsSequence sequence.now }
+    requires written { IsWritten sequence.now residual.now }
+    ensures { OnOk result (w.new ≡ with_planes sequence.now residual.now w.old) }
+{
+    let transform = &residual.transform;
+    let width = sequence.width / ratio_across(sequence.chroma);
+    let height = sequence.height / ratio_down(sequence.chroma);
+    write_plane(
+        alloc,
+        w,
+        transform,
+        sequence.width,
+        sequence.height,
+        &residual.y,
+    )?;
+    write_plane(alloc, w, transform, width, height, &residual.u)?;
+    write_plane(alloc, w, transform, width, height, &residual.v)?;
+    Ok(())
+}
+
+/// Writes the transform parameters and the bands.
+fn write_residual(
+    alloc: Global,
+    w: &mut BitWriter,
+    sequence: &Sequence,
+    residual: &CodedResidual,
+) -> Result<(), NoMemory>
+    requires sequence { IsSequence sequence.now }
+    requires written { IsWritten sequence.now residual.now }
+    ensures { OnOk result (w.new ≡ with_residual sequence.now residual.now w.old) }
+{
+    write_transform(w, &residual.transform)?;
+    write_planes(alloc, w, sequence, residual)?;
+    Ok(())
+}
+
+/// Writes the prediction parameters of these settings and a block table (picture prediction, Dirac specification).
+fn write_table(
+    alloc: Global,
+    w: &mut BitWriter,
+    settings: &Settings,
+    blocks: &BlockData,
+) -> Result<(), NoMemory>
+    requires blocks { (2 ≤ settings.now.blocks) × (settings.now.blocks ≤ 4) }
+    requires precision { settings.now.precision ≤ 3 }
+    ensures value { OnOk result (w.new ≡ with_blocks settings.now blocks.now w.old) }
+    ensures spelled { OnOk result (SpelledBehind (blocks_grammar blocks.now.across blocks.now.down blocks.now.refs) blocks.now (up_to_byte (w.old ++ prediction_bits w.old settings.now.blocks settings.now.precision)) (with_blocks settings.now blocks.now w.old)) }
+{
+    write_prediction(w, settings.blocks, settings.precision)?;
+    w.align()?;
+    write_blocks(alloc, w, blocks)?;
+    Ok(())
+}
+
+/// Writes them for an inter picture; an intra picture has none.
+fn write_motion(
+    alloc: Global,
+    w: &mut BitWriter,
+    settings: &Settings,
+    motion: &Option<CodedMotion>,
+) -> Result<(), NoMemory>
+    requires blocks { (2 ≤ settings.now.blocks) × (settings.now.blocks ≤ 4) }
+    requires precision { settings.now.precision ≤ 3 }
+    ensures value { OnOk result (w.new ≡ with_motion settings.now motion.now w.old) }
+    ensures spelled { OnOk result (HasSpelledBlocks settings.now motion.now w.old) }
+{
+    match motion {
+        None => Ok(()),
+        Some(motion) => write_table(alloc, w, settings, &motion.blocks),
+    }
+}
+
+/// Writes the flag zero_residual, which just inter pictures have.
+fn write_flag(w: &mut BitWriter, code: u8, none: bool) -> Result<(), NoMemory>
+    ensures { OnOk result (w.new ≡ with_flag code none w.old) }
+{
+    if is_intra(code) {
+        return Ok(());
+    }
+    w.bit(none)
+}
+
+/// Writes that flag and the residual, where there is one.
+fn write_coefficients(
+    alloc: Global,
+    w: &mut BitWriter,
+    sequence: &Sequence,
+    code: u8,
+    residual: &Option<CodedResidual>,
+) -> Result<(), NoMemory>
+    requires sequence { IsSequence sequence.now }
+    requires written { IfSome residual.now (IsWritten sequence.now) }
+    ensures { OnOk result (w.new ≡ with_coefficients sequence.now code residual.now w.old) }
+{
+    match residual {
+        None => write_flag(w, code, true),
+        Some(residual) => {
+            write_flag(w, code, false)?;
+            write_residual(alloc, w, sequence, residual)
+        }
+    }
+}
+
+/// Writes a coded picture: picture parsing, Dirac specification. After want of memory a part may stand.
+pub(crate) fn write_picture(
+    alloc: Global,
+    w: &mut BitWriter,
+    settings: &Settings,
+    sequence: &Sequence,
+    coded: &CodedPicture,
+) -> Result<(), NoMemory>
+    requires sequence { IsSequence sequence.now }
+    requires same { sequence.now ≡ sequence_for settings.now }
+    requires blocks { (2 ≤ settings.now.blocks) × (settings.now.blocks ≤ 4) }
+    requires precision { settings.now.precision ≤ 3 }
+    requires references { HasReferences coded.now.code coded.now.header }
+    requires retires { MayRetire (is_reference coded.now.code) coded.now.header.number coded.now.header.retire }
+    requires written { IfSome coded.now.residual (IsWritten sequence.now) }
+    ensures value { OnOk result (w.new ≡ with_picture settings.now coded.now w.old) }
+    ensures spelled { OnOk result (HasSpelledBlocks settings.now coded.now.motion (w.old ++ header_bits w.old coded.now.code coded.now.header)) }
+{
+    write_header(w, &coded.header, coded.code)?;
+    write_motion(alloc, w, settings, &coded.motion)?;
+    w.align()?;
+    write_coefficients(alloc, w, sequence, coded.code, &coded.residual)
+}
