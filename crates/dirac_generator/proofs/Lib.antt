@@ -1,0 +1,5 @@
+pub mod Sizes
+pub mod Rows
+pub mod Lengths
+pub mod Reading
+pub mod Counting

@@ -1,0 +1,94 @@
+ghost use Rattle.std.specs.Prelude.{◌≡◌, ◌+◌, ◌*◌, ◌≤◌, ◌<◌, length};
+ghost use Rattle.dirac_types.specs.Settings.{IsAccepted, step_across as across_of, step_down as down_of};
+ghost use Rattle.dirac_generator.specs.Generated.{generated_byte, generated_rows, generated as bytes_of};
+ghost use Rattle.dirac_generator.specs.Generated.{chroma_across, chroma_down, picture_count};
+
+use dirac_types::Settings;
+
+/// How many luma samples stand beside each other for one chroma sample.
+fn step_across(chroma: u32) -> u32
+    ensures value { result ≡ across_of chroma }
+    ensures range { (1 ≤ result) × (result ≤ 2) }
+{
+    if chroma == 0 { 1 } else { 2 }
+}
+
+/// How many luma samples stand one below the other for one chroma sample.
+fn step_down(chroma: u32) -> u32
+    ensures value { result ≡ down_of chroma }
+    ensures range { (1 ≤ result) × (result ≤ 2) }
+{
+    if chroma == 2 { 2 } else { 1 }
+}
+
+/// How many bytes a plane of luma has, and one of chroma, and how wide one of chroma is.
+#[derive(Clone, Copy)]
+struct Sizes {
+    luma: usize,
+    chroma: usize,
+    chroma_width: usize,
+}
+
+fn sizes_of(settings: &Settings) -> Sizes
+    requires { IsAccepted settings.now }
+    ensures luma { result.luma ≡ settings.now.width * settings.now.height }
+    ensures chroma { result.chroma ≡ chroma_across settings.now * chroma_down settings.now }
+    ensures chroma_width { result.chroma_width ≡ chroma_across settings.now }
+    ensures some_chroma { (1 ≤ result.chroma_width) × (result.chroma_width ≤ 4096) }
+    ensures some_luma { (1 ≤ settings.now.width) × (settings.now.width ≤ 4096) × (1 ≤ result.luma) }
+    ensures bounded { result.luma + (result.chroma + result.chroma) ≤ 28311552 }
+{
+    let across = settings.width / step_across(settings.chroma);
+    let down = settings.height / step_down(settings.chroma);
+    Sizes {
+        luma: settings.width as usize * settings.height as usize,
+        chroma: across as usize * down as usize,
+        chroma_width: across as usize,
+    }
+}
+
+/// How many bytes a raw picture has with these settings: one for each sample.
+pub fn picture_length(settings: &Settings) -> usize
+    requires { IsAccepted settings.now }
+    ensures value { result ≡ picture_count settings.now }
+    ensures some { 1 ≤ result }
+    ensures bounded { result ≤ 28311552 }
+{
+    let sizes = sizes_of(settings);
+    sizes.luma + (sizes.chroma + sizes.chroma)
+}
+
+/// The byte of a picture in plane 0, 1 or 2, at column x of row y.
+#[inline(always)]
+fn byte_at(number: u32, plane: u8, x: u32, y: u32) -> u8
+    ensures { result ≡ generated_byte number plane x y }
+{
+    let (number, plane, x, y) = (number as u64, plane as u64, x as u64, y as u64);
+    ((3 * (x + 2 * number) + 5 * (y + number) + 40 * plane) % 256) as u8
+}
+
+/// Writes rows of this width of a plane of a picture.
+fn fill_rows(number: u32, plane: u8, width: usize, bytes: &mut [u8])
+    requires width { (1 ≤ width) × (width ≤ 4096) }
+    requires room { length bytes.old ≤ 28311552 }
+    ensures { bytes.new ≡ generated_rows number plane width (length bytes.old) }
+{
+    'bytes: for place in 0..bytes.len() {
+        let (x, y) = (place % width, place / width);
+        bytes[place] = byte_at(number, plane, x as u32, y as u32);
+    }
+}
+
+/// Writes the picture of this number.
+pub(crate) fn fill_picture(settings: &Settings, number: u32, bytes: &mut [u8])
+    requires accepted { IsAccepted settings.now }
+    requires room { length bytes.old ≡ picture_count settings.now }
+    ensures { bytes.new ≡ bytes_of settings.now number }
+{
+    let sizes = sizes_of(settings);
+    let (luma, chroma) = bytes.split_at_mut(sizes.luma);
+    let (u, v) = chroma.split_at_mut(sizes.chroma);
+    fill_rows(number, 0, settings.width as usize, luma);
+    fill_rows(number, 1, sizes.chroma_width, u);
+    fill_rows(number, 2, sizes.chroma_width, v);
+}
