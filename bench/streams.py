@@ -5,7 +5,7 @@ streams.py padding MEGABYTES    a stream of padding units of 64 KiB, and an end 
 streams.py grey PICTURES        intra pictures of 704 by 576, 4:2:0, all of whose subbands are empty
 streams.py long PICTURES        the same in units of 1 MiB: free bytes follow the last field
 streams.py raw PICTURES [WIDTH HEIGHT CHROMA]
-                                raw pictures: a slope that moves, with noise in its lowest bits; of 720 by 576, 4:2:2 (1)
+                                raw pictures: a slope that moves, with noise in its lowest bits; of 720 by 576, 4:2:2,
                                 where no size is given
 """
 import sys
@@ -67,7 +67,7 @@ def main():
     kind, *numbers = sys.argv[1:] or [""]
     makers = {"padding": (padding, 1), "grey": (grey, 1), "long": (long, 1), "raw": (write_raw, 4)}
     if kind not in makers or not all(number.isdigit() for number in numbers):
-        sys.exit("usage: streams.py padding MEGABYTES | grey PICTURES | long PICTURES | raw PICTURES [WIDTH HEIGHT CHROMA]")
+        sys.exit("usage: streams.py padding MEGABYTES | grey|long PICTURES | raw PICTURES [WIDTH HEIGHT CHROMA]")
     make, most = makers[kind]
     if len(numbers) not in (1, most):
         sys.exit(f"streams.py: {kind} takes {most} numbers")

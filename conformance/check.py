@@ -66,7 +66,8 @@ def differences(expected, done, pictures_alone):
         return
     md5 = hashlib.md5(done.stdout).hexdigest()
     if md5 != expected.md5:
-        yield f"pictures: {len(done.stdout)} bytes of MD5 {md5}, expected {expected.pictures} pictures of {expected.md5}"
+        wanted = f"{expected.pictures} pictures of {expected.md5}"
+        yield f"pictures: {len(done.stdout)} bytes of MD5 {md5}, expected {wanted}"
     if pictures_alone:
         return
     if str(done.returncode) != expected.status:

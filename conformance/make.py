@@ -172,7 +172,8 @@ def chroma_422():
 
 @stream
 def quantiser_indices():
-    """quantiser indices 0 to 99, one a band, of values from -5 to 5: five intra pictures of 16 by 16, 4:4:4, wavelet 3"""
+    """quantiser indices 0 to 99, one a band, of values from -5 to 5: five intra pictures of 16 by 16, 4:4:4, wavelet 3
+    """
     made = Stream().sequence((16, 16), 0)
     bands_of_a_picture = 21
     for number in range(5):
@@ -222,7 +223,10 @@ def codeblocks_without_values():
 
 @stream
 def bands_of_zeros():
-    """bands of length 0 beside others; bands whose values are zeros but the 301st and the last one, so that contexts come to their ends; bands whose block holds zeros alone; a picture with no band: four intra pictures of 128 by 96, 4:2:0"""
+    """bands of length 0 beside others; bands whose values are zeros but the 301st and the last one, so that contexts
+    come to their ends; bands whose block holds zeros alone; a picture with no band: four intra pictures of 128 by
+    96, 4:2:0
+    """
     made = Stream().sequence((128, 96))
     empty = [(0, 0, "LL"), (0, 2, "HL"), (1, 1, "LH"), (2, 0, "LL"), (2, 2, "HH")]
     made.intra(0, noise(63, 0, 2, zeros=7, empty=empty))
@@ -250,7 +254,9 @@ def gaps_and_leftovers():
 
 @stream
 def sizes():
-    """nine sequences of one intra picture: 1 by 1, 7 by 5, 1 by 9 (4:4:4), 2 by 1, 6 by 3 (4:2:2), 2 by 2, 6 by 10 (4:2:0), the widest, the highest"""
+    """nine sequences of one intra picture: 1 by 1, 7 by 5, 1 by 9 (4:4:4), 2 by 1, 6 by 3 (4:2:2), 2 by 2, 6 by 10
+    (4:2:0), the widest, the highest
+    """
     made = Stream()
     widest = [((4096, 2), 2), ((2, 2304), 2)]
     kinds = [((1, 1), 0), ((7, 5), 0), ((1, 9), 0), ((2, 1), 1), ((6, 3), 1), ((2, 2), 2), ((6, 10), 2), *widest]
@@ -265,7 +271,9 @@ def sizes():
 
 @stream
 def base_formats():
-    """all base video formats: 1 and 2 with no custom flag (176 by 120, 176 by 144), each other one with a size of its own, its chroma format, and from 7 on a signal range of 8 bits; a sequence of one intra picture each"""
+    """all base video formats: 1 and 2 with no custom flag (176 by 120, 176 by 144), each other one with a size of its
+    own, its chroma format, and from 7 on a signal range of 8 bits; a sequence of one intra picture each
+    """
     made = Stream()
     chroma_formats = 7 * [2] + 8 * [1] + 2 * [0]
     for base, made.chroma in enumerate(chroma_formats):
@@ -279,7 +287,8 @@ def base_formats():
 
 @stream
 def header_of_own_values():
-    """a sequence header with every custom flag, by values and not by indices, and versions, profile and level above 0"""
+    """a sequence header with every custom flag, by values and not by indices, and versions, profile and level above 0
+    """
     fields = dict(sampling=1, rate=(30000, 1001), aspect=(12, 11), clean=(16, 12, 2, 1), signal=(7, 200, 100, 128))
     made = Stream().sequence((20, 14), 1, colour=(1, None, 3), version=(1, 9), profile=77, level=200, **fields)
     made.intra(0, noise(110)).end()
@@ -292,7 +301,9 @@ def header_of_own_values():
 
 @stream
 def other_units_and_repeated_headers():
-    """padding and all eight auxiliary codes, with and without payloads, and the sequence header repeated, between pictures"""
+    """padding and all eight auxiliary codes, with and without payloads, and the sequence header repeated, between
+    pictures
+    """
     made = Stream().unit(PADDING, b"").sequence((16, 12)).unit(AUXILIARY, b"\x00BBCD\x10")
     for number in range(4):
         made.intra(number, noise(120 + number))
@@ -303,7 +314,9 @@ def other_units_and_repeated_headers():
 
 @stream
 def sequences_of_different_kinds():
-    """three sequences whose size, chroma format and numbers differ; each begins with no reference; the second has no picture"""
+    """three sequences whose size, chroma format and numbers differ; each begins with no reference; the second has no
+    picture
+    """
     made = one_anchor((20, 16), 2).inter(INTER_1, 1, (-1,), mixed_motion(130, 1)).end()
     made.sequence((500, 400)).end()
     made.sequence((12, 20), 0).intra(77, noise(131, 5)).inter(INTER_1_UNLISTED, 78, (-1,), mixed_motion(132, 1))
@@ -312,7 +325,9 @@ def sequences_of_different_kinds():
 
 @stream
 def offsets_of_all_kinds():
-    """previous offsets that are wrong, end units with next offset 13 and 0, end units that end nothing, no picture shown twice"""
+    """previous offsets that are wrong, end units with next offset 13 and 0, end units that end nothing, no picture
+    shown twice
+    """
     made = Stream().unit(END_OF_SEQUENCE, b"", 13, previous=2**32 - 1)
     made.size, made.chroma = (16, 12), 2
     made.unit(SEQUENCE_HEADER, sequence_header(size=(16, 12)), previous=5).intra(9, noise(140))
@@ -334,7 +349,9 @@ def precisions():
 
 @stream
 def two_references():
-    """inter pictures of two references, one before and one behind, not reference pictures themselves; and one that names a picture twice"""
+    """inter pictures of two references, one before and one behind, not reference pictures themselves; and one that
+    names a picture twice
+    """
     made = two_anchors()
     made.inter(INTER_2_UNLISTED, 1, (-1, 3), mixed_motion(170, 2), faint(174))
     made.inter(INTER_2_UNLISTED, 2, (2, -2), mixed_motion(172, 2, reach=60), faint(175, 0))
@@ -365,7 +382,9 @@ def blocks_of_own_sizes():
 
 @stream
 def weights():
-    """custom weights, negative ones and 0 among them, at precisions 1 to 8; with one reference the second weight is not coded and stays 1"""
+    """custom weights, negative ones and 0 among them, at precisions 1 to 8; with one reference the second weight is
+    not coded and stays 1
+    """
     made = two_anchors()
     for number, values in {1: (3, 5, 3), 2: (1, 2, -1), 3: (6, -20, 255), 5: (8, 255, 1)}.items():
         motion = mixed_motion(210 + number, 2, weights=values, kinds=(1, 2, 3, 3))
@@ -394,7 +413,9 @@ def vectors_beyond_the_edges():
 
 @stream
 def dc_blocks():
-    """DC blocks alone, at each split: values that are samples, then up to 1,000, then from -32,768 to 32,767; 64 by 32, whole superblocks"""
+    """DC blocks alone, at each split: values that are samples, then up to 1,000, then from -32,768 to 32,767; 64 by
+    32, whole superblocks
+    """
     made = one_anchor((64, 32))
     for number, dc in enumerate([127, 127, 1000, 32767], 1):
         motion = mixed_motion(230 + number, 1, dc=dc, kinds=(0,))
@@ -422,7 +443,9 @@ def inter_of(chroma):
 
 @stream
 def inter_residuals():
-    """residuals of inter pictures: every wavelet, the inter offsets of the quantiser, no prediction of LL, codeblocks; 64 by 32, whole superblocks"""
+    """residuals of inter pictures: every wavelet, the inter offsets of the quantiser, no prediction of LL, codeblocks;
+    64 by 32, whole superblocks
+    """
     made = one_anchor((64, 32))
     for number in range(1, 8):
         counts = [(2, 2), (3, 2), (4, 3)] if number % 2 else None
@@ -447,7 +470,9 @@ def retirement():
 
 @stream
 def list_of_eight():
-    """twelve reference pictures: the list holds eight, the oldest in coding order leave, and the oldest that stays is used"""
+    """twelve reference pictures: the list holds eight, the oldest in coding order leave, and the oldest that stays is
+    used
+    """
     made = Stream().sequence((16, 12))
     for number in [5, 0, 1, 2, 9, 3, 4, 6, 7, 8]:
         made.intra(number, noise(310 + number, zeros=5))
@@ -457,7 +482,9 @@ def list_of_eight():
 
 @stream
 def a_number_again():
-    """reference pictures of a number that is listed: the newer one takes its place as the youngest, and is what is referred to; retiring by an offset of 2^32 retires the picture's own number"""
+    """reference pictures of a number that is listed: the newer one takes its place as the youngest, and is what is
+    referred to; retiring by an offset of 2^32 retires the picture's own number
+    """
     made = Stream().sequence((16, 12))
     for n, number in enumerate([0, 1, 2, 1, 0, 1]):
         made.intra(number, noise(330 + n))
@@ -476,7 +503,9 @@ def delivery_in_another_order():
 
 @stream
 def numbers_that_wrap():
-    """picture numbers from 2^32 - 3 on, over 0, with references across; then, in a second sequence, numbers half a turn away"""
+    """picture numbers from 2^32 - 3 on, over 0, with references across; then, in a second sequence, numbers half a
+    turn away
+    """
     made = Stream().sequence((16, 12))
     made.intra(2**32 - 3, noise(360)).intra(1, noise(361))
     made.inter(INTER_2_UNLISTED, 2**32 - 2, (-1, 3), mixed_motion(362, 2))
@@ -489,7 +518,9 @@ def numbers_that_wrap():
 
 @stream
 def delivery_before_a_fault():
-    """nine reference pictures, coded as 4, 0, 1, 8, 2, 3, 7, 5, 6, and one that refers to picture 4, which has left the list: those that wait are delivered before MissingReference is answered"""
+    """nine reference pictures, coded as 4, 0, 1, 8, 2, 3, 7, 5, 6, and one that refers to picture 4, which has left
+    the list: those that wait are delivered before MissingReference is answered
+    """
     made = Stream().sequence((12, 8))
     for number in [4, 0, 1, 8, 2, 3, 7, 5, 6]:
         made.intra(number, noise(380 + number))
@@ -507,8 +538,9 @@ def behind_a_picture(code, bits):
 def behind_a_sequence(name, first_bit, **fields):
     """A whole sequence of one picture, and then a sequence header with these fields.
 
-    The one of this name is moved, by profiles of different lengths and by a rate of its own, to where its flag, or itself where it has
-    none, is as near before the `first_bit` of a byte as it can be, so that what stands behind it is in another byte.
+    The one of this name is moved, by profiles of different lengths and by a rate of its own, to where its flag, or
+    itself where it has none, is as near before the `first_bit` of a byte as it can be, so that what stands behind it
+    is in another byte.
     """
     headers = []
     for profile in (0, 1, 3, 7):
@@ -762,7 +794,8 @@ def fault_codeblock_mode():
 @stream
 def fault_quant_index():
     """QuantIndex: 100"""
-    return behind_a_picture(INTRA, intra_header().unsigned(0, 1).flag(0).align().unsigned(1, 100).align().bytes(b"\x2e"))
+    bits = intra_header().unsigned(0, 1).flag(0).align().unsigned(1, 100).align().bytes(b"\x2e")
+    return behind_a_picture(INTRA, bits)
 
 
 @stream
@@ -798,7 +831,8 @@ def fault_dc_range():
 def table():
     lines = ["| Stream | Bytes | What it has |\n", "|---|---|---|\n"]
     for name, make in STREAMS.items():
-        lines.append(f"| `{name}` | {len(make().data)} | {make.__doc__} |\n")
+        what = " ".join(make.__doc__.split())
+        lines.append(f"| `{name}` | {len(make().data)} | {what} |\n")
     return "".join(lines)
 
 

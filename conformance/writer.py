@@ -415,7 +415,10 @@ class BlockTable:
 
 
 class Motion:
-    """Prediction parameters and a block table. `blocks` is an index, or the four sizes; `weights` are precision and weights."""
+    """Prediction parameters and a block table.
+
+    `blocks` is an index, or the four sizes; `weights` are the precision of the weights, and the weights.
+    """
 
     def __init__(self, split, block, blocks=2, precision=2, weights=None, is_global=False, mode=0):
         self.split, self.block, self.blocks, self.precision = split, block, blocks, precision
@@ -477,7 +480,10 @@ class Stream:
         return self.unit(code, bits.payload() + behind)
 
     def inter(self, code, number, offsets, motion, residual=None, retired=0, gap=0, behind=b""):
-        """An inter picture; `offsets` are added to its number, one a reference. No residual is the zero residual flag."""
+        """An inter picture; `offsets` are added to its number, one a reference.
+
+        Without a residual the zero residual flag is set.
+        """
         bits = picture_header(Bits(gap), code, number, offsets, retired)
         motion.write(bits, self.size, len(offsets))
         bits.align().flag(residual is None)

@@ -1,12 +1,12 @@
 #!/usr/bin/env python3
 """Shows the first pictures of a Dirac stream as one PNG. Needs Python alone: no toolchain, no build, no other program.
 
-look.py [STREAM [PNG]]      STREAM is moving.drc beside this script where none is given; PNG its name with .png at the end,
-                            in the current folder
+look.py [STREAM [PNG]]      STREAM is moving.drc beside this script where none is given; PNG its name with .png at the
+                            end, in the current folder
 
-At most four pictures are decoded, by the plain decoder in bench/reference. It is slow: about two seconds for each picture
-of 176 by 144, a minute for one of 720 by 576. Where the stream has a fault before them, nothing is written, and the
-status is 4. The colours are taken as those of full-range BT.601.
+At most four pictures are decoded, by the plain decoder in bench/reference. It is slow: about two seconds for each
+picture of 176 by 144, a minute for one of 720 by 576. Where the stream has a fault before them, nothing is written,
+and the status is 4. The colours are taken as those of full-range BT.601.
 """
 import os
 import pathlib
@@ -86,7 +86,8 @@ def rgb_rows(shown):
             light = shown.raw[y * width + x]
             place = luma_size + y // down * chroma_width + x // across
             blue, red = shown.raw[place] - 128, shown.raw[place + chroma_size] - 128
-            row += bytes((clip(light + 1.402 * red), clip(light - 0.344136 * blue - 0.714136 * red), clip(light + 1.772 * blue)))
+            green = light - 0.344136 * blue - 0.714136 * red
+            row += bytes((clip(light + 1.402 * red), clip(green), clip(light + 1.772 * blue)))
         yield bytes(row)
 
 

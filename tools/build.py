@@ -3,9 +3,10 @@
 
 build.py PROGRAM        PROGRAM is a crate of crates.txt, such as dirac_tool
 
-Each crate is built as soon as those that it stands on are, with one job each: as many at a time as there are processors,
-and as the memory that is free has room for (GIB_EACH each), at least one; RUN_JOBS=N in the environment says how many
-instead. What is proved already is built again from what was kept. Writes a line for each crate that is done to standard error; where one fails, its log, and ends with 1.
+Each crate is built as soon as those that it stands on are, with one job each: as many at a time as there are
+processors, and as the memory that is free has room for (GIB_EACH each), at least one; RUN_JOBS=N in the environment
+says how many instead. What is proved already is built again from what was kept. Writes a line for each crate that is
+done to standard error; where one fails, its log, and ends with 1.
 """
 import concurrent.futures
 import os

@@ -6,13 +6,15 @@ y4m_to_raw.py [--words] < CLIP.y4m > PICTURES.yuv
 Takes 8-bit 4:2:0, 4:2:2 and 4:4:4. Writes the words that `encode` needs for them to standard error; with --words only
 these are written, to standard output, and no picture:
 
-ffmpeg -v error -i CLIP -f yuv4mpegpipe - | python3 tools/y4m_to_raw.py | ./run encode --width=720 --height=576 > CLIP.drc
+ffmpeg -v error -i CLIP -f yuv4mpegpipe - | python3 tools/y4m_to_raw.py | ./run encode --width=720 --height=576 > X.drc
 """
 import sys
 
 CHROMA_FORMATS = {"444": (0, 1, 1), "422": (1, 2, 1), "420": (2, 2, 2), "420jpeg": (2, 2, 2), "420mpeg2": (2, 2, 2)}
 CHROMA_FORMATS["420paldv"] = (2, 2, 2)
-RATES = [(24000, 1001), (24, 1), (25, 1), (30000, 1001), (30, 1), (50, 1), (60000, 1001), (60, 1), (15000, 1001), (25, 2)]
+# frame rates by index, from 1 on
+RATES = [(24000, 1001), (24, 1), (25, 1), (30000, 1001), (30, 1)]
+RATES += [(50, 1), (60000, 1001), (60, 1), (15000, 1001), (25, 2)]
 LONGEST_LINE = 1000
 
 

@@ -1,8 +1,8 @@
 """A plain decoder of this project's Dirac profile, to compare the product with.
 
 It was written from the format description alone, apart from the product, by someone who had seen nothing of the
-product; the rules are those of docs/FORMAT.md. It is slow and plain on purpose: it follows the description rule by rule,
-and holds a plane as a list of rows and a block table as a dictionary.
+product; the rules are those of docs/FORMAT.md. It is slow and plain on purpose: it follows the description rule by
+rule, and holds a plane as a list of rows and a block table as a dictionary.
 
 Left out: reading in pieces (a stream is one bytes object), limits of memory, and the values that change no sample
 (rates, aspects, clean area, signal offsets and colours are read, checked and dropped).
