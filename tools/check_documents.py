@@ -1,0 +1,81 @@
+#!/usr/bin/env python3
+"""Runs the command lines of documents as they stand, and compares what they write with what the documents say.
+
+check_documents.py [DOCUMENT...]        README.md, docs/*.md and the README.md of bench, conformance and examples where
+                                        none is given
+
+Run it with the program built and ffmpeg there; the files that the commands write at the top of the repository are
+ignored by git. In a block of lines those that begin with `$ ` are commands, and what follows one is what it writes to
+both outputs, in any order. In a block without such a line, those that begin with python3, ./run or bench/ are commands,
+of which only the status is looked at, and 1 is fine with `--pictures`, where another decoder may differ. Commands with
+ffplay are left out, for want of a screen. A clip that a document takes for granted is made by ffmpeg. Ends with 1 where
+a command differs.
+"""
+import pathlib
+import re
+import subprocess
+import sys
+
+TOP = pathlib.Path(__file__).resolve().parent.parent
+CLIP = TOP / "clip.mp4"
+
+
+def blocks(text):
+    return re.findall(r"^```\n(.*?)^```$", text, re.DOTALL | re.MULTILINE)
+
+
+def commands(block):
+    """Each command, and the lines that it is to write, or None where the block doesn't say."""
+    lines = block.splitlines()
+    if not any(line.startswith("$ ") for line in lines):
+        return [(line, None) for line in lines if re.match(r"python3 |\./run |bench/", line)]
+    found = []
+    for line in lines:
+        if line.startswith("$ "):
+            found.append((line[2:], []))
+        elif found and found[-1][0].endswith("\\"):
+            found[-1] = (f"{found[-1][0]}\n{line}", [])
+        elif found:
+            found[-1][1].append(line)
+    return found
+
+
+def difference(command, expected):
+    """What differs, or None."""
+    for name in re.findall(r"\S+\.mkv|\S+\.mp4", command):
+        if command.endswith(name):
+            (TOP / name).unlink(missing_ok=True)
+    done = subprocess.run(["bash", "-c", command], cwd=TOP, stdin=subprocess.DEVNULL, capture_output=True)
+    lines = (done.stdout + done.stderr).decode(errors="replace").splitlines()
+    if expected is None:
+        is_good = done.returncode == 0 or (done.returncode == 1 and "--pictures" in command)
+        return None if is_good else f"status {done.returncode}"
+    return None if sorted(lines) == sorted(expected) else f"wrote {lines[:5]}, expected {expected[:5]}"
+
+
+def main():
+    folders = [TOP, TOP / "docs", TOP / "bench", TOP / "conformance", TOP / "examples"]
+    paths = [pathlib.Path(word) for word in sys.argv[1:]]
+    paths = paths or [path for folder in folders for path in sorted(folder.glob("*.md"))]
+    if not CLIP.exists():
+        words = ["ffmpeg", "-v", "error", "-f", "lavfi", "-i", "testsrc=size=320x240:rate=25:duration=1", str(CLIP)]
+        subprocess.run(words, check=True)
+    count, differing = 0, 0
+    for path in paths:
+        for command, expected in [one for block in blocks(path.read_text()) for one in commands(block)]:
+            if "ffplay" in command:
+                continue
+            count += 1
+            found = difference(command, expected)
+            if found:
+                differing += 1
+                print(f"DIFFERS {path.name}: {command}: {found}", flush=True)
+    print(f"{count - differing} of {count} command lines write what the documents say")
+    sys.exit(1 if differing else 0)
+
+
+if __name__ == "__main__":
+    try:
+        main()
+    except (OSError, subprocess.CalledProcessError) as error:
+        sys.exit(f"check_documents.py: {error}")
