@@ -1,5 +1,5 @@
 pub mod Accepted
-mod Bounds
+pub mod Bounds
 mod Choosing
 mod Differences
 mod Examples
