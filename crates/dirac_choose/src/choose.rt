@@ -1,0 +1,139 @@
+ghost use Rattle.std.specs.Prelude.{◌≡◌, ℕ, IfOk, Some, None, false, is_none};
+ghost use Rattle.std.specs.Option.{ForSome, option_copied};
+ghost use Rattle.dirac_types.specs.Settings.{IsAccepted};
+ghost use Rattle.dirac_sequence.specs.Written.{sequence_of};
+ghost use Rattle.dirac_picture.specs.Grammar.{is_intra as is_intra_code};
+ghost use Rattle.dirac_decode.specs.Content.{IsPicture};
+ghost use Rattle.dirac_choose.specs.Chosen.{IsChoosing, IsChosen, at_index, blocks_from, chosen, chosen_unless_intra};
+
+use crate::search::vectors_in;
+use dirac_blocks::BlockData;
+use dirac_decide::{RefView, decide};
+use dirac_decode::named;
+use dirac_io::RowGate;
+use dirac_picture::is_intra;
+use dirac_plan::Planned;
+use dirac_pyramid::Pyramid;
+use dirac_refs::RefBuffer;
+use dirac_types::{NoMemory, Picture, Settings};
+use dirac_upconvert::upconvert;
+use std::alloc::Global;
+
+/// The block table of a picture with one reference.
+fn choose_from_one<G: RowGate>(
+    alloc: Global,
+    source: &Picture,
+    first: &Picture,
+    settings: &Settings,
+    gate: &G,
+) -> Result<BlockData, NoMemory>
+    requires settings { IsAccepted settings.now }
+    requires source { IsPicture (sequence_of settings.now) source.now }
+    requires first { IsPicture (sequence_of settings.now) first.now }
+    ensures { IfOk result (λ t. t ≡ blocks_from settings.now source.now first.now None) }
+{
+    let pyramid = Pyramid::build(alloc, &source.y, settings.pyramid as u8)?;
+    let up = upconvert(alloc, &first.y)?;
+    let field = vectors_in(alloc, source, &pyramid, first, &up, settings, gate)?;
+    let view = RefView {
+        up: &up,
+        field: &field,
+    };
+    decide(alloc, source, settings, view, None)
+}
+
+/// The block table of a picture with two references.
+fn choose_from_two<G: RowGate>(
+    alloc: Global,
+    source: &Picture,
+    first: &Picture,
+    second: &Picture,
+    settings: &Settings,
+    gate: &G,
+) -> Result<BlockData, NoMemory>
+    requires settings { IsAccepted settings.now }
+    requires source { IsPicture (sequence_of settings.now) source.now }
+    requires first { IsPicture (sequence_of settings.now) first.now }
+    requires second { IsPicture (sequence_of settings.now) second.now }
+    ensures { IfOk result (λ t. t ≡ blocks_from settings.now source.now first.now (Some second.now)) }
+{
+    let pyramid = Pyramid::build(alloc, &source.y, settings.pyramid as u8)?;
+    let up1 = upconvert(alloc, &first.y)?;
+    let up2 = upconvert(alloc, &second.y)?;
+    let field1 = vectors_in(alloc, source, &pyramid, first, &up1, settings, gate)?;
+    let field2 = vectors_in(alloc, source, &pyramid, second, &up2, settings, gate)?;
+    let view1 = RefView {
+        up: &up1,
+        field: &field1,
+    };
+    let view2 = RefView {
+        up: &up2,
+        field: &field2,
+    };
+    decide(alloc, source, settings, view1, Some(view2))
+}
+
+/// The block table of a picture with one reference or two.
+fn choose_from<G: RowGate>(
+    alloc: Global,
+    source: &Picture,
+    first: &Picture,
+    second: Option<&Picture>,
+    settings: &Settings,
+    gate: &G,
+) -> Result<BlockData, NoMemory>
+    requires settings { IsAccepted settings.now }
+    requires source { IsPicture (sequence_of settings.now) source.now }
+    requires first { IsPicture (sequence_of settings.now) first.now }
+    requires second { ForSome (option_copied second) (IsPicture (sequence_of settings.now)) }
+    ensures { IfOk result (λ t. t ≡ blocks_from settings.now source.now first.now (option_copied second.entry)) }
+{
+    match second {
+        None => choose_from_one(alloc, source, first, settings, gate),
+        Some(second) => choose_from_two(alloc, source, first, second, settings, gate),
+    }
+}
+
+/// The block table of a planned inter picture.
+fn choose_for<G: RowGate>(
+    alloc: Global,
+    planned: &Planned,
+    source: &Picture,
+    refs: &RefBuffer,
+    settings: &Settings,
+    gate: &G,
+) -> Result<BlockData, NoMemory>
+    requires asked { IsChoosing settings.now refs.now planned.now source.now }
+    requires inter { is_intra_code planned.now.code ≡ false }
+    ensures { IfOk result (λ t. t ≡ chosen settings.now refs.now planned.now source.now) }
+{
+    let second = named(refs, planned.ref2);
+    match named(refs, planned.ref1) {
+        None => unreachable!(),
+        Some(first) => choose_from(alloc, source, first, second, settings, gate),
+    }
+}
+
+/// The block table of a planned picture, whose references are listed: `None` exactly for an intra picture.
+///
+/// The gate is called before each row of superblocks of each stage of the search, for reference 1, then for reference 2.
+pub fn choose_blocks<G: RowGate>(
+    alloc: Global,
+    planned: &Planned,
+    source: &Picture,
+    refs: &RefBuffer,
+    settings: &Settings,
+    gate: &G,
+) -> Result<Option<BlockData>, NoMemory>
+    requires { IsChoosing settings.now refs.now planned.now source.now }
+    ensures value { IfOk result (λ o. o ≡ chosen_unless_intra settings.now refs.now planned.now source.now) }
+    ensures fits { IfOk result (λ o. ForSome o (IsChosen settings.now planned.now.code)) }
+    ensures none_exactly_for_intra { IfOk result (λ o. is_none o ≡ is_intra_code planned.now.code) }
+    ensures without_index { (index : ℕ) → IfOk result (λ o. o ≡ chosen_unless_intra (at_index settings.now index) refs.now planned.now source.now) }
+{
+    if is_intra(planned.code) {
+        return Ok(None);
+    }
+    let blocks = choose_for(alloc, planned, source, refs, settings, gate)?;
+    Ok(Some(blocks))
+}
