@@ -1,6 +1,5 @@
 -- What accepted settings and pictures of theirs give to a search and to a decision.
-use Rattle.std.proofs.Common.{◌≡◌, ℕ, ◌+◌, ◌-◌, ◌*◌, ◌/◌, ◌<◌, ◌≤◌, Option, length, arith, refl, ap, sym, ◌∙◌}
-use Rattle.std.specs.List.{All}
+use Rattle.std.proofs.Common.{◌≡◌, ℕ, ◌+◌, ◌-◌, ◌*◌, ◌<◌, ◌≤◌, Option, length, arith}
 use Rattle.std.specs.Option.{ForSome}
 use Rattle.std.proofs.lemmas.List.FromFn.{length-map-range_with_len}
 use Rattle.std.proofs.lemmas.Nat.{div_below}
@@ -17,9 +16,8 @@ use Rattle.dirac_pyramid.specs.Pyramid.{level_of, pyramid_of}
 use Rattle.dirac_search.specs.Fields.{IsSearch, field}
 use Rattle.dirac_search.proofs.Accepted.{search_accepted}
 use Rattle.dirac_search.proofs.Bounds.{all_short, sub_bound, sub_former}
-use Rattle.dirac_decide.specs.Deciding.{IsDeciding, IsFieldSize, IsSearched, IsView, View, deciding}
-use Rattle.dirac_decide.proofs.Accepted.{across_within, bias_within, down_within, grid_within, precision_within, view_found}
-use Rattle.dirac_sequence.specs.Ratios.{ratio_across, ratio_down}
+use Rattle.dirac_decide.specs.Deciding.{IsDeciding, IsSearched, IsView, View, deciding}
+use Rattle.dirac_decide.proofs.Accepted.{across_within, bias_within, down_within, grid_within, precision_within}
 use Rattle.dirac_choose.specs.Chosen.{searched_in, view_in}
 
 pub size_accepted : (s : Settings) → IsAccepted s → IsSize (sequence_of s).width (sequence_of s).height

@@ -1,6 +1,6 @@
 -- The tables that are chosen fit their pictures.
-use Rattle.std.proofs.Common.{◌≡◌, ℕ, zero, suc, ◌≤◌, ◌==◌, ◌||◌, nat_le, Bool, true, false, List, Option, Some, None, arith, refl, inl, inr, ap, sym, subst, ◌∙◌}
-use Rattle.std.specs.Prelude.{is_some, if◌then◌else◌, option_map, ◌&&◌, Result, Ok, Err, IfOk}
+use Rattle.std.proofs.Common.{◌≡◌, ℕ, zero, suc, ◌≤◌, ◌==◌, ◌||◌, nat_le, true, false, List, Option, Some, None, arith, refl, inl, inr, ap, sym, subst, ◌∙◌}
+use Rattle.std.specs.Prelude.{is_some, option_map, Result, Ok, Err, IfOk}
 use Rattle.std.specs.Option.{ForSome}
 use Rattle.std.proofs.lemmas.Bool.{and_parts, cases_Bool}
 use Rattle.dirac_types.specs.Settings.{IsAccepted}

@@ -1,21 +1,20 @@
 -- The quantiser index has no part in the choice.
-use Rattle.std.proofs.Common.{◌≡◌, ℕ, zero, suc, ◌-◌, List, Option, Some, None, refl, ap, ap₂, sym, ◌∙◌}
+use Rattle.std.proofs.Common.{◌≡◌, ℕ, zero, suc, ◌-◌, List, Option, Some, None, refl, ap, ap₂, ◌∙◌}
 use Rattle.std.specs.Prelude.{option_map}
 use Rattle.dirac_types.specs.declared.picture.Picture.{Picture}
 use Rattle.dirac_types.specs.declared.settings.Settings.{Settings}
 use Rattle.dirac_sequence.specs.Written.{sequence_of}
-use Rattle.dirac_blocks.specs.Tables.{BlockTable}
 use Rattle.dirac_decode.specs.Content.{named, up_of}
 use Rattle.dirac_upconvert.specs.SubSamples.{Up}
 use Rattle.dirac_search.specs.Candidates.{Vectors}
-use Rattle.dirac_search.specs.Fields.{after_finer, after_sub, best_of, field, stage_field}
+use Rattle.dirac_search.specs.Fields.{after_finer, after_sub, best_of, stage_field}
 use Rattle.dirac_search.specs.Given.{Searched}
 use Rattle.dirac_search.specs.declared.stage.Stage.{Stage}
 use Rattle.dirac_search.specs.declared.stage.Stage.TheVariants as stage
-use Rattle.dirac_decide.specs.Deciding.{Deciding, View, deciding}
-use Rattle.dirac_decide.specs.Splits.{decided, decided_by}
+use Rattle.dirac_decide.specs.Deciding.{View, deciding}
+use Rattle.dirac_decide.specs.Splits.{decided}
 use Rattle.dirac_plan.specs.declared.planned.Planned.{Planned}
-use Rattle.dirac_choose.specs.Chosen.{at_index, blocks_among, blocks_from, chosen, searched_in, view_in}
+use Rattle.dirac_choose.specs.Chosen.{at_index, blocks_among, chosen, searched_in, view_in}
 
 stage_same : (g : Searched) (s : Settings) (k : ℕ) (st : Stage) (before : Option Vectors) → stage_field g (at_index s k) st before ≡ stage_field g s st before
 unfolding stage_field best_of

@@ -1,6 +1,6 @@
 -- The table of the best splits and blocks is a block table.
-use Rattle.std.proofs.Common.{◌≡◌, ℕ, ℤ, pos, zero, suc, ◌+◌, ◌*◌, ◌/◌, ◌%◌, ◌<◌, ◌≤◌, nat_lt, true, false, Option, Some, None, List, length, get_or, arith, refl, inl, inr, ap, sym, subst, ◌∙◌}
-use Rattle.std.specs.List.{All, range_with_len}
+use Rattle.std.proofs.Common.{◌≡◌, ℕ, ℤ, pos, zero, suc, ◌+◌, ◌*◌, ◌/◌, ◌%◌, ◌<◌, ◌≤◌, nat_lt, Option, Some, None, length, arith, refl, inl, inr, ap, sym, subst, ◌∙◌}
+use Rattle.std.specs.List.{All}
 use Rattle.std.proofs.lemmas.Int.{ints}
 use Rattle.std.proofs.lemmas.Bool.{cases_Bool, cases_lt}
 use Rattle.std.proofs.lemmas.List.{get_or_past}
@@ -10,11 +10,10 @@ use Rattle.dirac_types.specs.declared.formats.Vector.{Vector}
 use Rattle.dirac_vectors.specs.Neighbours.{IsShort}
 use Rattle.dirac_vectors.specs.Predictions.{IsShortVector}
 use Rattle.dirac_upconvert.specs.HalfSamples.{IsSample}
-use Rattle.dirac_blocks.specs.declared.block.Block.{Block}
-use Rattle.dirac_blocks.specs.Tables.{BlockTable, grey, IsBlock, IsBlockTable, block_at, block_in, first_of, no_vector, split_at, unit_of}
+use Rattle.dirac_blocks.specs.Tables.{grey, IsBlock, IsBlockTable, block_in, first_of, no_vector, split_at, unit_of}
 use Rattle.dirac_search.specs.Candidates.{no_motion, vector_at}
 use Rattle.dirac_decide.specs.Choosing.{cheaper, motion_mode}
-use Rattle.dirac_decide.specs.Deciding.{Deciding, IsDeciding, IsView, View}
+use Rattle.dirac_decide.specs.Deciding.{Deciding, IsDeciding, View}
 use Rattle.dirac_decide.specs.Laws.{IsLawful}
 use Rattle.dirac_decide.specs.Modes.{HasSamples, both_mode, choice_of, dc_mode, first_mode, from_both, from_dc, from_first, from_second, refs_of, second_mode}
 use Rattle.dirac_decide.specs.Splits.{best_block, best_split, block_by_rows, decided, split_of, unit_in}

@@ -1,4 +1,4 @@
-use Rattle.std.proofs.Common.{◌≡◌, false, ap, sym, ◌∙◌}
+use Rattle.std.proofs.Common.{◌≡◌, false, sym, ◌∙◌}
 use Rattle.dirac_picture.specs.Grammar.{is_intra}
 use Rattle.dirac_choose.proofs.Fitting.{fits_some, inter_has}
 use Rattle.dirac_choose.proofs.Indices.{chosen_same}

@@ -1,4 +1,4 @@
-use Rattle.std.proofs.Common.{◌≤◌, arith}
+use Rattle.std.proofs.Common.{arith}
 use Rattle.dirac_choose.proofs.Asked.{levels_accepted, width_within, height_within}
 use Rattle.dirac_choose.proofs.choose.choose_from_one.Goals as goal
 

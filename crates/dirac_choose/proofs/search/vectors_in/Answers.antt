@@ -1,5 +1,4 @@
-use Rattle.std.proofs.Common.{◌≡◌, ◌≤◌, arith, ap, sym, subst, ◌∙◌, length}
-use Rattle.dirac_types.specs.declared.formats.BlockGrid.{BlockGrid}
+use Rattle.std.proofs.Common.{arith, ap, sym, subst, ◌∙◌, length}
 use Rattle.dirac_search.proofs.Accepted.{search_accepted}
 use Rattle.dirac_decide.proofs.Accepted.{IsGrid, blocks_within, grid_within}
 use Rattle.dirac_choose.proofs.Asked.{levels_accepted, pyramid_length}
