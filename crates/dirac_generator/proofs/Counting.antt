@@ -1,5 +1,5 @@
 -- The pictures that are the generated ones, counted one by one.
-use Rattle.std.proofs.Common.{if◌then◌else◌, ◌≡◌, ℕ, suc, ◌+◌, ◌-◌, ◌<◌, ◌≤◌, List, length, take, drop, sym, ap, ap₂, ◌∙◌, arith}
+use Rattle.std.proofs.Common.{if◌then◌else◌, ◌≡◌, ℕ, suc, ◌+◌, ◌-◌, ◌<◌, List, length, take, drop, sym, ap, ap₂, ◌∙◌, arith}
 use Rattle.std.specs.Prelude.{bytes_eq, min}
 use Rattle.std.proofs.lemmas.List.{take_min, drop_min}
 use Rattle.dirac_types.specs.declared.settings.Settings.{Settings}

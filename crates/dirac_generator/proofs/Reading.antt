@@ -1,5 +1,5 @@
 -- What a read of generated pictures gives.
-use Rattle.std.proofs.Common.{◌≡◌, ℕ, ◌+◌, ◌-◌, ◌*◌, ◌<◌, ◌≤◌, ◌^◌, List, ◌++◌, length, take, drop, length-append, length-drop, refl, sym, ap, ◌∙◌, append_assoc, arith, Some}
+use Rattle.std.proofs.Common.{◌≡◌, ℕ, ◌+◌, ◌<◌, ◌≤◌, ◌^◌, List, ◌++◌, length, take, drop, length-append, length-drop, sym, ap, ◌∙◌, append_assoc, arith, Some}
 use Rattle.std.specs.Prelude.{min}
 use Rattle.std.proofs.lemmas.List.{length-take-le}
 use Rattle.dirac_io.specs.Reading.{GivesFront}

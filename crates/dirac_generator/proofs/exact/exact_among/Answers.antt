@@ -1,4 +1,4 @@
-use Rattle.std.proofs.Common.{arith, length, ◌∙◌}
+use Rattle.std.proofs.Common.{arith}
 use Rattle.dirac_generator.specs.Generated.{picture_count}
 use Rattle.dirac_generator.proofs.Counting.{one_picture, front_of, behind_of}
 use Rattle.dirac_generator.proofs.exact.exact_among.Goals as goal

@@ -1,4 +1,4 @@
-use Rattle.std.proofs.Common.{◌≡◌, ◌≤◌, ◌*◌, ◌/◌, ◌%◌, ℕ, subst, sym, arith}
+use Rattle.std.proofs.Common.{◌≡◌, ◌%◌, ℕ, subst, sym, arith}
 use Rattle.std.proofs.Math.Nat.{div-le_self}
 use Rattle.dirac_generator.proofs.Sizes.{sizes_fit, some_parts, times_some, count_bounded}
 use Rattle.dirac_generator.proofs.picture.sizes_of.Goals as goal
