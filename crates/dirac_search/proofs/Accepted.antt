@@ -1,5 +1,5 @@
 -- What accepted settings give to a search.
-use Rattle.std.proofs.Common.{◌≡◌, ◌+◌, ◌≤◌, length}
+use Rattle.std.proofs.Common.{◌≡◌, ◌+◌, ◌≤◌, length, arith}
 use Rattle.dirac_types.specs.Settings.{IsAccepted, table}
 use Rattle.dirac_types.specs.declared.settings.Settings.{Settings}
 use Rattle.dirac_search.specs.Fields.{IsSearch}
@@ -14,6 +14,7 @@ search_accepted g s is source reference x y across down = record {
   range = is.1.1.1.1.1.1.1.1.1.1.1.1.1.1.1.1.1.0.1;
   pyramid = is.1.1.1.1.1.1.1.1.1.1.1.1.1.1.1.1.1.1.0.1;
   bias = is.1.1.1.1.1.1.1.1.1.1.1.1.1.1.1.1.1.1.1.0.1;
+  workers = (is.1.1.1.1.1.1.1.1.1.1.1.1.1.1.1.1.1.1.1.1.0.0, omega (arith, is.1.1.1.1.1.1.1.1.1.1.1.1.1.1.1.1.1.1.1.1.0.1));
   source = source;
   reference = reference;
   x_separation = x;

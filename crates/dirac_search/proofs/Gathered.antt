@@ -1,37 +1,19 @@
 -- Rows of superblocks put together.
-use Rattle.std.proofs.Common.{◌≡◌, ℕ, zero, suc, ◌+◌, ◌-◌, ◌*◌, ◌≤◌, Vec, Global, List, [], ◌∷◌, ◌++◌, length, take, get_or, Option, refl, ap, ap₂, sym, ◌∙◌, arith, inl, inr, subst, append_assoc, length-append}
+use Rattle.std.proofs.Common.{◌≡◌, ℕ, zero, suc, ◌+◌, ◌*◌, ◌≤◌, Vec, Global, List, [], ◌∷◌, ◌++◌, length, take, get_or, Option, refl, ap, ap₂, sym, ◌∙◌, arith, append_assoc, length-append}
 use Rattle.std.specs.List.{flat_map}
 use Rattle.std.proofs.Math.Seq.{take-suc}
-use Rattle.std.proofs.lemmas.Bool.{cases_lt}
 use Rattle.std.proofs.lemmas.Grind.{flat_map-append}
-use Rattle.std.proofs.lemmas.List.{append-nil, take_all, get_or_append_left, get_or-append_right}
+use Rattle.std.proofs.lemmas.List.{append-nil, take_all}
 use Rattle.std.proofs.lemmas.List.FromFn.{length-map-range_with_len}
 use Rattle.dirac_types.specs.declared.formats.Vector.{Vector}
 use Rattle.dirac_types.specs.declared.settings.Settings.{Settings}
 use Rattle.dirac_search.specs.declared.stage.Stage.{Stage}
 use Rattle.dirac_search.specs.ByRows.{by_rows, row_values}
 use Rattle.dirac_search.specs.Candidates.{Vectors}
-use Rattle.dirac_search.specs.Fields.{AnswerRows, best_of, stage_field, superblock_row}
+use Rattle.dirac_rows.specs.Answers.{AnswerRows}
+use Rattle.dirac_search.specs.Fields.{best_of, stage_field, superblock_row}
 use Rattle.dirac_search.specs.Given.{Searched}
 use Rattle.dirac_search.proofs.Lists.{rows_next}
-
--- no row is answered yet
-pub answers_none : {T : Type 0} (P : ℕ → T → Type 0) (xs : List T) → xs ≡ [] → AnswerRows P 0 xs
-answers_none P xs e = (ap length e, λ r d l. absurd (omega arith))
-
--- one more is
-pub answers_more : {T : Type 0} (P : ℕ → T → Type 0) (n m : ℕ) (xs now : List T) (x : T) → AnswerRows P n xs → m ≡ n + 1 → now ≡ xs ++ x ∷ [] → P n x → AnswerRows P m now
-answers_more P n m xs now x answers em en is = (
-  ap length en ∙ length-append xs (x ∷ []) ∙ omega (arith, answers.0),
-  λ r d l. elim (cases_lt r n) [
-    | inl before ↦ subst (P r) (sym (ap (λ ys. get_or ys r d) en ∙ get_or_append_left xs (x ∷ []) d r (omega (arith, answers.0)))) (answers.1 r d before)
-    | inr here ↦
-        let same : r ≡ n = omega arith in
-        let none : r - n ≡ 0 = omega arith in
-        let item : get_or now r d ≡ x = ap (λ ys. get_or ys r d) en ∙ get_or-append_right xs (x ∷ []) n r d answers.0 (omega arith) ∙ ap (λ k. get_or (x ∷ []) k d) none in
-        subst (P r) (sym item) (subst (λ k. P k x) (sym same) is)
-  ],
-)
 
 -- rows in two parts
 rows_split : {A : Type 0} (w n m : ℕ) (f : ℕ → ℕ → A) → by_rows w (n + m) f ≡ by_rows w n f ++ by_rows w m (λ i j. f i (n + j))

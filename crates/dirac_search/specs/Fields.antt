@@ -1,5 +1,5 @@
 -- The best vectors of all blocks, stage by stage.
-use Rattle.std.specs.Prelude.{◌≡◌, ℕ, zero, suc, ◌+◌, ◌-◌, ◌*◌, ◌^◌, ◌<◌, ◌≤◌, List, length, slice_index_or, Option, Some, None}
+use Rattle.std.specs.Prelude.{◌≡◌, ℕ, zero, suc, ◌+◌, ◌-◌, ◌*◌, ◌^◌, ◌<◌, ◌≤◌, List, length, Option, Some, None}
 use Rattle.std.specs.List.{All}
 use Rattle.dirac_types.specs.declared.formats.Vector.{Vector}
 use Rattle.dirac_types.specs.declared.settings.Settings.{Settings}
@@ -55,6 +55,7 @@ pub record IsSearch (g : Searched) (s : Settings) : Type 0 where
   pub pyramid : s.pyramid ≤ 4
   pub precision : s.precision ≤ 3
   pub bias : s.bias ≤ 255
+  pub workers : (1 ≤ s.workers) × (s.workers ≤ 64)
   pub source : length g.source ≡ s.pyramid + 1
   pub reference : length g.reference ≡ s.pyramid + 1
   pub x_separation : g.grid.xbsep ≤ 16
@@ -76,8 +77,3 @@ HasFormerField g (stage.Finer l) None = ⊥
 HasFormerField g (stage.Finer l) (Some f) = IsFormerField g f
 HasFormerField g (stage.Sub q) None = ⊥
 HasFormerField g (stage.Sub q) (Some f) = IsFormerField g f
-
--- there is an item for each row, which answers that row
-abbrev pub AnswerRows : {T : Type 0} → (ℕ → T → Type 0) → ℕ → List T → Type 0
-AnswerRows {T} answers rows items =
-    (length items ≡ rows) × ((r : ℕ) (d : T) → r < rows → answers r (slice_index_or items r d))

@@ -1,17 +1,21 @@
-ghost use Rattle.std.specs.Prelude.{◌≡◌, ℕ, pos, ◌+◌, ◌-◌, ◌*◌, ◌^◌, ◌<◌, ◌≤◌, ◌++◌, length, Some, None, IfOk};
+ghost use Rattle.std.specs.Prelude.{◌≡◌, ℕ, pos, ◌+◌, ◌-◌, ◌*◌, ◌^◌, ◌<◌, ◌≤◌, ◌++◌, length, Some, None, Ok, IfOk};
 ghost use Rattle.std.specs.List.{All, flat_map};
 ghost use Rattle.dirac_vectors.specs.Predictions.{IsShortVector};
 ghost use Rattle.dirac_search.specs.ByRows.{row_values};
 ghost use Rattle.dirac_search.specs.Candidates.{IsWithinReach};
-ghost use Rattle.dirac_search.specs.Fields.{AnswerRows, HasFormerField, IsSearch, IsStage, after_finer, best_of, field, stage_field, superblock_row};
+ghost use Rattle.dirac_rows.specs.Answers.{AnswerRows};
+ghost use Rattle.dirac_search.specs.Fields.{HasFormerField, IsSearch, IsStage, after_finer, best_of, field, stage_field, superblock_row};
 ghost use Rattle.dirac_search.specs.Given.{given, lent};
 
 use crate::field::Field;
 use crate::least::{Room, best_in, new_room};
 use crate::stage::{Search, Stage};
 use dirac_io::RowGate;
+use dirac_rows::map_rows;
 use dirac_types::{NoMemory, Settings, Vector};
 use std::alloc::Global;
+use std::marker::Sync;
+use std::thread::Threads;
 
 /// Appends the best vectors of a row of blocks.
 fn push_block_row(
@@ -67,8 +71,10 @@ pub fn search_rows(
     Ok(vectors)
 }
 
-/// The best vectors of each row of superblocks. The gate is called before each row.
-fn stage_rows<G: RowGate>(
+/// The best vectors of each row of superblocks. The settings' workers share the rows, and each passes the gate before
+/// it searches a row.
+fn stage_rows<R: Threads + Sync, G: RowGate>(
+    rt: &R,
     alloc: Global,
     search: &Search<'_>,
     stage: Stage,
@@ -81,12 +87,11 @@ fn stage_rows<G: RowGate>(
     requires former { HasFormerField (given search.now) stage (lent before) }
     ensures { IfOk result (λ rows. AnswerRows (λ r v. v.items ≡ superblock_row (given search.now) settings.now stage (lent before.entry) r) search.now.down rows.items) }
 {
-    let mut rows = Vec::new(alloc);
-    for row in 0..search.down {
-        gate.enter(row);
-        rows.push(search_rows(alloc, search, stage, settings, before, row)?)?;
-    }
-    Ok(rows)
+    let work = |row: u32| -> Result<Vec<Vector>, NoMemory>
+        requires { IsSearch (given search.now) settings.now × IsStage settings.now stage × HasFormerField (given search.now) stage (lent before) × (row < search.now.down) }
+        ensures { IfOk result (λ v. v.items ≡ superblock_row (given search.entry.now) settings.entry.now stage (lent before.entry) row) }
+    { search_rows(alloc, search, stage, settings, before, row) };
+    map_rows(rt, alloc, search.down, settings.workers, gate, &work)
 }
 
 /// The vectors of these rows, one row after another.
@@ -101,7 +106,8 @@ fn joined(alloc: Global, rows: &[Vec<Vector>]) -> Result<Vec<Vector>, NoMemory>
 }
 
 /// The best vectors of all blocks at a stage.
-fn search_stage<G: RowGate>(
+fn search_stage<R: Threads + Sync, G: RowGate>(
+    rt: &R,
     alloc: Global,
     search: &Search<'_>,
     stage: Stage,
@@ -114,13 +120,14 @@ fn search_stage<G: RowGate>(
     requires former { HasFormerField (given search.now) stage (lent before) }
     ensures { IfOk result (λ f. f ≡ stage_field (given search.now) settings.now stage (lent before.entry)) }
 {
-    let rows = stage_rows(alloc, search, stage, settings, before, gate)?;
+    let rows = stage_rows(rt, alloc, search, stage, settings, before, gate)?;
     let vectors = joined(alloc, rows.as_slice())?;
     Ok(Field::new(search.across, search.down, vectors))
 }
 
 /// The vectors after all stages in whole samples.
-fn search_whole<G: RowGate>(
+fn search_whole<R: Threads + Sync, G: RowGate>(
+    rt: &R,
     alloc: Global,
     search: &Search<'_>,
     settings: &Settings,
@@ -130,9 +137,18 @@ fn search_whole<G: RowGate>(
     ensures { IfOk result (λ f. f ≡ after_finer (given search.now) settings.now settings.now.pyramid) }
 {
     let levels = settings.pyramid as u8;
-    let mut field = search_stage(alloc, search, Stage::Coarse(levels), settings, None, gate)?;
+    let mut field = search_stage(
+        rt,
+        alloc,
+        search,
+        Stage::Coarse(levels),
+        settings,
+        None,
+        gate,
+    )?;
     for k in 0..levels {
         field = search_stage(
+            rt,
             alloc,
             search,
             Stage::Finer(levels - 1 - k),
@@ -144,8 +160,10 @@ fn search_whole<G: RowGate>(
     Ok(field)
 }
 
-/// The vectors after the last stage. The gate is called before each row of superblocks of each stage.
-pub fn search_field<G: RowGate>(
+/// The vectors after the last stage. In each stage the settings' workers share the rows of superblocks, and each passes
+/// the gate before it searches a row: the result is the same for any number of workers.
+pub fn search_field<R: Threads + Sync, G: RowGate>(
+    rt: &R,
     alloc: Global,
     search: &Search<'_>,
     settings: &Settings,
@@ -157,9 +175,10 @@ pub fn search_field<G: RowGate>(
     ensures within_2175 { IfOk result (λ f. All (IsWithinReach 2175) f.vectors) }
     ensures of_16_bits { IfOk result (λ f. All IsShortVector f.vectors) }
 {
-    let mut field = search_whole(alloc, search, settings, gate)?;
+    let mut field = search_whole(rt, alloc, search, settings, gate)?;
     for q in 0..settings.precision as u8 {
         field = search_stage(
+            rt,
             alloc,
             search,
             Stage::Sub(q + 1),
