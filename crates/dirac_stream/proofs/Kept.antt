@@ -31,6 +31,7 @@ use Rattle.dirac_plan.specs.declared.planned.Planned.{Planned}
 use Rattle.dirac_stream.specs.Coded.{IsPlane, IsSource, are_zero_bands, bands_of, coded_of, coded_with, is_zero_residual, kind_of, left_of, less_prediction, motion_of, residual_of, residual_unless_zero, transform_of}
 use Rattle.dirac_stream.specs.Coding.{Job, Made, blank, coded_from, coding, job_of, made, reconstructions, refs_after, shown_of}
 use Rattle.dirac_stream.specs.Laws.{AreMade, AreNumbered, AreSources, IsMade, IsWhole, JobsAreKept, SourcesAreKept}
+use Rattle.dirac_stream.specs.Tables.{TablesAreChosen}
 use Rattle.dirac_stream.specs.Writable.{IsCodable}
 use Rattle.dirac_stream.proofs.Coding.{clipped_again, codable}
 use Rattle.dirac_stream.proofs.Lefts.{found_is}
@@ -211,7 +212,7 @@ kept_from t pictures refs (q ∷ qs) accepted sources whole below planned number
 pub jobs_kept : JobsAreKept
 jobs_kept t refs j accepted source whole planned found number none = source_kept t refs j.planned j.source accepted source whole planned found number none
 
-pub sources_kept : PlansCanBeCoded → SourcesAreKept
+pub sources_kept : PlansCanBeCoded → TablesAreChosen → SourcesAreKept
 sources_kept plans tables t pictures is numbered whole none =
     let n = length pictures in
     let qs = plan n t in

@@ -39,7 +39,8 @@ use Rattle.dirac_decode.specs.Content as content
 use Rattle.dirac_decode.specs.Content.{compensation, height_of, named, plane_of, predicted_among, up_of, width_of}
 use Rattle.dirac_decode.proofs.Covering.{from_one, from_two}
 use Rattle.dirac_stream.specs.Coded.{IsPlane, IsSource, less_prediction, motion_with}
-use Rattle.dirac_stream.specs.Tables.{HasSamples, IsChosen}
+use Rattle.dirac_decide.specs.Modes.{HasSamples}
+use Rattle.dirac_choose.specs.Chosen.{IsChosen}
 
 -- ---- sources are pictures of the sequence
 

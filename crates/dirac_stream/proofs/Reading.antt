@@ -44,14 +44,14 @@ use Rattle.dirac_picture.specs.declared.coded.CodedResidual.{CodedResidual}
 use Rattle.dirac_picture.specs.Grammar.{are_listed, chroma_height, chroma_width, is_intra, is_listed, motion, picture, picture_read, prediction_fields, residual, residual_unless, zero_residual}
 use Rattle.dirac_analysis.specs.Fits.{AreDifferences, AreLevelBands, AreSamples}
 use Rattle.dirac_analysis.proofs.Fitting.{planes_fit, samples_small}
-use Rattle.dirac_decode.specs.Content.{height_of, named, plane_of, width_of}
+use Rattle.dirac_decode.specs.Content.{IsPicture, height_of, named, plane_of, width_of}
 use Rattle.dirac_plan.specs.declared.planned.Planned.{Planned}
 use Rattle.dirac_stream.specs.Coded.{IsPlane, IsSource, bands_of, coded_of, coded_with, is_zero_residual, kind_of, left_of, motion_with, residual_of, residual_unless_zero, transform_of}
 use Rattle.dirac_stream.specs.Coding.{Job, made}
 use Rattle.dirac_stream.specs.Laws.{JobsAreRead, JobsAreSmall}
-use Rattle.dirac_stream.specs.Tables.{IsChosen, TablesAreChosen}
+use Rattle.dirac_stream.specs.Tables.{TablesAreChosen}
 use Rattle.dirac_stream.specs.Payload.{HasSpelledBlocks, payload_of, with_blocks, with_coefficients, with_flag, with_motion, with_picture, with_residual}
-use Rattle.dirac_stream.specs.Chosen.{chosen}
+use Rattle.dirac_choose.specs.Chosen.{ChosenTablesFit, IsChosen, chosen}
 use Rattle.dirac_stream.specs.Writable.{AreSmall, IsCodable, IsWritten}
 use Rattle.dirac_stream.specs.Stream.{picture_length}
 use Rattle.dirac_stream.proofs.Behind.{behind_gap, whole_starts}
@@ -267,6 +267,20 @@ read_with t refs q p m accepted listed source planned found is short =
     let some : length (up_to_byte mid) ≡ length mid + length (gap mid) = length-append mid (gap mid) in
     let small : length mid < 2 ^ 40 = omega (arith, short, count, whole, longer, longest, some) in
     read_spelled t refs q p m accepted listed source planned found is (blocks_spelled t q m head is small)
+
+-- the tables of the definitions are those that fit
+pub tables_chosen : ChosenTablesFit → TablesAreChosen
+tables_chosen law t refs q p accepted listed source planned found inter =
+    let one : (o : Option ℕ) → ForSome (named refs o) (IsPicture (sequence_of t)) = λ o x e. picture_is t x (named_is (IsSource t) refs o listed x e) in
+    law t refs q p
+    (record {
+      accepted = accepted;
+      source = picture_is t p source;
+      references = record { listed = found; first = one q.ref1; second = one q.ref2 };
+      header = planned.references;
+      predicted = planned.predicted;
+    })
+    inter
 
 pub jobs_read : TablesAreChosen → JobsAreRead
 jobs_read law t refs j accepted listed source planned found short =

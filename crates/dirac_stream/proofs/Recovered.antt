@@ -162,7 +162,7 @@ whole_fit t bytes =
     let fits : whole * r ≤ length bytes = div-mul-le_self (length bytes) r in
     omega (arith, fits, mul-le (min whole t.pictures) r whole r (omega arith) (omega arith))
 
-pub raws_recovered : StreamsShowTheirPictures → StreamsAreCut → PlansCanBeCoded → RawPicturesAreRecovered
+pub raws_recovered : StreamsShowTheirPictures → StreamsAreCut → PlansCanBeCoded → TablesAreChosen → RawPicturesAreRecovered
 raws_recovered law cuts plans tables t bytes accepted all short =
     let n = min (whole_pictures t bytes) t.pictures in
     recovered law cuts plans tables t n bytes accepted (whole_fit t bytes) (omega arith) (below_take (n * raw_length t) bytes all) refl short

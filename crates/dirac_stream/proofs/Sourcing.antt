@@ -183,7 +183,7 @@ sources_leave plans t pictures accepted few =
     let ms = coding t pictures in
     ap flush (pushed_shown ms) ∙ (plans t n accepted (omega (arith, few))).order (map shown_of ms) (are_planned t pictures [] (plan n t))
 
-pub sources_shown : StreamsShowTheirPictures → (TablesAreChosen → JobsAreRead) → PlansCanBeCoded → SourcesShowReconstructions
+pub sources_shown : StreamsShowTheirPictures → (TablesAreChosen → JobsAreRead) → PlansCanBeCoded → TablesAreChosen → SourcesShowReconstructions
 sources_shown shown reads plans tables t pictures is =
     let all = sources_made plans (reads tables) t pictures is in
     let o = shown t (coding t pictures) is.accepted all.0 all.1 in

@@ -25,7 +25,7 @@ use Rattle.dirac_decode.specs.Content.{named, plane_of, predicted_among}
 pub use Rattle.dirac_residual.specs.Zeros.{are_zero_bands}
 use Rattle.dirac_plan.specs.declared.planned.Planned.{Planned}
 pub use Rattle.dirac_plan_laws.specs.Headers.{header_of}
-use Rattle.dirac_stream.specs.Chosen.{chosen}
+use Rattle.dirac_choose.specs.Chosen.{chosen}
 
 -- the codeblocks of a level, across or down: one at level 0, above as many as asked for, but no more than the luma
 -- bands have columns or rows

@@ -16,7 +16,6 @@ use Rattle.dirac_stream.specs.Raw.{sources}
 use Rattle.dirac_stream.specs.Payload.{payload_of}
 use Rattle.dirac_stream.specs.Writable.{AreSmall}
 use Rattle.dirac_stream.specs.Stream.{IsUnit, picture_length, stream_from, stream_of}
-use Rattle.dirac_stream.specs.Tables.{TablesAreChosen}
 use Rattle.dirac_plan_laws.specs.Headers.{IsPlanned, header_of}
 
 -- a picture whose payload is read as it was coded and rebuilt as it is shown, with these pictures listed
@@ -87,17 +86,17 @@ pub record AreSources (t : Settings) (pictures : List Picture) : Type 0 where
 -- their stream has no fault, and shows their reconstructions in order
 abbrev pub SourcesShowReconstructions : Type 0
 SourcesShowReconstructions =
-    TablesAreChosen → (t : Settings) (pictures : List Picture) → AreSources t pictures
+    (t : Settings) (pictures : List Picture) → AreSources t pictures
     → (o : Outcome) × IsShown (stream_of t pictures) o × (o.shown ≡ reconstructions t pictures) × (o.end ≡ None)
 
 -- at index 0 these are the sources
 abbrev pub SourcesAreKept : Type 0
 SourcesAreKept =
-    TablesAreChosen → (t : Settings) (pictures : List Picture) → AreSources t pictures
+    (t : Settings) (pictures : List Picture) → AreSources t pictures
     → AreNumbered 0 pictures → AllByRecursion IsWhole pictures → t.index ≡ 0 → reconstructions t pictures ≡ pictures
 
 -- raw pictures are recovered from their stream where no unit is longer than the settings allow
 abbrev pub RawPicturesAreRecovered : Type 0
 RawPicturesAreRecovered =
-    TablesAreChosen → (t : Settings) (bytes : List ℕ) → IsAccepted t → AllByRecursion (λ b. b < 2 ^ 8) bytes
+    (t : Settings) (bytes : List ℕ) → IsAccepted t → AllByRecursion (λ b. b < 2 ^ 8) bytes
     → first_long t (coding t (sources t bytes)) ≡ None → IsRecovered t bytes

@@ -1,4 +1,3 @@
-pub mod Chosen
 pub mod Coded
 pub mod Payload
 pub mod Coding

@@ -4,6 +4,7 @@ ghost use Rattle.dirac_stream.specs.Stream.{HeadersAreRead, StreamsAreCut};
 ghost use Rattle.dirac_stream.specs.Laws.{JobsAreKept, JobsAreRead, JobsAreSmall, RawPicturesAreRecovered, SourcesAreKept, SourcesShowReconstructions, StreamsShowTheirPictures};
 ghost use Rattle.dirac_stream.specs.Tables.{TablesAreChosen};
 
+use dirac_choose::chosen_tables_fit;
 use dirac_plan_laws::plans_can_be_coded;
 use dirac_units::infos_are_read_as_written;
 
@@ -16,10 +17,12 @@ pub fn streams_show_their_pictures()
     // A stream whose payloads are read as they were coded, the references found, shows its pictures in the order of
     // delivery.
     ensures shown { StreamsShowTheirPictures }
+    // The block tables that are chosen fit their pictures.
+    ensures tables { TablesAreChosen }
     // A planned source's payload is read again as it was coded.
-    ensures sources { TablesAreChosen → JobsAreRead }
+    ensures sources { JobsAreRead }
     // Its coded coefficients stay below 2^38.
-    ensures coefficients { TablesAreChosen → JobsAreSmall }
+    ensures coefficients { JobsAreSmall }
     // At index 0 it is shown again.
     ensures sources_shown_again { JobsAreKept }
     // The stream of sources has no fault and shows their reconstructions in order.
@@ -32,4 +35,5 @@ pub fn streams_show_their_pictures()
 {
     infos_are_read_as_written();
     plans_can_be_coded();
+    chosen_tables_fit();
 }

@@ -1,7 +1,7 @@
 use Rattle.dirac_stream.proofs.Headers.{header_read, header_short}
 use Rattle.dirac_stream.proofs.Showing.{streams_cut, streams_shown}
 use Rattle.dirac_stream.proofs.Kept.{jobs_kept, sources_kept}
-use Rattle.dirac_stream.proofs.Reading.{jobs_read, jobs_small}
+use Rattle.dirac_stream.proofs.Reading.{jobs_read, jobs_small, tables_chosen}
 use Rattle.dirac_stream.proofs.Recovered.{raws_recovered}
 use Rattle.dirac_stream.proofs.Sourcing.{sources_shown}
 use Rattle.dirac_stream.proofs.laws.streams_show_their_pictures.Goals as goal
@@ -16,19 +16,22 @@ pub returns-clause-shown : goal.returns-clause-shown
 returns-clause-shown c = streams_shown c.infos_are_read_as_written.ensures
 
 pub returns-clause-sources_shown : goal.returns-clause-sources_shown
-returns-clause-sources_shown c = sources_shown (streams_shown c.infos_are_read_as_written.ensures) jobs_read c.plans_can_be_coded.ensures
+returns-clause-sources_shown c = sources_shown (streams_shown c.infos_are_read_as_written.ensures) jobs_read c.plans_can_be_coded.ensures (tables_chosen c.chosen_tables_fit.ensures)
 
 pub returns-clause-sources : goal.returns-clause-sources
-returns-clause-sources c = jobs_read
+returns-clause-sources c = jobs_read (tables_chosen c.chosen_tables_fit.ensures)
 
 pub returns-clause-sources_shown_again : goal.returns-clause-sources_shown_again
 returns-clause-sources_shown_again c = jobs_kept
 
 pub returns-clause-sources_kept : goal.returns-clause-sources_kept
-returns-clause-sources_kept c = sources_kept c.plans_can_be_coded.ensures
+returns-clause-sources_kept c = sources_kept c.plans_can_be_coded.ensures (tables_chosen c.chosen_tables_fit.ensures)
 
 pub returns-clause-coefficients : goal.returns-clause-coefficients
-returns-clause-coefficients c = jobs_small
+returns-clause-coefficients c = jobs_small (tables_chosen c.chosen_tables_fit.ensures)
 
 pub returns-clause-recovered : goal.returns-clause-recovered
-returns-clause-recovered c = raws_recovered (streams_shown c.infos_are_read_as_written.ensures) (streams_cut c.infos_are_read_as_written.ensures) c.plans_can_be_coded.ensures
+returns-clause-recovered c = raws_recovered (streams_shown c.infos_are_read_as_written.ensures) (streams_cut c.infos_are_read_as_written.ensures) c.plans_can_be_coded.ensures (tables_chosen c.chosen_tables_fit.ensures)
+
+pub returns-clause-tables : goal.returns-clause-tables
+returns-clause-tables c = tables_chosen c.chosen_tables_fit.ensures
