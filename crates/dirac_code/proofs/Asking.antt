@@ -19,7 +19,7 @@ use Rattle.dirac_decode.specs.Content.{AreReferences, IsPicture, named, plane_of
 use Rattle.dirac_plan.specs.declared.planned.Planned.{Planned}
 use Rattle.dirac_plan_laws.specs.Headers.{header_of}
 use Rattle.dirac_stream.specs.Coded.{IsSource, less_prediction, motion_with}
-use Rattle.dirac_stream.specs.Tables.{IsChosen}
+use Rattle.dirac_choose.specs.Chosen.{IsChosen}
 use Rattle.dirac_stream.proofs.Lefts.{differences_small, motion_fits, named_is, part_size, picture_is, samples_are}
 use Rattle.dirac_stream.proofs.Reading.{predicting, source_plane}
 use Rattle.dirac_code.specs.Asked.{IsAsked}

@@ -1,5 +1,6 @@
 pub mod Asking
 pub mod Bandwise
+pub mod Choices
 pub mod Differences
 pub mod Facts
 pub mod Predicting

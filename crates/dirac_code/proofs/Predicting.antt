@@ -22,7 +22,7 @@ use Rattle.dirac_plan.specs.declared.planned.Planned.{Planned}
 use Rattle.dirac_plan_laws.specs.Headers.{header_of}
 use Rattle.dirac_stream.specs.Coded.{IsSource, bands_of, coded_with, is_zero_residual, less_prediction, motion_with, residual_of, transform_of}
 use Rattle.dirac_stream.specs.Laws.{IsWhole}
-use Rattle.dirac_stream.specs.Tables.{IsChosen}
+use Rattle.dirac_choose.specs.Chosen.{IsChosen}
 use Rattle.dirac_stream.proofs.Lefts.{named_is, predicted_are}
 use Rattle.dirac_stream.proofs.Reading.{predicting, second_found, source_plane}
 use Rattle.dirac_code.specs.declared.predictions.Predictions.{Predictions}

@@ -10,7 +10,7 @@ use Rattle.dirac_picture.specs.Grammar.{are_listed, is_intra}
 use Rattle.dirac_plan.specs.declared.planned.Planned.{Planned}
 use Rattle.dirac_plan_laws.specs.Headers.{IsPlanned, header_of}
 use Rattle.dirac_stream.specs.Coded.{IsSource, coded_with, motion_among}
-use Rattle.dirac_stream.specs.Tables.{IsChosen}
+use Rattle.dirac_choose.specs.Chosen.{IsChosen}
 
 -- accepted settings, a source and listed pictures of their size, and a planned picture whose references are found
 pub record IsAsked (t : Settings) (refs : List Picture) (q : Planned) (p : Picture) : Type 0 where

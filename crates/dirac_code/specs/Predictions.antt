@@ -20,12 +20,14 @@ use Rattle.dirac_stream.specs.Coded.{bands_of, less_prediction, transform_of}
 use Rattle.dirac_code.specs.declared.predictions.Predictions.{Predictions}
 
 -- what is predicted for a plane of a picture, by rows: a value for each sample
-pub record IsPrediction (s : Sequence) (refs : List Picture) (head : PictureHeader) (m : CodedMotion) (part : Part) (values : List ℤ) : Type 0 where
+pub record IsPrediction (s : Sequence) (refs : List Picture) (head : PictureHeader) (m : CodedMotion) (part : Part)
+    (values : List ℤ) : Type 0 where
   pub same : values ≡ predicted_among s m (named refs head.ref1) (named refs head.ref2) part
   pub len : length values ≡ width_of s part * height_of s part
 
 -- what is predicted for its planes
-pub record ArePredictions (s : Sequence) (refs : List Picture) (head : PictureHeader) (m : CodedMotion) (ps : Predictions) : Type 0 where
+pub record ArePredictions (s : Sequence) (refs : List Picture) (head : PictureHeader) (m : CodedMotion)
+    (ps : Predictions) : Type 0 where
   pub y : IsPrediction s refs head m part.Y ps.y.values
   pub u : IsPrediction s refs head m part.U ps.u.values
   pub v : IsPrediction s refs head m part.V ps.v.values

@@ -28,7 +28,8 @@ fn put_difference(samples: &[i16], predicted: &[i32], left: &mut [i16], i: usize
     requires left { length left.old ≡ length samples.now }
     requires samples { All IsSample samples.now }
     requires predictions { All IsSample predicted.now }
-    ensures { left.new ≡ slice_set left.old i (slice_index_or samples.now i (pos 0) -ℤ slice_index_or predicted.now i (pos 0)) }
+    ensures { left.new
+        ≡ slice_set left.old i (slice_index_or samples.now i (pos 0) -ℤ slice_index_or predicted.now i (pos 0)) }
 {
     left[i] = less(samples[i], predicted[i]);
 }

@@ -2,6 +2,7 @@
 #![tactic(auto)]
 
 mod bands;
+mod choosing;
 mod difference;
 mod making;
 mod motion;
@@ -12,4 +13,6 @@ mod residual;
 mod showing;
 mod transform;
 
+pub use choosing::code_picture;
+pub use dirac_choose::choose_blocks;
 pub use picture::{Coded, code_with_blocks};

@@ -7,7 +7,7 @@ ghost use Rattle.dirac_picture.specs.Grammar.{is_intra};
 ghost use Rattle.dirac_decode.specs.Content.{rebuilt};
 ghost use Rattle.dirac_stream.specs.Coded as coding;
 ghost use Rattle.dirac_stream.specs.Laws.{IsWhole};
-ghost use Rattle.dirac_stream.specs.Tables.{IsChosen};
+ghost use Rattle.dirac_choose.specs.Chosen.{IsChosen};
 ghost use Rattle.dirac_code.specs.Asked.{HasBlocks, IsAsked, coded_by};
 
 use crate::motion::motion_of;
@@ -56,7 +56,8 @@ fn make_intra(
     requires asked { IsAsked settings.now refs.now planned.now source.now }
     requires intra { is_intra planned.now.code ≡ true }
     ensures coded { IfOk result (λ r. r.coded ≡ coding.coded_with settings.now refs.now planned.now source.now None) }
-    ensures shown { IfOk result (λ r. r.shown ≡ rebuilt sequence.now refs.now (coding.coded_with settings.now refs.now planned.now source.now None)) }
+    ensures shown { IfOk result (λ r. r.shown
+        ≡ rebuilt sequence.now refs.now (coding.coded_with settings.now refs.now planned.now source.now None)) }
 {
     let residual = code_source(alloc, settings, source)?;
     let coded = CodedPicture {
@@ -84,8 +85,10 @@ fn make_inter(
     requires whole { IsWhole source.now }
     requires inter { is_intra planned.now.code ≡ false }
     requires blocks { IsChosen settings.now planned.now.code blocks.now }
-    ensures coded { IfOk result (λ r. r.coded ≡ coding.coded_with settings.now refs.now planned.now source.now (Some (coding.motion_with settings.now blocks.now))) }
-    ensures shown { IfOk result (λ r. r.shown ≡ rebuilt sequence.now refs.now (coding.coded_with settings.now refs.now planned.now source.now (Some (coding.motion_with settings.now blocks.now)))) }
+    ensures coded { IfOk result (λ r. r.coded
+        ≡ coded_by settings.now refs.now planned.now source.now (Some blocks.now)) }
+    ensures shown { IfOk result (λ r. r.shown
+        ≡ rebuilt sequence.now refs.now (coded_by settings.now refs.now planned.now source.now (Some blocks.now))) }
 {
     let header = header_of(planned);
     let motion = motion_of(alloc, settings, blocks)?;
@@ -115,8 +118,11 @@ pub(crate) fn make(
     requires asked { IsAsked settings.now refs.now planned.now source.now }
     requires whole { IsWhole source.now }
     requires blocks { HasBlocks settings.now planned.now.code (option_copied blocks) }
-    ensures coded { IfOk result (λ r. r.coded ≡ coded_by settings.now refs.now planned.now source.now (option_copied blocks.entry)) }
-    ensures shown { IfOk result (λ r. r.shown ≡ rebuilt sequence.now refs.now (coded_by settings.now refs.now planned.now source.now (option_copied blocks.entry))) }
+    ensures coded { IfOk result (λ r. r.coded
+        ≡ coded_by settings.now refs.now planned.now source.now (option_copied blocks.entry)) }
+    ensures shown { IfOk result (λ r. r.shown
+        ≡ rebuilt sequence.now refs.now
+        (coded_by settings.now refs.now planned.now source.now (option_copied blocks.entry))) }
 {
     match blocks {
         None => make_intra(alloc, settings, sequence, planned, source, refs),

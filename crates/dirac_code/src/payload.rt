@@ -1,13 +1,13 @@
 //! The payload of a coded picture, written.
 
-ghost use Rattle.std.specs.Prelude.{◌≡◌, ◌<◌, ◌≤◌, ◌^◌, ◌++◌, ◌∷◌, [], List, OnOk, IfSome};
+ghost use Rattle.std.specs.Prelude.{◌≡◌, ◌<◌, ◌≤◌, ◌^◌, ◌++◌, ◌∷◌, [], List, Some, OnOk, IfSome};
 ghost use Rattle.dirac_sequence.specs.Lawful.{IsSequence};
 ghost use Rattle.dirac_sequence.specs.Written.{sequence_of as sequence_for};
 ghost use Rattle.dirac_header.specs.Codes.{is_reference};
-ghost use Rattle.dirac_header.specs.Written.{HasReferences, MayRetire, header_bits, prediction_bits};
-ghost use Rattle.dirac_blocks.specs.Grammar.{blocks as blocks_grammar};
-ghost use Rattle.dirac_coeffs.specs.Written.{SpelledBehind, up_to_byte};
-ghost use Rattle.dirac_stream.specs.Payload.{HasSpelledBlocks, with_blocks, with_coefficients, with_flag, with_motion, with_picture, with_planes, with_residual};
+ghost use Rattle.dirac_header.specs.Written.{HasReferences, MayRetire, header_bits};
+ghost use Rattle.dirac_stream.specs.Coded.{motion_with};
+ghost use Rattle.dirac_stream.specs.Payload.{HasSpelledBlocks, with_blocks, with_coefficients, with_flag};
+ghost use Rattle.dirac_stream.specs.Payload.{with_motion, with_picture, with_planes, with_residual};
 ghost use Rattle.dirac_stream.specs.Writable.{IsWritten};
 
 use crate::bands::write_plane;
@@ -72,7 +72,7 @@ fn write_table(
     requires blocks { (2 ≤ settings.now.blocks) × (settings.now.blocks ≤ 4) }
     requires precision { settings.now.precision ≤ 3 }
     ensures value { OnOk result (w.new ≡ with_blocks settings.now blocks.now w.old) }
-    ensures spelled { OnOk result (SpelledBehind (blocks_grammar blocks.now.across blocks.now.down blocks.now.refs) blocks.now (up_to_byte (w.old ++ prediction_bits w.old settings.now.blocks settings.now.precision)) (with_blocks settings.now blocks.now w.old)) }
+    ensures spelled { OnOk result (HasSpelledBlocks settings.now (Some (motion_with settings.now blocks.now)) w.old) }
 {
     write_prediction(w, settings.blocks, settings.precision)?;
     w.align()?;
@@ -145,7 +145,8 @@ pub(crate) fn write_picture(
     requires retires { MayRetire (is_reference coded.now.code) coded.now.header.number coded.now.header.retire }
     requires written { IfSome coded.now.residual (IsWritten sequence.now) }
     ensures value { OnOk result (w.new ≡ with_picture settings.now coded.now w.old) }
-    ensures spelled { OnOk result (HasSpelledBlocks settings.now coded.now.motion (w.old ++ header_bits w.old coded.now.code coded.now.header)) }
+    ensures spelled { OnOk result (HasSpelledBlocks settings.now coded.now.motion
+        (w.old ++ header_bits w.old coded.now.code coded.now.header)) }
 {
     write_header(w, &coded.header, coded.code)?;
     write_motion(alloc, w, settings, &coded.motion)?;

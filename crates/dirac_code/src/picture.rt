@@ -52,7 +52,8 @@ fn payload_bytes(
     requires retires { MayRetire (is_reference coded.now.code) coded.now.header.number coded.now.header.retire }
     requires written { IfSome coded.now.residual (IsWritten sequence.now) }
     ensures value { IfOk result (λ v. bits_of v.items ≡ up_to_byte (with_picture settings.now coded.now [])) }
-    ensures spelled { IfOk result (λ v. HasSpelledBlocks settings.now coded.now.motion (header_bits [] coded.now.code coded.now.header)) }
+    ensures spelled { IfOk result (λ v. HasSpelledBlocks settings.now coded.now.motion
+        (header_bits [] coded.now.code coded.now.header)) }
 {
     let mut w = BitWriter::new(alloc);
     write_picture(alloc, &mut w, settings, sequence, coded)?;
@@ -91,15 +92,22 @@ pub fn code_with_blocks(
     requires planned { IsPlanned planned.now }
     requires found { are_listed refs.now (header_of planned.now) ≡ true }
     requires blocks { HasBlocks settings.now planned.now.code (option_copied blocks) }
-    ensures payload { IfOk result (λ c. c.payload.items ≡ payload_of settings.now (coded_by settings.now refs.now planned.now source.now (option_copied blocks.entry))) }
+    ensures payload { IfOk result (λ c. c.payload.items
+        ≡ payload_of settings.now (coded_by settings.now refs.now planned.now source.now (option_copied blocks.entry))) }
     // What is shown is what a decoder rebuilds from it.
-    ensures shown { IfOk result (λ c. c.shown ≡ rebuilt (sequence_for settings.now) refs.now (coded_by settings.now refs.now planned.now source.now (option_copied blocks.entry))) }
+    ensures shown { IfOk result (λ c. c.shown
+        ≡ rebuilt (sequence_for settings.now) refs.now
+        (coded_by settings.now refs.now planned.now source.now (option_copied blocks.entry))) }
     // The payload is read as that coded picture, with these pictures listed.
-    ensures read { IfOk result (λ c. picture_read planned.now.code (sequence_for settings.now) refs.now c.payload.items ≡ Ok (coded_by settings.now refs.now planned.now source.now (option_copied blocks.entry))) }
+    ensures read { IfOk result (λ c.
+        picture_read planned.now.code (sequence_for settings.now) refs.now c.payload.items
+        ≡ Ok (coded_by settings.now refs.now planned.now source.now (option_copied blocks.entry))) }
     // Its coefficients stay below 2^38.
-    ensures small { IfOk result (λ c. AreSmall (residual_of settings.now refs.now (header_of planned.now) (motion_among settings.now (option_copied blocks.entry)) source.now)) }
+    ensures small { IfOk result (λ c. AreSmall (residual_of settings.now refs.now (header_of planned.now)
+        (motion_among settings.now (option_copied blocks.entry)) source.now)) }
     // At index 0 nothing is lost.
-    ensures lossless { IfOk result (λ c. source.now.number ≡ planned.now.number → settings.now.index ≡ 0 → c.shown ≡ source.now) }
+    ensures lossless { IfOk result (λ c. source.now.number ≡ planned.now.number → settings.now.index ≡ 0
+        → c.shown ≡ source.now) }
 {
     let sequence = sequence_of(settings);
     are_whole(source);

@@ -8,7 +8,8 @@ ghost use Rattle.dirac_residual.specs.Zeros.{are_zero_bands};
 ghost use Rattle.dirac_analysis.specs.Fits.{AreDifferences};
 ghost use Rattle.dirac_stream.specs.Coded as coding;
 ghost use Rattle.dirac_stream.specs.Writable.{IsCodable};
-ghost use Rattle.dirac_code.specs.Predictions.{IsCodablePlane, IsCodableSource, IsPicturePredictedBy, IsPredictedBy, residual_less, residual_whole};
+ghost use Rattle.dirac_code.specs.Predictions.{IsCodablePlane, IsCodableSource, IsPicturePredictedBy};
+ghost use Rattle.dirac_code.specs.Predictions.{IsPredictedBy, residual_less, residual_whole};
 
 use crate::difference::difference;
 use crate::predictions::Predictions;
@@ -52,7 +53,8 @@ fn code_difference(
     requires codable { IsCodable settings.now }
     requires plane { IsCodablePlane plane.now }
     requires predicted { IsPredictedBy plane.now predicted.now }
-    ensures value { IfOk result (λ b. b ≡ coding.bands_of settings.now Inter (coding.less_prediction plane.now predicted.now)) }
+    ensures value { IfOk result (λ b. b
+        ≡ coding.bands_of settings.now Inter (coding.less_prediction plane.now predicted.now)) }
 {
     let left = difference(alloc, plane, predicted)?;
     code_plane(alloc, settings, Kind::Inter, &left)

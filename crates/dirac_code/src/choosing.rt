@@ -1,0 +1,56 @@
+//! A picture, its block table chosen and then coded.
+
+ghost use Rattle.std.specs.Prelude.{◌≡◌, true, Ok, IfOk};
+ghost use Rattle.std.specs.List.{AllByRecursion};
+ghost use Rattle.dirac_types.specs.Settings.{IsAccepted};
+ghost use Rattle.dirac_sequence.specs.Written.{sequence_of};
+ghost use Rattle.dirac_picture.specs.Grammar.{are_listed, picture_read};
+ghost use Rattle.dirac_decode.specs.Content.{rebuilt};
+ghost use Rattle.dirac_plan_laws.specs.Headers.{IsPlanned, header_of};
+ghost use Rattle.dirac_stream.specs.Coded.{IsSource, coded_of, motion_of, residual_of};
+ghost use Rattle.dirac_stream.specs.Payload.{payload_of};
+ghost use Rattle.dirac_stream.specs.Writable.{AreSmall};
+
+use crate::picture::{Coded, code_with_blocks};
+use dirac_choose::choose_blocks;
+use dirac_io::RowGate;
+use dirac_plan::Planned;
+use dirac_refs::RefBuffer;
+use dirac_types::{NoMemory, Picture, Settings};
+use std::alloc::Global;
+use std::thread::Threads;
+
+/// Codes a picture as it is planned: its payload, and the picture that decoders show for it. An inter picture's blocks
+/// are chosen first, and the gate is called before each row of each stage of the search for them.
+pub fn code_picture<R: Threads + Sync, G: RowGate>(
+    _rt: &R,
+    alloc: Global,
+    planned: &Planned,
+    source: &Picture,
+    refs: &RefBuffer,
+    settings: &Settings,
+    gate: &G,
+) -> Result<Coded, NoMemory>
+    requires accepted { IsAccepted settings.now }
+    requires listed { AllByRecursion (IsSource settings.now) refs.now }
+    requires source { IsSource settings.now source.now }
+    requires planned { IsPlanned planned.now }
+    requires found { are_listed refs.now (header_of planned.now) ≡ true }
+    ensures payload { IfOk result (λ c. c.payload.items
+        ≡ payload_of settings.now (coded_of settings.now refs.now planned.now source.now)) }
+    // What is shown is what a decoder rebuilds from it.
+    ensures shown { IfOk result (λ c. c.shown
+        ≡ rebuilt (sequence_of settings.now) refs.now (coded_of settings.now refs.now planned.now source.now)) }
+    // The payload is read as that coded picture, with these pictures listed.
+    ensures read { IfOk result (λ c. picture_read planned.now.code (sequence_of settings.now) refs.now c.payload.items
+        ≡ Ok (coded_of settings.now refs.now planned.now source.now)) }
+    // Its coefficients stay below 2^38.
+    ensures small { IfOk result (λ c. AreSmall (residual_of settings.now refs.now (header_of planned.now)
+        (motion_of settings.now refs.now planned.now source.now) source.now)) }
+    // At index 0 nothing is lost.
+    ensures lossless { IfOk result (λ c. source.now.number ≡ planned.now.number → settings.now.index ≡ 0
+        → c.shown ≡ source.now) }
+{
+    let blocks = choose_blocks(alloc, planned, source, refs, settings, gate)?;
+    code_with_blocks(alloc, planned, source, refs, settings, blocks.as_ref())
+}
