@@ -1,5 +1,5 @@
 -- What is asked of the parts of a coded picture follows from what is asked of the whole.
-use Rattle.std.proofs.Common.{◌≡◌, ℕ, ℤ, List, Option, refl, sym, ap, subst, arith}
+use Rattle.std.proofs.Common.{◌≡◌, ℕ, ℤ, List, Option, sym, subst, arith}
 use Rattle.std.specs.Option.{ForSome}
 use Rattle.dirac_types.specs.declared.picture.Picture.{Picture}
 use Rattle.dirac_types.specs.declared.settings.Settings.{Settings}

@@ -1,5 +1,5 @@
 -- What is predicted for a source is what its definitions say, and can be taken away from it.
-use Rattle.std.proofs.Common.{◌≡◌, ℕ, ◌*◌, ◌≤◌, ℤ, Bool, if◌then◌else◌, List, length, Option, None, Some, refl, sym, ap, ap₂, ◌∙◌, subst}
+use Rattle.std.proofs.Common.{◌≡◌, ℕ, ◌*◌, ℤ, if◌then◌else◌, List, length, Option, None, Some, sym, ap, ap₂, ◌∙◌, subst}
 use Rattle.std.specs.List.{All}
 use Rattle.std.specs.Option.{ForSome}
 use Rattle.dirac_types.specs.declared.formats.Kind.TheVariants.{Inter}

@@ -1,36 +1,34 @@
 -- At index 0 nothing is lost: what decoders show for a source is the source, whether it is predicted or not.
-use Rattle.std.proofs.Common.{◌≡◌, ℕ, zero, suc, ℤ, pos, negsuc, ◌+◌, ◌*◌, ◌<◌, ◌≤◌, ◌==◌, ◌+ℤ◌, ◌-ℤ◌, if◌then◌else◌, Bool, true, false, List, [], ◌∷◌, ◌++◌, length, map, get_or, take, Option, None, Some, refl, sym, ap, ap₂, ◌∙◌, subst, arith, append-nil, ne_eqb, eq-eqb, inl, inr}
-use Rattle.std.specs.Prelude.{is_some, nat_le, slice_get, slice_index_or, ◌&&◌}
+use Rattle.std.proofs.Common.{◌≡◌, ℕ, zero, suc, ℤ, ◌+◌, ◌*◌, ◌<◌, ◌≤◌, ◌+ℤ◌, ◌-ℤ◌, if◌then◌else◌, Bool, true, false, List, [], ◌∷◌, ◌++◌, length, map, take, Option, None, Some, refl, sym, ap, ap₂, ◌∙◌, arith, ne_eqb, eq-eqb, inl, inr}
+use Rattle.std.specs.Prelude.{slice_get, slice_index_or, ◌&&◌}
 use Rattle.std.specs.List.{AllByRecursion}
-use Rattle.std.specs.Option.{ForSome, option_to_list}
+use Rattle.std.specs.Option.{option_to_list}
 use Rattle.std.specs.Simd.Lanes.{zip2}
-use Rattle.std.proofs.lemmas.Bool.{and_parts, cases_eq, le-leb, cases_Bool}
+use Rattle.std.proofs.lemmas.Bool.{and_parts, cases_eq}
 use Rattle.std.proofs.lemmas.Int.{ints}
 use Rattle.std.proofs.lemmas.List.{take_more, take_all}
 use Rattle.dirac_types.specs.declared.formats.Kind.TheVariants.{Intra, Inter}
 use Rattle.dirac_types.specs.declared.picture.Picture.{Picture}
 use Rattle.dirac_types.specs.declared.settings.Settings.{Settings}
 use Rattle.dirac_types.specs.Settings.{IsAccepted}
-use Rattle.dirac_types.specs.Table.{Table, filled}
+use Rattle.dirac_types.specs.Table.{Table}
 use Rattle.dirac_sequence.specs.declared.sequence.Sequence.{Sequence}
 use Rattle.dirac_sequence.specs.Written.{sequence_of}
-use Rattle.dirac_header.specs.Codes.{references_of}
-use Rattle.dirac_coeffs.specs.declared.spot.CodedBand.{CodedBand}
-use Rattle.dirac_obmc.specs.Compensation.{predicted_at, predicted_plane}
+use Rattle.dirac_obmc.specs.Compensation.{predicted_at}
 use Rattle.dirac_obmc.specs.declared.motion.Part.{Part}
 use Rattle.dirac_obmc.specs.declared.motion.Part.TheVariants as part
 use Rattle.dirac_picture.specs.declared.coded.CodedMotion.{CodedMotion}
 use Rattle.dirac_picture.specs.declared.coded.CodedResidual.{CodedResidual}
-use Rattle.dirac_picture.specs.Grammar.{are_listed, chroma_height, chroma_width, is_intra, is_listed}
+use Rattle.dirac_picture.specs.Grammar.{are_listed, is_intra, is_listed}
 use Rattle.dirac_refs.specs.References.{listed}
 use Rattle.dirac_residual.specs.Residual.{clipped, residual, with_prediction}
 use Rattle.dirac_analysis.specs.Analysis.{plane_bands}
 use Rattle.dirac_analysis.proofs.Undone.{planes_kept}
-use Rattle.dirac_decode.specs.Content.{bands_of as bands_in, compensation, height_of, named, plane_of, plane_samples, predicted_among, rebuilt, residual_among, samples_from, width_of, zeros}
+use Rattle.dirac_decode.specs.Content.{bands_of as bands_in, compensation, height_of, named, plane_of, predicted_among, rebuilt, residual_among, samples_from, width_of}
 use Rattle.dirac_plan.specs.declared.planned.Planned.{Planned}
-use Rattle.dirac_stream.specs.Coded.{IsPlane, IsSource, are_zero_bands, bands_of, coded_of, coded_with, is_zero_residual, kind_of, left_of, less_prediction, motion_of, residual_of, residual_unless_zero, transform_of}
-use Rattle.dirac_stream.specs.Coding.{Job, Made, blank, coded_from, coding, job_of, made, reconstructions, refs_after, shown_of}
-use Rattle.dirac_stream.specs.Laws.{AreMade, AreNumbered, AreSources, IsMade, IsWhole, JobsAreKept, SourcesAreKept}
+use Rattle.dirac_stream.specs.Coded.{IsSource, are_zero_bands, bands_of, coded_of, coded_with, is_zero_residual, kind_of, left_of, less_prediction, motion_of, residual_of, residual_unless_zero}
+use Rattle.dirac_stream.specs.Coding.{blank, coded_from, job_of, made, refs_after, shown_of}
+use Rattle.dirac_stream.specs.Laws.{AreMade, AreNumbered, IsWhole, JobsAreKept, SourcesAreKept}
 use Rattle.dirac_stream.specs.Tables.{TablesAreChosen}
 use Rattle.dirac_stream.specs.Writable.{IsCodable}
 use Rattle.dirac_stream.proofs.Coding.{clipped_again, codable}
@@ -41,7 +39,7 @@ use Rattle.dirac_residual.proofs.ZeroBands.{length-filled, zeros_stand}
 use Rattle.dirac_plan.specs.Plan.{plan}
 use Rattle.dirac_plan_laws.specs.Headers.{IsPlanned, header_of}
 use Rattle.dirac_plan_laws.specs.Order.{by_number}
-use Rattle.dirac_plan_laws.specs.Plans.{IsPlan, PlansCanBeCoded}
+use Rattle.dirac_plan_laws.specs.Plans.{PlansCanBeCoded}
 
 -- ---- a plane
 

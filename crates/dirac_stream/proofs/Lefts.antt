@@ -1,10 +1,10 @@
 -- What is left of a source behind its prediction is no larger than the difference of two samples.
-use Rattle.std.proofs.Common.{◌≡◌, ◌≢◌, ℕ, zero, suc, ℤ, pos, negsuc, ◌+◌, ◌*◌, ◌<◌, ◌≤◌, ◌==◌, ◌-ℤ◌, unsigned_abs, if◌then◌else◌, Bool, true, false, List, [], ◌∷◌, length, get_or, Option, None, Some, refl, sym, ap, ◌∙◌, subst, arith, rules, inl, inr}
-use Rattle.std.specs.Prelude.{IsTrue, is_some, nat_le, ◌&&◌}
+use Rattle.std.proofs.Common.{◌≡◌, ℕ, zero, suc, ℤ, pos, negsuc, ◌+◌, ◌*◌, ◌≤◌, ◌==◌, ◌-ℤ◌, unsigned_abs, if◌then◌else◌, Bool, true, false, List, [], ◌∷◌, length, get_or, Option, None, Some, refl, sym, ◌∙◌, subst, arith, inl, inr}
+use Rattle.std.specs.Prelude.{IsTrue, is_some}
 use Rattle.std.specs.List.{All, AllByRecursion}
 use Rattle.std.specs.Option.{ForSome}
 use Rattle.std.specs.Simd.Lanes.{zip2}
-use Rattle.std.proofs.lemmas.Bool.{cases_lt, and_parts}
+use Rattle.std.proofs.lemmas.Bool.{cases_lt}
 use Rattle.std.proofs.lemmas.Int.{ints}
 use Rattle.std.proofs.lemmas.List.{get_or_past}
 use Rattle.dirac_types.specs.declared.formats.Chroma.{Chroma}
@@ -18,10 +18,8 @@ use Rattle.dirac_sequence.specs.Lawful.{IsSequence}
 use Rattle.dirac_sequence.specs.Written.{sequence_of}
 use Rattle.dirac_header.specs.Codes.{references_of}
 use Rattle.dirac_header.specs.Prediction.{grid_of, is_grid}
-use Rattle.dirac_header.specs.Written.{prediction_of}
-use Rattle.dirac_header.specs.declared.header.PictureHeader.{PictureHeader}
 use Rattle.dirac_blocks.specs.declared.block.Block.{Block}
-use Rattle.dirac_blocks.specs.Tables.{BlockTable, block_at, grey}
+use Rattle.dirac_blocks.specs.Tables.{BlockTable, grey}
 use Rattle.dirac_upconvert.specs.HalfSamples.{IsSample}
 use Rattle.dirac_upconvert.specs.SubSamples.{Up}
 use Rattle.dirac_upconvert.proofs.Halves.{half_samples}
@@ -29,16 +27,15 @@ use Rattle.dirac_obmc.specs.declared.motion.Part.{Part}
 use Rattle.dirac_obmc.specs.declared.motion.Part.TheVariants as part
 use Rattle.dirac_obmc.specs.Compensation as obmc
 use Rattle.dirac_obmc.proofs.SamplesPredicted.{planes_predicted}
-use Rattle.dirac_picture.specs.declared.coded.CodedMotion.{CodedMotion}
 use Rattle.dirac_picture.specs.Fits as fits
-use Rattle.dirac_picture.specs.Grammar.{chroma_height, chroma_width, is_listed}
+use Rattle.dirac_picture.specs.Grammar.{is_listed}
 use Rattle.dirac_picture.proofs.Chroma.{chroma_size, luma_size}
 use Rattle.dirac_refs.specs.References.{listed}
 use Rattle.dirac_analysis.specs.Fits.{AreDifferences, AreSamples}
 use Rattle.dirac_decode.specs.Content as content
 use Rattle.dirac_decode.specs.Content.{compensation, height_of, named, plane_of, predicted_among, up_of, width_of}
 use Rattle.dirac_decode.proofs.Covering.{from_one, from_two}
-use Rattle.dirac_stream.specs.Coded.{IsPlane, IsSource, less_prediction, motion_with}
+use Rattle.dirac_stream.specs.Coded.{IsSource, less_prediction, motion_with}
 use Rattle.dirac_decide.specs.Modes.{HasSamples}
 use Rattle.dirac_choose.specs.Chosen.{IsChosen}
 

@@ -1,14 +1,13 @@
 -- The payload of a planned source is read again as it was coded.
-use Rattle.std.proofs.Common.{◌≡◌, ℕ, zero, suc, ◌+◌, ◌-◌, ◌*◌, ◌/◌, ◌%◌, ◌<◌, ◌≤◌, ◌^◌, ◌==◌, if◌then◌else◌, Bool, true, false, List, [], ◌∷◌, ◌++◌, length, Option, None, Some, Ok, refl, sym, ap, ◌∙◌, subst, arith, inl, inr, ◌⊎◌, length-append}
-use Rattle.std.specs.Prelude.{is_none, is_some, nat_le, ◌&&◌}
-use Rattle.std.specs.List.{All, AllByRecursion}
+use Rattle.std.proofs.Common.{◌≡◌, ℕ, ◌+◌, ◌-◌, ◌*◌, ◌/◌, ◌%◌, ◌<◌, ◌≤◌, ◌^◌, if◌then◌else◌, Bool, true, false, List, [], ◌∷◌, ◌++◌, length, Option, None, Some, Ok, refl, sym, ap, ◌∙◌, subst, arith, length-append}
+use Rattle.std.specs.Prelude.{is_some}
+use Rattle.std.specs.List.{AllByRecursion}
 use Rattle.std.specs.Option.{ForSome}
-use Rattle.std.proofs.lemmas.Bool.{cases_Bool, and_parts, le-leb}
+use Rattle.std.proofs.lemmas.Bool.{and_parts, le-leb}
 use Rattle.std.proofs.lemmas.List.{length-replicate}
 use Rattle.dirac_types.specs.Bits.{bits_of}
 use Rattle.dirac_types.specs.Bytes.{bytes_in, bytes_of}
 use Rattle.dirac_types.specs.declared.formats.Kind.{Kind}
-use Rattle.dirac_types.specs.declared.formats.Kind.TheVariants.{Intra, Inter}
 use Rattle.dirac_types.specs.declared.picture.Picture.{Picture}
 use Rattle.dirac_types.specs.declared.settings.Settings.{Settings}
 use Rattle.dirac_types.specs.Settings.{IsAccepted, table}
@@ -20,15 +19,12 @@ use Rattle.dirac_bits.specs.Spelling.{SpelledBehind}
 use Rattle.dirac_bits.specs.Syntax.{Syntax}
 use Rattle.dirac_bits.specs.Writing.{IsWhole, gap, up_to_byte}
 use Rattle.dirac_bits.proofs.Bits.{length-bits_of}
-use Rattle.dirac_bits.proofs.Fields.{gap_length}
 use Rattle.dirac_bits.proofs.Whole.{whole_read}
 use Rattle.dirac_bands.specs.Geometry.{lowest_size}
 use Rattle.dirac_sequence.specs.declared.sequence.Sequence.{Sequence}
 use Rattle.dirac_sequence.specs.Written.{sequence_of}
 use Rattle.dirac_header.specs.Codes.{references_of}
-use Rattle.dirac_header.specs.Prediction.{prediction}
 use Rattle.dirac_header.specs.Written.{header_bits, prediction_bits, prediction_of}
-use Rattle.dirac_header.specs.declared.header.PictureHeader.{PictureHeader}
 use Rattle.dirac_header.proofs.HeaderSpelled.{header_spelled}
 use Rattle.dirac_header.proofs.PredictionSpelled.{prediction_spelled}
 use Rattle.dirac_blocks.specs.Decisions.{block_decisions, least_numbers}
@@ -39,22 +35,19 @@ use Rattle.dirac_blocks.proofs.Spelled.{table_spelled}
 use Rattle.dirac_obmc.specs.declared.motion.Part.{Part}
 use Rattle.dirac_obmc.specs.declared.motion.Part.TheVariants as part
 use Rattle.dirac_picture.specs.declared.coded.CodedMotion.{CodedMotion}
-use Rattle.dirac_picture.specs.declared.coded.CodedPicture.{CodedPicture}
 use Rattle.dirac_picture.specs.declared.coded.CodedResidual.{CodedResidual}
 use Rattle.dirac_picture.specs.Grammar.{are_listed, chroma_height, chroma_width, is_intra, is_listed, motion, picture, picture_read, prediction_fields, residual, residual_unless, zero_residual}
-use Rattle.dirac_analysis.specs.Fits.{AreDifferences, AreLevelBands, AreSamples}
+use Rattle.dirac_analysis.specs.Fits.{AreDifferences, AreLevelBands}
 use Rattle.dirac_analysis.proofs.Fitting.{planes_fit, samples_small}
 use Rattle.dirac_decode.specs.Content.{IsPicture, height_of, named, plane_of, width_of}
 use Rattle.dirac_plan.specs.declared.planned.Planned.{Planned}
-use Rattle.dirac_stream.specs.Coded.{IsPlane, IsSource, bands_of, coded_of, coded_with, is_zero_residual, kind_of, left_of, motion_with, residual_of, residual_unless_zero, transform_of}
-use Rattle.dirac_stream.specs.Coding.{Job, made}
+use Rattle.dirac_stream.specs.Coded.{IsPlane, IsSource, bands_of, coded_with, is_zero_residual, kind_of, left_of, motion_with, residual_of, residual_unless_zero}
 use Rattle.dirac_stream.specs.Laws.{JobsAreRead, JobsAreSmall}
 use Rattle.dirac_stream.specs.Tables.{TablesAreChosen}
 use Rattle.dirac_stream.specs.Payload.{HasSpelledBlocks, payload_of, with_blocks, with_coefficients, with_flag, with_motion, with_picture, with_residual}
 use Rattle.dirac_choose.specs.Chosen.{ChosenTablesFit, IsChosen, chosen}
 use Rattle.dirac_stream.specs.Writable.{AreSmall, IsCodable, IsWritten}
-use Rattle.dirac_stream.specs.Stream.{picture_length}
-use Rattle.dirac_stream.proofs.Behind.{behind_gap, whole_starts}
+use Rattle.dirac_stream.proofs.Behind.{whole_starts}
 use Rattle.dirac_stream.proofs.Coding.{bands_fit, bands_noughts, bands_small, codable, is_written, sequence_lawful}
 use Rattle.dirac_stream.proofs.Headers.{length-bytes_in}
 use Rattle.dirac_stream.proofs.InBytes.{bytes_again}

@@ -20,7 +20,7 @@ use Rattle.dirac_stream.specs.Coded.{IsSource}
 use Rattle.dirac_stream.specs.Encoding.{IsRecovered, first_long, is_short}
 use Rattle.dirac_stream.specs.Raw.{chroma_bytes, luma_bytes, picture_from, pictures_in, raw_length, sample_of, sources, whole_pictures}
 use Rattle.dirac_stream.specs.Coding.{Made, coding, reconstructions}
-use Rattle.dirac_stream.specs.Laws.{AreNumbered, AreSources, IsWhole, RawPicturesAreRecovered, StreamsShowTheirPictures}
+use Rattle.dirac_stream.specs.Laws.{AreSources, IsWhole, RawPicturesAreRecovered, StreamsShowTheirPictures}
 use Rattle.dirac_stream.specs.Tables.{TablesAreChosen}
 use Rattle.dirac_stream.specs.Stream.{StreamsAreCut, picture_length, stream_of, stream_units}
 use Rattle.dirac_stream.proofs.Accepted.{most_bytes, most_pictures}

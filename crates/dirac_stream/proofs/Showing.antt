@@ -1,5 +1,5 @@
 -- What a stream of coded pictures shows.
-use Rattle.std.proofs.Common.{◌≡◌, ℕ, ◌+◌, ◌<◌, ◌^◌, ◌==◌, if◌then◌else◌, Bool, true, false, List, [], ◌∷◌, ◌++◌, length, refl, sym, ap, ap₂, ◌∙◌, subst, arith, append_assoc, append-nil, length-append, pos, None, Some, Ok, Err, Result, eq-eqb}
+use Rattle.std.proofs.Common.{◌≡◌, ℕ, ◌+◌, ◌<◌, ◌^◌, ◌==◌, if◌then◌else◌, Bool, true, false, List, [], ◌∷◌, ◌++◌, length, refl, sym, ap, ap₂, ◌∙◌, subst, arith, append_assoc, append-nil, None, Some, Ok, Err, Result, eq-eqb}
 use Rattle.std.specs.Prelude.{nat_eq}
 use Rattle.std.specs.List.{AllByRecursion, starts_with}
 use Rattle.std.proofs.lemmas.Bool.{le-leb, and_from}
@@ -23,10 +23,10 @@ use Rattle.dirac_decode.specs.declared.opened.Opened.{Opened}
 use Rattle.dirac_decode.specs.Content.{rebuilt}
 use Rattle.dirac_decode.specs.Course.{Course, Moved, as_reference, begun, content, first_or, header_moves, is_same, made, moved, opening, passed, picture_moves, shows, staying}
 use Rattle.dirac_decode.specs.Sequences.{flushed_behind}
-use Rattle.dirac_decode.specs.Shown.{Outcome, IsShown, follows, outcome, with_front}
+use Rattle.dirac_decode.specs.Shown.{Outcome, follows, outcome, with_front}
 use Rattle.dirac_stream.specs.Coding.{Made, pushed, refs_after, waiting_of}
 use Rattle.dirac_stream.specs.Laws.{AreMade, Begins, IsMade, StreamsShowTheirPictures}
-use Rattle.dirac_stream.specs.Stream.{IsUnit, StreamsAreCut, end_info, end_text, end_unit, header_before, header_length, header_text, header_texts, header_unit, info_for, last_length, length_before, picture_length, picture_text, picture_unit, stream_from, unit, units_from, units_in, units_of}
+use Rattle.dirac_stream.specs.Stream.{IsUnit, StreamsAreCut, end_info, end_text, end_unit, header_before, header_length, header_text, header_unit, info_for, last_length, picture_length, picture_text, picture_unit, unit, units_from, units_in, units_of}
 use Rattle.dirac_stream.proofs.Cutting.{nothing_left, one_cut, unit_front_is}
 use Rattle.dirac_stream.proofs.Headers.{header_read, header_short}
 use Rattle.dirac_plan_laws.specs.Headers.{IsPictureCode}

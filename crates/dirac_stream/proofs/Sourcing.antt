@@ -1,8 +1,7 @@
 -- What a plan's sources become is read and rebuilt again: the encoder's list of references is the decoder's.
-use Rattle.std.proofs.Common.{◌≡◌, ℕ, zero, suc, ℤ, pos, negsuc, ◌+◌, ◌<◌, ◌≤◌, ◌^◌, if◌then◌else◌, Bool, true, false, List, [], ◌∷◌, ◌++◌, length, map, get_or, refl, sym, ap, ap₂, ◌∙◌, subst, arith, Option, None, Some, Ok, inl, inr, ◌⊎◌}
-use Rattle.std.specs.Prelude.{drop, slice_index_or, slice_get, nat_le, not, ◌==◌}
-use Rattle.std.specs.List.{All, AllByRecursion, filter}
-use Rattle.std.proofs.lemmas.Bool.{cases_Bool}
+use Rattle.std.proofs.Common.{◌≡◌, ℕ, zero, suc, ℤ, pos, negsuc, ◌<◌, ◌^◌, if◌then◌else◌, Bool, true, false, List, [], ◌∷◌, ◌++◌, length, map, get_or, refl, ap, ◌∙◌, arith, Option, None, Some}
+use Rattle.std.specs.Prelude.{drop, slice_index_or, nat_le, not, ◌==◌}
+use Rattle.std.specs.List.{AllByRecursion, filter}
 use Rattle.std.proofs.lemmas.Int.{ints}
 use Rattle.std.proofs.lemmas.List.{length-map, get_or-map, get_or_default}
 use Rattle.dirac_types.specs.declared.formats.Kind.{Kind}
@@ -20,28 +19,24 @@ use Rattle.dirac_obmc.specs.declared.motion.Part.TheVariants as part
 use Rattle.dirac_picture.specs.declared.coded.CodedMotion.{CodedMotion}
 use Rattle.dirac_picture.specs.declared.coded.CodedPicture.{CodedPicture}
 use Rattle.dirac_picture.specs.declared.coded.CodedResidual.{CodedResidual}
-use Rattle.dirac_picture.specs.Grammar.{are_listed, chroma_height, chroma_width}
-use Rattle.dirac_refs.specs.declared.waiting.Waiting.{Waiting}
 use Rattle.dirac_refs.specs.Delivery.{flush}
-use Rattle.dirac_refs.specs.References.{append, appended, committed, retire, without}
+use Rattle.dirac_refs.specs.References.{appended, committed, retire, without}
 use Rattle.dirac_residual.specs.Residual.{clipped, with_prediction}
 use Rattle.dirac_analysis.specs.Fits.{AreSamples}
-use Rattle.dirac_decode.specs.Content.{height_of, named, plane_samples, predicted_among, rebuilt, residual_among, samples_from, width_of}
+use Rattle.dirac_decode.specs.Content.{height_of, named, predicted_among, rebuilt, residual_among, samples_from, width_of}
 use Rattle.dirac_decode.specs.Course.{as_reference}
-use Rattle.dirac_decode.specs.Shown.{Outcome, IsShown}
 use Rattle.dirac_header.specs.Codes.{is_reference}
 use Rattle.dirac_plan.specs.declared.planned.Planned.{Planned}
-use Rattle.dirac_stream.specs.Coded.{IsPlane, IsSource, coded_of}
-use Rattle.dirac_stream.specs.Coding.{Job, Made, blank, coded_from, coding, job_of, jobs_of, made, pushed, reconstructions, refs_after, shown_of, waiting_of}
+use Rattle.dirac_stream.specs.Coded.{IsPlane, IsSource}
+use Rattle.dirac_stream.specs.Coding.{Made, blank, coded_from, coding, job_of, made, pushed, reconstructions, refs_after, shown_of, waiting_of}
 use Rattle.dirac_stream.specs.Laws.{AreMade, AreSources, Begins, IsMade, JobsAreRead, SourcesShowReconstructions, StreamsShowTheirPictures}
 use Rattle.dirac_stream.specs.Tables.{TablesAreChosen}
-use Rattle.dirac_stream.specs.Stream.{IsUnit, picture_length, stream_from, stream_of}
+use Rattle.dirac_stream.specs.Stream.{picture_length}
 use Rattle.dirac_plan.specs.Plan.{plan}
-use Rattle.dirac_plan.specs.Waiting.{number_of}
-use Rattle.dirac_plan_laws.specs.Headers.{IsPictureCode, IsPlanned, header_of}
-use Rattle.dirac_plan_laws.specs.Order.{as_waiting, by_number}
-use Rattle.dirac_plan_laws.specs.Plans.{BeginsPlan, IsPlan, PlansCanBeCoded}
-use Rattle.dirac_plan_laws.specs.References.{AreFound, ArePlanned, planned_number}
+use Rattle.dirac_plan_laws.specs.Headers.{IsPlanned}
+use Rattle.dirac_plan_laws.specs.Order.{as_waiting}
+use Rattle.dirac_plan_laws.specs.Plans.{BeginsPlan, PlansCanBeCoded}
+use Rattle.dirac_plan_laws.specs.References.{AreFound, ArePlanned}
 
 -- ---- what is rebuilt is a picture of these settings
 

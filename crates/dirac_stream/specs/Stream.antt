@@ -1,13 +1,11 @@
 -- The stream of coded pictures: a sequence header before each intra picture, the pictures in coding order, an end unit.
-use Rattle.std.specs.Prelude.{◌≡◌, ℕ, ◌+◌, ◌<◌, ◌^◌, ◌==◌, if◌then◌else◌, true, false, List, [], ◌∷◌, ◌++◌, length, None, Ok}
+use Rattle.std.specs.Prelude.{◌≡◌, ℕ, ◌+◌, ◌<◌, ◌^◌, if◌then◌else◌, List, [], ◌∷◌, ◌++◌, length, None, Ok}
 use Rattle.std.specs.List.{AllByRecursion}
 use Rattle.dirac_types.specs.declared.picture.Picture.{Picture}
 use Rattle.dirac_types.specs.declared.settings.Settings.{Settings}
 use Rattle.dirac_types.specs.Settings.{IsAccepted}
 use Rattle.dirac_units.specs.declared.info.ParseInfo.{ParseInfo}
-use Rattle.dirac_units.specs.declared.info.UnitKind.TheVariants as kind
 use Rattle.dirac_units.specs.Cut.{UnitText, IsCut, start}
-use Rattle.dirac_units.specs.Info.{fields_are_read, unit_kind}
 use Rattle.dirac_units.specs.Writing.{info_bytes}
 use Rattle.dirac_sequence.specs.Grammar.{sequence_read}
 use Rattle.dirac_sequence.specs.Written.{sequence_of, sequence_payload}

@@ -1,4 +1,4 @@
-use Rattle.std.proofs.Common.{None, Some, ◌∙◌, ap}
+use Rattle.std.proofs.Common.{Some, ◌∙◌, ap}
 use Rattle.dirac_decode.specs.Content.{rebuilt}
 use Rattle.dirac_stream.specs.Coded.{motion_with}
 use Rattle.dirac_stream.proofs.Coding.{codable}

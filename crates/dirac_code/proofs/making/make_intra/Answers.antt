@@ -1,5 +1,4 @@
-use Rattle.std.proofs.Common.{None, Some, ◌∙◌, ap}
-use Rattle.dirac_decode.specs.Content.{rebuilt}
+use Rattle.std.proofs.Common.{None}
 use Rattle.dirac_stream.proofs.Coding.{codable}
 use Rattle.dirac_stream.proofs.Reading.Moves.{stays}
 use Rattle.dirac_code.proofs.Asking.{ask_refs, ask_sequence, source_codable}

@@ -1,4 +1,4 @@
-use Rattle.std.proofs.Common.{◌≡◌, ◌<◌, ◌^◌, ℕ, [], List, ap, ap₂, ◌∙◌, sym, subst}
+use Rattle.std.proofs.Common.{◌<◌, ◌^◌, ℕ, [], List, ap, ◌∙◌, sym, subst}
 use Rattle.std.specs.List.{AllByRecursion}
 use Rattle.std.specs.Option.{option_copied}
 use Rattle.dirac_types.specs.Bytes.{bytes_of}

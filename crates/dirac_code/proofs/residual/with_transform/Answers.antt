@@ -1,4 +1,4 @@
-use Rattle.std.proofs.Common.{◌≡◌, ◌≤◌, arith}
+use Rattle.std.proofs.Common.{arith}
 use Rattle.dirac_code.proofs.residual.with_transform.Goals as goal
 
 pub transform_of-requires-clause-width : goal.transform_of-requires-clause-width
