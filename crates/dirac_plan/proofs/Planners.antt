@@ -17,7 +17,7 @@ use Rattle.dirac_plan.proofs.Lists.{range_split, remove-map}
 use Rattle.dirac_plan.proofs.Numbers.{either}
 use Rattle.dirac_plan.proofs.Items.{length_plan}
 use Rattle.dirac_plan.proofs.Waiting.{Fresh, Step, ahead_at, anchor_none, behind, between_some, end_fresh, one_ahead, open_none}
-use Rattle.dirac_plan.proofs.Giving.{given, kind_of, lasting, opens, anchors, betweens}
+use Rattle.dirac_plan.proofs.Giving.{Given, given, kind_of, lasting, opens, anchors, betweens}
 
 pub begun_is : (s : Settings) → IsAccepted s → IsPlanning s 0 0 false []
 begun_is s accepted =
@@ -122,20 +122,29 @@ pub record Place (n : ℕ) (s : Settings) (g : ℕ) (ws : List Picture) (x : Pla
   pub number : slice_get (map number_of ws) (x.number - g) ≡ Some x.number
   pub rest : map number_of (remove ws (x.number - g)) ≡ left_by n (g + 1) (ahead n s (g + 1))
 
-pub place_in : (s : Settings) (n g : ℕ) (ended : Bool) (ws : List Picture) (x : Planned) → IsPlanning s n g ended ws → g < n → slice_get (plan n s) g ≡ Some x → Place n s g ws x
-place_in s n g ended ws x is more at =
-    let next = given n s g more (paced s is.settings).gop_least in
-    let clash : Some next.item ≡ Some x = sym next.at ∙ at in
-    let same : next.item ≡ x = cc in
-    let step : Step n s g x.number = subst (λ (y : Planned). Step n s g y.number) same next.step in
-    let split : map number_of ws ≡ step.before ++ x.number ∷ step.after = is.numbers ∙ step.now in
-    let cut = cut_at step.before step.after x.number (x.number - g) step.place in
-    let whole : length (map number_of ws) ≡ length (step.before ++ x.number ∷ step.after) = ap length split in
+place_of : (n : ℕ) (s : Settings) (g : ℕ) (ws : List Picture) (x : Planned) (numbers before after : List ℕ) → map number_of ws ≡ numbers → numbers ≡ before ++ x.number ∷ after
+    → length before ≡ x.number - g → left_by n (g + 1) (ahead n s (g + 1)) ≡ before ++ after → Place n s g ws x
+place_of n s g ws x numbers before after are now place later =
+    let split : map number_of ws ≡ before ++ x.number ∷ after = are ∙ now in
+    let cut = cut_at before after x.number (x.number - g) place in
+    let whole : length (map number_of ws) ≡ length (before ++ x.number ∷ after) = ap length split in
     record {
-      inside = omega (arith, length-map ws number_of, length-append step.before (x.number ∷ step.after), step.place);
+      inside = omega (arith, length-map ws number_of, length-append before (x.number ∷ after));
       number = ap (λ l. slice_get l (x.number - g)) split ∙ cut.1;
-      rest = remove-map number_of ws (x.number - g) ∙ ap (λ l. remove l (x.number - g)) split ∙ cut.0 ∙ sym step.later;
+      rest = remove-map number_of ws (x.number - g) ∙ ap (λ l. remove l (x.number - g)) split ∙ cut.0 ∙ sym later;
     }
+
+pub place_in : (s : Settings) (n g : ℕ) (ended : Bool) (ws : List Picture) (x : Planned) → IsPlanning s n g ended ws → g < n → slice_get (plan n s) g ≡ Some x → Place n s g ws x
+place_in s n g ended ws x is more at = of_given (given n s g more (paced s is.settings).gop_least)
+  where
+    of_step : Step n s g x.number → Place n s g ws x
+    of_step step = place_of n s g ws x (left_by n g (ahead n s g)) step.before step.after is.numbers step.now step.place step.later
+
+    of_given : Given n s g → Place n s g ws x
+    of_given next =
+        let clash : Some next.item ≡ Some x = sym next.at ∙ at in
+        let same : next.item ≡ x = cc in
+        of_step (subst (λ (y : Planned). Step n s g y.number) same next.step)
 
 -- where none is ahead, all that were not given wait
 ready : (s : Settings) (n g : ℕ) (ended : Bool) (ws : List Picture) → IsPlanning s n g ended ws → ahead n s g ≡ None → length ws ≡ n - g
