@@ -57,6 +57,10 @@ chosen_unless_intra s refs q p = if is_intra q.code then None else Some (chosen 
 abbrev pub at_index : Settings → ℕ → Settings
 at_index s index = record s { index = index }
 
+-- what is chosen is chosen at each index
+abbrev pub IsChosenAtEachIndex : Settings → List Picture → Planned → Picture → Option BlockTable → Type 0
+IsChosenAtEachIndex s refs q p o = (index : ℕ) → o ≡ chosen_unless_intra (at_index s index) refs q p
+
 -- accepted settings, and a planned picture of theirs whose references are listed and of theirs too
 pub record IsChoosing (s : Settings) (refs : List Picture) (q : Planned) (p : Picture) : Type 0 where
   pub accepted : IsAccepted s

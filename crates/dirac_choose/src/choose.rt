@@ -1,10 +1,10 @@
-ghost use Rattle.std.specs.Prelude.{◌≡◌, ℕ, IfOk, Some, None, false, is_none};
+ghost use Rattle.std.specs.Prelude.{◌≡◌, IfOk, Some, None, false, is_none};
 ghost use Rattle.std.specs.Option.{ForSome, option_copied};
 ghost use Rattle.dirac_types.specs.Settings.{IsAccepted};
 ghost use Rattle.dirac_sequence.specs.Written.{sequence_of};
 ghost use Rattle.dirac_picture.specs.Grammar.{is_intra as is_intra_code};
 ghost use Rattle.dirac_decode.specs.Content.{IsPicture};
-ghost use Rattle.dirac_choose.specs.Chosen.{IsChoosing, IsChosen, at_index, blocks_from, chosen, chosen_unless_intra};
+ghost use Rattle.dirac_choose.specs.Chosen.{IsChoosing, IsChosen, IsChosenAtEachIndex, blocks_from, chosen, chosen_unless_intra};
 
 use crate::search::vectors_in;
 use dirac_blocks::BlockData;
@@ -116,7 +116,8 @@ fn choose_for<G: RowGate>(
 
 /// The block table of a planned picture, whose references are listed: `None` exactly for an intra picture.
 ///
-/// The gate is called before each row of superblocks of each stage of the search, for reference 1, then for reference 2.
+/// The gate is called before each row of superblocks of each stage of the search, in reference 1, then in
+/// reference 2.
 pub fn choose_blocks<G: RowGate>(
     alloc: Global,
     planned: &Planned,
@@ -129,7 +130,7 @@ pub fn choose_blocks<G: RowGate>(
     ensures value { IfOk result (λ o. o ≡ chosen_unless_intra settings.now refs.now planned.now source.now) }
     ensures fits { IfOk result (λ o. ForSome o (IsChosen settings.now planned.now.code)) }
     ensures none_exactly_for_intra { IfOk result (λ o. is_none o ≡ is_intra_code planned.now.code) }
-    ensures without_index { (index : ℕ) → IfOk result (λ o. o ≡ chosen_unless_intra (at_index settings.now index) refs.now planned.now source.now) }
+    ensures without_index { IfOk result (IsChosenAtEachIndex settings.now refs.now planned.now source.now) }
 {
     if is_intra(planned.code) {
         return Ok(None);

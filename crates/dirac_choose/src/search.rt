@@ -17,8 +17,8 @@ use dirac_types::{NoMemory, Picture, Settings};
 use dirac_upconvert::UpPlane;
 use std::alloc::Global;
 
-/// The vectors of a picture's blocks in a reference. The pyramid is that of the source's luma, the upconverted plane that
-/// of the reference's.
+/// The vectors of a picture's blocks in a reference. The pyramid is that of the source's luma, the upconverted plane
+/// that of the reference's.
 pub fn vectors_in<G: RowGate>(
     alloc: Global,
     source: &Picture,

@@ -36,7 +36,7 @@ fn decide_superblock(
     inputs: &Inputs<'_>,
     sx: u32,
     sy: u32,
-    whole: &mut Vec<Block>,
+    undivided: &mut Vec<Block>,
     quarters: &mut Vec<Block>,
     sixteenths: &mut Vec<Block>,
     table: &mut BlockData,
@@ -44,15 +44,15 @@ fn decide_superblock(
     requires inputs { IsDeciding (given inputs.now) }
     requires superblock { IsSuperblock (given inputs.now) sx sy }
     requires table { IsTableFor (given inputs.now) table.old }
-    requires whole { IsRoom (given inputs.now) 0 whole.old.items }
+    requires undivided { IsRoom (given inputs.now) 0 undivided.old.items }
     requires quarters { IsRoom (given inputs.now) 1 quarters.old.items }
     requires sixteenths { IsRoom (given inputs.now) 2 sixteenths.old.items }
     ensures table { SuperblockDecided (given inputs.now) sx sy table.old table.new }
-    ensures whole { IsRoom (given inputs.now) 0 whole.new.items }
+    ensures undivided { IsRoom (given inputs.now) 0 undivided.new.items }
     ensures quarters { IsRoom (given inputs.now) 1 quarters.new.items }
     ensures sixteenths { IsRoom (given inputs.now) 2 sixteenths.new.items }
 {
-    let one = cost_of_split(inputs, sx, sy, 0, u64::MAX, whole);
+    let one = cost_of_split(inputs, sx, sy, 0, u64::MAX, undivided);
     let four = cost_of_split(inputs, sx, sy, 1, one, quarters);
     if four < one {
         let sixteen = cost_of_split(inputs, sx, sy, 2, four, sixteenths);
@@ -66,7 +66,7 @@ fn decide_superblock(
         if sixteen < one {
             table.put(sx, sy, 2, sixteenths.as_slice());
         } else {
-            table.put(sx, sy, 0, whole.as_slice());
+            table.put(sx, sy, 0, undivided.as_slice());
         }
     }
 }
@@ -75,7 +75,7 @@ fn decide_superblock(
 fn decide_row(
     inputs: &Inputs<'_>,
     sy: u32,
-    whole: &mut Vec<Block>,
+    undivided: &mut Vec<Block>,
     quarters: &mut Vec<Block>,
     sixteenths: &mut Vec<Block>,
     table: &mut BlockData,
@@ -83,24 +83,24 @@ fn decide_row(
     requires inputs { IsDeciding (given inputs.now) }
     requires across { inputs.now.across ≤ 1024 }
     requires down { (sy < inputs.now.down) × (inputs.now.down ≤ 1024) }
-    requires whole { IsRoom (given inputs.now) 0 whole.old.items }
+    requires undivided { IsRoom (given inputs.now) 0 undivided.old.items }
     requires quarters { IsRoom (given inputs.now) 1 quarters.old.items }
     requires sixteenths { IsRoom (given inputs.now) 2 sixteenths.old.items }
     requires table { DecidedTo (given inputs.now) 0 sy table.old }
     ensures table { DecidedTo (given inputs.now) 0 (sy + 1) table.new }
-    ensures whole { IsRoom (given inputs.now) 0 whole.new.items }
+    ensures undivided { IsRoom (given inputs.now) 0 undivided.new.items }
     ensures quarters { IsRoom (given inputs.now) 1 quarters.new.items }
     ensures sixteenths { IsRoom (given inputs.now) 2 sixteenths.new.items }
 {
     for sx in 0..inputs.across {
-        decide_superblock(inputs, sx, sy, whole, quarters, sixteenths, table);
+        decide_superblock(inputs, sx, sy, undivided, quarters, sixteenths, table);
     }
 }
 
 /// Decides all superblocks; there is room for the units of each split.
 pub fn decide_rows(
     inputs: &Inputs<'_>,
-    whole: &mut Vec<Block>,
+    undivided: &mut Vec<Block>,
     quarters: &mut Vec<Block>,
     sixteenths: &mut Vec<Block>,
     table: &mut BlockData,
@@ -109,12 +109,12 @@ pub fn decide_rows(
     requires across { inputs.now.across ≤ 1024 }
     requires down { inputs.now.down ≤ 1024 }
     requires table { IsTableFor (given inputs.now) table.old }
-    requires whole { IsRoom (given inputs.now) 0 whole.old.items }
+    requires undivided { IsRoom (given inputs.now) 0 undivided.old.items }
     requires quarters { IsRoom (given inputs.now) 1 quarters.old.items }
     requires sixteenths { IsRoom (given inputs.now) 2 sixteenths.old.items }
     ensures table { IsDecided (given inputs.now) table.new }
 {
     for sy in 0..inputs.down {
-        decide_row(inputs, sy, whole, quarters, sixteenths, table);
+        decide_row(inputs, sy, undivided, quarters, sixteenths, table);
     }
 }

@@ -57,13 +57,13 @@ fn best_table(alloc: Global, inputs: &Inputs<'_>) -> Result<BlockData, NoMemory>
     ensures lawful { IfOk result IsBlockTable }
     ensures samples { IfOk result (λ t. All HasSamples t.blocks) }
 {
-    let mut whole = room(alloc, inputs, 0)?;
+    let mut undivided = room(alloc, inputs, 0)?;
     let mut quarters = room(alloc, inputs, 1)?;
     let mut sixteenths = room(alloc, inputs, 2)?;
     let mut table = BlockData::try_new(alloc, inputs.across, inputs.down, references(inputs))?;
     decide_rows(
         inputs,
-        &mut whole,
+        &mut undivided,
         &mut quarters,
         &mut sixteenths,
         &mut table,

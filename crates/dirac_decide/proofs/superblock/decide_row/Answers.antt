@@ -6,7 +6,7 @@ use Rattle.dirac_decide.proofs.superblock.decide_row.Goals as goal
 pub loop-sx-preserved : goal.loop-sx-preserved
 loop-sx-preserved c = (
   decided_more (given c.args.inputs.now) c.loop-sx.sx c.args.sy c.loop-sx.table c.decide_superblock.new.table c.loop-sx.invariant.0 c.decide_superblock.ensures.table,
-  c.decide_superblock.ensures.whole,
+  c.decide_superblock.ensures.undivided,
   c.decide_superblock.ensures.quarters,
   c.decide_superblock.ensures.sixteenths,
 )

@@ -6,7 +6,7 @@ use Rattle.dirac_decide.proofs.superblock.decide_rows.Goals as goal
 pub loop-sy-init : goal.loop-sy-init
 loop-sy-init c = (
   none_decided (given c.args.inputs.now) c.args.table.now c.requires.table,
-  c.requires.whole,
+  c.requires.undivided,
   c.requires.quarters,
   c.requires.sixteenths,
 )
