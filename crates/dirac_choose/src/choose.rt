@@ -18,9 +18,12 @@ use dirac_refs::RefBuffer;
 use dirac_types::{NoMemory, Picture, Settings};
 use dirac_upconvert::upconvert;
 use std::alloc::Global;
+use std::marker::Sync;
+use std::thread::Threads;
 
 /// The block table of a picture with one reference.
-fn choose_from_one<G: RowGate>(
+fn choose_from_one<R: Threads + Sync, G: RowGate>(
+    rt: &R,
     alloc: Global,
     source: &Picture,
     first: &Picture,
@@ -34,7 +37,7 @@ fn choose_from_one<G: RowGate>(
 {
     let pyramid = Pyramid::build(alloc, &source.y, settings.pyramid as u8)?;
     let up = upconvert(alloc, &first.y)?;
-    let field = vectors_in(alloc, source, &pyramid, first, &up, settings, gate)?;
+    let field = vectors_in(rt, alloc, source, &pyramid, first, &up, settings, gate)?;
     let view = RefView {
         up: &up,
         field: &field,
@@ -43,7 +46,8 @@ fn choose_from_one<G: RowGate>(
 }
 
 /// The block table of a picture with two references.
-fn choose_from_two<G: RowGate>(
+fn choose_from_two<R: Threads + Sync, G: RowGate>(
+    rt: &R,
     alloc: Global,
     source: &Picture,
     first: &Picture,
@@ -60,8 +64,8 @@ fn choose_from_two<G: RowGate>(
     let pyramid = Pyramid::build(alloc, &source.y, settings.pyramid as u8)?;
     let up1 = upconvert(alloc, &first.y)?;
     let up2 = upconvert(alloc, &second.y)?;
-    let field1 = vectors_in(alloc, source, &pyramid, first, &up1, settings, gate)?;
-    let field2 = vectors_in(alloc, source, &pyramid, second, &up2, settings, gate)?;
+    let field1 = vectors_in(rt, alloc, source, &pyramid, first, &up1, settings, gate)?;
+    let field2 = vectors_in(rt, alloc, source, &pyramid, second, &up2, settings, gate)?;
     let view1 = RefView {
         up: &up1,
         field: &field1,
@@ -74,7 +78,8 @@ fn choose_from_two<G: RowGate>(
 }
 
 /// The block table of a picture with one reference or two.
-fn choose_from<G: RowGate>(
+fn choose_from<R: Threads + Sync, G: RowGate>(
+    rt: &R,
     alloc: Global,
     source: &Picture,
     first: &Picture,
@@ -89,13 +94,14 @@ fn choose_from<G: RowGate>(
     ensures { IfOk result (λ t. t ≡ blocks_from settings.now source.now first.now (option_copied second.entry)) }
 {
     match second {
-        None => choose_from_one(alloc, source, first, settings, gate),
-        Some(second) => choose_from_two(alloc, source, first, second, settings, gate),
+        None => choose_from_one(rt, alloc, source, first, settings, gate),
+        Some(second) => choose_from_two(rt, alloc, source, first, second, settings, gate),
     }
 }
 
 /// The block table of a planned inter picture.
-fn choose_for<G: RowGate>(
+fn choose_for<R: Threads + Sync, G: RowGate>(
+    rt: &R,
     alloc: Global,
     planned: &Planned,
     source: &Picture,
@@ -110,7 +116,7 @@ fn choose_for<G: RowGate>(
     let second = named(refs, planned.ref2);
     match named(refs, planned.ref1) {
         None => unreachable!(),
-        Some(first) => choose_from(alloc, source, first, second, settings, gate),
+        Some(first) => choose_from(rt, alloc, source, first, second, settings, gate),
     }
 }
 
@@ -118,7 +124,8 @@ fn choose_for<G: RowGate>(
 ///
 /// The gate is called before each row of superblocks of each stage of the search, in reference 1, then in
 /// reference 2.
-pub fn choose_blocks<G: RowGate>(
+pub fn choose_blocks<R: Threads + Sync, G: RowGate>(
+    rt: &R,
     alloc: Global,
     planned: &Planned,
     source: &Picture,
@@ -135,6 +142,6 @@ pub fn choose_blocks<G: RowGate>(
     if is_intra(planned.code) {
         return Ok(None);
     }
-    let blocks = choose_for(alloc, planned, source, refs, settings, gate)?;
+    let blocks = choose_for(rt, alloc, planned, source, refs, settings, gate)?;
     Ok(Some(blocks))
 }

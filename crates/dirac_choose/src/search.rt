@@ -16,10 +16,13 @@ use dirac_sequence::sequence_of;
 use dirac_types::{NoMemory, Picture, Settings};
 use dirac_upconvert::UpPlane;
 use std::alloc::Global;
+use std::marker::Sync;
+use std::thread::Threads;
 
 /// The vectors of a picture's blocks in a reference. The pyramid is that of the source's luma, the upconverted plane
 /// that of the reference's.
-pub fn vectors_in<G: RowGate>(
+pub fn vectors_in<R: Threads + Sync, G: RowGate>(
+    rt: &R,
     alloc: Global,
     source: &Picture,
     pyramid: &Pyramid,
@@ -47,5 +50,5 @@ pub fn vectors_in<G: RowGate>(
         across: superblocks_over(sequence.width, grid.xbsep),
         down: superblocks_over(sequence.height, grid.ybsep),
     };
-    search_field(alloc, &search, settings, gate)
+    search_field(rt, alloc, &search, settings, gate)
 }

@@ -23,7 +23,7 @@ use std::thread::Threads;
 /// Codes a picture as it is planned: its payload, and the picture that decoders show for it. An inter picture's blocks
 /// are chosen first, and the gate is called before each row of each stage of the search for them.
 pub fn code_picture<R: Threads + Sync, G: RowGate>(
-    _rt: &R,
+    rt: &R,
     alloc: Global,
     planned: &Planned,
     source: &Picture,
@@ -51,6 +51,6 @@ pub fn code_picture<R: Threads + Sync, G: RowGate>(
     ensures lossless { IfOk result (λ c. source.now.number ≡ planned.now.number → settings.now.index ≡ 0
         → c.shown ≡ source.now) }
 {
-    let blocks = choose_blocks(alloc, planned, source, refs, settings, gate)?;
+    let blocks = choose_blocks(rt, alloc, planned, source, refs, settings, gate)?;
     code_with_blocks(alloc, planned, source, refs, settings, blocks.as_ref())
 }
