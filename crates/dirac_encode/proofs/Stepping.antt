@@ -1,5 +1,5 @@
 -- One picture: written and delivered, or not.
-use Rattle.std.proofs.Common.{◌≡◌, ℕ, ◌+◌, ◌<◌, ◌≤◌, ◌^◌, List, [], ◌∷◌, ◌++◌, length, refl, ap, ◌∙◌, subst, arith, Option, None, Some, inr, Result, Ok, Err}
+use Rattle.std.proofs.Common.{◌≡◌, ℕ, ◌+◌, ◌<◌, ◌≤◌, ◌^◌, if◌then◌else◌, List, length, refl, ap, ◌∙◌, subst, arith, Option, None, Some, inr, Result, Ok, Err}
 use Rattle.std.specs.Prelude.{IfErr, IfSome, OnOk}
 use Rattle.std.specs.Io.KnownBytes.{Appends}
 use Rattle.std.proofs.KnownBytes.{Appends-trans, Keeps-refl}
@@ -7,86 +7,94 @@ use Rattle.std.proofs.lemmas.Bool.{le-leb, lt-leb}
 use Rattle.dirac_types.specs.declared.picture.Picture.{Picture}
 use Rattle.dirac_types.specs.declared.settings.Settings.{Settings}
 use Rattle.dirac_io.specs.Writing.{AppendsFront}
-use Rattle.dirac_sequence.specs.Written.{sequence_payload}
-use Rattle.dirac_refs.specs.Delivery.{delivered, key_of}
+use Rattle.dirac_sequence.specs.Written.{sequence_of, sequence_payload}
+use Rattle.dirac_picture.specs.Grammar.{is_intra}
+use Rattle.dirac_refs.specs.Delivery.{delivered}
+use Rattle.dirac_refs.specs.References.{committed}
 use Rattle.dirac_decode.proofs.Rows.{behind_front}
+use Rattle.dirac_decode.specs.Content.{rebuilt}
+use Rattle.dirac_decode.specs.Course.{as_reference}
 use Rattle.dirac_decode.specs.Raw.{raws}
-use Rattle.dirac_encode.specs.declared.answers.Encoded.{Encoded}
-use Rattle.dirac_encode.specs.declared.answers.Encoded.TheVariants as encoded
-use Rattle.dirac_encode.specs.declared.progress.Progress.{Progress}
-use Rattle.dirac_encode.specs.Payload.{payload_of}
-use Rattle.dirac_encode.specs.Steps.{BreaksOff, IsCoded, IsFault, IsTooLong, StopsPicture, header_unit}
-use Rattle.dirac_encode.specs.Stream.{header_length, picture_length, shown_of, unit}
-use Rattle.dirac_encode.proofs.Headers.{header_few}
-
--- what came of the coding of a picture, and the bytes of the sequence header
-pub record Parts (t : Settings) (p : Picture) (header payload : List ℕ) (shown : Picture) : Type 0 where
-  pub header_is : header ≡ sequence_payload t
-  pub payload_is : payload ≡ payload_of t p
-  pub shown_is : shown ≡ shown_of t p
+use Rattle.dirac_stream.specs.declared.answers.Encoded.{Encoded}
+use Rattle.dirac_stream.specs.declared.answers.Encoded.TheVariants as encoded
+use Rattle.dirac_stream.specs.Coded.{coded_of}
+use Rattle.dirac_stream.specs.Coding.{Job, made}
+use Rattle.dirac_stream.specs.Payload.{payload_of}
+use Rattle.dirac_stream.specs.Steps.{BreaksOff, IsCoded, IsFault, IsTooLong, Progress, StopsPicture}
+use Rattle.dirac_stream.specs.Stream.{header_before, length_before, picture_length, picture_unit, unit}
+use Rattle.dirac_stream.proofs.Headers.{header_few}
+use Rattle.dirac_encode.specs.Going.{joined}
 
 pub header_fits : (t : Settings) (header : List ℕ) → header ≡ sequence_payload t → 13 + length header < 2 ^ 32
 header_fits t header is = omega (arith, ap length is, header_few t)
 
-header_of : (t : Settings) (p : Picture) (header payload : List ℕ) (shown : Picture) (previous : ℕ) (out mid : Option (List ℕ)) → Parts t p header payload shown → Appends out mid (unit 0x00 previous header) → Appends out mid (header_unit t previous)
-header_of t p header payload shown previous out mid is = subst (λ (l : List ℕ). Appends out mid (unit 0x00 previous l)) is.header_is
+-- what came of the coding of a picture
+pub record Parts (t : Settings) (refs : List Picture) (j : Job) (payload : List ℕ) (shown : Picture) : Type 0 where
+  pub payload_is : payload ≡ payload_of t (coded_of t refs j.planned j.source)
+  pub shown_is : shown ≡ rebuilt (sequence_of t) refs (coded_of t refs j.planned j.source)
 
-same_unit : (t : Settings) (p : Picture) (header payload : List ℕ) (shown : Picture) → Parts t p header payload shown → unit 0x0C (13 + length header) payload ≡ unit 0x0C (header_length t) (payload_of t p)
-same_unit t p header payload shown is =
-    ap (λ (l : List ℕ). unit 0x0C (13 + length l) payload) is.header_is ∙ ap (unit 0x0C (header_length t)) is.payload_is
+-- the length of the unit before a picture
+pub previous_is : (t : Settings) (refs : List Picture) (j : Job) (header : List ℕ) (old k : ℕ) → header ≡ sequence_payload t → k ≡ (if is_intra j.planned.code then 13 + length header else old) → k ≡ length_before t (made t refs j) old
+previous_is t refs j header old k is e = e ∙ ap (λ (l : List ℕ). if is_intra j.planned.code then 13 + length l else old) is
 
-pub step_coded : (t : Settings) (p : Picture) (old new : Progress) (header payload : List ℕ) (shown : Picture) (out mid out' side side' : Option (List ℕ)) → Parts t p header payload shown
-    → 13 + length payload ≤ t.unit_bytes → new.count ≡ old.count + 1 → new.previous ≡ 13 + length payload → new.delivery ≡ (delivered (old.delivery ++ record { key = key_of 0 p.number; picture = shown } ∷ [])).waiting
-    → Appends out mid (unit 0x00 old.previous header) → Appends mid out' (unit 0x0C (13 + length header) payload) → Appends side side' (raws (delivered (old.delivery ++ record { key = key_of 0 p.number; picture = shown } ∷ [])).gone)
-    → IsCoded t p old new out out' side side'
-step_coded t p old new header payload shown out mid out' side side' is short count previous waiting first second third =
-    let len : length payload ≡ length (payload_of t p) = ap length is.payload_is in
+same_unit : (t : Settings) (refs : List Picture) (j : Job) (payload : List ℕ) (shown : Picture) (old k : ℕ) → Parts t refs j payload shown → k ≡ length_before t (made t refs j) old → unit j.planned.code k payload ≡ picture_unit t (made t refs j) old
+same_unit t refs j payload shown old k is e = ap (λ n. unit j.planned.code n payload) e ∙ ap (unit j.planned.code (length_before t (made t refs j) old)) is.payload_is
+
+pub step_coded : (t : Settings) (j : Job) (old new : Progress) (k : ℕ) (payload : List ℕ) (shown : Picture) (out mid out' side side' : Option (List ℕ)) → Parts t old.refs j payload shown → k ≡ length_before t (made t old.refs j) old.previous
+    → 13 + length payload ≤ t.unit_bytes → new.count ≡ old.count + 1 → new.previous ≡ 13 + length payload → new.refs ≡ committed old.refs j.planned.retire (as_reference j.planned.code shown) → new.delivery ≡ (delivered (joined old.delivery j.planned.number shown)).waiting
+    → Appends out mid (header_before t (made t old.refs j) old.previous) → Appends mid out' (unit j.planned.code k payload) → Appends side side' (raws (delivered (joined old.delivery j.planned.number shown)).gone)
+    → IsCoded t (made t old.refs j) old new out out' side side'
+step_coded t j old new k payload shown out mid out' side side' is e short count previous refs waiting first second third =
+    let m = made t old.refs j in
+    let len : length payload ≡ length m.payload = ap length is.payload_is in
     record {
-      short = le-leb (picture_length t p) t.unit_bytes (omega (arith, len, short));
+      short = le-leb (picture_length m) t.unit_bytes (omega (arith, len, short));
       count = count;
       previous = omega (arith, previous, len);
-      waiting = waiting ∙ ap (λ (q : Picture). (delivered (old.delivery ++ record { key = key_of 0 p.number; picture = q } ∷ [])).waiting) is.shown_is;
+      refs = refs ∙ ap (λ (q : Picture). committed old.refs j.planned.retire (as_reference j.planned.code q)) is.shown_is;
+      waiting = waiting ∙ ap (λ (q : Picture). (delivered (joined old.delivery j.planned.number q)).waiting) is.shown_is;
       written =
-          Appends-trans out mid out' (header_unit t old.previous) (unit 0x0C (header_length t) (payload_of t p)) (header_of t p header payload shown old.previous out mid is first)
-          (subst (λ (l : List ℕ). Appends mid out' l) (same_unit t p header payload shown is) second);
-      delivered = subst (λ (q : Picture). Appends side side' (raws (delivered (old.delivery ++ record { key = key_of 0 p.number; picture = q } ∷ [])).gone)) is.shown_is third;
+          Appends-trans out mid out' (header_before t m old.previous) (picture_unit t m old.previous) first
+          (subst (λ (l : List ℕ). Appends mid out' l) (same_unit t old.refs j payload shown old.previous k is e) second);
+      delivered = subst (λ (q : Picture). Appends side side' (raws (delivered (joined old.delivery j.planned.number q)).gone)) is.shown_is third;
     }
 
-fault_stops : (t : Settings) (p : Picture) (old : Progress) (answer : Encoded) (out out' side side' : Option (List ℕ)) → IsFault answer → BreaksOff t p old out out' side side' → StopsPicture t p old answer out out' side side'
-fault_stops t p old encoded.WriteFault out out' side side' is breaks = breaks
-fault_stops t p old encoded.SideFault out out' side side' is breaks = breaks
-fault_stops t p old encoded.NoMemory out out' side side' is breaks = breaks
-fault_stops t p old encoded.Done out out' side side' is breaks = absurd is
-fault_stops t p old (encoded.PartialPicture n) out out' side side' is breaks = absurd is
-fault_stops t p old (encoded.UnitTooLong n) out out' side side' is breaks = absurd is
-fault_stops t p old encoded.TooManyPictures out out' side side' is breaks = absurd is
-fault_stops t p old encoded.ReadFault out out' side side' is breaks = absurd is
+fault_stops : (t : Settings) (refs : List Picture) (j : Job) (old : Progress) (answer : Encoded) (out out' side side' : Option (List ℕ)) → IsFault answer → BreaksOff t (made t refs j) old out out' side side' → StopsPicture t (made t refs j) old answer out out' side side'
+fault_stops t refs j old encoded.WriteFault out out' side side' is breaks = breaks
+fault_stops t refs j old encoded.SideFault out out' side side' is breaks = breaks
+fault_stops t refs j old encoded.NoMemory out out' side side' is breaks = breaks
+fault_stops t refs j old encoded.Done out out' side side' is breaks = absurd is
+fault_stops t refs j old (encoded.PartialPicture n) out out' side side' is breaks = absurd is
+fault_stops t refs j old (encoded.UnitTooLong n) out out' side side' is breaks = absurd is
+fault_stops t refs j old encoded.TooManyPictures out out' side side' is breaks = absurd is
+fault_stops t refs j old encoded.ReadFault out out' side side' is breaks = absurd is
 
-pub step_stopped : (t : Settings) (p : Picture) (old : Progress) (answer : Encoded) (header payload : List ℕ) (shown : Picture) (out mid out' side side' : Option (List ℕ)) → Parts t p header payload shown
+pub step_stopped : (t : Settings) (j : Job) (old : Progress) (answer : Encoded) (k : ℕ) (payload : List ℕ) (shown : Picture) (out mid out' side side' : Option (List ℕ)) → Parts t old.refs j payload shown → k ≡ length_before t (made t old.refs j) old.previous
     → 13 + length payload ≤ t.unit_bytes → IsFault answer
-    → Appends out mid (unit 0x00 old.previous header) → AppendsFront mid out' (unit 0x0C (13 + length header) payload) → AppendsFront side side' (raws (delivered (old.delivery ++ record { key = key_of 0 p.number; picture = shown } ∷ [])).gone)
-    → StopsPicture t p old answer out out' side side'
-step_stopped t p old answer header payload shown out mid out' side side' is short fault first second third =
-    fault_stops t p old answer out out' side side' fault (inr (
-      le-leb (picture_length t p) t.unit_bytes (omega (arith, ap length is.payload_is, short)),
-      behind_front out mid out' (header_unit t old.previous) (unit 0x0C (header_length t) (payload_of t p)) (header_of t p header payload shown old.previous out mid is first)
-          (subst (λ (l : List ℕ). AppendsFront mid out' l) (same_unit t p header payload shown is) second),
-      subst (λ (q : Picture). AppendsFront side side' (raws (delivered (old.delivery ++ record { key = key_of 0 p.number; picture = q } ∷ [])).gone)) is.shown_is third,
+    → Appends out mid (header_before t (made t old.refs j) old.previous) → AppendsFront mid out' (unit j.planned.code k payload) → AppendsFront side side' (raws (delivered (joined old.delivery j.planned.number shown)).gone)
+    → StopsPicture t (made t old.refs j) old answer out out' side side'
+step_stopped t j old answer k payload shown out mid out' side side' is e short fault first second third =
+    let m = made t old.refs j in
+    fault_stops t old.refs j old answer out out' side side' fault (inr (
+      le-leb (picture_length m) t.unit_bytes (omega (arith, ap length is.payload_is, short)),
+      behind_front out mid out' (header_before t m old.previous) (picture_unit t m old.previous) first
+          (subst (λ (l : List ℕ). AppendsFront mid out' l) (same_unit t old.refs j payload shown old.previous k is e) second),
+      subst (λ (q : Picture). AppendsFront side side' (raws (delivered (joined old.delivery j.planned.number q)).gone)) is.shown_is third,
     ))
 
-pub step_long : (t : Settings) (p : Picture) (old : Progress) (header payload : List ℕ) (shown : Picture) (out mid side : Option (List ℕ)) → Parts t p header payload shown → t.unit_bytes < 13 + length payload
-    → Appends out mid (unit 0x00 old.previous header) → IsTooLong t p p.number old out mid side side
-step_long t p old header payload shown out mid side is long first = record {
+pub step_long : (t : Settings) (j : Job) (old : Progress) (payload : List ℕ) (shown : Picture) (out mid side : Option (List ℕ)) → Parts t old.refs j payload shown → t.unit_bytes < 13 + length payload
+    → Appends out mid (header_before t (made t old.refs j) old.previous) → IsTooLong t (made t old.refs j) j.planned.number old out mid side side
+step_long t j old payload shown out mid side is long first = record {
   same = refl;
-  long = lt-leb (picture_length t p) t.unit_bytes (omega (arith, ap length is.payload_is, long));
-  written = header_of t p header payload shown old.previous out mid is first;
+  long = lt-leb (picture_length (made t old.refs j)) t.unit_bytes (omega (arith, ap length is.payload_is, long));
+  written = first;
   kept = Keeps-refl side;
 }
 
--- five facts where a call succeeded
-pub on_ok_five : {T E P Q R S V W : Type 0} (r : Result T E) → (P → Q → R → S → V → W) → OnOk r P → OnOk r Q → OnOk r R → OnOk r S → OnOk r V → OnOk r W
-on_ok_five (Ok x) f p q u s v = f p q u s v
-on_ok_five (Err e) f p q u s v = tt
+-- six facts where a call succeeded
+pub on_ok_six : {T E P Q R S U V W : Type 0} (r : Result T E) → (P → Q → R → S → U → V → W) → OnOk r P → OnOk r Q → OnOk r R → OnOk r S → OnOk r U → OnOk r V → OnOk r W
+on_ok_six (Ok x) f p q u s v w = f p q u s v w
+on_ok_six (Err e) f p q u s v w = tt
 
 pub if_err : {T E : Type 0} {P Q : E → Type 0} (r : Result T E) → ((e : E) → P e → Q e) → IfErr r P → IfErr r Q
 if_err (Ok x) f p = tt

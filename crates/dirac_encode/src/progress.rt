@@ -1,29 +1,36 @@
-ghost use Rattle.std.specs.Prelude.{◌≡◌, []};
+ghost use Rattle.std.specs.Prelude.{◌≡◌};
+ghost use Rattle.dirac_encode.specs.Going.{so_far};
+ghost use Rattle.dirac_stream.specs.Steps.{no_progress};
 
-use dirac_refs::Delivery;
+use dirac_refs::{Delivery, RefBuffer};
+use std::alloc::Global;
 
 /// What is coded of a stream so far.
 #[derive(Drop)]
-pub struct Progress {
+pub(crate) struct Progress {
     /// How many pictures.
-    pub count: u32,
+    pub(crate) count: u32,
     /// The length of the last unit, 0 before the first.
-    pub previous: u32,
+    pub(crate) previous: u32,
+    /// The reconstructions that later pictures may refer to.
+    pub(crate) refs: RefBuffer,
     /// The reconstructions that wait for delivery.
-    pub delivery: Delivery,
+    pub(crate) delivery: Delivery,
+    /// A buffer for the bytes of a row.
+    pub(crate) row: Vec<u8>,
 }
 
 impl Progress {
     /// Nothing is coded.
-    pub fn new() -> Progress
-        ensures count { result.count ≡ 0 }
-        ensures previous { result.previous ≡ 0 }
-        ensures delivery { result.delivery ≡ [] }
+    pub(crate) fn new(alloc: Global) -> Progress
+        ensures { so_far result ≡ no_progress }
     {
         Progress {
             count: 0,
             previous: 0,
+            refs: RefBuffer::new(),
             delivery: Delivery::new(),
+            row: Vec::new(alloc),
         }
     }
 }

@@ -1,13 +1,17 @@
 //! The units of a stream, written to a sink.
 
-ghost use Rattle.std.specs.Prelude.{◌≡◌, ◌≤◌, ◌<◌, ◌+◌, ◌^◌, length};
+ghost use Rattle.std.specs.Prelude.{◌≡◌, ◌≤◌, ◌<◌, ◌+◌, ◌^◌, if◌then◌else◌, [], length};
 ghost use Rattle.std.specs.Io.KnownBytes.{Appends};
 ghost use Rattle.dirac_io.specs.Faults.{Rose};
 ghost use Rattle.dirac_io.specs.Writing.{AppendsFront};
-ghost use Rattle.dirac_encode.specs.Steps.{last_units};
-ghost use Rattle.dirac_encode.specs.Stream.{end_unit, unit};
+ghost use Rattle.dirac_sequence.specs.Written.{sequence_payload};
+ghost use Rattle.dirac_picture.specs.Grammar as grammar;
+ghost use Rattle.dirac_stream.specs.Steps.{last_units};
+ghost use Rattle.dirac_stream.specs.Stream.{end_unit, header_unit, unit};
 
 use dirac_io::{Put, Sink, put_all};
+use dirac_picture::is_intra;
+use dirac_types::Settings;
 use dirac_units::{ParseInfo, write_info};
 
 /// Writes a unit with this parse code behind a unit of `previous` bytes.
@@ -31,6 +35,29 @@ pub(crate) fn put_unit<K: Sink>(out: &mut K, code: u8, previous: u32, payload: &
     }
 }
 
+/// Writes the unit of this sequence header before an intra picture, behind a unit of `previous` bytes.
+pub(crate) fn put_header<K: Sink>(
+    out: &mut K,
+    settings: &Settings,
+    header: &[u8],
+    code: u8,
+    previous: u32,
+) -> Put
+    requires { header.now ≡ sequence_payload settings.now }
+    ensures all { result ≡ Put.All → Appends (K.taken out.old) (K.taken out.new)
+        (if grammar.is_intra code then header_unit settings.now previous else []) }
+    ensures front { AppendsFront (K.taken out.old) (K.taken out.new)
+        (if grammar.is_intra code then header_unit settings.now previous else []) }
+    ensures failed { result ≡ Put.Failed → Rose (K.faults out.old) (K.faults out.new) }
+    ensures count { K.faults out.old ≤ K.faults out.new }
+{
+    if is_intra(code) {
+        put_unit(out, 0x00, previous, header)
+    } else {
+        Put::All
+    }
+}
+
 /// Writes an end unit behind a unit of `previous` bytes.
 pub(crate) fn put_end<K: Sink>(out: &mut K, previous: u32) -> Put
     ensures all { result ≡ Put.All → Appends (K.taken out.old) (K.taken out.new) (end_unit previous) }
@@ -47,17 +74,25 @@ pub(crate) fn put_end<K: Sink>(out: &mut K, previous: u32) -> Put
 }
 
 /// Writes the units at the end: where no picture was coded the unit of this sequence header, and the end unit.
-pub(crate) fn put_end_units<K: Sink>(out: &mut K, header: &[u8], count: u32, previous: u32) -> Put
-    requires { 13 + length header.now < 2 ^ 32 }
-    ensures all { result ≡ Put.All → Appends (K.taken out.old) (K.taken out.new) (last_units header.now count previous) }
-    ensures front { AppendsFront (K.taken out.old) (K.taken out.new) (last_units header.now count previous) }
+pub(crate) fn put_end_units<K: Sink>(
+    out: &mut K,
+    settings: &Settings,
+    header: &[u8],
+    count: u32,
+    previous: u32,
+) -> Put
+    requires { header.now ≡ sequence_payload settings.now }
+    ensures all { result ≡ Put.All → Appends (K.taken out.old) (K.taken out.new)
+        (last_units settings.now count previous) }
+    ensures front { AppendsFront (K.taken out.old) (K.taken out.new)
+        (last_units settings.now count previous) }
     ensures failed { result ≡ Put.Failed → Rose (K.faults out.old) (K.faults out.new) }
     ensures count { K.faults out.old ≤ K.faults out.new }
 {
     if count > 0 {
         return put_end(out, previous);
     }
-    match put_unit(out, 0x00, previous, header) {
+    match put_unit(out, 0x00, 0, header) {
         Put::All => put_end(out, 13 + header.len() as u32),
         Put::Failed => Put::Failed,
         Put::NoMemory => Put::NoMemory,

@@ -1,8 +1,8 @@
 use Rattle.std.proofs.Common.{◌+◌, ◌*◌, ap, ◌∙◌}
 use Rattle.dirac_sequence.specs.declared.sequence.Sequence.{Sequence}
 use Rattle.dirac_picture.specs.Grammar.{chroma_height, chroma_width}
-use Rattle.dirac_encode.proofs.Coding.{codable}
-use Rattle.dirac_encode.proofs.Raws.{raw_sizes}
+use Rattle.dirac_stream.proofs.Coding.{codable}
+use Rattle.dirac_stream.proofs.Raws.{raw_sizes}
 use Rattle.dirac_encode.proofs.raw.raw_length.Goals as goal
 
 pub length_in-requires-clause-luma : goal.length_in-requires-clause-luma

@@ -4,7 +4,7 @@ use Rattle.std.proofs.KnownBytes.{Appends-trans}
 use Rattle.dirac_io.specs.Writing.{AppendsFront}
 use Rattle.dirac_decode.proofs.Rows.{behind_front, front_then}
 use Rattle.dirac_units.specs.Writing.{info_bytes}
-use Rattle.dirac_encode.specs.Stream.{info_for}
+use Rattle.dirac_stream.specs.Stream.{info_for}
 use Rattle.dirac_encode.proofs.units.put_unit.Goals as goal
 
 pub returns-in-All-clause-all : goal.returns-in-All-clause-all

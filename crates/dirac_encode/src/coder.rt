@@ -1,0 +1,13 @@
+use dirac_types::Settings;
+use std::alloc::Global;
+
+/// What all pictures of a stream are coded with.
+#[derive(Drop)]
+pub(crate) struct Coder<'a, R, G> {
+    pub(crate) rt: &'a R,
+    pub(crate) alloc: Global,
+    pub(crate) settings: &'a Settings,
+    /// The bytes of the sequence header.
+    pub(crate) header: &'a [u8],
+    pub(crate) gate: &'a G,
+}

@@ -1,0 +1,108 @@
+//! Raw pictures, read one after another and coded as they are planned.
+
+ghost use Rattle.std.specs.Prelude.{◌≡◌, ◌≤◌, ◌<◌, ◌^◌, ℕ, length, IfSome};
+ghost use Rattle.std.specs.List.{AllByRecursion};
+ghost use Rattle.std.specs.Io.KnownBytes.{IsAtEnd};
+ghost use Rattle.dirac_io.specs.Faults.{Rose};
+ghost use Rattle.dirac_types.specs.Settings.{IsAccepted};
+ghost use Rattle.dirac_sequence.specs.Written.{sequence_payload};
+ghost use Rattle.dirac_plan.specs.Planning.{empty_planning};
+ghost use Rattle.dirac_stream.specs.Encoding.{AnswersEncode, EndsStream, IsRecovered, behind, encoding};
+ghost use Rattle.dirac_stream.specs.Raw.{raw_length as length_of};
+ghost use Rattle.dirac_stream.specs.Steps.{no_progress};
+ghost use Rattle.dirac_encode.specs.Going.{so_far};
+
+use crate::coder::Coder;
+use crate::ending::put_last;
+use crate::planned::put_planned;
+use crate::progress::Progress;
+use crate::raw::picture_of;
+use dirac_io::{Filled, RowGate, Sink, Source, fill};
+use dirac_plan::Planner;
+use dirac_plan_laws::plans_can_be_coded;
+use dirac_stream::{Encoded, streams_show_their_pictures};
+use std::thread::Threads;
+
+/// Bytes are below 256.
+fn are_bytes(bytes: &[u8])
+    ensures { AllByRecursion (λ b. b < 2 ^ 8) bytes.now }
+{}
+
+/// The answer where so many bytes are left over whole pictures.
+fn behind_whole(left_over: usize) -> Encoded
+    ensures { result ≡ behind left_over }
+{
+    if left_over == 0 {
+        Encoded::Done
+    } else {
+        Encoded::PartialPicture(left_over as u64)
+    }
+}
+
+/// Codes pictures until the source ends; `bytes` is a buffer for a raw picture, whatever it holds.
+pub(crate) fn put_pictures<R: Threads + Sync, S: Source, K: Sink, N: Sink, G: RowGate>(
+    coder: &Coder<R, G>,
+    source: &mut S,
+    out: &mut K,
+    side: &mut N,
+    planner: &mut Planner,
+    coding: &mut Progress,
+    bytes: &mut [u8],
+) -> Encoded
+    requires accepted { IsAccepted coder.now.settings.now }
+    requires header { coder.now.header.now ≡ sequence_payload coder.now.settings.now }
+    requires bytes { length bytes.old ≡ length_of coder.now.settings.now }
+    requires planner { planner.old ≡ empty_planning coder.now.settings.now }
+    requires coding { so_far coding.old ≡ no_progress }
+    ensures encoded { IfSome (S.held source.old) (λ held. AnswersEncode result (encoding coder.now.settings.now held)
+        (K.taken out.old) (K.taken out.new) (N.taken side.old) (N.taken side.new)) }
+    ensures recovered { IfSome (S.held source.old) (λ held.
+        EndsStream result → IsRecovered coder.now.settings.now held) }
+    ensures whole { result ≡ Encoded.Done → IsAtEnd (S.held source.new) }
+    ensures partial { (n : ℕ) → result ≡ Encoded.PartialPicture n → (1 ≤ n) × IsAtEnd (S.held source.new) }
+    ensures read { result ≡ Encoded.ReadFault → Rose (S.faults source.old) (S.faults source.new) }
+    ensures write { result ≡ Encoded.WriteFault → Rose (K.faults out.old) (K.faults out.new) }
+    ensures side { result ≡ Encoded.SideFault → Rose (N.faults side.old) (N.faults side.new) }
+    ensures reads { S.faults source.old ≤ S.faults source.new }
+    ensures writes { K.faults out.old ≤ K.faults out.new }
+    ensures sides { N.faults side.old ≤ N.faults side.new }
+{
+    plans_can_be_coded();
+    streams_show_their_pictures();
+    let settings = coder.settings;
+    'pictures: loop {
+        match fill(source, bytes) {
+            Filled::Failed => return Encoded::ReadFault,
+            Filled::Part(n) => {
+                if let Err(answer) = put_planned(coder, out, side, planner, true, coding) {
+                    return answer;
+                }
+                if let Err(fault) = put_last(coder, out, side, coding) {
+                    return fault;
+                }
+                return behind_whole(n);
+            }
+            Filled::Whole => {}
+        }
+        let number = planner.accepted();
+        if number == settings.pictures {
+            if let Err(answer) = put_planned(coder, out, side, planner, true, coding) {
+                return answer;
+            }
+            if let Err(fault) = put_last(coder, out, side, coding) {
+                return fault;
+            }
+            return Encoded::TooManyPictures;
+        }
+        are_bytes(bytes);
+        let Ok(picture) = picture_of(coder.alloc, settings, number, bytes) else {
+            return Encoded::NoMemory;
+        };
+        let Ok(()) = planner.push(picture) else {
+            unreachable!();
+        };
+        if let Err(answer) = put_planned(coder, out, side, planner, false, coding) {
+            return answer;
+        }
+    }
+}

@@ -1,0 +1,59 @@
+//! All pictures that a planner gives, coded.
+
+ghost use Rattle.std.specs.Prelude.{◌≡◌, ◌≤◌, Ok, Err, IfErr, OnOk, true, false};
+ghost use Rattle.dirac_io.specs.Faults.{Rose};
+ghost use Rattle.dirac_types.specs.Settings.{IsAccepted};
+ghost use Rattle.dirac_sequence.specs.Written.{sequence_payload};
+ghost use Rattle.dirac_plan.specs.Planning.{is_closed};
+ghost use Rattle.dirac_stream.specs.Steps.{StopsCoding};
+ghost use Rattle.dirac_encode.specs.Going.{LeadsOn, Lists, Stops, so_far};
+
+use crate::coder::Coder;
+use crate::progress::Progress;
+use crate::source::put_source;
+use dirac_io::{RowGate, Sink};
+use dirac_plan::Planner;
+use dirac_plan_laws::plans_can_be_coded;
+use dirac_stream::Encoded;
+use std::thread::Threads;
+
+/// Codes all pictures that can be coded by now; where the pictures have ended, all that are left.
+pub(crate) fn put_planned<R: Threads + Sync, K: Sink, N: Sink, G: RowGate>(
+    coder: &Coder<R, G>,
+    out: &mut K,
+    side: &mut N,
+    planner: &mut Planner,
+    ended: bool,
+    coding: &mut Progress,
+) -> Result<(), Encoded>
+    requires accepted { IsAccepted coder.now.settings.now }
+    requires header { coder.now.header.now ≡ sequence_payload coder.now.settings.now }
+    requires settings { planner.old.settings ≡ coder.now.settings.now }
+    requires ended { planner.old.ended ≡ true → ended ≡ true }
+    requires lists { Lists coder.now.settings.now ended planner.old (so_far coding.old) }
+    ensures lists { OnOk result (Lists coder.now.settings.now ended planner.new (so_far coding.new)) }
+    ensures led { OnOk result (LeadsOn coder.now.settings.now ended planner.old planner.new
+        (so_far coding.old) (so_far coding.new)
+        (K.taken out.old) (K.taken out.new) (N.taken side.old) (N.taken side.new)) }
+    // Once the pictures have ended, all that were accepted are coded; else the next one will be accepted.
+    ensures all_given { OnOk result (ended ≡ true → planner.new.given ≡ planner.new.accepted) }
+    ensures opened { OnOk result (ended ≡ false → is_closed planner.new ≡ false) }
+    ensures told { OnOk result (planner.new.ended ≡ ended) }
+    ensures accepted { planner.new.accepted ≡ planner.old.accepted }
+    ensures settings { planner.new.settings ≡ coder.now.settings.now }
+    ensures stopped { IfErr result (λ answer. Stops coder.now.settings.now ended planner.old (so_far coding.old) answer
+        (K.taken out.old) (K.taken out.new) (N.taken side.old) (N.taken side.new)) }
+    ensures stops { IfErr result StopsCoding }
+    ensures write_fault { result ≡ Err Encoded.WriteFault → Rose (K.faults out.old) (K.faults out.new) }
+    ensures side_fault { result ≡ Err Encoded.SideFault → Rose (N.faults side.old) (N.faults side.new) }
+    ensures writes { K.faults out.old ≤ K.faults out.new }
+    ensures sides { N.faults side.old ≤ N.faults side.new }
+{
+    plans_can_be_coded();
+    'planned: while let Some((planned, source)) = planner.take(ended) {
+        if let Err(answer) = put_source(coder, out, side, &planned, &source, coding) {
+            return Err(answer);
+        }
+    }
+    Ok(())
+}

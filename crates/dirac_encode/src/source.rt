@@ -1,0 +1,168 @@
+//! A planned picture, coded, written and delivered.
+
+ghost use Rattle.std.specs.Prelude.{◌≡◌, ◌≤◌, ◌<◌, ◌+◌, ◌^◌, if◌then◌else◌, length, Ok, Err, OnOk, IfOk, IfErr, true};
+ghost use Rattle.std.specs.Io.KnownBytes.{Appends};
+ghost use Rattle.std.specs.List.{AllByRecursion};
+ghost use Rattle.dirac_io.specs.Faults.{Rose};
+ghost use Rattle.dirac_io.specs.Writing.{AppendsFront};
+ghost use Rattle.dirac_types.specs.Settings.{IsAccepted};
+ghost use Rattle.dirac_sequence.specs.Written.{sequence_payload};
+ghost use Rattle.dirac_picture.specs.Grammar.{are_listed, is_intra as is_intra_code};
+ghost use Rattle.dirac_refs.specs.Delivery.{delivered};
+ghost use Rattle.dirac_refs.specs.References.{committed};
+ghost use Rattle.dirac_decode.specs.Course.{as_reference};
+ghost use Rattle.dirac_decode.specs.Raw.{raws};
+ghost use Rattle.dirac_plan_laws.specs.Headers.{IsPlanned, header_of};
+ghost use Rattle.dirac_stream.specs.Coded.{IsSource};
+ghost use Rattle.dirac_stream.specs.Coding.{made};
+ghost use Rattle.dirac_stream.specs.Steps.{IsCoded, IsFault, StopsCoding, StopsPicture};
+ghost use Rattle.dirac_stream.specs.Stream.{unit};
+ghost use Rattle.dirac_encode.specs.Going.{joined, so_far};
+
+use crate::coder::Coder;
+use crate::delivering::deliver;
+use crate::progress::Progress;
+use crate::units::{put_header, put_unit};
+use dirac_code::{Coded, code_picture};
+use dirac_header::is_reference;
+use dirac_io::{Put, RowGate, Sink};
+use dirac_picture::is_intra;
+use dirac_plan::Planned;
+use dirac_stream::Encoded;
+use dirac_types::{NoMemory, Picture};
+use std::alloc::Global;
+use std::thread::Threads;
+
+/// A reconstruction once more, where later pictures may refer to one with this parse code.
+fn reference_of(alloc: Global, code: u8, shown: &Picture) -> Result<Option<Picture>, NoMemory>
+    ensures { IfOk result (λ r. r ≡ as_reference code shown.now) }
+{
+    if !is_reference(code) {
+        return Ok(None);
+    }
+    let copy = shown.try_copy(alloc)?;
+    Ok(Some(copy))
+}
+
+/// Writes the unit of a coded picture behind a unit of `previous` bytes, lists the reconstruction if others may refer
+/// to it, and delivers what leaves.
+fn put_coded<K: Sink, N: Sink>(
+    alloc: Global,
+    out: &mut K,
+    side: &mut N,
+    previous: u32,
+    planned: &Planned,
+    coded: Coded,
+    coding: &mut Progress,
+) -> Result<(), Encoded>
+    requires fits { 13 + length coded.payload.items < 2 ^ 32 }
+    requires in_range { coding.old.count + 1 < 2 ^ 32 }
+    ensures count { OnOk result (coding.new.count ≡ coding.old.count + 1) }
+    ensures previous { OnOk result (coding.new.previous ≡ 13 + length coded.payload.items) }
+    ensures refs { OnOk result (coding.new.refs
+        ≡ committed coding.old.refs planned.now.retire (as_reference planned.now.code coded.shown)) }
+    ensures waiting { OnOk result (coding.new.delivery
+        ≡ (delivered (joined coding.old.delivery planned.now.number coded.shown)).waiting) }
+    ensures out { OnOk result (Appends (K.taken out.old) (K.taken out.new)
+        (unit planned.now.code previous coded.payload.items)) }
+    ensures side { OnOk result (Appends (N.taken side.old) (N.taken side.new)
+        (raws (delivered (joined coding.old.delivery planned.now.number coded.shown)).gone)) }
+    ensures out_front { AppendsFront (K.taken out.old) (K.taken out.new)
+        (unit planned.now.code previous coded.payload.items) }
+    ensures side_front { AppendsFront (N.taken side.old) (N.taken side.new)
+        (raws (delivered (joined coding.old.delivery planned.now.number coded.shown)).gone) }
+    ensures stopped { IfErr result IsFault }
+    ensures write_fault { result ≡ Err Encoded.WriteFault → Rose (K.faults out.old) (K.faults out.new) }
+    ensures side_fault { result ≡ Err Encoded.SideFault → Rose (N.faults side.old) (N.faults side.new) }
+    ensures writes { K.faults out.old ≤ K.faults out.new }
+    ensures sides { N.faults side.old ≤ N.faults side.new }
+{
+    let Ok(reference) = reference_of(alloc, planned.code, &coded.shown) else {
+        return Err(Encoded::NoMemory);
+    };
+    match put_unit(out, planned.code, previous, coded.payload.as_slice()) {
+        Put::All => {}
+        Put::Failed => return Err(Encoded::WriteFault),
+        Put::NoMemory => return Err(Encoded::NoMemory),
+    }
+    coding.count += 1;
+    coding.previous = 13 + coded.payload.len() as u32;
+    coding.refs.commit(planned.retire, reference);
+    match deliver(
+        side,
+        &mut coding.delivery,
+        planned.number,
+        coded.shown,
+        &mut coding.row,
+    ) {
+        Put::All => Ok(()),
+        Put::Failed => Err(Encoded::SideFault),
+        Put::NoMemory => Err(Encoded::NoMemory),
+    }
+}
+
+/// The length of the unit just before a picture with this parse code: of its sequence header, or of the unit before it.
+fn length_before(code: u8, header: &[u8], previous: u32) -> u32
+    requires { 13 + length header.now < 2 ^ 32 }
+    ensures { result ≡ (if is_intra_code code then 13 + length header.now else previous) }
+{
+    if is_intra(code) {
+        13 + header.len() as u32
+    } else {
+        previous
+    }
+}
+
+/// Codes a planned picture and writes its unit, an intra picture's behind a sequence header.
+pub(crate) fn put_source<R: Threads + Sync, K: Sink, N: Sink, G: RowGate>(
+    coder: &Coder<R, G>,
+    out: &mut K,
+    side: &mut N,
+    planned: &Planned,
+    source: &Picture,
+    coding: &mut Progress,
+) -> Result<(), Encoded>
+    requires accepted { IsAccepted coder.now.settings.now }
+    requires header { coder.now.header.now ≡ sequence_payload coder.now.settings.now }
+    requires planned { IsPlanned planned.now }
+    requires same { source.now.number ≡ planned.now.number }
+    requires source { IsSource coder.now.settings.now source.now }
+    requires listed { AllByRecursion (IsSource coder.now.settings.now) coding.old.refs }
+    requires found { are_listed coding.old.refs (header_of planned.now) ≡ true }
+    requires in_range { coding.old.count + 1 < 2 ^ 32 }
+    ensures coded { OnOk result (IsCoded coder.now.settings.now
+        (made coder.now.settings.now coding.old.refs (record { planned = planned.now; source = source.now }))
+        (so_far coding.old) (so_far coding.new)
+        (K.taken out.old) (K.taken out.new) (N.taken side.old) (N.taken side.new)) }
+    ensures stopped { IfErr result (λ answer. StopsPicture coder.now.settings.now
+        (made coder.now.settings.now coding.old.refs (record { planned = planned.now; source = source.now }))
+        (so_far coding.old) answer (K.taken out.old) (K.taken out.new) (N.taken side.old) (N.taken side.new)) }
+    ensures stops { IfErr result StopsCoding }
+    ensures write_fault { result ≡ Err Encoded.WriteFault → Rose (K.faults out.old) (K.faults out.new) }
+    ensures side_fault { result ≡ Err Encoded.SideFault → Rose (N.faults side.old) (N.faults side.new) }
+    ensures writes { K.faults out.old ≤ K.faults out.new }
+    ensures sides { N.faults side.old ≤ N.faults side.new }
+{
+    let settings = coder.settings;
+    match put_header(out, settings, coder.header, planned.code, coding.previous) {
+        Put::All => {}
+        Put::Failed => return Err(Encoded::WriteFault),
+        Put::NoMemory => return Err(Encoded::NoMemory),
+    }
+    let Ok(coded) = code_picture(
+        coder.rt,
+        coder.alloc,
+        planned,
+        source,
+        &coding.refs,
+        settings,
+        coder.gate,
+    ) else {
+        return Err(Encoded::NoMemory);
+    };
+    if 13 + coded.payload.len() as u64 > u64::from(settings.unit_bytes) {
+        return Err(Encoded::UnitTooLong(planned.number));
+    }
+    let previous = length_before(planned.code, coder.header, coding.previous);
+    put_coded(coder.alloc, out, side, previous, planned, coded, coding)
+}
