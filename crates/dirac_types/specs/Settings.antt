@@ -38,12 +38,12 @@ table s =
     ∷ setting name.Blocks s.blocks 2 4 1
     ∷ setting name.Precision s.precision 0 3 1
     ∷ setting name.References s.references 1 2 1
-    ∷ setting name.Gop s.gop 1 1 1
+    ∷ setting name.Gop s.gop 1 65535 1
     ∷ setting name.Between s.between 0 3 1
     ∷ setting name.Range s.range 0 16 1
     ∷ setting name.Pyramid s.pyramid 0 4 1
     ∷ setting name.Bias s.bias 0 255 1
-    ∷ setting name.Workers s.workers 1 1 1
+    ∷ setting name.Workers s.workers 1 64 1
     ∷ setting name.Pictures s.pictures 1 2147483647 1
     ∷ setting name.UnitBytes s.unit_bytes 14 4294967295 1
     ∷ []
@@ -118,7 +118,7 @@ of_base base = let format = format_of base in record {
   blocks = 2;
   precision = 2;
   references = 2;
-  gop = 1;
+  gop = 12;
   between = 2;
   range = 4;
   pyramid = 3;

@@ -147,7 +147,7 @@ impl Settings {
             blocks: 2,
             precision: 2,
             references: 2,
-            gop: 1,
+            gop: 12,
             between: 2,
             range: 4,
             pyramid: 3,
