@@ -8,8 +8,8 @@ use std::process::Abort;
 use std::test::Fail;
 use std::thread::Threads;
 
-// Two pictures of 8 by 8 samples, 4:2:0, of which all samples are grey, as bytes.
-const GREY: [u8; 192] = [0x80; 192];
+// Two pictures of 8 by 8 samples, 4:2:0, of which all samples are grey, as bytes, and four bytes behind them.
+const GREY: [u8; 196] = [0x80; 196];
 
 // The settings of these pictures.
 const SIZES: [&str; 3] = ["--width=8", "--height=8", "--depth=1"];
@@ -69,13 +69,18 @@ fn encodes_grey_pictures(rt: HostRuntime) -> Result<(), Fail> {
     )?;
     let none = joined(alloc, &[&STREAM[..19], &header(0x10, 0, 19)])?;
     for (more, raw, answer, stream, shown) in [
+        // the second picture refers to the first one
+        (PLAIN, 192, Ended::Done, &STREAM[..95], 192),
+        ("--workers=2", 192, Ended::Done, &STREAM[..95], 192),
+        ("--workers=5", 192, Ended::Done, &STREAM[..95], 192),
+        (PLAIN, 196, Ended::PartialPicture(4), &STREAM[..95], 192),
         (PLAIN, 0, Ended::Done, none.as_slice(), 0),
         (PLAIN, 1, Ended::PartialPicture(1), none.as_slice(), 0),
         (PLAIN, 95, Ended::PartialPicture(95), none.as_slice(), 0),
         (PLAIN, 96, Ended::Done, one.as_slice(), 96),
         (PLAIN, 100, Ended::PartialPicture(4), one.as_slice(), 96),
-        (PLAIN, 192, Ended::Done, two.as_slice(), 192),
-        ("--pictures=2", 192, Ended::Done, two.as_slice(), 192),
+        ("--gop=1", 192, Ended::Done, two.as_slice(), 192),
+        ("--pictures=2", 192, Ended::Done, &STREAM[..95], 192),
         (
             "--pictures=1",
             100,
@@ -137,13 +142,15 @@ fn encodes_a_small_picture(rt: HostRuntime) -> Result<(), Fail> {
 fn refuses_settings(rt: HostRuntime) -> Result<(), Fail> {
     let alloc = rt.alloc();
     for (more, name, value) in [
-        (["--gop=2", "--height=8"], Name::Gop, 2),
+        (["--gop=0", "--height=8"], Name::Gop, 0),
+        (["--gop=65536", "--height=8"], Name::Gop, 65536),
         (["--width=7", "--height=8"], Name::Width, 7),
         (["--height=7", "--width=8"], Name::Height, 7),
         (["--depth=5", "--index=100"], Name::Depth, 5),
         (["--width=0", "--base=17"], Name::Base, 17),
-        (["--base=99", "--workers=2"], Name::Base, 99),
-        (["--workers=2", "--recon=made"], Name::Workers, 2),
+        (["--base=99", "--workers=65"], Name::Base, 99),
+        (["--workers=65", "--recon=made"], Name::Workers, 65),
+        (["--workers=0", "--gop=2"], Name::Workers, 0),
         (["--unit_bytes=13", "--pictures=1"], Name::UnitBytes, 13),
     ] {
         let words = encode_words(alloc, &[], &more)?;
@@ -280,7 +287,29 @@ fn shape_words(alloc: Global, shape: &Shape, wavelet: u32, depth: u32) -> Result
     Ok(words)
 }
 
-// Encodes two pictures, decodes the stream, and compares what both gave; at index 0, where nothing is lost, with the input.
+// Encodes raw pictures, decodes the stream, and compares what both gave; where nothing is lost, with the input.
+fn codes_back<R: Abort + Threads + Sync>(
+    rt: &R,
+    alloc: Global,
+    words: &Words,
+    raw: &[u8],
+    is_lossless: bool,
+    tally: &str,
+) -> Result<(), Fail> {
+    let coded = tried(rt, alloc, words, raw, &pieces(4096))?;
+    assert_eq!(rt; coded.ended, Ended::Done);
+    assert_eq!(rt; coded.side.taken().len(), raw.len());
+    if is_lossless {
+        assert_eq!(rt; coded.side.taken(), raw);
+    }
+    let shown = decoded(rt, alloc, coded.out.taken(), &pieces(4096))?;
+    assert_eq!(rt; shown.ended, Ended::Done);
+    assert_eq!(rt; shown.out.taken(), coded.side.taken());
+    assert_eq!(rt; shown.side.taken(), tally.as_bytes());
+    Ok(())
+}
+
+// Two pictures of a shape, of which the second one refers to the first.
 fn round_trip<R: Abort + Threads + Sync>(
     rt: &R,
     alloc: Global,
@@ -290,18 +319,22 @@ fn round_trip<R: Abort + Threads + Sync>(
 ) -> Result<(), Fail> {
     let words = shape_words(alloc, shape, wavelet, depth)?;
     let raw = noise(alloc, shape.bytes)?;
-    let coded = tried(rt, alloc, &words, &raw, &pieces(4096))?;
-    assert_eq!(rt; coded.ended, Ended::Done);
-    assert_eq!(rt; coded.side.taken().len(), raw.len());
-    if shape.index == 0 {
-        assert_eq!(rt; coded.side.taken(), raw.as_slice());
-    }
-    let shown = decoded(rt, alloc, coded.out.taken(), &pieces(4096))?;
-    assert_eq!(rt; shown.ended, Ended::Done);
-    assert_eq!(rt; shown.out.taken(), coded.side.taken());
     let tally = "pictures=2 references=2\n";
-    assert_eq!(rt; shown.side.taken(), tally.as_bytes());
-    Ok(())
+    codes_back(rt, alloc, &words, raw.as_slice(), shape.index == 0, tally)
+}
+
+// Eight pictures of a shape: the anchors 0, 3, 6 and 7, of which the last one retires 3, and pairs between them.
+fn group_trip<R: Abort + Threads + Sync>(
+    rt: &R,
+    alloc: Global,
+    shape: &Shape,
+    more: &str,
+) -> Result<(), Fail> {
+    let mut words = shape_words(alloc, shape, 1, 2)?;
+    words.push(more)?;
+    let raw = noise(alloc, 4 * shape.bytes)?;
+    let tally = "pictures=8 references=3\n";
+    codes_back(rt, alloc, &words, raw.as_slice(), shape.index == 0, tally)
 }
 
 // Every wavelet and depth.
@@ -321,6 +354,19 @@ fn round_trips<R: Abort + Threads + Sync>(
 #[test]
 fn decodes_what_it_encodes(rt: HostRuntime) -> Result<(), Fail> {
     let alloc = rt.alloc();
+    for more in [
+        "--references=2",
+        "--references=1",
+        "--precision=0",
+        "--precision=3",
+        "--blocks=4",
+        "--bias=0",
+        "--pyramid=0",
+        "--workers=3",
+    ] {
+        group_trip(&rt, alloc, &shape_of((20, 12), 2, 0, 2, 720), more)?;
+        group_trip(&rt, alloc, &shape_of((19, 9), 0, 30, 1, 1026), more)?;
+    }
     round_trips(&rt, alloc, &shape_of((1, 1), 0, 0, 1, 6))?;
     round_trips(&rt, alloc, &shape_of((5, 3), 0, 0, 3, 90))?;
     round_trips(&rt, alloc, &shape_of((12, 10), 0, 12, 3, 720))?;
