@@ -20,9 +20,9 @@ TOO_MANY_PICTURES = 7
 PARTIAL_PICTURE = 5
 
 # What the product takes so far. Once it writes groups these are 65535, 12 and 64.
-LONGEST_GROUP = 1
-DEFAULT_GROUP = 1
-MOST_WORKERS = 1
+LONGEST_GROUP = 65535
+DEFAULT_GROUP = 12
+MOST_WORKERS = 64
 
 # name, lowest, highest, in the order of their check
 SETTING_RANGES = [
