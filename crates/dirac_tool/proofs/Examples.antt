@@ -2,10 +2,10 @@
 use Rattle.std.proofs.Common.{◌≡◌, [], ◌∷◌, None, Some, Ok, Err, refl}
 use Rattle.std.specs.Prelude.{codes}
 use Rattle.dirac_types.specs.Settings.{format_of, of_base, table}
-use Rattle.dirac_tool.specs.declared.words.Command.TheVariants.{Encode}
+use Rattle.dirac_tool.specs.declared.words.Command.TheVariants.{Encode, Make}
 use Rattle.dirac_tool.specs.declared.words.WordsStop.TheVariants.{Usage}
 use Rattle.dirac_tool.specs.Options.{fits, is_new_path, is_new_setting, number_read, path_in, settings_given, value_in, value_or}
-use Rattle.dirac_tool.specs.Words.{command_read, encode_read, path_read}
+use Rattle.dirac_tool.specs.Words.{command_read, encode_read, make_read, path_read}
 
 -- settings by name, in any order, beside the defaults of base 0
 small : command_read (codes "encode" ∷ codes "--width=8" ∷ codes "--height=8" ∷ codes "--depth=1" ∷ [])
@@ -88,3 +88,20 @@ path = refl
 path_refused : path_read (codes "encode" ∷ codes "--width=7" ∷ codes "--recon=a.raw" ∷ []) ≡ None
 unfolding path_read encode_read settings_given value_or value_in number_read fits is_new_setting is_new_path path_in format_of table
 path_refused = refl
+
+-- `make` takes settings and the number of pictures, which is 12 where no word says it, and no path
+make_words : command_read (codes "make" ∷ codes "--count=3" ∷ codes "--base=8" ∷ []) ≡ Ok (Make (of_base 8) 3)
+unfolding make_read settings_given value_or value_in number_read fits is_new_setting format_of
+make_words = refl
+
+make_default : command_read (codes "make" ∷ []) ≡ Ok (Make (of_base 0) 12)
+unfolding make_read settings_given value_or value_in number_read format_of
+make_default = refl
+
+make_path : command_read (codes "make" ∷ codes "--recon=a" ∷ []) ≡ Err (Usage 1)
+unfolding make_read value_in number_read fits is_new_setting
+make_path = refl
+
+make_twice : command_read (codes "make" ∷ codes "--count=3" ∷ codes "--count=3" ∷ []) ≡ Err (Usage 2)
+unfolding make_read value_in number_read fits is_new_setting
+make_twice = refl

@@ -3,6 +3,7 @@ pub mod Decoded
 mod Examples
 pub mod Listed
 pub mod Loans
+pub mod Making
 pub mod Numbers
 pub mod Room
 pub mod Unfit

@@ -1,10 +1,13 @@
--- How many more words can fit: each that does gives a setting its value, or the path.
+-- How many more words can fit: each that does gives a setting its value, or the path, or the number of pictures.
 use Rattle.std.proofs.Common.{◌≡◌, ℕ, ◌+◌, ◌≤◌, ◌&&◌, true, cond, List, [], ◌∷◌, ◌++◌, refl, ap, ◌∙◌, inl, inr, Option, Some, None, arith}
 use Rattle.std.specs.Prelude.{is_some, is_none}
 use Rattle.std.specs.List.{list_any}
 use Rattle.std.specs.Option.{option_or}
 use Rattle.std.proofs.lemmas.Bool.{or_cases}
 use Rattle.dirac_types.specs.declared.settings.Name.{Name}
+use Rattle.dirac_types.specs.declared.settings.Name.TheVariants as name
+use Rattle.dirac_tool.specs.declared.options.OptionsOf.{OptionsOf}
+use Rattle.dirac_tool.specs.declared.options.OptionsOf.TheVariants as options_of
 use Rattle.dirac_tool.specs.Options.{names, value_in, value_given, path_in, path_given, is_new_setting, is_new_path, fits}
 
 -- 1 where there is no value yet
@@ -18,10 +21,10 @@ without_value before (name ∷ names) = wanting (value_given name before) + with
 
 -- how many more words can fit behind these
 unfoldable pub room : List (List ℕ) → ℕ
-room before = without_value before names + wanting (path_given before)
+room before = without_value before names + (wanting (path_given before) + wanting (value_given name.Count before))
 
--- at first all settings and the path
-pub room_first : room [] ≡ 24
+-- at first all settings, the path and the number
+pub room_first : room [] ≡ 25
 unfolding room
 room_first = refl
 
@@ -76,11 +79,21 @@ one_set before word (name ∷ ns) any =
     ]
 
 -- a word that fits takes some of the room
-pub room_taken : (before : List (List ℕ)) (word : List ℕ) → fits before word ≡ true → room (before ++ word ∷ []) + 1 ≤ room before
-unfolding room fits is_new_path
-room_taken before word fit =
+pub room_taken : (of : OptionsOf) (before : List (List ℕ)) (word : List ℕ) → fits of before word ≡ true → room (before ++ word ∷ []) + 1 ≤ room before
+unfolding room fits is_new_path is_new_setting
+room_taken options_of.Encode before word fit =
     let pushed = ap wanting (path_pushed before word) in
+    let counted = ap wanting (value_pushed name.Count before word) in
+    let count = fewer (value_given name.Count before) (value_in name.Count word) in
     elim (or_cases (list_any (is_new_setting before word) names) (is_new_path before word) fit) [
-      | inl set ↦ omega (arith, one_set before word names set, fewer (path_given before) (path_in word), pushed)
-      | inr new ↦ omega (arith, kept before word names, one_fewer (path_given before) (path_in word) new, pushed)
+      | inl set ↦ omega (arith, one_set before word names set, fewer (path_given before) (path_in word), pushed, counted, count)
+      | inr new ↦ omega (arith, kept before word names, one_fewer (path_given before) (path_in word) new, pushed, counted, count)
+    ]
+room_taken options_of.Make before word fit =
+    let pushed = ap wanting (path_pushed before word) in
+    let counted = ap wanting (value_pushed name.Count before word) in
+    let path = fewer (path_given before) (path_in word) in
+    elim (or_cases (list_any (is_new_setting before word) names) (is_new_setting before word name.Count) fit) [
+      | inl set ↦ omega (arith, one_set before word names set, fewer (value_given name.Count before) (value_in name.Count word), pushed, counted, path)
+      | inr new ↦ omega (arith, kept before word names, one_fewer (value_given name.Count before) (value_in name.Count word) new, pushed, counted, path)
     ]

@@ -5,4 +5,6 @@ pub mod Line
 pub mod Listing
 pub mod Decoding
 pub mod Encoding
+pub mod Making
+pub mod Unmade
 pub mod Running

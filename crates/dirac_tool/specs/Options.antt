@@ -1,4 +1,4 @@
--- The words behind `encode`: settings by name, and the path of the reconstructions.
+-- The words behind `encode` and `make`: settings by name, the path of the reconstructions, the number of pictures.
 use Rattle.std.specs.Prelude.{ℕ, ◌+◌, ◌-◌, ◌*◌, nat_le, ◌==◌, Bool, ◌&&◌, ◌||◌, if◌then◌else◌, List, [], ◌∷◌, ◌++◌, length, codes, Option, None, Some, is_some, is_none, option_and_then, unwrap_or}
 use Rattle.std.specs.List.{list_any}
 use Rattle.std.specs.Option.{option_or}
@@ -8,6 +8,8 @@ use Rattle.dirac_types.specs.declared.settings.Name.TheVariants as name
 use Rattle.dirac_types.specs.declared.settings.Settings.{Settings}
 use Rattle.dirac_types.specs.Names.{text_of}
 use Rattle.dirac_types.specs.Settings.{of_base}
+use Rattle.dirac_tool.specs.declared.options.OptionsOf.{OptionsOf}
+use Rattle.dirac_tool.specs.declared.options.OptionsOf.TheVariants as options_of
 
 -- the names of the settings, in the order of their table
 abbrev pub names : List Name
@@ -65,14 +67,16 @@ is_new_setting before word name = is_some (value_in name word) && is_none (value
 unfoldable pub is_new_path : List (List ℕ) → List ℕ → Bool
 is_new_path before word = is_some (path_in word) && is_none (path_given before)
 
--- a word fits behind these
-unfoldable pub fits : List (List ℕ) → List ℕ → Bool
-fits before word = list_any (is_new_setting before word) names || is_new_path before word
+-- a word fits behind these: it gives a setting its value, or for `encode` the path and for `make` the number of pictures
+unfoldable pub fits : OptionsOf → List (List ℕ) → List ℕ → Bool
+fits options_of.Encode before word = list_any (is_new_setting before word) names || is_new_path before word
+fits options_of.Make before word = list_any (is_new_setting before word) names || is_new_setting before word name.Count
 
 -- the number of the first word that doesn't fit, where the command and these stand before
-abbrev pub first_unfit : List (List ℕ) → List (List ℕ) → Option ℕ
-first_unfit before [] = None
-first_unfit before (word ∷ words) = if fits before word then first_unfit (before ++ word ∷ []) words else Some (length before + 1)
+abbrev pub first_unfit : OptionsOf → List (List ℕ) → List (List ℕ) → Option ℕ
+first_unfit of before [] = None
+first_unfit of before (word ∷ words) =
+    if fits of before word then first_unfit of (before ++ word ∷ []) words else Some (length before + 1)
 
 -- the value that these words give to the setting of this name, or else this one
 unfoldable pub value_or : List (List ℕ) → Name → ℕ → ℕ
@@ -113,3 +117,7 @@ changed words d = record {
 -- the settings that these words say
 unfoldable pub settings_given : List (List ℕ) → Settings
 settings_given words = changed words (defaults_given words)
+
+-- the number of pictures that these words say, or else 12
+abbrev pub count_given : List (List ℕ) → ℕ
+count_given words = value_or words name.Count 12

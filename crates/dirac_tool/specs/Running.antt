@@ -13,6 +13,7 @@ use Rattle.dirac_tool.specs.declared.words.WordsStop.TheVariants.{Usage}
 use Rattle.dirac_tool.specs.Decoding.{IsDecoded, IsDecodeAnswer, TellsFew}
 use Rattle.dirac_tool.specs.Encoding.{IsEncoded, IsEncodeAnswer}
 use Rattle.dirac_tool.specs.Listing.{IsListed, IsListAnswer}
+use Rattle.dirac_tool.specs.Making.{AnswersMake, first_bad_for_make}
 
 -- the bytes that the source holds and that the two sinks took, where they tell them
 pub record Told : Type 0 where
@@ -46,14 +47,27 @@ abbrev pub EncodesUnless : Option BadSetting → Settings → Told → Told → 
 EncodesUnless (Some bad) t old new answer = (answer ≡ ended.BadSettings bad) × (new ≡ old)
 EncodesUnless None t old new answer = Encodes t old new answer
 
+-- `make` with accepted settings and number of pictures: nothing is read, and nothing is said beside what comes out
+pub record Makes (t : Settings) (count : ℕ) (old new : Told) (answer : Ended) : Type 0 where
+  pub made : AnswersMake answer t count old.out new.out
+  pub unread : new.held ≡ old.held
+  pub side : new.side ≡ old.side
+
+-- `make`: the first setting that is out of its range, or else the number of pictures, is answered and nothing is written
+abbrev pub MakesUnless : Option BadSetting → Settings → ℕ → Told → Told → Ended → Type 0
+MakesUnless (Some bad) t count old new answer = (answer ≡ ended.BadSettings bad) × (new ≡ old)
+MakesUnless None t count old new answer = Makes t count old new answer
+
 -- what the words ask for
 abbrev pub RunsTo : Result Command WordsStop → Told → Told → Ended → Type 0
 RunsTo (Err (Usage n)) old new answer = (answer ≡ ended.Usage n) × (new ≡ old)
 RunsTo (Ok command.List) old new answer = Lists old new answer
 RunsTo (Ok command.Decode) old new answer = Decodes old new answer
 RunsTo (Ok (command.Encode t)) old new answer = EncodesUnless (first_bad (table t)) t old new answer
+RunsTo (Ok (command.Make t count)) old new answer = MakesUnless (first_bad_for_make t count) t count old new answer
 
 -- the first setting that is out of its range, where the words fit a command with settings
 abbrev pub bad_setting : Result Command WordsStop → Option BadSetting
 bad_setting (Ok (command.Encode t)) = first_bad (table t)
+bad_setting (Ok (command.Make t count)) = first_bad_for_make t count
 bad_setting _ = None

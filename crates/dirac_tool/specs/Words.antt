@@ -6,7 +6,8 @@ use Rattle.dirac_tool.specs.declared.words.Command.{Command}
 use Rattle.dirac_tool.specs.declared.words.Command.TheVariants as command
 use Rattle.dirac_tool.specs.declared.words.WordsStop.{WordsStop}
 use Rattle.dirac_tool.specs.declared.words.WordsStop.TheVariants.{Usage}
-use Rattle.dirac_tool.specs.Options.{first_unfit, path_given, settings_given}
+use Rattle.dirac_tool.specs.declared.options.OptionsOf.TheVariants as options_of
+use Rattle.dirac_tool.specs.Options.{count_given, first_unfit, path_given, settings_given}
 
 -- a command that takes no further word
 abbrev pub alone : Command → List (List ℕ) → Result Command WordsStop
@@ -20,7 +21,11 @@ where_all_fit c (Some n) = Err (Usage n)
 
 -- `encode` with the settings that these words say
 unfoldable pub encode_read : List (List ℕ) → Result Command WordsStop
-encode_read words = where_all_fit (command.Encode (settings_given words)) (first_unfit [] words)
+encode_read words = where_all_fit (command.Encode (settings_given words)) (first_unfit options_of.Encode [] words)
+
+-- `make` with the settings and the number of pictures that these words say
+unfoldable pub make_read : List (List ℕ) → Result Command WordsStop
+make_read words = where_all_fit (command.Make (settings_given words) (count_given words)) (first_unfit options_of.Make [] words)
 
 -- the command, or the number of the first word that doesn't fit
 abbrev pub command_read : List (List ℕ) → Result Command WordsStop
@@ -29,6 +34,7 @@ command_read (word ∷ words) =
     if bytes_eq word (codes "list") then alone command.List words
     else if bytes_eq word (codes "decode") then alone command.Decode words
     else if bytes_eq word (codes "encode") then encode_read words
+    else if bytes_eq word (codes "make") then make_read words
     else Err (Usage 0)
 
 -- the path that these words give, where all settings are in their ranges

@@ -11,6 +11,9 @@ mod ended;
 mod inter_tests;
 mod line;
 mod list;
+mod make;
+#[cfg(test)]
+mod make_tests;
 mod options;
 mod run;
 #[cfg(test)]

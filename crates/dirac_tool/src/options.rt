@@ -32,6 +32,15 @@ const NAMES: [Name; 23] = [
     Name::UnitBytes,
 ];
 
+/// The command behind which words stand.
+#[derive(Clone, Copy, Debug, PartialEq, Eq)]
+pub enum OptionsOf {
+    /// Settings, and the path of the reconstructions.
+    Encode,
+    /// Settings, and the number of pictures.
+    Make,
+}
+
 // What stands behind this front, where the word begins with it.
 fn behind<'a>(word: &'a str, front: &str) -> Option<&'a str>
     ensures { option_copied result ≡ options.behind front.now word.now }
@@ -135,19 +144,24 @@ fn is_new_among(before: &[String], word: &str, names: &[Name]) -> bool
 
 // Whether a word fits behind these.
 #[tactic(auto, unfolding(crate::specs::Options::fits))]
-fn fits(before: &[String], word: &str) -> bool
-    ensures { result ≡ options.fits (map string_bytes before.now) word.now }
+fn fits(of: OptionsOf, before: &[String], word: &str) -> bool
+    ensures { result ≡ options.fits of (map string_bytes before.now) word.now }
 {
-    is_new_among(before, word, &NAMES) || is_new_path(before, word)
+    match of {
+        OptionsOf::Encode => is_new_among(before, word, &NAMES) || is_new_path(before, word),
+        OptionsOf::Make => {
+            is_new_among(before, word, &NAMES) || is_new_setting(before, word, Name::Count)
+        }
+    }
 }
 
 /// The number of the first of the words behind the command that doesn't fit, from 1.
-pub fn first_unfit(words: &[String]) -> Option<u32>
-    ensures { result ≡ options.first_unfit [] (map string_bytes words.now) }
+pub fn first_unfit(of: OptionsOf, words: &[String]) -> Option<u32>
+    ensures { result ≡ options.first_unfit of [] (map string_bytes words.now) }
 {
     let mut number = 1;
     'words: for (i, word) in words.iter().enumerate() {
-        if !fits(&words[..i], word.as_str()) {
+        if !fits(of, &words[..i], word.as_str()) {
             return Some(number);
         }
         number += 1;
@@ -208,4 +222,11 @@ pub fn settings_given(words: &[String]) -> Settings
         pictures: value_or(words, Name::Pictures, d.pictures),
         unit_bytes: value_or(words, Name::UnitBytes, d.unit_bytes),
     }
+}
+
+/// The number of pictures that these words say.
+pub fn count_given(words: &[String]) -> u32
+    ensures { result ≡ options.count_given (map string_bytes words.now) }
+{
+    value_or(words, Name::Count, 12)
 }

@@ -2,6 +2,7 @@ ghost use Rattle.std.specs.Prelude.{◌≡◌, ℕ, ◌≤◌, ◌↔◌, Some, 
 ghost use Rattle.std.specs.Io.KnownBytes.{IsAtEnd};
 ghost use Rattle.dirac_io.specs.Faults.{Rose};
 ghost use Rattle.dirac_types.specs.declared.settings.BadSetting.{BadSetting};
+ghost use Rattle.dirac_types.specs.declared.settings.Settings.{Settings};
 ghost use Rattle.dirac_tool.specs.Words.{command_read};
 ghost use Rattle.dirac_tool.specs.Running.{RunsTo, bad_setting};
 
@@ -9,6 +10,7 @@ use crate::decode::decode;
 use crate::encode::encode;
 use crate::ended::Ended;
 use crate::list::list;
+use crate::make::{check_make, make};
 use crate::words::{Command, Words, WordsStop, read_words};
 use dirac_io::{RowGate, Sink, Source};
 use std::alloc::Global;
@@ -41,6 +43,8 @@ pub fn run<R: Threads + Sync, S: Source, K: Sink, N: Sink, G: RowGate>(
         → (source.new ≡ source.old) × (out.new ≡ out.old) × (side.new ≡ side.old) }
 
     ensures list_side { command_read words.now ≡ Ok Command.List → side.new ≡ side.old }
+    ensures make_untouched { (t : Settings) (count : ℕ) → command_read words.now ≡ Ok (Command.Make t count)
+        → (source.new ≡ source.old) × (side.new ≡ side.old) }
 
     // A fault of the outside comes only where its count rose in this call.
     ensures read { result ≡ Ended.ReadFault → Rose (S.faults source.old) (S.faults source.new) }
@@ -56,6 +60,10 @@ pub fn run<R: Threads + Sync, S: Source, K: Sink, N: Sink, G: RowGate>(
         Ok(Command::Decode) => decode(alloc, source, out, side),
         Ok(Command::Encode(settings)) => match settings.check() {
             Ok(()) => encode(rt, alloc, source, out, side, &settings, gate),
+            Err(bad) => Ended::BadSettings(bad),
+        },
+        Ok(Command::Make(settings, count)) => match check_make(&settings, count) {
+            Ok(()) => make(rt, alloc, out, &settings, count, gate),
             Err(bad) => Ended::BadSettings(bad),
         },
     }

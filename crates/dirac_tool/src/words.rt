@@ -1,8 +1,8 @@
 ghost use Rattle.std.specs.Prelude.{◌≡◌, ◌++◌, [], ◌∷◌, OnOk, OnErr, map, string_bytes, option_copied, slice_range, length};
 ghost use Rattle.dirac_types.specs.Settings.{first_bad, table};
-ghost use Rattle.dirac_tool.specs.Words.{command_read, path_read, path_accepted, encode_read, alone as command_alone};
+ghost use Rattle.dirac_tool.specs.Words.{command_read, path_read, path_accepted, encode_read, make_read, alone as command_alone};
 
-use crate::options::{first_unfit, path_given, settings_given};
+use crate::options::{OptionsOf, count_given, first_unfit, path_given, settings_given};
 use dirac_types::{NoMemory, Settings};
 use std::alloc::Global;
 use std::marker::Model;
@@ -52,6 +52,8 @@ pub enum Command {
     Decode,
     /// Encodes raw pictures to a stream.
     Encode(Settings),
+    /// Encodes so many generated pictures, and tells the sizes and how many come out exactly.
+    Make(Settings, u32),
 }
 
 /// Why words aren't run.
@@ -62,7 +64,8 @@ pub enum WordsStop {
 }
 
 /// Reads the words: the first is the command. A command that isn't built doesn't fit. `list` and `decode` take
-/// no further word, `encode` its settings and the path of its reconstructions, in any order.
+/// no further word, `encode` its settings and the path of its reconstructions, in any order, and `make` its settings
+/// and the number of pictures.
 pub fn read_words(words: &Words) -> Result<Command, WordsStop>
     ensures { result ≡ command_read words.now }
 {
@@ -75,6 +78,8 @@ pub fn read_words(words: &Words) -> Result<Command, WordsStop>
         alone(Command::Decode, others)
     } else if first.as_str() == "encode" {
         encode(others)
+    } else if first.as_str() == "make" {
+        make(others)
     } else {
         Err(WordsStop::Usage(0))
     }
@@ -95,8 +100,18 @@ fn alone(command: Command, others: &[String]) -> Result<Command, WordsStop>
 fn encode(others: &[String]) -> Result<Command, WordsStop>
     ensures { result ≡ encode_read (map string_bytes others.now) }
 {
-    match first_unfit(others) {
+    match first_unfit(OptionsOf::Encode, others) {
         None => Ok(Command::Encode(settings_given(others))),
+        Some(number) => Err(WordsStop::Usage(number)),
+    }
+}
+
+// `make` with the settings and the number of pictures that these words say.
+fn make(others: &[String]) -> Result<Command, WordsStop>
+    ensures { result ≡ make_read (map string_bytes others.now) }
+{
+    match first_unfit(OptionsOf::Make, others) {
+        None => Ok(Command::Make(settings_given(others), count_given(others))),
         Some(number) => Err(WordsStop::Usage(number)),
     }
 }
@@ -111,6 +126,7 @@ pub fn recon_path(words: &Words) -> Option<&str>
         Ok(Command::Encode(settings)) => accepted_path(&settings, others),
         Ok(Command::List) => None,
         Ok(Command::Decode) => None,
+        Ok(Command::Make(_, _)) => None,
         Err(_) => None,
     }
 }

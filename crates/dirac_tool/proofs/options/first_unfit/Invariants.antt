@@ -6,6 +6,6 @@ use Rattle.dirac_tool.proofs.options.first_unfit.Given as goal
 abbrev pub invariant-words : goal.invariant-words
 invariant-words l =
     let before = map string_bytes (take l.i l.words) in
-    (first_unfit before (map string_bytes (drop l.i l.words)) ≡ first_unfit [] (map string_bytes l.words))
+    (first_unfit l.of before (map string_bytes (drop l.i l.words)) ≡ first_unfit l.of [] (map string_bytes l.words))
     × (l.number ≡ l.i + 1)
-    × (l.number + room before ≤ 25)
+    × (l.number + room before ≤ 26)
