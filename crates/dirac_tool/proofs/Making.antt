@@ -5,7 +5,6 @@ use Rattle.std.specs.Option.{option_or}
 use Rattle.std.proofs.Math.Nat.{mul-mod_left}
 use mathlib.Core.Logic.{dite}
 use native.Mathlib.Decide.{ℕ_discrete}
-use Rattle.dirac_types.specs.declared.picture.Picture.{Picture}
 use Rattle.dirac_types.specs.declared.ranges.Ranged.{Ranged}
 use Rattle.dirac_types.specs.declared.settings.BadSetting.{BadSetting}
 use Rattle.dirac_types.specs.declared.settings.Name.TheVariants as name
@@ -16,10 +15,11 @@ use Rattle.dirac_sequence.specs.Grammar.{chroma_of}
 use Rattle.dirac_sequence.specs.Ratios.{ratio_across, ratio_down}
 use Rattle.dirac_sequence.specs.Written.{sequence_of}
 use Rattle.dirac_picture.specs.Grammar.{chroma_height, chroma_width}
-use Rattle.dirac_encode.specs.declared.answers.Encoded.{Encoded}
-use Rattle.dirac_encode.specs.declared.answers.Encoded.TheVariants as encoded
-use Rattle.dirac_encode.specs.Encoding.{Encoding, behind, encoding, encoding_by, ending}
-use Rattle.dirac_encode.specs.Raw.{left_over, raw_length, sources, whole_pictures}
+use Rattle.dirac_stream.specs.declared.answers.Encoded.{Encoded}
+use Rattle.dirac_stream.specs.declared.answers.Encoded.TheVariants as encoded
+use Rattle.dirac_stream.specs.Coding.{Made}
+use Rattle.dirac_stream.specs.Encoding.{Encoding, behind, encoding, encoding_by, ending}
+use Rattle.dirac_stream.specs.Raw.{left_over, raw_length, sources, whole_pictures}
 use Rattle.dirac_generator.specs.Generated.{chroma_across, chroma_down, generated_from, picture_count}
 use Rattle.dirac_generator.proofs.Lengths.{pictures_length}
 use Rattle.dirac_tool.specs.Making.{first_bad_for_make, line_with, making}
@@ -104,7 +104,7 @@ ending_whole : (enough : Bool) (n left : ℕ) → left ≡ 0 → (if enough then
 ending_whole true n left none is = behind_none n left none is
 ending_whole false n left none is = cc
 
-by_first : (t : Settings) (answer : Encoded) (pictures : List Picture) (first : Option Picture) (n : ℕ) → (answer ≡ encoded.PartialPicture n → ⊥) → (encoding_by t answer pictures first).answer ≡ encoded.PartialPicture n → ⊥
+by_first : (t : Settings) (answer : Encoded) (pictures : List Made) (first : Option Made) (n : ℕ) → (answer ≡ encoded.PartialPicture n → ⊥) → (encoding_by t answer pictures first).answer ≡ encoded.PartialPicture n → ⊥
 by_first t answer pictures None n never is = never is
 by_first t answer pictures (Some p) n never is = cc
 

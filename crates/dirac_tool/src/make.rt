@@ -1,7 +1,7 @@
 ghost use Rattle.std.specs.Prelude.{◌≡◌, ◌≤◌, IfOk, IfErr, OnOk, string_bytes};
 ghost use Rattle.dirac_io.specs.Faults.{Rose};
 ghost use Rattle.dirac_types.specs.Settings.{IsAccepted, verdict};
-ghost use Rattle.dirac_encode.specs.declared.answers.Encoded.TheVariants as encoded;
+ghost use Rattle.dirac_stream.specs.declared.answers.Encoded.TheVariants as encoded;
 ghost use Rattle.dirac_tool.specs.Making.{AnswersMake, first_bad_for_make, line_with, made_line, making};
 ghost use Rattle.dirac_tool.specs.Unmade.{AnswersUnmade};
 
@@ -55,9 +55,9 @@ impl From<NoMemory> for Unmade {
 pub fn make<R: Threads + Sync, K: Sink, G: RowGate>(
     rt: &R,
     alloc: Global,
-    out: &mut K,
     settings: &Settings,
     count: u32,
+    out: &mut K,
     gate: &G,
 ) -> Ended
     requires accepted { IsAccepted settings.now }

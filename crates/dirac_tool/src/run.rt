@@ -63,7 +63,7 @@ pub fn run<R: Threads + Sync, S: Source, K: Sink, N: Sink, G: RowGate>(
             Err(bad) => Ended::BadSettings(bad),
         },
         Ok(Command::Make(settings, count)) => match check_make(&settings, count) {
-            Ok(()) => make(rt, alloc, out, &settings, count, gate),
+            Ok(()) => make(rt, alloc, &settings, count, out, gate),
             Err(bad) => Ended::BadSettings(bad),
         },
     }
