@@ -70,17 +70,17 @@ fn encodes_grey_pictures(rt: HostRuntime) -> Result<(), Fail> {
     let none = joined(alloc, &[&STREAM[..19], &header(0x10, 0, 19)])?;
     for (more, raw, answer, stream, shown) in [
         // the second picture refers to the first one
-        (PLAIN, 192, Ended::Done, &STREAM[..95], 192),
-        ("--workers=2", 192, Ended::Done, &STREAM[..95], 192),
-        ("--workers=5", 192, Ended::Done, &STREAM[..95], 192),
-        (PLAIN, 196, Ended::PartialPicture(4), &STREAM[..95], 192),
+        (PLAIN, 192, Ended::Done, STREAM.as_slice(), 192),
+        ("--workers=2", 192, Ended::Done, STREAM.as_slice(), 192),
+        ("--workers=5", 192, Ended::Done, STREAM.as_slice(), 192),
+        (PLAIN, 196, Ended::PartialPicture(4), STREAM.as_slice(), 192),
         (PLAIN, 0, Ended::Done, none.as_slice(), 0),
         (PLAIN, 1, Ended::PartialPicture(1), none.as_slice(), 0),
         (PLAIN, 95, Ended::PartialPicture(95), none.as_slice(), 0),
         (PLAIN, 96, Ended::Done, one.as_slice(), 96),
         (PLAIN, 100, Ended::PartialPicture(4), one.as_slice(), 96),
         ("--gop=1", 192, Ended::Done, two.as_slice(), 192),
-        ("--pictures=2", 192, Ended::Done, &STREAM[..95], 192),
+        ("--pictures=2", 192, Ended::Done, STREAM.as_slice(), 192),
         (
             "--pictures=1",
             100,
@@ -96,6 +96,14 @@ fn encodes_grey_pictures(rt: HostRuntime) -> Result<(), Fail> {
             96,
         ),
         ("--unit_bytes=31", 96, Ended::Done, one.as_slice(), 96),
+        // the second picture's unit has 32 bytes
+        (
+            "--unit_bytes=31",
+            192,
+            Ended::UnitTooLong(1),
+            &STREAM[..50],
+            0,
+        ),
         (
             "--unit_bytes=30",
             192,
@@ -366,6 +374,43 @@ fn decodes_what_it_encodes(rt: HostRuntime) -> Result<(), Fail> {
     ] {
         group_trip(&rt, alloc, &shape_of((20, 12), 2, 0, 2, 720), more)?;
         group_trip(&rt, alloc, &shape_of((19, 9), 0, 30, 1, 1026), more)?;
+    }
+    // fourteen pictures, with as many references listed as the plan keeps
+    for (gop, between, references, tally) in [
+        (
+            "--gop=14",
+            "--between=3",
+            "--references=2",
+            "pictures=14 references=3\n",
+        ),
+        (
+            "--gop=14",
+            "--between=0",
+            "--references=1",
+            "pictures=14 references=3\n",
+        ),
+        (
+            "--gop=5",
+            "--between=2",
+            "--references=1",
+            "pictures=14 references=8\n",
+        ),
+        (
+            "--gop=5",
+            "--between=1",
+            "--references=2",
+            "pictures=14 references=8\n",
+        ),
+        (
+            "--gop=1",
+            "--between=3",
+            "--references=2",
+            "pictures=14 references=8\n",
+        ),
+    ] {
+        let words = encode_words(alloc, &SIZES, &[gop, between, references, "--index=0"])?;
+        let raw = noise(alloc, 1344)?;
+        codes_back(&rt, alloc, &words, raw.as_slice(), true, tally)?;
     }
     round_trips(&rt, alloc, &shape_of((1, 1), 0, 0, 1, 6))?;
     round_trips(&rt, alloc, &shape_of((5, 3), 0, 0, 3, 90))?;
