@@ -4,9 +4,9 @@
 compare.py PROGRAM SECONDS [SEED]       PROGRAM is dirac_tool, built (`./run list < /dev/null` builds it at
                                         crates/dirac_tool/out/dirac_tool)
 
-Round by round it makes random streams, streams with a damaged header, rows of units, raw inputs with settings, and word
-lists, all from the round's seed (SEED, 1 where none is given, and then the numbers after it). It runs PROGRAM with
-decode, list and encode on them, and compares output, standard error, status and the file of --recon with what the plain
+Round by round it makes random streams, streams with a damaged header, rows of units, raw inputs with settings,
+generated pictures, and word lists, all from the round's seed (SEED, 1 where none is given, and then the numbers after it). It runs PROGRAM with
+decode, list, encode and make on them, and compares output, standard error, status and the file of --recon with what the plain
 programs beside it say. The round in which SECONDS pass is the last one, and is finished; so `compare.py PROGRAM 0 SEED`
 repeats the cases of one seed.
 
@@ -443,10 +443,25 @@ def make_encoding(source):
     return Case(["encode", *words], data, expected, f"status {encoded.status}")
 
 
+def make_making(source):
+    settings = random_settings(source)
+    count = source.randrange(6)
+    if source.random() < 0.3:
+        data = b"".join(encoder.generated_picture(settings, number) for number in range(count))
+        settings["unit_bytes"] = max(random_unit_limit(source, settings, data), 14)
+    defaults = encoder.default_settings(settings["base"]) | {"base": 0}
+    words = [f"--{name}={value}" for name, value in settings.items() if value != defaults[name]]
+    words.append(f"--count={count}")
+    source.shuffle(words)
+    made = encoder.make(settings, count)
+    return Case(["make", *words], b"free", Answer(made.status, made.stream, made.text, {}), f"status {made.status}")
+
+
 # Words
 
+MOST_MADE = 1000
 OTHER_WORDS = [
-    "--count=3",
+    "--count=0",
     "--x=1",
     "--",
     "-width=8",
@@ -484,15 +499,15 @@ def random_word(source):
     return f"--{name}={value}"
 
 
-def read_words(words):
-    """The settings and the path that the words behind `encode` give; else the place of the first bad one."""
-    names = [name for name, _, _ in encoder.SETTING_RANGES]
+def read_words(command, words):
+    """The settings and the path that the words behind `encode` or `make` give; else the place of the first bad one."""
+    names = [name for name, _, _ in encoder.SETTING_RANGES] + ["count"] * (command == "make")
     given = {}
     path = None
     for place, word in enumerate(words, 1):
         parts = re.fullmatch("--([a-z_]+)=(.*)", word, re.DOTALL)
         name, value = parts.groups() if parts else ("", "")
-        if name == "recon" and value != "" and path is None:
+        if command == "encode" and name == "recon" and value != "" and path is None:
             path = value
         elif name in names and name not in given and re.fullmatch("[0-9]{1,10}", value) and int(value) < 2**32:
             given[name] = int(value)
@@ -507,18 +522,24 @@ def usage_answer(place):
 
 def expected_of_words(words):
     """The answer to these words on an empty input."""
-    if not words or words[0] not in ("list", "decode", "encode"):
+    if not words or words[0] not in ("list", "decode", "encode", "make"):
         return usage_answer(0)
-    if words[0] != "encode":
+    if words[0] not in ("encode", "make"):
         if len(words) > 1:
             return usage_answer(1)
         return (list_case if words[0] == "list" else decode_case)(b"").expected
-    settings, path, bad_place = read_words(words[1:])
+    settings, path, bad_place = read_words(words[0], words[1:])
     if bad_place is not None:
         return usage_answer(bad_place)
+    count = settings.pop("count", 12)
     name = encoder.out_of_range(settings)
     if name is not None:
         return Answer(BAD_SETTING, b"", f"bad setting {name}={settings[name]}\n", {})
+    if words[0] == "make":
+        if count > MOST_MADE:
+            return Answer(BAD_SETTING, b"", f"bad setting count={count}\n", {})
+        made = encoder.make(settings, count)
+        return Answer(made.status, made.stream, made.text, {})
     encoded = encoder.encode(settings, b"")
     files = {} if path is None else {path: encoded.shown}
     return Answer(encoded.status, encoded.stream, encoded.text, files)
@@ -527,8 +548,11 @@ def expected_of_words(words):
 def make_word_list(source):
     command = "encode"
     if source.random() < 0.07:
-        command = source.choice(["list", "decode", "make", "", "Encode", "encode ", "rate"])
+        command = source.choice(["list", "decode", "make", "make", "", "Encode", "encode ", "rate"])
     words = [command] + [random_word(source) for _ in range(source.choice([0, 1, 2, 3, 5, 8, 25]))]
+    if command == "make":
+        # pictures of any size take the plain encoder too long: none is made, or too many
+        words.insert(1, source.choice(["--count=0", "--count=0", "--count=1001"]))
     if source.random() < 0.5:
         words = list({word.split("=")[0]: word for word in words}.values())
     if source.random() < 0.01:
@@ -616,6 +640,7 @@ def main():
         Kind("damaged headers", make_damaged_header, 1),
         Kind("rows of units", make_unit_row, 5),
         Kind("encodings", make_encoding, 1),
+        Kind("makings", make_making, 1),
         Kind("word lists", make_word_list, 5),
     ]
     seed = first_seed

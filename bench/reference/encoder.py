@@ -839,3 +839,29 @@ def encode(settings, data):
     elif len(data) % length != 0:
         status, text = PARTIAL_PICTURE, f"partial picture: {len(data) % length} bytes\n"
     return Encoded(writer.stream, b"".join(coder.delivery.delivered), status, text)
+
+
+# The pictures of `make`
+
+
+def generated_picture(settings, number):
+    """A raw picture: each byte is made of its plane, its place and the picture's number."""
+    raw = bytearray()
+    for plane, (width, height) in enumerate(decoder.plane_sizes(sequence_of(settings))):
+        for y in range(height):
+            for x in range(width):
+                raw.append((3 * (x + 2 * number) + 5 * (y + number) + 40 * plane) % 256)
+    return bytes(raw)
+
+
+def make(settings, count):
+    """The line of `make`, as the stream; empty where the answer isn't done."""
+    pictures = [generated_picture(settings, number) for number in range(count)]
+    raw = b"".join(pictures)
+    encoded = encode(settings, raw)
+    if encoded.status != 0:
+        return Encoded(b"", b"", encoded.status, encoded.text)
+    length = len(raw) // count if count else 1
+    exact = sum(encoded.shown[n * length : (n + 1) * length] == pictures[n] for n in range(count))
+    line = f"pictures={count} stream={len(encoded.stream)} raw={len(raw)} exact={exact}\n"
+    return Encoded(line.encode(), b"", 0, "")
