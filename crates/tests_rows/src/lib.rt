@@ -6,6 +6,8 @@ mod arithmetic;
 #[cfg(test)]
 mod bits;
 #[cfg(test)]
+mod block_choices;
+#[cfg(test)]
 mod block_tables;
 #[cfg(test)]
 mod encoding;
@@ -21,6 +23,8 @@ mod intra_coding;
 mod lifting;
 #[cfg(test)]
 mod lists;
+#[cfg(test)]
+mod motion_search;
 #[cfg(test)]
 mod planning;
 #[cfg(test)]
