@@ -71,10 +71,10 @@ fn makes_as_encode<R: Abort + Threads + Sync>(
     let raw = generated(alloc, 3)?;
     let words = words_of(alloc, "encode", &[setting])?;
     let left = tried(rt, alloc, &words, raw.as_slice(), &pieces(4096))?;
-    let mut exact = 0;
+    let mut exact = 0u32;
     for (ours, shown) in raw.chunks(96).zip(left.side.taken().chunks(96)) {
         if ours == shown {
-            exact += 1;
+            exact = exact.saturating_add(1);
         }
     }
     let stream = left.out.taken().len();
