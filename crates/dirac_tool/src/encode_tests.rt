@@ -124,10 +124,10 @@ fn encodes_grey_pictures(rt: HostRuntime) -> Result<(), Fail> {
             &rt,
             alloc,
             &words,
-            &GREY[..raw],
+            &GREY[..raw.min(GREY.len())],
             answer,
             stream,
-            &GREY[..shown],
+            &GREY[..shown.min(GREY.len())],
         )?;
     }
     let words = encode_words(alloc, &["--width=8", "--height=8"], &[])?;
@@ -340,7 +340,7 @@ fn group_trip<R: Abort + Threads + Sync>(
 ) -> Result<(), Fail> {
     let mut words = shape_words(alloc, shape, 1, 2)?;
     words.push(more)?;
-    let raw = noise(alloc, 4 * shape.bytes)?;
+    let raw = noise(alloc, shape.bytes.saturating_mul(4))?;
     let tally = "pictures=8 references=3\n";
     codes_back(rt, alloc, &words, raw.as_slice(), shape.index == 0, tally)
 }
