@@ -2,6 +2,5 @@ pub mod Adding
 pub mod Compensation
 pub mod Directions
 pub mod Given
-pub mod Lending
 pub mod OfSamples
 pub mod Weights

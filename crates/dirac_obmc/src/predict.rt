@@ -73,7 +73,7 @@ fn rows_between(
     let mut samples2 = no_samples(alloc, blocks.length)?;
     let mut values = no_values(alloc, blocks.length)?;
     let mut sums = no_values(alloc, motion.width)?;
-    let mut predicted = Predicted::try_new(alloc, motion.width, end - first)?;
+    let mut predicted = Predicted::try_new(alloc, motion.width, end - first, 0)?;
     for y in first..end {
         predict_row(
             motion,

@@ -1,7 +1,7 @@
 -- Worked values of the definitions.
 use Rattle.std.proofs.Common.{◌≡◌, ℕ, [], ◌∷◌, map, refl}
 use Rattle.dirac_types.specs.declared.picture.Picture.{Picture}
-use Rattle.dirac_types.specs.declared.plane.Plane.{Plane}
+use Rattle.dirac_types.specs.Table.{Table}
 use Rattle.dirac_types.specs.declared.settings.Settings.{Settings}
 use Rattle.dirac_types.specs.Settings.{of_base}
 use Rattle.dirac_refs.specs.Delivery.{deliver, flush, least_among}
@@ -15,24 +15,24 @@ use Rattle.dirac_plan_laws.specs.References.{commits}
 settings : ℕ → ℕ → ℕ → Settings
 settings gop between references = record (of_base 0) { gop = gop; between = between; references = references }
 
-picture : Plane → ℕ → Picture
+picture : Table → ℕ → Picture
 picture plane number = record { number = number; y = plane; u = plane; v = plane }
 
 -- the list behind a group of 14 with anchors 0, 4, 8, 12, 13, of which 4 and 8 are retired
-kept : (plane : Plane) → map number_of (refs_of (commits (plan 14 (settings 14 3 2)) (map (λ p. picture plane p.number) (plan 14 (settings 14 3 2))))) ≡ 0 ∷ 12 ∷ 13 ∷ []
+kept : (plane : Table) → map number_of (refs_of (commits (plan 14 (settings 14 3 2)) (map (λ p. picture plane p.number) (plan 14 (settings 14 3 2))))) ≡ 0 ∷ 12 ∷ 13 ∷ []
 unfolding plan settings picture
 kept plane = refl
 
 -- six pictures in coding order leave by rising number, the first two of them before the end
-by_rising_number : (plane : Plane) → map number_of (flush (map as_waiting (map (picture plane) (0 ∷ 4 ∷ 1 ∷ 2 ∷ 3 ∷ 5 ∷ [])))) ≡ 0 ∷ 1 ∷ 2 ∷ 3 ∷ 4 ∷ 5 ∷ []
+by_rising_number : (plane : Table) → map number_of (flush (map as_waiting (map (picture plane) (0 ∷ 4 ∷ 1 ∷ 2 ∷ 3 ∷ 5 ∷ [])))) ≡ 0 ∷ 1 ∷ 2 ∷ 3 ∷ 4 ∷ 5 ∷ []
 unfolding picture least_among
 by_rising_number plane = refl
 
-before_the_end : (plane : Plane) → map number_of (deliver (map as_waiting (map (picture plane) (0 ∷ 4 ∷ 1 ∷ 2 ∷ 3 ∷ 5 ∷ [])))) ≡ 0 ∷ 1 ∷ []
+before_the_end : (plane : Table) → map number_of (deliver (map as_waiting (map (picture plane) (0 ∷ 4 ∷ 1 ∷ 2 ∷ 3 ∷ 5 ∷ [])))) ≡ 0 ∷ 1 ∷ []
 unfolding picture least_among
 before_the_end plane = refl
 
-numbered : (plane : Plane) → map number_of (by_number 3 (map (picture plane) (0 ∷ 2 ∷ 1 ∷ []))) ≡ 0 ∷ 1 ∷ 2 ∷ []
+numbered : (plane : Table) → map number_of (by_number 3 (map (picture plane) (0 ∷ 2 ∷ 1 ∷ []))) ≡ 0 ∷ 1 ∷ 2 ∷ []
 unfolding picture
 numbered plane = refl
 

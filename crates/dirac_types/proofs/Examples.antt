@@ -1,19 +1,20 @@
 -- The definitions of numbers, computed on small cases.
-use Rattle.std.proofs.Common.{◌≡◌, true, false, [], ◌∷◌, pos, negsuc, refl, Some}
+use Rattle.std.proofs.Common.{◌≡◌, ℕ, true, false, [], ◌∷◌, pos, negsuc, refl, Some}
 use Rattle.dirac_types.specs.declared.settings.Name.TheVariants as name
 use Rattle.dirac_types.specs.declared.settings.Settings.{Settings}
 use Rattle.dirac_types.specs.Bits.{bits_of, number_from}
 use Rattle.dirac_types.specs.Bytes.{bytes_in, bytes_of}
 use Rattle.dirac_types.specs.Settings.{first_bad, table, format_of, of_base}
 use Rattle.dirac_types.specs.Numbers.{digits_within, digits_of, uint, sint, literal}
+use Rattle.dirac_types.specs.Table.{Table, cell_at, table_at}
 
 uint_five : uint 5 ≡ false ∷ true ∷ false ∷ false ∷ true ∷ []
 unfolding digits_within digits_of
 uint_five = refl
 
-uint_nought : uint 0 ≡ true ∷ []
+uint_zero : uint 0 ≡ true ∷ []
 unfolding digits_within digits_of
-uint_nought = refl
+uint_zero = refl
 
 minus_one : sint (negsuc 0) ≡ false ∷ false ∷ true ∷ true ∷ []
 unfolding digits_within digits_of
@@ -45,3 +46,7 @@ unknown_base = refl
 defaults : (s : Settings) → s ≡ of_base 8 → (s.width ≡ 720) × (s.height ≡ 576) × (s.chroma ≡ 1) × (s.signal ≡ 2)
 unfolding format_of
 defaults s is = rw is (refl, refl, refl, refl)
+
+-- a table of numbers has 0 outside
+number_at : (t : Table) (x y : ℕ) → cell_at (pos 0) t x y ≡ table_at t x y
+number_at t x y = refl

@@ -2,24 +2,21 @@
 //! definitions of the standard's numbers (in `specs/`).
 #![tactic(auto)]
 
-mod band_table;
+mod element;
 mod faults;
 mod formats;
 mod memory;
 mod numbers;
 mod picture;
-mod plane;
 mod ranges;
 mod settings;
 mod shared;
-mod wide;
+mod table;
 
-pub use band_table::BandTable;
 pub use faults::{Cause, Fault, Refusal, Stop};
 pub use formats::{Band, BlockGrid, Chroma, Kind, Vector};
 pub use memory::NoMemory;
 pub use numbers::with_sign;
 pub use picture::Picture;
-pub use plane::Plane;
 pub use settings::{BadSetting, Name, Settings};
-pub use wide::Wide;
+pub use table::{BandTable, Plane, Table, Wide};

@@ -1,7 +1,7 @@
 ghost use Rattle.std.specs.Prelude.{◌≡◌, IfOk};
 
 use crate::memory::NoMemory;
-use crate::plane::Plane;
+use crate::table::Plane;
 use std::alloc::Global;
 
 /// A picture: its number in the stream and its three planes.

@@ -1,48 +1,53 @@
-ghost use Rattle.std.specs.Prelude.{◌≡◌, ◌+◌, ◌*◌, ◌^◌, ◌<◌, ◌≤◌, length, replicate, IfOk};
+ghost use Rattle.std.specs.Prelude.{◌≡◌, ◌+◌, ◌*◌, ◌<◌, ◌≤◌, length, replicate, IfOk};
 ghost use Rattle.std.specs.Borrow.{sem};
-ghost use Rattle.dirac_types.specs.Table.{Table, row_of, table_at, with_row, with_value, with_values};
-ghost use Rattle.dirac_types.specs.Lending.{LendsBandTableRow, LendsBandTableValues};
+ghost use Rattle.dirac_types.specs.Table.{Cells, cell_at, clamped_at, clamped_to, row_of, with_row, with_value, with_values};
+ghost use Rattle.dirac_types.specs.Lending.{LendsRow, LendsValues};
 
+use crate::element::Element;
 use crate::memory::NoMemory;
 use std::alloc::Global;
 use std::marker::Model;
 
-/// The quantised coefficients of one subband.
+/// A table of values, by rows from the top.
 #[derive(Debug, Drop)]
-pub struct BandTable {
+pub struct Table<T> {
     width: u32,
     height: u32,
-    values: Vec<i64>,
+    values: Vec<T>,
 }
 
-impl Model for BandTable {
-    ghost use Rattle.std.specs.Prelude.{◌≡◌, ◌*◌, ◌≤◌, length};
-    ghost use Rattle.dirac_types.specs.Table.{Table};
+/// The samples of one colour component, each the byte of the raw picture minus 128.
+pub type Plane = Table<i16>;
 
-    ghost Value = { Table };
+/// The values of a plane while it is transformed.
+pub type Wide = Table<i128>;
+
+/// The quantised coefficients of one subband.
+pub type BandTable = Table<i64>;
+
+impl<T> Model for Table<T> {
+    ghost use Rattle.std.specs.Prelude.{◌≡◌, ◌*◌, ◌≤◌, length};
+    ghost use Rattle.dirac_types.specs.Table.{Cells};
+
+    ghost Value = { Cells T };
 
     ghost view = { λ t. record { width = t.width; height = t.height; values = t.values.items } };
 
     ghost invariant = { λ t. (length t.values.items ≡ t.width * t.height) × (1 ≤ t.width) × (1 ≤ t.height) };
 }
 
-impl BandTable {
+impl<T: Element> Table<T> {
     /// A table of `width` columns by `height` rows, all of whose values are `value`.
-    pub fn try_new(
-        alloc: Global,
-        width: u32,
-        height: u32,
-        value: i64,
-    ) -> Result<BandTable, NoMemory>
+    pub fn try_new(alloc: Global, width: u32, height: u32, value: T) -> Result<Table<T>, NoMemory>
         requires across { (1 ≤ width) × (width ≤ 8192) }
         requires down { (1 ≤ height) × (height ≤ 8192) }
         ensures { IfOk result (λ t. t ≡ record { width = width; height = height; values = replicate (width * height) value }) }
     {
         let count = width as usize * height as usize;
-        Ok(BandTable {
+        Ok(Table {
             width,
             height,
-            values: vec![in alloc; value; count]?,
+            values: T::filled(alloc, value, count)?,
         })
     }
 
@@ -65,16 +70,16 @@ impl BandTable {
     }
 
     /// The value in column `x` of row `y`, both counted from 0.
-    pub fn at(&self, x: u32, y: u32) -> i64
+    pub fn at(&self, x: u32, y: u32) -> T
         requires across { x < self.now.width }
         requires down { y < self.now.height }
-        ensures { result ≡ table_at self.now x y }
+        ensures { result ≡ cell_at T.zero self.now x y }
     {
         self.values[y as usize * self.width as usize + x as usize]
     }
 
     /// Writes the value in column `x` of row `y`; all others stay.
-    pub fn set(&mut self, x: u32, y: u32, value: i64)
+    pub fn set(&mut self, x: u32, y: u32, value: T)
         requires across { x < self.old.width }
         requires down { y < self.old.height }
         ensures { self.new ≡ with_value self.old x y value }
@@ -84,7 +89,7 @@ impl BandTable {
     }
 
     /// Lends row `y`.
-    pub fn row(&self, y: u32) -> &[i64]
+    pub fn row(&self, y: u32) -> &[T]
         requires { y < self.now.height }
         ensures value { result.now ≡ row_of self.now y }
         ensures len { length result.now ≡ self.now.width }
@@ -94,9 +99,9 @@ impl BandTable {
     }
 
     /// Lends row `y` for writing; all other rows stay.
-    pub fn row_mut(&mut self, y: u32) -> &mut [i64]
+    pub fn row_mut(&mut self, y: u32) -> &mut [T]
         requires { y < self.old.height }
-        ensures* writes_back { sem 𝓛 (LendsBandTableRow self.entry y result) }
+        ensures* writes_back { sem 𝓛 (LendsRow T.row self.entry y result) }
         ensures value { result.now ≡ row_of self.old y }
         ensures len { length result.now ≡ self.old.width }
     {
@@ -106,7 +111,7 @@ impl BandTable {
     }
 
     /// Lends all values, by rows.
-    pub fn values(&self) -> &[i64]
+    pub fn values(&self) -> &[T]
         ensures value { result.now ≡ self.now.values }
         ensures len { length result.now ≡ self.now.width * self.now.height }
     {
@@ -114,11 +119,47 @@ impl BandTable {
     }
 
     /// Lends all values, by rows, for writing.
-    pub fn values_mut(&mut self) -> &mut [i64]
-        ensures* writes_back { sem 𝓛 (LendsBandTableValues self.entry result) }
+    pub fn values_mut(&mut self) -> &mut [T]
+        ensures* writes_back { sem 𝓛 (LendsValues T.row self.entry result) }
         ensures value { result.now ≡ self.old.values }
         ensures len { length result.now ≡ self.old.width * self.old.height }
     {
         self.values.as_mut_slice()
+    }
+}
+
+impl Table<i16> {
+    /// An equal plane.
+    pub fn try_copy(&self, alloc: Global) -> Result<Plane, NoMemory>
+        ensures { IfOk result (λ t. t ≡ self.now) }
+    {
+        Ok(Table {
+            width: self.width,
+            height: self.height,
+            values: Vec::from_slice(alloc, self.values.as_slice())?,
+        })
+    }
+
+    /// The sample at the position clamped to the plane.
+    pub fn clamped(&self, x: i64, y: i64) -> i16
+        ensures { result ≡ clamped_at self.now x y }
+    {
+        self.at(clamped_place(x, self.width), clamped_place(y, self.height))
+    }
+}
+
+/// The place from 0 to `size - 1` that is nearest to `x`.
+fn clamped_place(x: i64, size: u32) -> u32
+    requires { 1 ≤ size }
+    ensures value { result ≡ clamped_to x size }
+    ensures inside { result < size }
+{
+    let last = size - 1;
+    if x < 0 {
+        0
+    } else if x >= i64::from(last) {
+        last
+    } else {
+        x as u32
     }
 }
