@@ -1,7 +1,8 @@
 ghost use Rattle.std.specs.Prelude.{◌≡◌, ℕ, ℤ, ◌+◌, ◌*◌, ◌<◌, ◌≤◌, ◌^◌, List, length, IfOk, IfErr, IsOk, ◌↔◌, slice_range, unsigned_abs};
 ghost use Rattle.dirac_bits.specs.Cursor.{place, aligned, start, IsAligned};
 ghost use Rattle.dirac_bits.specs.Fields.{flag_at, uint_at, sint_at, literal_at, block_at};
-ghost use Rattle.dirac_bits.specs.Answers.{Takes};
+ghost use Rattle.dirac_bits.specs.Syntax.{between, field, read};
+ghost use Rattle.dirac_bits.specs.Answers.{Reads, Takes};
 
 use crate::numbers::{next_bit, next_block, next_literal, next_number, next_signed};
 use crate::spot::Spot;
@@ -79,6 +80,22 @@ impl<'a> BitReader<'a> {
                 Ok(number)
             }
             Err(cause) => Err(self.refusal(cause)),
+        }
+    }
+
+    /// An unsigned number from `least` to `most`; any other is refused with this cause, at the byte of its first bit.
+    pub fn field(&mut self, cause: Cause, least: u64, most: u64) -> Result<u64, Refusal>
+        ensures value { Reads (λ n. n) result self.new (read (field cause (between least most)) self.old) }
+        ensures early { IfErr result (λ e. e.at ≤ length self.old.bytes) }
+        ensures kept { self.new.bytes ≡ self.old.bytes }
+        ensures inside { IfOk result (λ n. (least ≤ n) × (n ≤ most)) }
+    {
+        let at = self.place();
+        let number = self.uint()?;
+        if least <= number && number <= most {
+            Ok(number)
+        } else {
+            Err(Refusal { at, cause })
         }
     }
 

@@ -97,14 +97,7 @@ fn read_vector_precision(r: &mut BitReader<'_>) -> Result<u8, Refusal>
     ensures kept { r.new.bytes ≡ r.old.bytes }
     ensures small { IfOk result (λ n. n ≤ 3) }
 {
-    let at = r.place();
-    let precision = r.uint()?;
-    if precision > 3 {
-        return Err(Refusal {
-            at,
-            cause: Cause::Precision,
-        });
-    }
+    let precision = r.field(Cause::Precision, 0, 3)?;
     Ok(precision as u8)
 }
 
@@ -208,13 +201,7 @@ fn read_modes(r: &mut BitReader<'_>) -> Result<(), Refusal>
             cause: Cause::GlobalMotion,
         });
     }
-    let at = r.place();
-    if r.uint()? != 0 {
-        return Err(Refusal {
-            at,
-            cause: Cause::PredictionMode,
-        });
-    }
+    r.field(Cause::PredictionMode, 0, 0)?;
     Ok(())
 }
 
@@ -244,14 +231,7 @@ fn read_own_weights(r: &mut BitReader<'_>, two: bool) -> Result<Weights, Refusal
     ensures bits { IfOk result (λ w. (1 ≤ w.bits) × (w.bits ≤ 8)) }
     ensures weights { IfOk result (λ w. (unsigned_abs w.first ≤ 255) × (unsigned_abs w.second ≤ 255)) }
 {
-    let at = r.place();
-    let bits = r.uint()?;
-    if bits < 1 || bits > 8 {
-        return Err(Refusal {
-            at,
-            cause: Cause::Weights,
-        });
-    }
+    let bits = r.field(Cause::Weights, 1, 8)?;
     let first = read_weight(r)?;
     let second = read_second_weight(r, two)?;
     Ok(Weights {

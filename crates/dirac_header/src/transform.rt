@@ -47,22 +47,8 @@ fn read_fields(r: &mut BitReader<'_>, width: u32, height: u32) -> Result<Transfo
     ensures depth { IfOk result (λ t. (1 ≤ t.depth) × (t.depth ≤ 5)) }
     ensures levels { IfOk result (λ t. length t.counts ≡ t.depth + 1) }
 {
-    let at = r.place();
-    let wavelet = r.uint()?;
-    if wavelet > 6 {
-        return Err(Refusal {
-            at,
-            cause: Cause::Wavelet,
-        });
-    }
-    let at = r.place();
-    let depth = r.uint()?;
-    if depth < 1 || depth > 5 {
-        return Err(Refusal {
-            at,
-            cause: Cause::Depth,
-        });
-    }
+    let wavelet = r.field(Cause::Wavelet, 0, 6)?;
+    let depth = r.field(Cause::Depth, 1, 5)?;
     let counts = read_codeblocks(r, width, height, depth as u8)?;
     Ok(Transform {
         wavelet: wavelet as u8,
@@ -117,13 +103,7 @@ fn read_partition(
     ensures levels { IfOk result (λ c. length c ≡ depth + 1) }
 {
     let counts = read_counts(r, width, height, depth)?;
-    let at = r.place();
-    if r.uint()? != 0 {
-        return Err(Refusal {
-            at,
-            cause: Cause::CodeblockMode,
-        });
-    }
+    r.field(Cause::CodeblockMode, 0, 0)?;
     Ok(counts)
 }
 
@@ -142,7 +122,7 @@ fn read_counts(r: &mut BitReader<'_>, width: u32, height: u32, depth: u8) -> Res
     Ok(counts)
 }
 
-#[tactic(auto, unfolding(crate::specs::Transform::level_counts))]
+#[tactic(auto, unfolding(crate::specs::Transform::level_counts), using(dirac_bits::specs::Then::read_then))]
 fn read_level_counts(
     r: &mut BitReader<'_>,
     width: u32,
@@ -156,22 +136,8 @@ fn read_level_counts(
     ensures early { IfErr result (λ e. e.at ≤ length r.old.bytes) }
     ensures kept { r.new.bytes ≡ r.old.bytes }
 {
-    let at = r.place();
-    let across = r.uint()?;
-    if across < 1 || across > band_length(width, depth, level) {
-        return Err(Refusal {
-            at,
-            cause: Cause::Codeblocks,
-        });
-    }
-    let at = r.place();
-    let down = r.uint()?;
-    if down < 1 || down > band_length(height, depth, level) {
-        return Err(Refusal {
-            at,
-            cause: Cause::Codeblocks,
-        });
-    }
+    let across = r.field(Cause::Codeblocks, 1, band_length(width, depth, level))?;
+    let down = r.field(Cause::Codeblocks, 1, band_length(height, depth, level))?;
     Ok((across as u32, down as u32))
 }
 

@@ -45,14 +45,7 @@ fn read_aspect(r: &mut BitReader<'_>, default: (u64, u64)) -> Result<(u64, u64),
     if !r.bit()? {
         return Ok(default);
     }
-    let at = r.place();
-    let index = r.uint()?;
-    if index > 6 {
-        return Err(Refusal {
-            at,
-            cause: Cause::AspectIndex,
-        });
-    }
+    let index = r.field(Cause::AspectIndex, 0, 6)?;
     if index == 0 {
         read_fraction(r)
     } else {
@@ -113,14 +106,7 @@ fn read_signal_range(r: &mut BitReader<'_>, default: SignalRange) -> Result<Sign
     if !r.bit()? {
         return Ok(default);
     }
-    let at = r.place();
-    let index = r.uint()?;
-    if index > 4 {
-        return Err(Refusal {
-            at,
-            cause: Cause::SignalRange,
-        });
-    }
+    let index = r.field(Cause::SignalRange, 0, 4)?;
     if index == 0 {
         read_own_range(r)
     } else {

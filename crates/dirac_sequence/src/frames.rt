@@ -34,7 +34,7 @@ pub fn read_frames(r: &mut BitReader<'_>, s: Sequence) -> Result<Sequence, Refus
     })
 }
 
-#[tactic(auto, unfolding(crate::specs::Grammar::size))]
+#[tactic(auto, unfolding(crate::specs::Grammar::size), using(dirac_bits::specs::Then::read_then))]
 fn read_size(r: &mut BitReader<'_>, default: (u32, u32)) -> Result<(u32, u32), Refusal>
     requires { IsSize default.0 default.1 }
     ensures value { Reads (λ x. x) result r.new (read (grammar.size default) r.old) }
@@ -45,22 +45,8 @@ fn read_size(r: &mut BitReader<'_>, default: (u32, u32)) -> Result<(u32, u32), R
     if !r.bit()? {
         return Ok(default);
     }
-    let at = r.place();
-    let width = r.uint()?;
-    if width < 1 || width > 4096 {
-        return Err(Refusal {
-            at,
-            cause: Cause::Size,
-        });
-    }
-    let at = r.place();
-    let height = r.uint()?;
-    if height < 1 || height > 2304 {
-        return Err(Refusal {
-            at,
-            cause: Cause::Size,
-        });
-    }
+    let width = r.field(Cause::Size, 1, 4096)?;
+    let height = r.field(Cause::Size, 1, 2304)?;
     Ok((width as u32, height as u32))
 }
 
@@ -84,7 +70,7 @@ fn read_chroma(r: &mut BitReader<'_>, size: (u32, u32), default: Chroma) -> Resu
     }
 }
 
-#[tactic(auto, unfolding(crate::specs::Grammar::own_chroma))]
+#[tactic(auto, unfolding(crate::specs::Grammar::own_chroma), using(dirac_bits::specs::Then::read_then))]
 fn read_own_chroma(r: &mut BitReader<'_>, default: Chroma) -> Result<Chroma, Refusal>
     ensures value { Reads (λ c. c) result r.new (read (grammar.own_chroma default) r.old) }
     ensures early { IfErr result (λ e. e.at ≤ length r.old.bytes) }
@@ -93,19 +79,14 @@ fn read_own_chroma(r: &mut BitReader<'_>, default: Chroma) -> Result<Chroma, Ref
     if !r.bit()? {
         return Ok(default);
     }
-    let at = r.place();
-    match r.uint()? {
-        0 => Ok(Chroma::C444),
-        1 => Ok(Chroma::C422),
-        2 => Ok(Chroma::C420),
-        _ => Err(Refusal {
-            at,
-            cause: Cause::ChromaFormat,
-        }),
-    }
+    Ok(match r.field(Cause::ChromaFormat, 0, 2)? {
+        0 => Chroma::C444,
+        1 => Chroma::C422,
+        _ => Chroma::C420,
+    })
 }
 
-#[tactic(auto, unfolding(crate::specs::Grammar::sampling))]
+#[tactic(auto, unfolding(crate::specs::Grammar::sampling), using(dirac_bits::specs::Then::read_then))]
 fn read_sampling(r: &mut BitReader<'_>, default: bool) -> Result<bool, Refusal>
     ensures value { Reads (λ b. b) result r.new (read (grammar.sampling default) r.old) }
     ensures early { IfErr result (λ e. e.at ≤ length r.old.bytes) }
@@ -114,14 +95,7 @@ fn read_sampling(r: &mut BitReader<'_>, default: bool) -> Result<bool, Refusal>
     if !r.bit()? {
         return Ok(default);
     }
-    let at = r.place();
-    let index = r.uint()?;
-    if index > 1 {
-        return Err(Refusal {
-            at,
-            cause: Cause::Sampling,
-        });
-    }
+    let index = r.field(Cause::Sampling, 0, 1)?;
     Ok(index == 1)
 }
 
@@ -134,14 +108,7 @@ fn read_rate(r: &mut BitReader<'_>, default: (u64, u64)) -> Result<(u64, u64), R
     if !r.bit()? {
         return Ok(default);
     }
-    let at = r.place();
-    let index = r.uint()?;
-    if index > 10 {
-        return Err(Refusal {
-            at,
-            cause: Cause::RateIndex,
-        });
-    }
+    let index = r.field(Cause::RateIndex, 0, 10)?;
     if index == 0 {
         read_fraction(r)
     } else {

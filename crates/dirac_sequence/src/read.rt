@@ -40,13 +40,7 @@ fn read_fields(r: &mut BitReader<'_>) -> Result<Sequence, Refusal>
 {
     let s = read_values(r)?;
     read_colours(r)?;
-    let at = r.place();
-    if r.uint()? != 0 {
-        return Err(Refusal {
-            at,
-            cause: Cause::Fields,
-        });
-    }
+    r.field(Cause::Fields, 0, 0)?;
     Ok(s)
 }
 
@@ -62,32 +56,18 @@ fn read_values(r: &mut BitReader<'_>) -> Result<Sequence, Refusal>
     read_samples(r, s)
 }
 
-#[tactic(auto, unfolding(crate::specs::Grammar::base_format))]
+#[tactic(auto, unfolding(crate::specs::Grammar::base_format), using(dirac_bits::specs::Then::read_then))]
 fn read_base_format(r: &mut BitReader<'_>) -> Result<Sequence, Refusal>
     ensures value { Reads (λ s. s) result r.new (read grammar.base_format r.old) }
     ensures early { IfErr result (λ e. e.at ≤ length r.old.bytes) }
     ensures kept { r.new.bytes ≡ r.old.bytes }
     ensures size { IfOk result (λ s. IsSize s.width s.height) }
 {
-    let at = r.place();
-    let major = r.uint()?;
-    if major > 2 {
-        return Err(Refusal {
-            at,
-            cause: Cause::Version,
-        });
-    }
+    let major = r.field(Cause::Version, 0, 2)?;
     let minor = r.uint()?;
     let profile = r.uint()?;
     let level = r.uint()?;
-    let at = r.place();
-    let base = r.uint()?;
-    if base > 16 {
-        return Err(Refusal {
-            at,
-            cause: Cause::Preset,
-        });
-    }
+    let base = r.field(Cause::Preset, 0, 16)?;
     Ok(Sequence {
         major,
         minor,
