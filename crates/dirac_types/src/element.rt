@@ -3,8 +3,9 @@ ghost use Rattle.std.specs.Prelude.{◌≡◌, replicate, pos, IfOk};
 use crate::memory::NoMemory;
 use std::alloc::Global;
 
-/// A number that tables hold.
+/// A number that a table may hold, of the types that tables have here.
 pub trait Element: Copy {
+    // What the definitions of tables have for a place outside of a table.
     ghost zero: { Self };
 
     /// A list of `count` times `value`.
