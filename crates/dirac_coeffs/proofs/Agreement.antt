@@ -5,9 +5,9 @@ use Rattle.std.proofs.lemmas.Bool.{cases_eq}
 use Rattle.std.proofs.Math.Numerals.{unary_clauses}
 use Rattle.dirac_arith.specs.Interval.{Decision}
 use Rattle.dirac_arith.specs.Spelling.{signed_spelling}
-use Rattle.dirac_coeffs.specs.Contexts.{value_at, left_of, above_of, corner_of, parent_of, follow_among, bits_context, sign_of, sign_neighbour}
-use Rattle.dirac_coeffs.specs.Decisions.{Frame, value_part, row_part, rows_part}
-use Rattle.dirac_coeffs.specs.Places.{SameWithin}
+use Rattle.dirac_coeffs.specs.Contexts.{value_at, left_of, above_of, corner_of, bits_context}
+use Rattle.dirac_coeffs.specs.Decisions.{Frame, follow_here, sign_here, value_part, row_part, rows_part}
+use Rattle.dirac_coeffs.proofs.Places.{SameWithin}
 use Rattle.dirac_coeffs.proofs.Within.{same_less}
 
 left_same : (w : ℕ) (xs ys : List ℤ) (x y : ℕ) → x < w → SameWithin w xs ys x (y + 1) → left_of w xs x y ≡ left_of w ys x y
@@ -33,14 +33,6 @@ corner_same w xs ys x y h s =
         | inr m ↦ rw (ne_eqb y 0 m) (s.each (x - 1) (y - 1) (omega arith) (omega arith) (omega arith))
       ])
     ]
-
--- the follow contexts of the value in column x of row y
-abbrev pub follow_here : Frame → List ℤ → ℕ → ℕ → List ℕ
-follow_here f xs x y = follow_among (left_of f.width xs x y) (above_of f.width xs x y) (corner_of f.width xs x y) (parent_of f.width f.parent x y)
-
--- the context of its sign
-abbrev pub sign_here : Frame → List ℤ → ℕ → ℕ → ℕ
-sign_here f xs x y = sign_of (sign_neighbour f.band (left_of f.width xs x y) (above_of f.width xs x y))
 
 -- the decisions that spell v there
 abbrev pub value_here : Frame → List ℤ → ℕ → ℕ → ℤ → List Decision

@@ -6,7 +6,7 @@ use Rattle.dirac_bands.specs.Geometry.{edge_of}
 use Rattle.dirac_coeffs.specs.declared.spot.BandSpot.{BandSpot}
 use Rattle.dirac_coeffs.specs.Carried.{SkippedIsZero}
 use Rattle.dirac_coeffs.specs.Decisions.{Mark, Marks, frame_of, flagged_part, block_part, blocks_part, bands_part}
-use Rattle.dirac_coeffs.specs.Places.{SameWithin}
+use Rattle.dirac_coeffs.proofs.Places.{SameWithin}
 use Rattle.dirac_coeffs.specs.Spots.{IsSpot, span_of, is_flagged}
 use Rattle.dirac_coeffs.proofs.Agreement.{rows_same}
 use Rattle.dirac_coeffs.proofs.Edges.{edge_rises, edge_last, span_end, span_inside}

@@ -12,11 +12,10 @@ use Rattle.dirac_arith.proofs.Bytes.{length-bytes_of}
 use Rattle.dirac_bands.specs.Geometry.{edge_of}
 use Rattle.dirac_coeffs.specs.declared.spot.BandSpot.{BandSpot}
 use Rattle.dirac_coeffs.specs.Contexts.{value_at, bits_context}
-use Rattle.dirac_coeffs.specs.Decisions.{Frame, Mark, Marks, frame_of, value_part, row_part, rows_part, flagged_part, block_part, blocks_part, bands_part, band_decisions}
+use Rattle.dirac_coeffs.specs.Decisions.{Frame, Mark, Marks, frame_of, value_part, row_part, rows_part, flagged_part, block_part, blocks_part, bands_part, band_decisions, follow_here, sign_here}
 use Rattle.dirac_coeffs.specs.Laws.{BlocksAreShort}
 use Rattle.dirac_coeffs.specs.Spots.{span_of, is_flagged}
 use Rattle.dirac_coeffs.specs.Written.{marks_of}
-use Rattle.dirac_coeffs.proofs.Agreement.{follow_here, sign_here}
 use Rattle.dirac_coeffs.proofs.Edges.{edge_last, span_end}
 
 -- the least number that passes is at most the limit

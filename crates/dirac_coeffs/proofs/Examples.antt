@@ -1,16 +1,18 @@
 -- Worked values of the definitions.
-use Rattle.std.proofs.Common.{◌≡◌, pos, negsuc, true, false, [], ◌∷◌, refl}
+use Rattle.std.proofs.Common.{◌≡◌, pos, negsuc, true, false, [], ◌∷◌, replicate, Ok, Err, refl}
+use Rattle.dirac_types.specs.declared.faults.Cause.TheVariants.{CodeWord, NumberTooLong}
 use Rattle.dirac_types.specs.Numbers.{digits_of, digits_within}
 use Rattle.dirac_types.specs.declared.formats.Band.TheVariants as bands
+use Rattle.dirac_arith.specs.Deciding.{decided, number_read, number_from_digit, sign_read, signed_read}
 use Rattle.dirac_arith.specs.Front.{front, first_bits}
 use Rattle.dirac_arith.specs.Interval.{Decision, doublings_for}
 use Rattle.dirac_arith.specs.Spelling.{spelling, signed_spelling}
 use Rattle.dirac_arith.specs.StepTable.{step_of, step_table}
 use Rattle.dirac_arith.specs.Written.{bytes_of, flushed}
 use Rattle.dirac_coeffs.specs.declared.spot.BandSpot.{BandSpot}
-use Rattle.dirac_coeffs.specs.BandRead.{is_carried, all_below}
+use Rattle.dirac_coeffs.specs.BandRead.{repeated, value_step, block_step, band_read}
 use Rattle.dirac_coeffs.specs.Decisions.{row_part, rows_part, blocks_part, bands_part, band_decisions}
-use Rattle.dirac_coeffs.specs.Written.{marks_of, block_of}
+use Rattle.dirac_coeffs.specs.Written.{all_below, marks_of, block_of}
 
 -- an LL band of one value
 abbrev one_value : BandSpot
@@ -26,9 +28,24 @@ one_block : block_of one_value [] (pos 1 ∷ []) ≡ 0x2E ∷ []
 unfolding row_part rows_part blocks_part bands_part spelling signed_spelling digits_of digits_within doublings_for step_of step_table bytes_of flushed
 one_block = refl
 
-one_carried : is_carried (0x2E ∷ []) (band_decisions one_value [] (pos 1 ∷ []) (marks_of one_value (pos 1 ∷ []))) ≡ true
-unfolding row_part rows_part blocks_part bands_part spelling signed_spelling digits_of digits_within doublings_for step_of step_table front first_bits
-one_carried = refl
+-- which reads to it
+one_read : band_read one_value [] (0x2E ∷ []) ≡ Ok (pos 1 ∷ [])
+unfolding band_read repeated value_step block_step decided number_read number_from_digit sign_read signed_read doublings_for step_of step_table front first_bits
+one_read = refl
+
+-- two bytes of ones are refused, and so is an empty block, whose bits are all ones
+ones_refused : band_read one_value [] (0xFF ∷ 0xFF ∷ []) ≡ Err CodeWord
+unfolding band_read front first_bits
+ones_refused = refl
+
+empty_refused : band_read one_value [] [] ≡ Err CodeWord
+unfolding band_read front first_bits
+empty_refused = refl
+
+-- twelve bytes of zeros hold 39 false follow decisions
+long_refused : band_read one_value [] (replicate 12 0) ≡ Err NumberTooLong
+unfolding band_read repeated value_step block_step decided number_read number_from_digit sign_read signed_read doublings_for step_of step_table front first_bits
+long_refused = refl
 
 -- an HL band of two columns of one value, of which the first is zero and skipped; the second goes by the value above, which isn't there
 abbrev two_codeblocks : BandSpot
@@ -38,3 +55,8 @@ two_decisions : band_decisions two_codeblocks [] (pos 0 ∷ negsuc 0 ∷ []) (ma
     ≡ (let s : Decision = (18, true) in let p : Decision = (18, false) in let a : Decision = (0, false) in let b : Decision = (14, false) in let c : Decision = (4, true) in let d : Decision = (15, true) in s ∷ p ∷ a ∷ b ∷ c ∷ d ∷ [])
 unfolding row_part rows_part blocks_part bands_part spelling signed_spelling digits_of digits_within all_below
 two_decisions = refl
+
+-- the block of these decisions reads to the two values
+two_read : band_read two_codeblocks [] (block_of two_codeblocks [] (pos 0 ∷ negsuc 0 ∷ [])) ≡ Ok (pos 0 ∷ negsuc 0 ∷ [])
+unfolding band_read repeated value_step block_step decided number_read number_from_digit sign_read signed_read row_part rows_part blocks_part bands_part spelling signed_spelling digits_of digits_within all_below doublings_for step_of step_table bytes_of flushed front first_bits
+two_read = refl

@@ -5,8 +5,8 @@ use Rattle.dirac_arith.specs.Reading.{Reading, Reads}
 use Rattle.dirac_coeffs.specs.Carried.{long_part}
 use Rattle.dirac_coeffs.specs.Contexts.{value_at}
 use Rattle.dirac_coeffs.specs.Decisions.{Frame, value_part, row_part, rows_part}
-use Rattle.dirac_coeffs.specs.Places.{KeptOutside}
-use Rattle.dirac_coeffs.specs.Reached.{RowBroken, RowsBroken}
+use Rattle.dirac_coeffs.proofs.Places.{KeptOutside}
+use Rattle.dirac_coeffs.proofs.Reached.{RowBroken, RowsBroken}
 use Rattle.dirac_coeffs.proofs.Agreement.{value_here, value_contexts, row_same, row_next, rows_same, rows_next}
 use Rattle.dirac_coeffs.proofs.Readings.{reads_behind}
 use Rattle.dirac_coeffs.proofs.Within.{set_kept, kept_above, kept_left}

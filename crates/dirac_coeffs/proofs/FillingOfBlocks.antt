@@ -1,21 +1,24 @@
 -- The same of codeblocks and their rows.
-use Rattle.std.proofs.Common.{◌≡◌, ℕ, ℤ, ◌+◌, ◌<◌, ◌≤◌, Bool, true, false, List, [], ◌∷◌, refl, sym, ap, arith, inl, inr, eq-eqb, ne_eqb, subst}
+use Rattle.std.proofs.Common.{◌≡◌, ℕ, ℤ, ◌+◌, ◌<◌, ◌≤◌, ◌==◌, if◌then◌else◌, Bool, true, false, List, [], ◌∷◌, refl, sym, ap, arith, inl, inr, eq-eqb, ne_eqb, subst}
 use Rattle.std.proofs.lemmas.Bool.{cases_lt}
 use Rattle.dirac_arith.specs.Interval.{Decision}
 use Rattle.dirac_arith.specs.Reading.{Reading, Reads}
 use Rattle.dirac_arith.proofs.Spellings.{reads_more}
 use Rattle.dirac_bands.specs.Geometry.{edge_of}
 use Rattle.dirac_coeffs.specs.declared.spot.BandSpot.{BandSpot}
-use Rattle.dirac_coeffs.specs.BandRead.{put_at}
 use Rattle.dirac_coeffs.specs.Carried.{SkippedIsZero, blocks_until}
 use Rattle.dirac_coeffs.specs.Decisions.{Mark, Marks, frame_of, flagged_part, block_part, blocks_part, bands_part}
-use Rattle.dirac_coeffs.specs.Places.{KeptOutside, SameWithin}
-use Rattle.dirac_coeffs.specs.Reached.{BlocksRead, BandRead, RowsBroken, BlockBroken, BlocksBroken, BandBroken}
+use Rattle.dirac_coeffs.proofs.Places.{KeptOutside, SameWithin}
+use Rattle.dirac_coeffs.proofs.Reached.{BlocksRead, BandRead, RowsBroken, BlockBroken, BlocksBroken, BandBroken}
 use Rattle.dirac_coeffs.specs.Spots.{IsSpot, span_of, is_flagged}
 use Rattle.dirac_coeffs.proofs.AgreementOfBlocks.{blocks_same, blocks_next, bands_same, bands_next, zeros_same}
 use Rattle.dirac_coeffs.proofs.Edges.{edge_rises, edge_most}
 use Rattle.dirac_coeffs.proofs.Readings.{reads_behind}
 use Rattle.dirac_coeffs.proofs.Within.{kept_above, kept_left, same_less}
+
+-- a choice at place n, the former ones elsewhere
+abbrev put_at : {A : Type 0} → (ℕ → A) → ℕ → A → ℕ → A
+put_at former n a c = if c == n then a else former c
 
 put_here : {A : Type 0} (former : ℕ → A) (n : ℕ) (a : A) → put_at former n a n ≡ a
 put_here former n a = rw (eq-eqb n n refl) refl
@@ -32,7 +35,7 @@ zeros_before_block spot xs ys cy n marks is h s z cx l =
     zeros_same spot xs ys cy cx (marks cx) is (omega arith) (same_less rises (omega arith) s) (z cx l)
 
 -- a choice that is made for each place up to here
-pub chosen : {A : Type 0} (P : ℕ → A → Type 0) (former : ℕ → A) (n : ℕ) (a : A) → ((c : ℕ) → c < n → P c (former c)) → P n a → (c : ℕ) → c < n + 1 → P c (put_at former n a c)
+chosen : {A : Type 0} (P : ℕ → A → Type 0) (former : ℕ → A) (n : ℕ) (a : A) → ((c : ℕ) → c < n → P c (former c)) → P n a → (c : ℕ) → c < n + 1 → P c (put_at former n a c)
 chosen P former n a before here c l =
     elim (cases_lt c n) [
       | inl b ↦ subst (λ m. P c m) (put_before former n a c b) (before c b)

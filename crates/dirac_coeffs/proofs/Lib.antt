@@ -1,3 +1,6 @@
+pub mod Places
+pub mod Reached
+pub mod Repeating
 pub mod Within
 pub mod Agreement
 pub mod Edges
@@ -8,7 +11,6 @@ pub mod FillingOfBlocks
 pub mod Coding
 pub mod OneBand
 pub mod Apart
-pub mod Found
 pub mod Read
 pub mod Writing
 pub mod ZeroTests

@@ -9,11 +9,11 @@ use Rattle.dirac_bands.specs.Geometry.{edge_of}
 use Rattle.dirac_coeffs.specs.declared.spot.BandSpot.{BandSpot}
 use Rattle.dirac_coeffs.specs.Carried.{AreSmall, SkippedIsZero}
 use Rattle.dirac_coeffs.specs.Contexts.{value_at, bits_context}
-use Rattle.dirac_coeffs.specs.Decisions.{Frame, Mark, Marks, frame_of, value_part, row_part, rows_part, flagged_part, block_part, blocks_part, bands_part}
+use Rattle.dirac_coeffs.specs.Decisions.{Frame, Mark, Marks, frame_of, follow_here, sign_here, value_part, row_part, rows_part, flagged_part, block_part, blocks_part, bands_part}
 use Rattle.dirac_coeffs.specs.Laws.{OneBandIsCarried}
-use Rattle.dirac_coeffs.specs.Places.{SameWithin}
+use Rattle.dirac_coeffs.proofs.Places.{SameWithin}
 use Rattle.dirac_coeffs.specs.Spots.{IsSpot, span_of, is_flagged}
-use Rattle.dirac_coeffs.proofs.Agreement.{follow_here, sign_here, row_same, row_next, rows_same, rows_next, value_contexts}
+use Rattle.dirac_coeffs.proofs.Agreement.{row_same, row_next, rows_same, rows_next, value_contexts}
 use Rattle.dirac_coeffs.proofs.AgreementOfBlocks.{blocks_next, bands_next}
 use Rattle.dirac_coeffs.proofs.Coding.{rest_of, parts_one, one_value}
 use Rattle.dirac_coeffs.proofs.Edges.{edge_first, edge_most, edge_last, span_end, span_inside}

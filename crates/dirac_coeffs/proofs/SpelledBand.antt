@@ -19,7 +19,7 @@ use Rattle.dirac_coeffs.specs.Grammar.{band, coded_band, band_from, band_table, 
 use Rattle.dirac_coeffs.specs.Spots.{IsSpot}
 use Rattle.dirac_coeffs.specs.Written.{marks_of, block_of, is_zero_band, with_block, with_band}
 use Rattle.dirac_coeffs.proofs.BlockLengths.{block_short}
-use Rattle.dirac_coeffs.proofs.Found.{ones_read}
+use Rattle.dirac_coeffs.proofs.Read.{ones_read}
 use Rattle.dirac_coeffs.proofs.Writing.{written_read}
 use Rattle.dirac_coeffs.proofs.ZeroTests.{all_zeros}
 

@@ -4,10 +4,7 @@ use Rattle.std.proofs.lemmas.Bool.{cases_lt}
 use Rattle.std.proofs.lemmas.List.{get_or-set_other}
 use Rattle.std.proofs.lemmas.Nat.{same_from_place}
 use Rattle.dirac_coeffs.specs.Contexts.{value_at}
-use Rattle.dirac_coeffs.specs.Places.{SameWithin, KeptOutside, ZeroFrom}
-
-pub same_refl : (w : ℕ) (xs : List ℤ) (right bottom : ℕ) → SameWithin w xs xs right bottom
-same_refl w xs right bottom = record { each = λ x y p q r. refl }
+use Rattle.dirac_coeffs.proofs.Places.{SameWithin, KeptOutside, ZeroFrom}
 
 -- a smaller part
 pub same_less : {w right bottom r b : ℕ} {xs ys : List ℤ} → r ≤ right → b ≤ bottom → SameWithin w xs ys right bottom → SameWithin w xs ys r b

@@ -10,11 +10,11 @@ use Rattle.dirac_coeffs.specs.declared.spot.BandSpot.{BandSpot}
 use Rattle.dirac_coeffs.specs.BandRead.{band_read}
 use Rattle.dirac_coeffs.specs.Carried.{AreSmall, CarriesBand}
 use Rattle.dirac_coeffs.specs.Contexts.{value_at, left_of, above_of, corner_of, parent_of, is_zero, follow_of, sign_of, sign_neighbour, bits_context}
-use Rattle.dirac_coeffs.specs.Decisions.{Frame, Mark, Marks, frame_of, value_part, row_part, rows_part, flagged_part, block_part, blocks_part, bands_part, band_decisions}
+use Rattle.dirac_coeffs.specs.Decisions.{Frame, Mark, Marks, frame_of, follow_here, sign_here, value_part, row_part, rows_part, flagged_part, block_part, blocks_part, bands_part, band_decisions}
 use Rattle.dirac_coeffs.specs.Spots.{IsSpot, span_of, is_flagged}
 use Rattle.dirac_coeffs.specs.Written.{marks_of, block_of}
-use Rattle.dirac_coeffs.proofs.Agreement.{follow_here, sign_here}
-use Rattle.dirac_coeffs.proofs.Found.{band_found, zero_block_decides}
+use Rattle.dirac_coeffs.proofs.Read.{band_found}
+use Rattle.dirac_coeffs.proofs.ZeroTests.{zero_block_decides}
 
 -- a list of contexts, of which the last one repeats
 list_below : (follow : List ℕ) → 0 < length follow → AllByRecursion (λ c. c < 38) follow → AreBelow follow

@@ -1,15 +1,36 @@
--- A test of a codeblock's values is the test of its definition.
-use Rattle.std.proofs.Common.{◌≡◌, ℕ, ℤ, pos, ◌+◌, ◌<◌, Bool, true, false, List, [], ◌∷◌, length, replicate, refl, sym, ap, ◌∙◌, inl, inr}
+-- What the tests of zeros decide, and that a test of a codeblock's values is the test of its definition.
+use Rattle.std.proofs.Common.{◌≡◌, ℕ, zero, suc, ℤ, pos, negsuc, ◌+◌, ◌<◌, Bool, true, false, List, [], ◌∷◌, length, replicate, Decides, refl, sym, ap, ◌∙◌, arith, inl, inr}
 use Rattle.std.specs.List.{list_all}
-use Rattle.std.proofs.lemmas.Bool.{cases_Bool, and_parts}
-use Rattle.std.proofs.lemmas.Bool.Decides.{same_from_decides}
+use Rattle.std.proofs.lemmas.Bool.{cases_Bool, and_parts, false≢true}
+use Rattle.std.proofs.lemmas.Bool.Decides.{Decides-below_and, same_from_decides}
 use Rattle.dirac_bands.specs.Geometry.{edge_of}
 use Rattle.dirac_coeffs.specs.declared.spot.BandSpot.{BandSpot}
-use Rattle.dirac_coeffs.specs.BandRead.{is_zero_block}
 use Rattle.dirac_coeffs.specs.Carried.{IsZeroBlock}
 use Rattle.dirac_coeffs.specs.Contexts.{value_at, is_zero}
 use Rattle.dirac_coeffs.specs.Spots.{span_of}
-use Rattle.dirac_coeffs.proofs.Found.{zero_block_decides, zero_decides}
+use Rattle.dirac_coeffs.specs.Written.{all_below, is_zero_block}
+
+-- what the tests decide
+all_decides : (p : ℕ → Bool) (P : ℕ → Type 0) → ((k : ℕ) → Decides (p k) (P k)) → (n : ℕ) → Decides (all_below p n) ((k : ℕ) → k < n → P k)
+unfolding all_below
+all_decides p P each n = Decides-below_and p P (all_below p) each refl (λ m. refl) n
+
+zero_decides : (v : ℤ) → Decides (is_zero v) (v ≡ pos 0)
+zero_decides (pos zero) = (λ e. refl, λ e. refl)
+zero_decides (pos (suc n)) = (λ e. absurd (false≢true e), λ e. let none : suc n ≡ zero = cc in absurd (omega arith))
+zero_decides (negsuc n) = (λ e. absurd (false≢true e), λ e. absurd (cc))
+
+pub zero_block_decides : (spot : BandSpot) (xs : List ℤ) (cy cx : ℕ) → Decides (is_zero_block spot xs cy cx) (IsZeroBlock spot xs cy cx)
+zero_block_decides spot xs cy cx =
+    let left = edge_of spot.width spot.across cx in
+    let top = edge_of spot.height spot.down cy in
+    let at : ℕ → ℕ → ℤ = λ i j. value_at spot.width xs (left + i) (top + j) in
+    let columns = span_of spot.width spot.across cx in
+    let rows = span_of spot.height spot.down cy in
+    let d =
+    all_decides (λ i. all_below (λ j. is_zero (at i j)) rows) (λ i. (j : ℕ) → j < rows → at i j ≡ pos 0)
+    (λ i. all_decides (λ j. is_zero (at i j)) (λ j. at i j ≡ pos 0) (λ j. zero_decides (at i j)) rows) columns in
+    (λ e i j p q. d.0 e i p j q, λ z. d.1 (λ i p j q. z i j p q))
 
 -- a test of a rectangle whose edges are the codeblock's
 pub tests_block : (b : Bool) (spot : BandSpot) (xs : List ℤ) (cy cx left columns top rows : ℕ)

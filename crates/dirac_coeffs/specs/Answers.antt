@@ -1,13 +1,20 @@
--- What the answers of readers that take memory say; want of memory says nothing of the input.
+-- What the answers of readers say.
 use Rattle.std.specs.Prelude.{◌≡◌, ⊤, ℕ, ℤ, List, Result, Ok, Err}
 use Rattle.dirac_types.specs.declared.faults.Cause.{Cause}
 use Rattle.dirac_types.specs.declared.faults.Stop.{Stop}
 use Rattle.dirac_types.specs.declared.faults.Stop.TheVariants as stop
 use Rattle.dirac_types.specs.Table.{Table}
 use Rattle.dirac_coeffs.specs.declared.spot.BandSpot.{BandSpot}
+use Rattle.dirac_arith.specs.Reading.{Reading}
+use Rattle.dirac_coeffs.specs.BandRead.{Progress, progress}
 use Rattle.dirac_coeffs.specs.Grammar.{band_table}
 
--- the answer is what the block at this place reads to
+-- the answer is this step's, which came to these values and this reading; nothing is said of them after a refusal
+abbrev pub Moves : {A : Type 0} → Result A Cause → List ℤ → Reading → Result Progress Cause → Type 0
+Moves (Ok x) values reading step = step ≡ Ok (progress values reading)
+Moves (Err cause) values reading step = step ≡ Err cause
+
+-- the answer is what the block at this place reads to; want of memory says nothing of the input
 abbrev pub GivesBlock : BandSpot → ℕ → Result Table Stop → Result (List ℤ) Cause → Type 0
 GivesBlock spot at (Ok t) read = (t ≡ band_table spot t.values) × (read ≡ Ok t.values)
 GivesBlock spot at (Err (stop.Refused r)) read = (r.at ≡ at) × (read ≡ Err r.cause)

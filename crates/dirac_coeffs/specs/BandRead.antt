@@ -1,105 +1,88 @@
--- What a block reads to: the band whose decisions it carries. At most one is carried, so it is found among all bands.
-use Rattle.std.specs.Prelude.{ℕ, zero, suc, ℤ, pos, neg_ℤ, ◌+◌, ◌-◌, ◌*◌, ◌^◌, ◌==◌, nat_lt, if◌then◌else◌, Bool, true, false, ◌&&◌, List, [], ◌∷◌, length, map, find, unsigned_abs, Option, Some, None, Result, Ok, Err}
-use Rattle.std.specs.List.{list_all, flat_map}
+-- What a block reads to, decision by decision: codeblocks by rows, in each its zero flag and its values by rows.
+use Rattle.std.specs.Prelude.{ℕ, zero, suc, ℤ, pos, ◌+◌, ◌*◌, ◌==◌, if◌then◌else◌, Bool, true, false, List, replicate, slice_set, Result, Ok, Err}
 use Rattle.dirac_types.specs.declared.faults.Cause.{Cause}
-use Rattle.dirac_types.specs.declared.faults.Cause.TheVariants.{CodeWord, NumberTooLong}
+use Rattle.dirac_types.specs.declared.faults.Cause.TheVariants.{CodeWord}
+use Rattle.dirac_types.specs.Chain.{◌>>=◌ as ◌>>◌}
+use Rattle.dirac_arith.specs.Deciding.{begin, decided, signed_read}
 use Rattle.dirac_arith.specs.Front.{front}
-use Rattle.dirac_arith.specs.Interval.{Decision, interval_of}
-use Rattle.dirac_arith.specs.Carried.{lies_in}
+use Rattle.dirac_arith.specs.Reading.{Reading}
 use Rattle.dirac_bands.specs.Geometry.{edge_of}
 use Rattle.dirac_coeffs.specs.declared.spot.BandSpot.{BandSpot}
-use Rattle.dirac_coeffs.specs.Contexts.{value_at, is_zero}
-use Rattle.dirac_coeffs.specs.Decisions.{Mark, Marks, band_decisions}
+use Rattle.dirac_coeffs.specs.Contexts.{bits_context}
+use Rattle.dirac_coeffs.specs.Decisions.{Frame, frame_of, follow_here, sign_here}
 use Rattle.dirac_coeffs.specs.Spots.{span_of, is_flagged}
 
--- whether the block carries these decisions
-abbrev pub is_carried : List ℕ → List Decision → Bool
-is_carried block [] = true
-is_carried block (d ∷ ds) = lies_in block (interval_of (d ∷ ds))
-
--- whether all numbers below n pass
-unfoldable pub all_below : (ℕ → Bool) → ℕ → Bool
-all_below p zero = true
-all_below p (suc n) = p n && all_below p n
-
--- whether the values of codeblock cx of row cy are zeros
-abbrev pub is_zero_block : BandSpot → List ℤ → ℕ → ℕ → Bool
-is_zero_block spot xs cy cx =
-    all_below
-    (λ i. all_below
-    (λ j. is_zero (value_at spot.width xs (edge_of spot.width spot.across cx + i) (edge_of spot.height spot.down cy + j)))
-    (span_of spot.height spot.down cy))
-    (span_of spot.width spot.across cx)
-
--- whether the second passes where the first does
-abbrev pub implied : Bool → Bool → Bool
-implied true p = p
-implied false p = true
-
--- whether each codeblock whose flag is true has zeros alone
-abbrev pub flags_hold : BandSpot → List ℤ → Marks → Bool
-flags_hold spot xs marks =
-    all_below
-    (λ cy. all_below (λ cx. implied (is_flagged spot && (marks cy cx).skipped) (is_zero_block spot xs cy cx)) spot.across)
-    spot.down
-
--- the values of a band and the marks of its codeblocks
-pub record Marked : Type 0 where
+-- the values so far, and the reading of the block
+pub record Progress : Type 0 where
   pub values : List ℤ
-  pub marks : Marks
+  pub reading : Reading
 
--- whether the block carries this band
-abbrev pub carries_marked : BandSpot → List ℤ → List ℕ → Marked → Bool
-carries_marked spot parent block m =
-    length m.values == spot.width * spot.height
-    && (list_all (λ v. nat_lt (unsigned_abs v) (2 ^ 39 - 1)) m.values
-    && (flags_hold spot m.values m.marks && is_carried block (band_decisions spot parent m.values m.marks)))
+-- these values and this reading
+abbrev pub progress : List ℤ → Reading → Progress
+progress xs r = record { values = xs; reading = r }
 
--- all numbers of a magnitude below n
-unfoldable pub numbers_below : ℕ → List ℤ
-numbers_below zero = []
-numbers_below (suc n) = pos n ∷ neg_ℤ (pos n) ∷ numbers_below n
+-- what is read next: it goes on from some values and a reading to others, or is refused
+abbrev pub Step : Type 0
+Step = Progress → Result Progress Cause
 
--- all lists of n of these
-unfoldable pub lists_of : {A : Type 0} → List A → ℕ → List (List A)
-lists_of items zero = [] ∷ []
-lists_of items (suc n) = flat_map (λ rest. map (λ a. a ∷ rest) items) (lists_of items n)
+-- the first n of these steps, one after another
+unfoldable pub repeated : (ℕ → Step) → ℕ → Step
+repeated step zero p = Ok p
+repeated step (suc n) p = repeated step n p >> step n
 
--- a choice at place n, the former ones elsewhere
-abbrev pub put_at : {A : Type 0} → (ℕ → A) → ℕ → A → ℕ → A
-put_at former n a c = if c == n then a else former c
+-- the value in column x of row y, put in its place: a signed number under the contexts that the values so far give it
+unfoldable pub value_step : Frame → ℕ → ℕ → Step
+value_step f x y p =
+    signed_read (follow_here f p.values x y) bits_context (sign_here f p.values x y) p.reading
+    >> λ v. Ok (record p { values = slice_set p.values (y * f.width + x) v.0; reading = v.1 })
 
--- all choices of these at places below n, the first everywhere else
-unfoldable pub choices_of : {A : Type 0} → A → List A → ℕ → List (ℕ → A)
-choices_of first items zero = (λ c. first) ∷ []
-choices_of first items (suc n) = flat_map (λ former. map (λ a. put_at former n a) items) (choices_of first items n)
+-- n values of row y, from column x on
+abbrev pub row_step : Frame → ℕ → ℕ → ℕ → Step
+row_step f y x n p = repeated (λ i. value_step f (x + i) y) n p
 
--- a mark with this flag
-abbrev pub flag_of : Bool → Mark
-flag_of skipped = record { skipped = skipped }
+-- n rows of `count` values each, from column x of row y on
+abbrev pub rows_step : Frame → ℕ → ℕ → ℕ → ℕ → Step
+rows_step f x count y n p = repeated (λ j. row_step f (y + j) x count) n p
 
--- all rows of marks
-abbrev pub rows_of_marks : BandSpot → List (ℕ → Mark)
-rows_of_marks spot = choices_of (flag_of false) (flag_of true ∷ flag_of false ∷ []) spot.across
+-- the values of codeblock cx of row cy
+abbrev pub filled_step : BandSpot → List ℤ → ℕ → ℕ → Step
+filled_step spot parent cy cx p =
+    rows_step
+    (frame_of spot parent)
+    (edge_of spot.width spot.across cx)
+    (span_of spot.width spot.across cx)
+    (edge_of spot.height spot.down cy)
+    (span_of spot.height spot.down cy)
+    p
 
--- all marks of a band
-abbrev pub all_marks : BandSpot → List Marks
-all_marks spot = choices_of (λ cx. flag_of false) (rows_of_marks spot) spot.down
+-- a step that a true flag skips
+abbrev pub unless : Bool → Step → Step
+unless true step p = Ok p
+unless false step p = step p
 
--- all bands of these sizes
-unfoldable pub all_bands : BandSpot → List Marked
-all_bands spot =
-    flat_map
-    (λ xs. map (λ marks. let m : Marked = record { values = xs; marks = marks } in m) (all_marks spot))
-    (lists_of (numbers_below (2 ^ 39 - 1)) (spot.width * spot.height))
+-- a step behind a zero flag, where there is one
+abbrev pub flagged_step : Bool → Step → Step
+flagged_step false step p = step p
+flagged_step true step p = decided 18 p.reading >> λ flag. unless flag.0 step (record p { reading = flag.1 })
 
--- the values that were found; a block that carries no band breaks off in a number that is too long
-abbrev pub values_found : Option Marked → Result (List ℤ) Cause
-values_found None = Err NumberTooLong
-values_found (Some m) = Ok m.values
+-- codeblock cx of row cy; a skipped one keeps the zeros that stand there
+unfoldable pub block_step : BandSpot → List ℤ → ℕ → ℕ → Step
+block_step spot parent cy cx p = flagged_step (is_flagged spot) (filled_step spot parent cy cx) p
 
--- the values that the block carries; none where it begins with ones, or one of its numbers is too long
+-- the first n codeblocks of row cy of codeblocks
+abbrev pub blocks_step : BandSpot → List ℤ → ℕ → ℕ → Step
+blocks_step spot parent cy n p = repeated (block_step spot parent cy) n p
+
+-- the first n rows of codeblocks
+abbrev pub block_rows_step : BandSpot → List ℤ → ℕ → Step
+block_rows_step spot parent n p = repeated (λ cy. blocks_step spot parent cy spot.across) n p
+
+-- before anything is read all values are zeros
+abbrev pub unread : BandSpot → List ℕ → Progress
+unread spot block = progress (replicate (spot.width * spot.height) (pos 0)) (begin block)
+
+-- the values that a block reads to; one that begins with sixteen ones holds no decision
 unfoldable pub band_read : BandSpot → List ℤ → List ℕ → Result (List ℤ) Cause
 band_read spot parent block =
     if front block 16 == 0xFFFF then Err CodeWord
-    else values_found (find (carries_marked spot parent block) (all_bands spot))
+    else block_rows_step spot parent spot.down (unread spot block) >> λ p. Ok p.values

@@ -1,23 +1,17 @@
 -- What a block carries: a band, or a number that is too long.
-use Rattle.std.specs.Prelude.{◌≡◌, ℕ, ℤ, pos, ◌+◌, ◌-◌, ◌*◌, ◌^◌, ◌<◌, ◌⊎◌, Bool, true, false, List, ◌++◌, length, All, unsigned_abs}
-use Rattle.dirac_types.specs.declared.faults.Cause.{Cause}
-use Rattle.dirac_types.specs.declared.faults.Cause.TheVariants.{CodeWord, NumberTooLong}
+use Rattle.std.specs.Prelude.{◌≡◌, ℕ, ℤ, pos, ◌+◌, ◌-◌, ◌*◌, ◌^◌, ◌<◌, Bool, true, false, List, ◌++◌, length, All, unsigned_abs}
 use Rattle.dirac_arith.specs.Carried.{Carries}
 use Rattle.dirac_arith.specs.Interval.{Decision}
 use Rattle.dirac_arith.specs.Spelling.{spelt}
 use Rattle.dirac_bands.specs.Geometry.{edge_of}
 use Rattle.dirac_coeffs.specs.declared.spot.BandSpot.{BandSpot}
-use Rattle.dirac_coeffs.specs.Contexts.{value_at, left_of, above_of, corner_of, parent_of, follow_among, bits_context}
-use Rattle.dirac_coeffs.specs.Decisions.{Frame, Mark, Marks, frame_of, row_part, rows_part, flagged_part, blocks_part, bands_part, band_decisions}
+use Rattle.dirac_coeffs.specs.Contexts.{value_at, bits_context}
+use Rattle.dirac_coeffs.specs.Decisions.{Frame, Mark, Marks, frame_of, follow_here, row_part, rows_part, flagged_part, blocks_part, bands_part, band_decisions}
 use Rattle.dirac_coeffs.specs.Spots.{span_of, is_flagged}
 
 -- the magnitudes that a number can spell
 abbrev pub AreSmall : List ℤ → Type 0
 AreSmall xs = All (λ v. unsigned_abs v < 2 ^ 39 - 1) xs
-
--- why a block is refused: it begins with ones, or one of its numbers is too long
-abbrev pub IsBlockCause : Cause → Type 0
-IsBlockCause cause = (cause ≡ CodeWord) ⊎ (cause ≡ NumberTooLong)
 
 -- the values of codeblock cx of row cy are zeros
 abbrev pub IsZeroBlock : BandSpot → List ℤ → ℕ → ℕ → Type 0
@@ -56,16 +50,7 @@ pub record IsLongAt (spot : BandSpot) (at : LongAt) : Type 0 where
 
 -- digits in column x of row y, and one more follow decision that is false
 abbrev pub long_part : Frame → List ℤ → ℕ → ℕ → List Bool → List Decision
-long_part f xs x y digits =
-    spelt
-    (follow_among
-    (left_of f.width xs x y)
-    (above_of f.width xs x y)
-    (corner_of f.width xs x y)
-    (parent_of f.width f.parent x y))
-    bits_context
-    digits
-    false
+long_part f xs x y digits = spelt (follow_here f xs x y) bits_context digits false
 
 -- i values of row y from column x on, and then too long a number
 abbrev pub row_until : Frame → List ℤ → ℕ → ℕ → ℕ → List Bool → List Decision

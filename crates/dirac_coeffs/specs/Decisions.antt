@@ -5,7 +5,7 @@ use Rattle.dirac_types.specs.declared.formats.Band.{Band}
 use Rattle.dirac_arith.specs.Interval.{Decision}
 use Rattle.dirac_bands.specs.Geometry.{edge_of}
 use Rattle.dirac_coeffs.specs.declared.spot.BandSpot.{BandSpot}
-use Rattle.dirac_coeffs.specs.Contexts.{value_at, left_of, above_of, corner_of, parent_of, value_spelling}
+use Rattle.dirac_coeffs.specs.Contexts.{value_at, left_of, above_of, corner_of, parent_of, follow_among, sign_of, sign_neighbour, value_spelling}
 use Rattle.dirac_coeffs.specs.Spots.{span_of, is_flagged}
 
 -- what the contexts of a band's values depend on besides the values
@@ -25,6 +25,19 @@ Marks = ℕ → ℕ → Mark
 -- those of a band with this parent
 abbrev pub frame_of : BandSpot → List ℤ → Frame
 frame_of spot parent = record { band = spot.band; width = spot.width; parent = parent }
+
+-- the follow contexts of the value in column x of row y
+abbrev pub follow_here : Frame → List ℤ → ℕ → ℕ → List ℕ
+follow_here f xs x y =
+    follow_among
+    (left_of f.width xs x y)
+    (above_of f.width xs x y)
+    (corner_of f.width xs x y)
+    (parent_of f.width f.parent x y)
+
+-- the context of its sign
+abbrev pub sign_here : Frame → List ℤ → ℕ → ℕ → ℕ
+sign_here f xs x y = sign_of (sign_neighbour f.band (left_of f.width xs x y) (above_of f.width xs x y))
 
 -- the value in column x of row y
 abbrev pub value_part : Frame → List ℤ → ℕ → ℕ → List Decision

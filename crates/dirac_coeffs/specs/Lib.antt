@@ -2,8 +2,6 @@ pub mod Contexts
 pub mod Spots
 pub mod Decisions
 pub mod Carried
-pub mod Places
-pub mod Reached
 pub mod BandRead
 pub mod Laws
 pub mod Grammar

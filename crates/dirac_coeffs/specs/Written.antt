@@ -1,20 +1,35 @@
 -- How a subband is written: the marks of its codeblocks, its block, and its bits.
-use Rattle.std.specs.Prelude.{ℕ, ℤ, Bool, List, ◌++◌, length, if◌then◌else◌}
+use Rattle.std.specs.Prelude.{ℕ, zero, suc, ℤ, ◌+◌, ◌&&◌, Bool, true, List, ◌++◌, length, if◌then◌else◌}
 use Rattle.std.specs.List.{list_all}
 use Rattle.dirac_types.specs.Bits.{bits_of}
 use Rattle.dirac_types.specs.Numbers.{uint}
 use Rattle.dirac_arith.specs.Written.{flush}
 pub use Rattle.dirac_bits.specs.Spelling.{SpelledBehind}
 pub use Rattle.dirac_bits.specs.Writing.{up_to_byte}
+use Rattle.dirac_bands.specs.Geometry.{edge_of}
 use Rattle.dirac_coeffs.specs.declared.spot.BandSpot.{BandSpot}
 use Rattle.dirac_coeffs.specs.declared.spot.CodedBand.{CodedBand}
-use Rattle.dirac_coeffs.specs.BandRead.{flag_of, is_zero_block}
-use Rattle.dirac_coeffs.specs.Contexts.{is_zero}
+use Rattle.dirac_coeffs.specs.Contexts.{value_at, is_zero}
 use Rattle.dirac_coeffs.specs.Decisions.{Marks, band_decisions}
+use Rattle.dirac_coeffs.specs.Spots.{span_of}
+
+-- whether all numbers below n pass
+unfoldable pub all_below : (ℕ → Bool) → ℕ → Bool
+all_below p zero = true
+all_below p (suc n) = p n && all_below p n
+
+-- whether the values of codeblock cx of row cy are zeros
+abbrev pub is_zero_block : BandSpot → List ℤ → ℕ → ℕ → Bool
+is_zero_block spot xs cy cx =
+    all_below
+    (λ i. all_below
+    (λ j. is_zero (value_at spot.width xs (edge_of spot.width spot.across cx + i) (edge_of spot.height spot.down cy + j)))
+    (span_of spot.height spot.down cy))
+    (span_of spot.width spot.across cx)
 
 -- a zero flag is true exactly for a codeblock of zeros or without values
 abbrev pub marks_of : BandSpot → List ℤ → Marks
-marks_of spot xs cy cx = flag_of (is_zero_block spot xs cy cx)
+marks_of spot xs cy cx = record { skipped = is_zero_block spot xs cy cx }
 
 -- the block of a band
 abbrev pub block_of : BandSpot → List ℤ → List ℤ → List ℕ

@@ -1,12 +1,7 @@
-ghost use Rattle.std.specs.Prelude.{◌≡◌, ℕ, ◌+◌, ◌-◌, ◌*◌, ◌^◌, ◌<◌, ◌≤◌, Bool, true, false, List, length, IfOk, IfErr, OnOk};
-ghost use Rattle.dirac_arith.specs.Front.{front};
-ghost use Rattle.dirac_arith.specs.Reading.{Reads};
-ghost use Rattle.dirac_bands.specs.Geometry.{edge_of};
-ghost use Rattle.dirac_coeffs.specs.Carried.{AreSmall, IsBlockCause, SkippedIsZero};
-ghost use Rattle.dirac_coeffs.specs.Decisions.{frame_of, rows_part, block_part};
-ghost use Rattle.dirac_coeffs.specs.Places.{KeptOutside, ZeroFrom};
-ghost use Rattle.dirac_coeffs.specs.Reached.{RowsBroken, BlockBroken, BlocksBroken, BandBroken, BlocksRead, BandRead};
-ghost use Rattle.dirac_coeffs.specs.Spots.{IsSpot, span_of, is_flagged};
+ghost use Rattle.std.specs.Prelude.{◌≡◌, ◌+◌, ◌*◌, ◌^◌, ◌<◌, ◌≤◌, length};
+ghost use Rattle.dirac_coeffs.specs.Answers.{Moves};
+ghost use Rattle.dirac_coeffs.specs.BandRead.{progress, filled_step, block_step, blocks_step, block_rows_step};
+ghost use Rattle.dirac_coeffs.specs.Spots.{IsSpot, span_of};
 
 use crate::parts::{has_flags, part_of};
 use crate::spot::BandSpot;
@@ -28,14 +23,9 @@ fn read_block_values(
     requires column { cx < spot.across }
     requires len { length values.old ≡ spot.width * spot.height }
     requires room { decoder.old.at.doublings < 2 ^ 58 }
-    ensures taken { OnOk result (Reads decoder.old (rows_part (frame_of spot parent.now) values.new (edge_of spot.width spot.across cx) (span_of spot.width spot.across cx) (edge_of spot.height spot.down cy) (span_of spot.height spot.down cy)) decoder.new) }
-    ensures kept { KeptOutside spot.width (edge_of spot.width spot.across cx) (edge_of spot.width spot.across (cx + 1)) (edge_of spot.height spot.down cy) (edge_of spot.height spot.down (cy + 1)) values.old values.new }
+    ensures value { Moves result values.new decoder.new (filled_step spot parent.now cy cx (progress values.old decoder.old)) }
+    ensures len { length values.new ≡ length values.old }
     ensures few { decoder.new.at.doublings ≤ decoder.old.at.doublings + 702 * 8192 * span_of spot.width spot.across cx }
-    ensures small { AreSmall values.old → AreSmall values.new }
-    ensures long { result ≡ Err Cause.NumberTooLong → RowsBroken (frame_of spot parent.now) decoder.old values.new (edge_of spot.width spot.across cx) (span_of spot.width spot.across cx) (edge_of spot.height spot.down cy) (span_of spot.height spot.down cy) decoder.new }
-    ensures refused { result ≡ Err Cause.CodeWord → front decoder.old.block 16 ≡ 0xFFFF }
-    ensures only { IfErr result IsBlockCause }
-    ensures block { decoder.new.block ≡ decoder.old.block }
 {
     let columns = part_of(spot.width, spot.across, cx);
     let rows = part_of(spot.height, spot.down, cy);
@@ -51,7 +41,8 @@ fn read_block_values(
     )
 }
 
-/// Reads codeblock `cx` of row `cy`, and answers whether its zero flag skips it.
+/// Reads codeblock `cx` of row `cy`, unless its zero flag skips it.
+#[tactic(auto, unfolding(crate::specs::BandRead::block_step))]
 fn read_codeblock(
     decoder: &mut Decoder<'_>,
     values: &mut [i64],
@@ -59,35 +50,22 @@ fn read_codeblock(
     parent: &[i64],
     cy: u32,
     cx: u32,
-) -> Result<bool, Cause>
+) -> Result<(), Cause>
     requires spot { IsSpot spot }
     requires row { cy < spot.down }
     requires column { cx < spot.across }
     requires len { length values.old ≡ spot.width * spot.height }
     requires room { decoder.old.at.doublings < 2 ^ 57 }
-    requires zeros { ZeroFrom spot.width (edge_of spot.width spot.across cx) (edge_of spot.height spot.down cy) values.old }
-    ensures taken { IfOk result (λ skipped. Reads decoder.old (block_part spot parent.now values.new cy cx (record { skipped = skipped })) decoder.new) }
-    ensures zeros { IfOk result (λ skipped. SkippedIsZero spot values.new cy cx (record { skipped = skipped })) }
-    ensures kept { KeptOutside spot.width (edge_of spot.width spot.across cx) (edge_of spot.width spot.across (cx + 1)) (edge_of spot.height spot.down cy) (edge_of spot.height spot.down (cy + 1)) values.old values.new }
+    ensures value { Moves result values.new decoder.new (block_step spot parent.now cy cx (progress values.old decoder.old)) }
+    ensures len { length values.new ≡ length values.old }
     ensures few { decoder.new.at.doublings ≤ decoder.old.at.doublings + 9 + 702 * 8192 * span_of spot.width spot.across cx }
-    ensures small { AreSmall values.old → AreSmall values.new }
-    ensures long { result ≡ Err Cause.NumberTooLong → BlockBroken spot parent.now decoder.old values.new cy cx decoder.new }
-    ensures refused { result ≡ Err Cause.CodeWord → front decoder.old.block 16 ≡ 0xFFFF }
-    ensures only { IfErr result IsBlockCause }
-    ensures block { decoder.new.block ≡ decoder.old.block }
 {
     if !has_flags(spot) {
-        return match read_block_values(decoder, values, spot, parent, cy, cx) {
-            Ok(()) => Ok(false),
-            Err(cause) => Err(cause),
-        };
+        return read_block_values(decoder, values, spot, parent, cy, cx);
     }
     match decoder.decision(18) {
-        Ok(true) => Ok(true),
-        Ok(false) => match read_block_values(decoder, values, spot, parent, cy, cx) {
-            Ok(()) => Ok(false),
-            Err(cause) => Err(cause),
-        },
+        Ok(true) => Ok(()),
+        Ok(false) => read_block_values(decoder, values, spot, parent, cy, cx),
         Err(cause) => Err(cause),
     }
 }
@@ -104,19 +82,13 @@ fn read_codeblocks(
     requires row { cy < spot.down }
     requires len { length values.old ≡ spot.width * spot.height }
     requires room { decoder.old.at.doublings < 2 ^ 56 }
-    requires zeros { ZeroFrom spot.width 0 (edge_of spot.height spot.down cy) values.old }
-    ensures taken { OnOk result (BlocksRead spot parent.now decoder.old values.new cy spot.across decoder.new) }
-    ensures kept { KeptOutside spot.width 0 spot.width (edge_of spot.height spot.down cy) (edge_of spot.height spot.down (cy + 1)) values.old values.new }
+    ensures value { Moves result values.new decoder.new (blocks_step spot parent.now cy spot.across (progress values.old decoder.old)) }
+    ensures len { length values.new ≡ length values.old }
     ensures few { decoder.new.at.doublings ≤ decoder.old.at.doublings + 9 * 8192 + 702 * 8192 * 8192 }
-    ensures small { AreSmall values.old → AreSmall values.new }
-    ensures long { result ≡ Err Cause.NumberTooLong → BlocksBroken spot parent.now decoder.old values.new cy decoder.new }
-    ensures refused { result ≡ Err Cause.CodeWord → front decoder.old.block 16 ≡ 0xFFFF }
-    ensures only { IfErr result IsBlockCause }
-    ensures block { decoder.new.block ≡ decoder.old.block }
 {
     'across: for cx in 0..spot.across {
         match read_codeblock(decoder, values, spot, parent, cy, cx) {
-            Ok(_) => {}
+            Ok(()) => {}
             Err(cause) => return Err(cause),
         }
     }
@@ -133,13 +105,8 @@ pub fn read_all(
     requires spot { IsSpot spot }
     requires len { length values.old ≡ spot.width * spot.height }
     requires room { decoder.old.at.doublings ≡ 0 }
-    requires zeros { ZeroFrom spot.width 0 0 values.old }
-    ensures taken { OnOk result (BandRead spot parent.now decoder.old values.new spot.down decoder.new) }
+    ensures value { Moves result values.new decoder.new (block_rows_step spot parent.now spot.down (progress values.old decoder.old)) }
     ensures len { length values.new ≡ length values.old }
-    ensures small { AreSmall values.old → AreSmall values.new }
-    ensures long { result ≡ Err Cause.NumberTooLong → BandBroken spot parent.now decoder.old values.new decoder.new }
-    ensures refused { result ≡ Err Cause.CodeWord → front decoder.old.block 16 ≡ 0xFFFF }
-    ensures only { IfErr result IsBlockCause }
 {
     'down: for cy in 0..spot.down {
         match read_codeblocks(decoder, values, spot, parent, cy) {

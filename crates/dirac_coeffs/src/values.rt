@@ -1,12 +1,9 @@
-ghost use Rattle.std.specs.Prelude.{◌≡◌, ℕ, ◌+◌, ◌-◌, ◌*◌, ◌^◌, ◌<◌, ◌≤◌, Bool, false, List, length, IfOk, IfErr, OnOk, unsigned_abs};
-ghost use Rattle.dirac_arith.specs.Front.{front};
-ghost use Rattle.dirac_arith.specs.Reading.{Reads};
-ghost use Rattle.dirac_arith.specs.Spelling.{spelt};
-ghost use Rattle.dirac_coeffs.specs.Carried.{AreSmall, IsBlockCause, long_part};
-ghost use Rattle.dirac_coeffs.specs.Contexts.{follow_among, value_spelling, bits_context};
-ghost use Rattle.dirac_coeffs.specs.Decisions.{frame_of, value_part, row_part, rows_part};
-ghost use Rattle.dirac_coeffs.specs.Places.{KeptOutside};
-ghost use Rattle.dirac_coeffs.specs.Reached.{RowBroken, RowsBroken};
+ghost use Rattle.std.specs.Prelude.{◌≡◌, ◌+◌, ◌*◌, ◌^◌, ◌<◌, ◌≤◌, length};
+ghost use Rattle.dirac_arith.specs.Deciding.{Gives, signed_read};
+ghost use Rattle.dirac_coeffs.specs.Answers.{Moves};
+ghost use Rattle.dirac_coeffs.specs.BandRead.{progress, value_step, row_step, rows_step};
+ghost use Rattle.dirac_coeffs.specs.Contexts.{follow_among, bits_context, sign_of, sign_neighbour};
+ghost use Rattle.dirac_coeffs.specs.Decisions.{frame_of};
 
 use crate::contexts;
 use crate::spot::BandSpot;
@@ -24,14 +21,8 @@ fn read_value(
     parent: i64,
 ) -> Result<i64, Cause>
     requires room { decoder.old.at.doublings < 2 ^ 61 }
-    ensures found { IfOk result (λ v. Reads decoder.old (value_spelling band left above corner parent v) decoder.new) }
-    ensures small { IfOk result (λ v. unsigned_abs v < 2 ^ 39 - 1) }
+    ensures read { Gives result decoder.new (signed_read (follow_among left above corner parent) bits_context (sign_of (sign_neighbour band left above)) decoder.old) }
     ensures few { decoder.new.at.doublings ≤ decoder.old.at.doublings + 702 }
-    ensures long { result ≡ Err Cause.NumberTooLong →
-        (digits : List Bool) × (length digits ≡ 38) × Reads decoder.old (spelt (follow_among left above corner parent) bits_context digits false) decoder.new }
-    ensures refused { result ≡ Err Cause.CodeWord → front decoder.old.block 16 ≡ 0xFFFF }
-    ensures only { IfErr result IsBlockCause }
-    ensures block { decoder.new.block ≡ decoder.old.block }
 {
     let follow = contexts::follow_among(left, above, corner, parent);
     let sign = contexts::sign_context(band, left, above);
@@ -39,6 +30,7 @@ fn read_value(
 }
 
 /// Reads the value in column `x` of row `y`.
+#[tactic(auto, unfolding(crate::specs::BandRead::value_step))]
 #[inline(always)]
 fn read_at(
     decoder: &mut Decoder<'_>,
@@ -53,15 +45,9 @@ fn read_at(
     requires row { y < 8192 }
     requires inside { (y + 1) * spot.width ≤ length values.old }
     requires room { decoder.old.at.doublings < 2 ^ 61 }
-    ensures taken { OnOk result (Reads decoder.old (value_part (frame_of spot parent.now) values.new x y) decoder.new) }
-    ensures kept { KeptOutside spot.width x (x + 1) y (y + 1) values.old values.new }
+    ensures value { Moves result values.new decoder.new (value_step (frame_of spot parent.now) x y (progress values.old decoder.old)) }
+    ensures len { length values.new ≡ length values.old }
     ensures few { decoder.new.at.doublings ≤ decoder.old.at.doublings + 702 }
-    ensures small { AreSmall values.old → AreSmall values.new }
-    ensures long { result ≡ Err Cause.NumberTooLong →
-        (digits : List Bool) × (length digits ≡ 38) × Reads decoder.old (long_part (frame_of spot parent.now) values.new x y digits) decoder.new }
-    ensures refused { result ≡ Err Cause.CodeWord → front decoder.old.block 16 ≡ 0xFFFF }
-    ensures only { IfErr result IsBlockCause }
-    ensures block { decoder.new.block ≡ decoder.old.block }
 {
     let width = spot.width as usize;
     let left = contexts::left_value(values, width, x, y);
@@ -92,14 +78,9 @@ fn read_row(
     requires row { y < 8192 }
     requires inside { (y + 1) * spot.width ≤ length values.old }
     requires room { decoder.old.at.doublings < 2 ^ 60 }
-    ensures taken { OnOk result (Reads decoder.old (row_part (frame_of spot parent.now) values.new y from count) decoder.new) }
-    ensures kept { KeptOutside spot.width from (from + count) y (y + 1) values.old values.new }
+    ensures value { Moves result values.new decoder.new (row_step (frame_of spot parent.now) y from count (progress values.old decoder.old)) }
+    ensures len { length values.new ≡ length values.old }
     ensures few { decoder.new.at.doublings ≤ decoder.old.at.doublings + 702 * count }
-    ensures small { AreSmall values.old → AreSmall values.new }
-    ensures long { result ≡ Err Cause.NumberTooLong → RowBroken (frame_of spot parent.now) decoder.old values.new y from count decoder.new }
-    ensures refused { result ≡ Err Cause.CodeWord → front decoder.old.block 16 ≡ 0xFFFF }
-    ensures only { IfErr result IsBlockCause }
-    ensures block { decoder.new.block ≡ decoder.old.block }
 {
     'values: for i in 0..count {
         match read_at(decoder, values, spot, parent, from + i, y) {
@@ -126,14 +107,9 @@ pub fn read_rows(
     requires rows { top + rows ≤ 8192 }
     requires inside { (top + rows) * spot.width ≤ length values.old }
     requires room { decoder.old.at.doublings < 2 ^ 59 }
-    ensures taken { OnOk result (Reads decoder.old (rows_part (frame_of spot parent.now) values.new from count top rows) decoder.new) }
-    ensures kept { KeptOutside spot.width from (from + count) top (top + rows) values.old values.new }
+    ensures value { Moves result values.new decoder.new (rows_step (frame_of spot parent.now) from count top rows (progress values.old decoder.old)) }
+    ensures len { length values.new ≡ length values.old }
     ensures few { decoder.new.at.doublings ≤ decoder.old.at.doublings + 702 * 8192 * count }
-    ensures small { AreSmall values.old → AreSmall values.new }
-    ensures long { result ≡ Err Cause.NumberTooLong → RowsBroken (frame_of spot parent.now) decoder.old values.new from count top rows decoder.new }
-    ensures refused { result ≡ Err Cause.CodeWord → front decoder.old.block 16 ≡ 0xFFFF }
-    ensures only { IfErr result IsBlockCause }
-    ensures block { decoder.new.block ≡ decoder.old.block }
 {
     'rows: for j in 0..rows {
         match read_row(decoder, values, spot, parent, top + j, from, count) {

@@ -1,7 +1,6 @@
 ghost use Rattle.std.specs.Prelude.{◌≡◌, ℕ, ◌+◌, ◌*◌, ◌<◌, ◌≤◌, pos, true, false, length};
 ghost use Rattle.dirac_bands.specs.Geometry.{edge_of};
-ghost use Rattle.dirac_coeffs.specs.BandRead.{is_zero_block};
-ghost use Rattle.dirac_coeffs.specs.Written.{is_zero_band};
+ghost use Rattle.dirac_coeffs.specs.Written.{is_zero_band, is_zero_block};
 ghost use Rattle.dirac_coeffs.specs.Contexts.{value_at};
 ghost use Rattle.dirac_coeffs.specs.Spots.{IsSpot, span_of};
 

@@ -1,5 +1,4 @@
-use Rattle.dirac_coeffs.proofs.Going.{long_is_refused}
-use Rattle.dirac_coeffs.proofs.Read.{band_is_read, ones_are_refused}
+use Rattle.dirac_coeffs.proofs.Read.{band_is_read, long_is_refused, ones_are_refused}
 use Rattle.dirac_coeffs.proofs.laws.a_block_reads_to_its_band.Goals as goal
 
 pub returns-clause-carried : goal.returns-clause-carried

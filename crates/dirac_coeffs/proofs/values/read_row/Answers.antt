@@ -1,35 +1,26 @@
-use Rattle.std.proofs.Common.{◌∙◌, arith, refl}
-use Rattle.dirac_coeffs.specs.Decisions.{frame_of, row_part}
-use Rattle.dirac_coeffs.proofs.Filling.{row_more, row_breaks}
-use Rattle.dirac_coeffs.proofs.Readings.{reads_none}
-use Rattle.dirac_coeffs.proofs.Within.{kept_refl, kept_join}
+use Rattle.std.proofs.Common.{◌+◌, ◌∙◌, arith, refl}
+use Rattle.dirac_coeffs.specs.BandRead.{progress, value_step}
+use Rattle.dirac_coeffs.specs.Decisions.{frame_of}
+use Rattle.dirac_coeffs.proofs.Repeating.{repeated_none, repeated_next, repeated_stops}
 use Rattle.dirac_coeffs.proofs.values.read_row.Goals as goal
 
 pub values-init : goal.values-init
-unfolding row_part
 values-init c =
     record {
-      taken = reads_none c.args.decoder.now;
-      kept = kept_refl;
+      value = repeated_none (λ i. value_step (frame_of c.args.spot c.args.parent.now) (c.args.from + i) c.args.y) (progress c.args.values.now c.args.decoder.now);
+      len = refl;
       few = omega arith;
-      small = λ all. all;
-      block = refl;
     }
-
-pub returns-in-Err-clause-kept : goal.returns-in-Err-clause-kept
-returns-in-Err-clause-kept c = kept_join (omega arith, omega arith, omega arith, omega arith) (omega arith, omega arith, omega arith, omega arith) c.values.invariant.kept c.read_at.ensures.kept
-
-pub returns-in-Err-clause-long : goal.returns-in-Err-clause-long
-returns-in-Err-clause-long c = λ e.
-    let broken = c.in-Err.ensures.long e in
-    row_breaks (frame_of c.args.spot c.args.parent.now) c.args.from c.args.y c.values.i c.args.count broken.0 (omega arith) (omega arith) broken.1 c.read_at.ensures.kept c.values.invariant.taken broken.2
 
 pub values-preserved : goal.values-preserved
 values-preserved c =
     record {
-      taken = row_more (frame_of c.args.spot c.args.parent.now) c.args.from c.args.y c.values.i (omega arith) c.read_at.ensures.kept c.values.invariant.taken c.in-Ok.ensures.taken;
-      kept = kept_join (omega arith, omega arith, omega arith, omega arith) (omega arith, omega arith, omega arith, omega arith) c.values.invariant.kept c.read_at.ensures.kept;
+      value =
+          repeated_next (λ i. value_step (frame_of c.args.spot c.args.parent.now) (c.args.from + i) c.args.y) c.values.i (progress c.args.values.now c.args.decoder.now) (progress c.values.values c.values.decoder) _ c.values.invariant.value c.in-Ok.ensures.value;
+      len = c.read_at.ensures.len ∙ c.values.invariant.len;
       few = omega (arith, c.read_at.ensures.few);
-      small = λ all. c.read_at.ensures.small (c.values.invariant.small all);
-      block = c.read_at.ensures.block ∙ c.values.invariant.block;
     }
+
+pub returns-in-Err-clause-value : goal.returns-in-Err-clause-value
+returns-in-Err-clause-value c =
+    repeated_stops (λ i. value_step (frame_of c.args.spot c.args.parent.now) (c.args.from + i) c.args.y) c.values.i c.args.count (progress c.args.values.now c.args.decoder.now) (progress c.values.values c.values.decoder) c.in-Err.cause (omega arith) c.values.invariant.value c.in-Err.ensures.value

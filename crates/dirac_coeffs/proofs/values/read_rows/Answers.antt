@@ -1,32 +1,26 @@
-use Rattle.std.proofs.Common.{◌∙◌, arith, refl}
-use Rattle.dirac_coeffs.specs.Decisions.{frame_of, rows_part}
-use Rattle.dirac_coeffs.proofs.Filling.{rows_more, rows_break}
-use Rattle.dirac_coeffs.proofs.Readings.{reads_none}
-use Rattle.dirac_coeffs.proofs.Within.{kept_refl, kept_join}
+use Rattle.std.proofs.Common.{◌+◌, ◌∙◌, arith, refl}
+use Rattle.dirac_coeffs.specs.BandRead.{progress, row_step}
+use Rattle.dirac_coeffs.specs.Decisions.{frame_of}
+use Rattle.dirac_coeffs.proofs.Repeating.{repeated_none, repeated_next, repeated_stops}
 use Rattle.dirac_coeffs.proofs.values.read_rows.Goals as goal
 
 pub rows-init : goal.rows-init
-unfolding rows_part
 rows-init c =
     record {
-      taken = reads_none c.args.decoder.now;
-      kept = kept_refl;
+      value = repeated_none (λ j. row_step (frame_of c.args.spot c.args.parent.now) (c.args.top + j) c.args.from c.args.count) (progress c.args.values.now c.args.decoder.now);
+      len = refl;
       few = omega arith;
-      small = λ all. all;
-      block = refl;
     }
-
-pub returns-in-Err-clause-long : goal.returns-in-Err-clause-long
-returns-in-Err-clause-long c = λ e.
-    let f = frame_of c.args.spot c.args.parent.now in
-    rows_break f c.args.from c.args.count c.args.top c.rows.j c.args.rows (omega arith) (omega arith) c.read_row.ensures.kept c.rows.invariant.taken (c.in-Err.ensures.long e)
 
 pub rows-preserved : goal.rows-preserved
 rows-preserved c =
     record {
-      taken = rows_more (frame_of c.args.spot c.args.parent.now) c.args.from c.args.count c.args.top c.rows.j (omega arith) c.read_row.ensures.kept c.rows.invariant.taken c.in-Ok.ensures.taken;
-      kept = kept_join (omega arith, omega arith, omega arith, omega arith) (omega arith, omega arith, omega arith, omega arith) c.rows.invariant.kept c.read_row.ensures.kept;
+      value =
+          repeated_next (λ j. row_step (frame_of c.args.spot c.args.parent.now) (c.args.top + j) c.args.from c.args.count) c.rows.j (progress c.args.values.now c.args.decoder.now) (progress c.rows.values c.rows.decoder) _ c.rows.invariant.value c.in-Ok.ensures.value;
+      len = c.read_row.ensures.len ∙ c.rows.invariant.len;
       few = omega (arith, c.read_row.ensures.few);
-      small = λ all. c.read_row.ensures.small (c.rows.invariant.small all);
-      block = c.read_row.ensures.block ∙ c.rows.invariant.block;
     }
+
+pub returns-in-Err-clause-value : goal.returns-in-Err-clause-value
+returns-in-Err-clause-value c =
+    repeated_stops (λ j. row_step (frame_of c.args.spot c.args.parent.now) (c.args.top + j) c.args.from c.args.count) c.rows.j c.args.rows (progress c.args.values.now c.args.decoder.now) (progress c.rows.values c.rows.decoder) c.in-Err.cause (omega arith) c.rows.invariant.value c.in-Err.ensures.value
