@@ -1,6 +1,8 @@
-//! Rows dealt to threads: what gates hold, and that no number of workers changes an answer.
+//! Rows dealt to threads, by maps and in encoding: what gates hold, and that no number of workers changes an answer.
 #![tactic(auto)]
 
+#[cfg(test)]
+mod encoding;
 #[cfg(test)]
 mod gates;
 #[cfg(test)]

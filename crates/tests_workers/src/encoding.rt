@@ -1,0 +1,101 @@
+use crate::gates::{FIRST, HoldsRows, SECOND, THIRD};
+use dirac_encode::{Encoded, encode_stream};
+use dirac_io::{MemSink, MemSource, OpenGate, RowGate};
+use dirac_types::{NoMemory, Settings};
+use std::alloc::Global;
+use std::thread::Threads;
+
+// What encoding left: its answer, the stream, and the pictures that decoders show for it.
+#[derive(Drop)]
+struct Made {
+    ended: Encoded,
+    stream: MemSink,
+    shown: MemSink,
+}
+
+// Two raw pictures of 8 columns and so many rows, 4:2:0: the second is the first a row lower, and brighter.
+fn moving(alloc: Global, height: u32) -> Result<Vec<u8>, NoMemory> {
+    let mut raw = Vec::new(alloc);
+    for number in 0..2u32 {
+        for place in 0..height.saturating_mul(12) {
+            let byte = place.wrapping_mul(place).wrapping_mul(7) / 13 + number.wrapping_mul(19);
+            raw.push((byte % 256) as u8)?;
+        }
+    }
+    Ok(raw)
+}
+
+// Encodes them; a picture of 40 rows has two rows of superblocks, one of 72 rows has three.
+fn encoded<R: Threads + Sync, G: RowGate>(
+    rt: &R,
+    alloc: Global,
+    height: u32,
+    workers: u32,
+    gate: &G,
+) -> Result<Made, NoMemory> {
+    let mut settings = Settings::of_base(0);
+    settings.width = 8;
+    settings.height = height;
+    settings.workers = workers;
+    let Ok(()) = settings.check() else {
+        return Err(NoMemory);
+    };
+    let mut source = MemSource::new(moving(alloc, height)?, 4096, Vec::new(alloc));
+    let mut stream = MemSink::new(alloc, 4096, Vec::new(alloc));
+    let mut shown = MemSink::new(alloc, 4096, Vec::new(alloc));
+    let ended = encode_stream(
+        rt,
+        alloc,
+        &mut source,
+        &mut stream,
+        &mut shown,
+        &settings,
+        gate,
+    );
+    Ok(Made {
+        ended,
+        stream,
+        shown,
+    })
+}
+
+// A worker whose row is held leaves the other rows to the others; in a fixed division one worker has two of three rows,
+// and the gate that holds the first of them never sees the second.
+#[test]
+fn encoding_deals_rows_as_workers_come_free(rt: HostRuntime) -> Result<(), NoMemory> {
+    let alloc = rt.alloc();
+    let two = FIRST | SECOND;
+    let three = FIRST | SECOND | THIRD;
+    for (height, workers, held, all) in [
+        (40, 2, FIRST, two),
+        (40, 2, SECOND, two),
+        (40, 2, two, two),
+        (40, 3, FIRST, two),
+        (40, 3, SECOND, two),
+        (72, 2, FIRST, three),
+        (72, 2, SECOND, three),
+        (72, 2, THIRD, three),
+        (72, 3, three, three),
+    ] {
+        let alone = encoded(&rt, alloc, height, 1, &OpenGate)?;
+        let gate = HoldsRows::new(held, all);
+        let made = encoded(&rt, alloc, height, workers, &gate)?;
+        assert!(rt;
+            gate.all_came(),
+            "{height} rows, {workers} workers, {held} held"
+        );
+        assert_eq!(rt; made.ended, Encoded::Done);
+        assert_eq!(rt; made.stream.taken(), alone.stream.taken());
+        assert_eq!(rt; made.shown.taken(), alone.shown.taken());
+    }
+    Ok(())
+}
+
+#[test]
+fn no_gate_is_passed_by_one_thread(rt: HostRuntime) -> Result<(), NoMemory> {
+    let gate = HoldsRows::new(FIRST, FIRST | SECOND);
+    let made = encoded(&rt, rt.alloc(), 40, 1, &gate)?;
+    assert!(rt; !gate.all_came());
+    assert_eq!(rt; made.ended, Encoded::Done);
+    Ok(())
+}
