@@ -1,7 +1,7 @@
 //! The picture that decoders show for a coded inter picture.
 
 ghost use Rattle.std.specs.Prelude.{◌≡◌, ◌*◌, length, IfOk, IfSome};
-ghost use Rattle.dirac_obmc.specs.declared.motion.Part.TheVariants as part;
+ghost use Rattle.dirac_types.specs.declared.formats.Part.TheVariants as part;
 ghost use Rattle.dirac_sequence.specs.Lawful.{IsSequence};
 ghost use Rattle.dirac_picture.specs.Fits.{IsResidual};
 ghost use Rattle.dirac_decode.specs.Content.{height_of, width_of};

@@ -12,8 +12,8 @@ use Rattle.dirac_sequence.specs.Lawful.{IsSequence}
 use Rattle.dirac_sequence.specs.Ratios.{ratio_across, ratio_down}
 use Rattle.dirac_header.specs.Prediction.{is_grid}
 use Rattle.dirac_upconvert.specs.SubSamples.{Up}
-use Rattle.dirac_obmc.specs.declared.motion.Part.{Part}
-use Rattle.dirac_obmc.specs.declared.motion.Part.TheVariants as part
+use Rattle.dirac_types.specs.declared.formats.Part.{Part}
+use Rattle.dirac_types.specs.declared.formats.Part.TheVariants as part
 use Rattle.dirac_obmc.specs.Compensation.{IsPredictable, ratio_of}
 use Rattle.dirac_picture.specs.declared.coded.CodedMotion.{CodedMotion}
 use Rattle.dirac_picture.specs.Fits.{IsMotion}

@@ -1,8 +1,8 @@
 -- Bands that fit a transform are those that a plane is rebuilt from.
 use Rattle.std.proofs.Common.{ℕ, List}
 use Rattle.dirac_sequence.specs.declared.sequence.Sequence.{Sequence}
-use Rattle.dirac_obmc.specs.declared.motion.Part.{Part}
-use Rattle.dirac_obmc.specs.declared.motion.Part.TheVariants as part
+use Rattle.dirac_types.specs.declared.formats.Part.{Part}
+use Rattle.dirac_types.specs.declared.formats.Part.TheVariants as part
 use Rattle.dirac_picture.specs.declared.coded.CodedResidual.{CodedResidual}
 use Rattle.dirac_decode.specs.Content.{width_of, height_of, bands_of}
 use Rattle.dirac_header.specs.declared.transform.Transform.{Transform}

@@ -7,32 +7,29 @@ use Rattle.dirac_types.specs.declared.formats.Kind.TheVariants.{Intra, Inter}
 use Rattle.dirac_types.specs.declared.picture.Picture.{Picture}
 use Rattle.dirac_types.specs.Table.{Table}
 use Rattle.dirac_sequence.specs.declared.sequence.Sequence.{Sequence}
+use Rattle.dirac_sequence.specs.Sizes.{chroma_height, chroma_width, picture_height, plane_height, plane_width}
 use Rattle.dirac_header.specs.declared.header.PictureHeader.{PictureHeader}
 use Rattle.dirac_coeffs.specs.declared.spot.CodedBand.{CodedBand}
 use Rattle.dirac_upconvert.specs.HalfSamples.{IsSample, half}
 use Rattle.dirac_upconvert.specs.SubSamples.{Up}
-use Rattle.dirac_obmc.specs.declared.motion.Part.{Part}
-use Rattle.dirac_obmc.specs.declared.motion.Part.TheVariants as part
+use Rattle.dirac_types.specs.declared.formats.Part.{Part}
+use Rattle.dirac_types.specs.declared.formats.Part.TheVariants as part
 use Rattle.dirac_obmc.specs.Compensation.{Compensation, predicted_plane}
 use Rattle.dirac_refs.specs.References.{listed}
 use Rattle.dirac_picture.specs.declared.coded.CodedMotion.{CodedMotion}
 use Rattle.dirac_picture.specs.declared.coded.CodedPicture.{CodedPicture}
 use Rattle.dirac_picture.specs.declared.coded.CodedResidual.{CodedResidual}
-use Rattle.dirac_picture.specs.Grammar.{are_listed, chroma_width, chroma_height}
+use Rattle.dirac_picture.specs.Grammar.{are_listed}
 use Rattle.dirac_residual.specs.Residual.{residual, clipped, with_prediction}
 pub use Rattle.dirac_residual.specs.Zeros.{zeros}
 
 -- the columns of a plane
 abbrev pub width_of : Sequence → Part → ℕ
-width_of s part.Y = s.width
-width_of s part.U = chroma_width s
-width_of s part.V = chroma_width s
+width_of s part = plane_width s part
 
 -- its rows
 abbrev pub height_of : Sequence → Part → ℕ
-height_of s part.Y = s.height
-height_of s part.U = chroma_height s
-height_of s part.V = chroma_height s
+height_of s part = plane_height s part
 
 -- a plane of a picture
 abbrev pub plane_of : Picture → Part → Table
@@ -119,7 +116,7 @@ pub record IsPlane (width height : ℕ) (t : Table) : Type 0 where
 
 -- a picture of this sequence
 pub record IsPicture (s : Sequence) (p : Picture) : Type 0 where
-  pub y : IsPlane s.width s.height p.y
+  pub y : IsPlane s.width (picture_height s) p.y
   pub u : IsPlane (chroma_width s) (chroma_height s) p.u
   pub v : IsPlane (chroma_width s) (chroma_height s) p.v
 

@@ -7,7 +7,7 @@ ghost use Rattle.dirac_decode.specs.Content as content;
 use dirac_obmc::Part;
 use dirac_picture::{CodedResidual, PlaneBands};
 use dirac_residual::plane_residual;
-use dirac_sequence::{Sequence, ratio_across, ratio_down};
+use dirac_sequence::Sequence;
 use dirac_types::{Kind, NoMemory, Picture, Plane, Wide};
 use std::alloc::Global;
 
@@ -18,11 +18,7 @@ pub fn width_of(sequence: &Sequence, part: Part) -> u32
     ensures some { 1 ≤ result }
     ensures few { result ≤ 4096 }
 {
-    match part {
-        Part::Y => sequence.width,
-        Part::U => sequence.width / ratio_across(sequence.chroma),
-        Part::V => sequence.width / ratio_across(sequence.chroma),
-    }
+    sequence.plane_width(part)
 }
 
 /// The number of rows of a plane.
@@ -32,11 +28,7 @@ pub fn height_of(sequence: &Sequence, part: Part) -> u32
     ensures some { 1 ≤ result }
     ensures few { result ≤ 4096 }
 {
-    match part {
-        Part::Y => sequence.height,
-        Part::U => sequence.height / ratio_down(sequence.chroma),
-        Part::V => sequence.height / ratio_down(sequence.chroma),
-    }
+    sequence.plane_height(part)
 }
 
 /// Lends a plane of a picture.

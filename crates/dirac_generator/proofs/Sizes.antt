@@ -1,5 +1,5 @@
 -- The sizes of pictures with accepted settings.
-use Rattle.std.proofs.Common.{◌≡◌, ℕ, zero, suc, ◌+◌, ◌*◌, ◌/◌, ◌%◌, ◌≤◌, ap, arith}
+use Rattle.std.proofs.Common.{◌≡◌, ℕ, zero, suc, ◌+◌, ◌*◌, ◌/◌, ◌%◌, ◌≤◌, ◌==◌, if◌then◌else◌, Bool, true, false, ap, arith}
 use Rattle.std.proofs.Math.Nat.{div-le_self}
 use mathlib.Core.Logic.{dite}
 use native.Mathlib.Decide.{ℕ_discrete}
@@ -44,3 +44,19 @@ count_bounded width height across down w h =
     let luma = times_le width height 4096 2304 w h in
     let a = div-le_self width across in let b = div-le_self height down in
     let chroma = times_le (width / across) (height / down) 4096 2304 (omega arith) (omega arith) in omega arith
+
+pub bounded_by : (width height chroma_width chroma_height across down : ℕ) → chroma_width ≡ width / across → chroma_height ≡ height / down → width ≤ 4096 → height ≤ 2304
+    → width * height + (chroma_width * chroma_height + chroma_width * chroma_height) ≤ 28311552
+bounded_by width height chroma_width chroma_height across down w h few low = rw (w, h) (count_bounded width height across down few low)
+
+one_or_two : (b : Bool) → (1 ≤ (if b then 1 else 2)) × ((if b then 1 else 2) ≤ 2)
+one_or_two true = (omega arith, omega arith)
+one_or_two false = (omega arith, omega arith)
+
+-- a plane of chroma has columns, and no more than luma
+pub chroma_some : (t : Settings) → IsAccepted t → (1 ≤ t.width / step_across t.chroma) × (t.width / step_across t.chroma ≤ 4096)
+chroma_some t is =
+    let f = sizes_fit t is in
+    let step = one_or_two (t.chroma == 0) in
+    let least = div-le_self t.width (step_across t.chroma) in
+    (some_parts t.width (step_across t.chroma) f.across.0 step.0 step.1 f.across_divides, omega (arith, f.across.1))

@@ -2,7 +2,8 @@
 use Rattle.std.specs.Prelude.{if◌then◌else◌, ℕ, zero, suc, ◌+◌, ◌*◌, ◌/◌, ◌%◌, List, [], ◌++◌, map, take, drop, bytes_eq}
 use Rattle.std.specs.List.{range_with_len}
 use Rattle.dirac_types.specs.declared.settings.Settings.{Settings}
-use Rattle.dirac_types.specs.Settings.{step_across, step_down}
+use Rattle.dirac_types.specs.declared.formats.Part.TheVariants as part
+use Rattle.dirac_types.specs.Sizes.{picture_height, plane_height, plane_width}
 
 -- the byte of picture `number` in plane 0, 1 or 2, at column x of row y
 abbrev pub generated_byte : ℕ → ℕ → ℕ → ℕ → ℕ
@@ -15,14 +16,14 @@ generated_rows number plane width count =
 
 -- the sizes of chroma with these settings
 abbrev pub chroma_across : Settings → ℕ
-chroma_across t = t.width / step_across t.chroma
+chroma_across t = plane_width t part.U
 
 abbrev pub chroma_down : Settings → ℕ
-chroma_down t = t.height / step_down t.chroma
+chroma_down t = plane_height t part.U
 
 -- how many bytes a plane of luma has, and one of chroma
 abbrev pub luma_count : Settings → ℕ
-luma_count t = t.width * t.height
+luma_count t = t.width * picture_height t
 
 abbrev pub chroma_count : Settings → ℕ
 chroma_count t = chroma_across t * chroma_down t

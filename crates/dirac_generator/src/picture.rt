@@ -1,25 +1,10 @@
 ghost use Rattle.std.specs.Prelude.{◌≡◌, ◌+◌, ◌*◌, ◌≤◌, ◌<◌, length};
-ghost use Rattle.dirac_types.specs.Settings.{IsAccepted, step_across as across_of, step_down as down_of};
+ghost use Rattle.dirac_types.specs.Settings.{IsAccepted};
+ghost use Rattle.dirac_types.specs.Sizes.{picture_height};
 ghost use Rattle.dirac_generator.specs.Generated.{generated_byte, generated_rows, generated as bytes_of};
 ghost use Rattle.dirac_generator.specs.Generated.{chroma_across, chroma_down, picture_count};
 
-use dirac_types::Settings;
-
-/// How many luma samples stand beside each other for one chroma sample.
-fn step_across(chroma: u32) -> u32
-    ensures value { result ≡ across_of chroma }
-    ensures range { (1 ≤ result) × (result ≤ 2) }
-{
-    if chroma == 0 { 1 } else { 2 }
-}
-
-/// How many luma samples stand one below the other for one chroma sample.
-fn step_down(chroma: u32) -> u32
-    ensures value { result ≡ down_of chroma }
-    ensures range { (1 ≤ result) × (result ≤ 2) }
-{
-    if chroma == 2 { 2 } else { 1 }
-}
+use dirac_types::{Part, Settings};
 
 /// How many bytes a plane of luma has, and one of chroma, and how wide one of chroma is.
 #[derive(Clone, Copy)]
@@ -31,17 +16,17 @@ struct Sizes {
 
 fn sizes_of(settings: &Settings) -> Sizes
     requires { IsAccepted settings.now }
-    ensures luma { result.luma ≡ settings.now.width * settings.now.height }
+    ensures luma { result.luma ≡ settings.now.width * picture_height settings.now }
     ensures chroma { result.chroma ≡ chroma_across settings.now * chroma_down settings.now }
     ensures chroma_width { result.chroma_width ≡ chroma_across settings.now }
     ensures some_chroma { (1 ≤ result.chroma_width) × (result.chroma_width ≤ 4096) }
     ensures some_luma { (1 ≤ settings.now.width) × (settings.now.width ≤ 4096) × (1 ≤ result.luma) }
     ensures bounded { result.luma + (result.chroma + result.chroma) ≤ 28311552 }
 {
-    let across = settings.width / step_across(settings.chroma);
-    let down = settings.height / step_down(settings.chroma);
+    let across = settings.plane_width(Part::U);
+    let down = settings.plane_height(Part::U);
     Sizes {
-        luma: settings.width as usize * settings.height as usize,
+        luma: settings.width as usize * settings.picture_height() as usize,
         chroma: across as usize * down as usize,
         chroma_width: across as usize,
     }

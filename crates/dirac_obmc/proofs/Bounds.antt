@@ -11,8 +11,8 @@ use Rattle.dirac_blocks.specs.declared.block.Block.{Block}
 use Rattle.dirac_upconvert.specs.HalfSamples.{IsSample}
 use Rattle.dirac_upconvert.specs.SubSamples.{Up}
 use Rattle.dirac_upconvert.proofs.SampleRows.{sub_sample_is}
-use Rattle.dirac_obmc.specs.declared.motion.Part.{Part}
-use Rattle.dirac_obmc.specs.declared.motion.Part.TheVariants as part
+use Rattle.dirac_types.specs.declared.formats.Part.{Part}
+use Rattle.dirac_types.specs.declared.formats.Part.TheVariants as part
 use Rattle.dirac_obmc.specs.Compensation.{Compensation, IsMotion, across_ratio, blocks_across, blocks_down, dc_of, down_ratio, from_one, from_two, moved_sample, position, predicts, second_sample, term, total, weight_of, y_length, y_separation}
 use Rattle.dirac_obmc.specs.Directions.{IsSound}
 use Rattle.dirac_obmc.specs.Weights.{share, sum_below}

@@ -8,7 +8,7 @@ use Rattle.dirac_blocks.specs.declared.block.Block.{Block}
 use Rattle.dirac_blocks.specs.Tables.{grey}
 use Rattle.dirac_upconvert.specs.HalfSamples.{between, half}
 use Rattle.dirac_upconvert.specs.SubSamples.{part_sample}
-use Rattle.dirac_obmc.specs.declared.motion.Part.TheVariants as part
+use Rattle.dirac_types.specs.declared.formats.Part.TheVariants as part
 use Rattle.dirac_obmc.specs.Compensation.{Compensation, moved_sample, position, predicted_plane, predicts, term}
 use Rattle.dirac_obmc.specs.Weights.{share, weight_at}
 

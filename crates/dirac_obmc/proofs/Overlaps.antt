@@ -6,8 +6,8 @@ use Rattle.dirac_types.specs.declared.formats.Chroma.{Chroma}
 use Rattle.dirac_types.specs.declared.formats.Chroma.TheVariants.{C444, C422, C420}
 use Rattle.dirac_sequence.specs.Ratios.{ratio_across, ratio_down}
 use Rattle.dirac_header.specs.Prediction.{is_divisible, is_overlap}
-use Rattle.dirac_obmc.specs.declared.motion.Part.{Part}
-use Rattle.dirac_obmc.specs.declared.motion.Part.TheVariants as part
+use Rattle.dirac_types.specs.declared.formats.Part.{Part}
+use Rattle.dirac_types.specs.declared.formats.Part.TheVariants as part
 use Rattle.dirac_obmc.specs.Compensation.{Compensation, IsMotion, ratio_of, x_length, x_separation, y_length, y_separation}
 use Rattle.dirac_obmc.specs.Weights.{IsOverlap}
 use Rattle.std.proofs.lemmas.Bool.Decides.{nat_tests}

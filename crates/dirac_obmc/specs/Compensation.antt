@@ -11,8 +11,8 @@ use Rattle.dirac_header.specs.declared.prediction.Prediction.{Prediction}
 use Rattle.dirac_blocks.specs.Tables.{BlockTable, block_at}
 use Rattle.dirac_blocks.specs.declared.block.Block.{Block}
 use Rattle.dirac_upconvert.specs.SubSamples.{Up, rounded, sub_sample}
-use Rattle.dirac_obmc.specs.declared.motion.Part.{Part}
-use Rattle.dirac_obmc.specs.declared.motion.Part.TheVariants as part
+use Rattle.dirac_types.specs.declared.formats.Part.{Part}
+use Rattle.dirac_types.specs.declared.formats.Part.TheVariants as part
 use Rattle.dirac_obmc.specs.Weights.{share}
 
 -- what a plane of an inter picture is predicted from, and the plane's size

@@ -3,8 +3,9 @@ ghost use Rattle.dirac_obmc.specs.Compensation.{IsMotion, ratio_of, across_ratio
 ghost use Rattle.dirac_obmc.specs.Directions.{IsAcross, IsDown};
 ghost use Rattle.dirac_obmc.specs.Given.{given};
 
-use crate::motion::{Motion, Part};
+use crate::motion::Motion;
 use dirac_sequence::{ratio_across, ratio_down};
+use dirac_types::Part;
 
 /// How the blocks stand along one direction of a plane: how many, and their length and separation in its samples.
 #[derive(Clone, Copy)]

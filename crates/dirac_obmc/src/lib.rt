@@ -12,7 +12,8 @@ mod sums;
 mod values;
 mod weights;
 
-pub use motion::{Motion, Part};
+pub use dirac_types::Part;
+pub use motion::Motion;
 pub use of_samples::samples_predict_samples;
 pub use predict::{predict_plane, predict_rows};
 pub use predicted::Predicted;

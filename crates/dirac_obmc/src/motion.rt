@@ -1,15 +1,7 @@
 use dirac_blocks::BlockData;
 use dirac_header::Prediction;
-use dirac_types::Chroma;
+use dirac_types::{Chroma, Part};
 use dirac_upconvert::UpPlane;
-
-/// A plane of a picture.
-#[derive(Clone, Copy, Debug, PartialEq, Eq)]
-pub enum Part {
-    Y,
-    U,
-    V,
-}
 
 /// What one plane of an inter picture is predicted from: the picture's blocks and parameters, and this plane of
 /// each reference.

@@ -10,10 +10,10 @@ ghost use Rattle.dirac_obmc.specs.Compensation.{IsMotion, dc_of, from_one, from_
 ghost use Rattle.dirac_obmc.specs.Given.{given};
 
 use crate::direction::{across_ratio, down_ratio};
-use crate::motion::{Motion, Part};
+use crate::motion::Motion;
 use dirac_blocks::Block;
 use dirac_header::Prediction;
-use dirac_types::Vector;
+use dirac_types::{Part, Vector};
 use dirac_upconvert::UpPlane;
 
 /// A place in parts of a sample.

@@ -1,12 +1,14 @@
--- The sizes of chroma planes.
+-- The sizes of planes.
 use Rattle.std.proofs.Common.{◌≡◌, ℕ, ◌/◌, ◌%◌, ◌≤◌, arith}
 use Rattle.dirac_types.specs.declared.formats.Chroma.{Chroma}
 use Rattle.dirac_types.specs.declared.formats.Chroma.TheVariants.{C444, C422, C420}
+use Rattle.dirac_types.specs.declared.formats.Part.{Part}
+use Rattle.dirac_types.specs.declared.formats.Part.TheVariants as part
 use Rattle.dirac_sequence.specs.declared.sequence.Sequence.{Sequence}
 use Rattle.dirac_sequence.specs.Lawful.{IsSequence}
 use Rattle.dirac_sequence.specs.Ratios.{ratio_across, ratio_down}
 use Rattle.dirac_picture.specs.Fits.{IsPlaneSize}
-use Rattle.dirac_picture.specs.Grammar.{chroma_width, chroma_height}
+use Rattle.dirac_sequence.specs.Sizes.{chroma_height, chroma_width, plane_height, plane_width}
 
 across_some : (width : ℕ) (chroma : Chroma) → 1 ≤ width → width ≤ 4096 → width % ratio_across chroma ≡ 0 → (1 ≤ width / ratio_across chroma) × (width / ratio_across chroma ≤ 4096)
 across_some width C444 some few whole = (omega arith, omega arith)
@@ -30,3 +32,9 @@ chroma_size s lawful =
       across = across_some s.width s.chroma size.0 size.1 lawful.whole_across;
       down = down_some s.height s.chroma size.2 (omega arith) lawful.whole_down;
     }
+
+-- so each plane
+pub part_size : (s : Sequence) (p : Part) → IsSequence s → IsPlaneSize (plane_width s p) (plane_height s p)
+part_size s part.Y lawful = luma_size s lawful
+part_size s part.U lawful = chroma_size s lawful
+part_size s part.V lawful = chroma_size s lawful

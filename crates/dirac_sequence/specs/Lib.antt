@@ -1,4 +1,5 @@
 pub mod Ratios
+pub mod Sizes
 pub mod Tables
 pub mod Written
 pub mod Grammar

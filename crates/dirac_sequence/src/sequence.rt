@@ -1,7 +1,8 @@
 ghost use Rattle.std.specs.Prelude.{◌≡◌};
 ghost use Rattle.dirac_sequence.specs.Ratios as ratios;
+ghost use Rattle.dirac_sequence.specs.Sizes as sizes;
 
-use dirac_types::Chroma;
+use dirac_types::{Chroma, Part};
 
 /// What a sequence header says of the pictures that follow it.
 #[derive(Clone, Copy, Debug, PartialEq, Eq)]
@@ -30,6 +31,35 @@ pub struct Sequence {
     pub luma: (u64, u64),
     /// Chroma's offset and excursion.
     pub colour: (u64, u64),
+}
+
+impl Sequence {
+    /// The number of rows of a picture, in luma samples.
+    pub fn picture_height(&self) -> u32
+        ensures { result ≡ sizes.picture_height self.now }
+    {
+        self.height
+    }
+
+    /// The number of columns of a plane of a picture.
+    pub fn plane_width(&self, part: Part) -> u32
+        ensures { result ≡ sizes.plane_width self.now part }
+    {
+        match part {
+            Part::Y => self.width,
+            Part::U | Part::V => self.width / ratio_across(self.chroma),
+        }
+    }
+
+    /// The number of rows of a plane of a picture.
+    pub fn plane_height(&self, part: Part) -> u32
+        ensures { result ≡ sizes.plane_height self.now part }
+    {
+        match part {
+            Part::Y => self.picture_height(),
+            Part::U | Part::V => self.picture_height() / ratio_down(self.chroma),
+        }
+    }
 }
 
 /// Offset and excursion of luma and of chroma.

@@ -23,8 +23,8 @@ use Rattle.dirac_blocks.specs.Tables.{BlockTable, grey}
 use Rattle.dirac_upconvert.specs.HalfSamples.{IsSample}
 use Rattle.dirac_upconvert.specs.SubSamples.{Up}
 use Rattle.dirac_upconvert.proofs.Halves.{half_samples}
-use Rattle.dirac_obmc.specs.declared.motion.Part.{Part}
-use Rattle.dirac_obmc.specs.declared.motion.Part.TheVariants as part
+use Rattle.dirac_types.specs.declared.formats.Part.{Part}
+use Rattle.dirac_types.specs.declared.formats.Part.TheVariants as part
 use Rattle.dirac_obmc.specs.Compensation as obmc
 use Rattle.dirac_obmc.proofs.SamplesPredicted.{planes_predicted}
 use Rattle.dirac_picture.specs.Fits as fits

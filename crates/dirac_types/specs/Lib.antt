@@ -7,4 +7,5 @@ pub mod Names
 pub mod Numbers
 pub mod Samples
 pub mod Settings
+pub mod Sizes
 pub mod Table

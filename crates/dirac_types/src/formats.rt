@@ -15,6 +15,14 @@ pub enum Band {
     HH,
 }
 
+/// A plane of a picture: luma, or one of the two of chroma.
+#[derive(Clone, Copy, Debug, PartialEq, Eq)]
+pub enum Part {
+    Y,
+    U,
+    V,
+}
+
 /// Whether a picture is predicted from others.
 #[derive(Clone, Copy, Debug, PartialEq, Eq)]
 pub enum Kind {

@@ -11,10 +11,11 @@ mod picture;
 mod ranges;
 mod settings;
 mod shared;
+mod sizes;
 mod table;
 
 pub use faults::{Cause, Fault, Refusal, Stop};
-pub use formats::{Band, BlockGrid, Chroma, Kind, Vector};
+pub use formats::{Band, BlockGrid, Chroma, Kind, Part, Vector};
 pub use memory::NoMemory;
 pub use numbers::with_sign;
 pub use picture::Picture;

@@ -71,7 +71,7 @@ fn setting(name: Name, value: u32, least: u32, most: u32, step: u32) -> Ranged
 }
 
 /// Luma samples beside each other for one chroma sample.
-fn step_across(chroma: u32) -> u32
+pub fn step_across(chroma: u32) -> u32
     ensures value { result ≡ settings.step_across chroma }
     ensures whole { 1 ≤ result }
 {
@@ -79,7 +79,7 @@ fn step_across(chroma: u32) -> u32
 }
 
 /// Luma samples below each other for one chroma sample.
-fn step_down(chroma: u32) -> u32
+pub fn step_down(chroma: u32) -> u32
     ensures value { result ≡ settings.step_down chroma }
     ensures whole { 1 ≤ result }
 {

@@ -1,4 +1,4 @@
-use Rattle.dirac_obmc.specs.declared.motion.Part.TheVariants as part
+use Rattle.dirac_types.specs.declared.formats.Part.TheVariants as part
 use Rattle.dirac_decode.proofs.Pictures.{plane_fits}
 use Rattle.dirac_decode.proofs.picture.rebuild.Goals as goal
 

@@ -1,0 +1,38 @@
+//! The sizes of the pictures of settings, and of their planes.
+
+ghost use Rattle.std.specs.Prelude.{◌≡◌};
+
+use crate::formats::Part;
+use crate::ranges::{step_across, step_down};
+use crate::settings::Settings;
+
+impl Settings {
+    ghost use Rattle.dirac_types.specs.Sizes as sizes;
+
+    /// The number of rows of a picture, in luma samples.
+    pub fn picture_height(&self) -> u32
+        ensures { result ≡ sizes.picture_height self.now }
+    {
+        self.height
+    }
+
+    /// The number of columns of a plane of a picture.
+    pub fn plane_width(&self, part: Part) -> u32
+        ensures { result ≡ sizes.plane_width self.now part }
+    {
+        match part {
+            Part::Y => self.width,
+            Part::U | Part::V => self.width / step_across(self.chroma),
+        }
+    }
+
+    /// The number of rows of a plane of a picture.
+    pub fn plane_height(&self, part: Part) -> u32
+        ensures { result ≡ sizes.plane_height self.now part }
+    {
+        match part {
+            Part::Y => self.picture_height(),
+            Part::U | Part::V => self.picture_height() / step_down(self.chroma),
+        }
+    }
+}
