@@ -4,12 +4,12 @@ use Rattle.std.specs.List.{starts_with}
 use Rattle.dirac_types.specs.declared.faults.Cause.TheVariants.{NoSequence, SequenceChanged}
 use Rattle.dirac_types.specs.declared.faults.Refusal.{Refusal}
 use Rattle.dirac_types.specs.declared.picture.Picture.{Picture}
+use Rattle.dirac_units.specs.declared.codes.TheConstants.{END_OF_SEQUENCE, SEQUENCE_HEADER}
 use Rattle.dirac_units.specs.Info.{fields_are_read}
 use Rattle.dirac_sequence.specs.declared.sequence.Sequence.{Sequence}
 use Rattle.dirac_sequence.specs.Grammar.{sequence_read}
-use Rattle.dirac_header.specs.Codes.{is_reference}
 use Rattle.dirac_refs.specs.declared.waiting.Waiting.{Waiting}
-use Rattle.dirac_refs.specs.References.{committed}
+pub use Rattle.dirac_refs.specs.References.{as_reference, committed}
 use Rattle.dirac_refs.specs.Delivery.{key_of, delivered, flushed}
 use Rattle.dirac_picture.specs.declared.coded.CodedPicture.{CodedPicture}
 use Rattle.dirac_picture.specs.Grammar.{picture_read}
@@ -61,10 +61,6 @@ abbrev pub first_or : Option ℕ → ℕ → ℕ
 first_or None number = number
 first_or (Some first) number = first
 
--- a picture, if its code is that of a reference picture
-abbrev pub as_reference : ℕ → Picture → Option Picture
-as_reference code p = if is_reference code then Some p else None
-
 -- a rebuilt picture changes the list and joins those that wait
 abbrev pub shows : Course → CodedPicture → Picture → Moved
 shows course coded p =
@@ -93,11 +89,11 @@ ended course = record { course = record { opened = None; first = None; list = []
 -- a sequence header or a picture
 abbrev pub content : Course → ℕ → List ℕ → Result Moved Refusal
 content course code payload =
-    if code == 0x00 then header_moves course course.opened payload else picture_moves course course.opened code payload
+    if code == SEQUENCE_HEADER then header_moves course course.opened payload else picture_moves course course.opened code payload
 
 -- an end unit, or one that is passed over
 abbrev pub passed : Course → ℕ → Moved
-passed course code = if code == 0x10 then ended course else staying course
+passed course code = if code == END_OF_SEQUENCE then ended course else staying course
 
 -- the content of one unit: where it brings the course, or its refusal, placed from the unit's first byte
 unfoldable pub moved : Course → ℕ → List ℕ → Result Moved Refusal

@@ -4,6 +4,7 @@ use Rattle.std.specs.List.{All}
 use Rattle.dirac_types.specs.declared.faults.Fault.{Fault}
 use Rattle.dirac_types.specs.declared.faults.Refusal.{Refusal}
 use Rattle.dirac_types.specs.declared.picture.Picture.{Picture}
+use Rattle.dirac_units.specs.declared.codes.TheConstants.{END_OF_SEQUENCE, SEQUENCE_HEADER}
 use Rattle.dirac_units.specs.declared.spot.Spot.{Spot}
 use Rattle.dirac_units.specs.Cut.{UnitText}
 use Rattle.dirac_units.specs.Info.{fields_are_read}
@@ -33,7 +34,7 @@ pushed_in course (Some o) unit = pushed_of course o (picture_read unit.info.code
 -- the picture of a unit, where it has one
 abbrev pub pushed_by : Course → UnitText → List Waiting
 pushed_by course unit =
-    if fields_are_read unit.info.code && not (unit.info.code == 0x00) then pushed_in course course.opened unit else []
+    if fields_are_read unit.info.code && not (unit.info.code == SEQUENCE_HEADER) then pushed_in course course.opened unit else []
 
 -- a unit's picture and those behind it; a unit that is refused has none, and none is behind it
 abbrev pub pushed_on : List Waiting → (Course → List Waiting) → Result Moved Refusal → List Waiting
@@ -52,7 +53,7 @@ flushed_behind waiting ws = let all = pushed_all waiting ws in all.gone ++ flush
 
 -- units of one sequence: none of them ends it
 abbrev pub AreOfOneSequence : List UnitText → Type 0
-AreOfOneSequence units = All (λ (unit : UnitText). unit.info.code ≢ 0x10) units
+AreOfOneSequence units = All (λ (unit : UnitText). unit.info.code ≢ END_OF_SEQUENCE) units
 
 -- up to the end of the stream or a fault a sequence shows its pictures in the order of delivery
 abbrev pub LastIsFlushed : Type 0
@@ -78,5 +79,5 @@ pub record ShowsBehind (shown front : List Picture) (units : List UnitText) (end
 abbrev pub EachIsFlushed : Type 0
 EachIsFlushed =
     (course : Course) (spot : Spot) (units rest : List UnitText) (last : UnitText) (end : Option Fault)
-    → AreOfOneSequence units → accepted course units ≡ units → last.info.code ≡ 0x10
+    → AreOfOneSequence units → accepted course units ≡ units → last.info.code ≡ END_OF_SEQUENCE
     → ShowsBehind (outcome course spot (units ++ last ∷ rest) end).shown (flushed_behind course.waiting (pushed course units)) rest end

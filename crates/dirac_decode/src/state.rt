@@ -8,7 +8,9 @@ use crate::picture::{Rebuilt, make_picture};
 use dirac_refs::{Delivery, RefBuffer, key};
 use dirac_sequence::read_sequence;
 use dirac_types::{Cause, Picture, Refusal, Stop};
-use dirac_units::{Payload, fields_are_read};
+use dirac_units::{
+    END_OF_SEQUENCE, PARSE_INFO_LENGTH, Payload, SEQUENCE_HEADER, fields_are_read,
+};
 use std::alloc::Global;
 use std::marker::Model;
 
@@ -87,7 +89,7 @@ impl State {
         if !fields_are_read(code) {
             return self.pass(code);
         }
-        if code == 0x00 {
+        if code == SEQUENCE_HEADER {
             self.take_header(payload)
         } else {
             self.take_picture(alloc, code, payload.bytes())
@@ -100,7 +102,7 @@ impl State {
         ensures few { Fewer result (length self.old.waiting) (length self.new.waiting) }
         ensures most { self.old.most ≤ self.new.most }
     {
-        if code == 0x10 {
+        if code == END_OF_SEQUENCE {
             self.opened = None;
             self.first = None;
             self.refs = RefBuffer::new();
@@ -209,7 +211,7 @@ fn behind_parse_info(refusal: Refusal) -> Refusal
     ensures { result ≡ in_unit refusal }
 {
     Refusal {
-        at: 13 + refusal.at,
+        at: PARSE_INFO_LENGTH as u64 + refusal.at,
         cause: refusal.cause,
     }
 }

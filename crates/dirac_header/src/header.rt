@@ -4,11 +4,11 @@ ghost use Rattle.dirac_bits.specs.Syntax.{read};
 ghost use Rattle.dirac_bits.specs.Answers.{Reads};
 ghost use Rattle.dirac_bits.specs.Laws.{BeginsWith};
 ghost use Rattle.dirac_header.specs.declared.header.PictureHeader.{PictureHeader as TheHeader};
-ghost use Rattle.dirac_header.specs.Codes as codes;
 ghost use Rattle.dirac_header.specs.Header as grammar;
 
 use dirac_bits::BitReader;
 use dirac_types::Refusal;
+use dirac_units::{is_reference, references};
 
 /// What stands before a picture's data.
 #[derive(Clone, Copy, Debug, PartialEq, Eq)]
@@ -101,22 +101,4 @@ fn moved_by(number: u32, offset: i64) -> u32
     ensures { result ≡ grammar.moved_by number offset }
 {
     (i64::from(number) + offset).rem_euclid(1 << 32) as u32
-}
-
-/// Whether others may be predicted from a picture with this parse code.
-pub fn is_reference(code: u8) -> bool
-    ensures { result ≡ codes.is_reference code }
-{
-    code == 0x0C || code == 0x0D || code == 0x0E
-}
-
-/// How many pictures a picture with this parse code is predicted from.
-pub fn references(code: u8) -> u8
-    ensures { result ≡ codes.references_of code }
-{
-    match code {
-        0x0D | 0x09 => 1,
-        0x0E | 0x0A => 2,
-        _ => 0,
-    }
 }

@@ -9,7 +9,8 @@ mod transform;
 mod write;
 
 pub use counts::Counts;
-pub use header::{PictureHeader, is_reference, read_header, references};
+pub use dirac_units::{is_reference, references};
+pub use header::{PictureHeader, read_header};
 pub use prediction::{Prediction, block_grid, read_prediction};
 pub use transform::{Transform, read_transform};
 pub use write::{write_header, write_prediction, write_transform};

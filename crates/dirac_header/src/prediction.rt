@@ -7,10 +7,10 @@ ghost use Rattle.dirac_header.specs.declared.prediction.Prediction.{Prediction a
 ghost use Rattle.dirac_types.specs.declared.formats.Chroma.{Chroma as TheChroma};
 ghost use Rattle.dirac_header.specs.Prediction as grammar;
 
-use crate::header::references;
 use dirac_bits::BitReader;
 use dirac_sequence::{ratio_across, ratio_down};
 use dirac_types::{BlockGrid, Cause, Chroma, Refusal};
+use dirac_units::references;
 
 /// How an inter picture is predicted from its references.
 #[derive(Clone, Copy, Debug, PartialEq, Eq)]

@@ -3,26 +3,28 @@
 use Rattle.std.specs.Prelude.{ℕ, zero, suc, ◌+◌, ◌-◌, ◌*◌, ◌/◌, ◌==◌, min, nat_le, ◌&&◌, if◌then◌else◌, List, ◌∷◌, map, Option, None, Some}
 use Rattle.std.specs.List.{flat_map, range_with_len}
 use Rattle.dirac_types.specs.declared.settings.Settings.{Settings}
+use Rattle.dirac_units.specs.declared.codes.TheConstants.{INTER_NON_REFERENCE_1, INTER_NON_REFERENCE_2}
+use Rattle.dirac_units.specs.declared.codes.TheConstants.{INTER_REFERENCE_1, INTER_REFERENCE_2, INTRA_REFERENCE}
 use Rattle.dirac_plan.specs.declared.planned.Planned.{Planned}
 
 -- the picture that opens a group: an intra picture to which others may refer, which retires none
 abbrev pub opening : ℕ → Planned
-opening number = record { number = number; code = 0x0C; ref1 = None; ref2 = None; retire = None }
+opening number = record { number = number; code = INTRA_REFERENCE; ref1 = None; ref2 = None; retire = None }
 
 -- a picture to which others may refer, which refers to the anchor before it, and to a second one if there is one
 abbrev pub anchor_of : ℕ → ℕ → Option ℕ → Option ℕ → Planned
 anchor_of number before None retired =
-    record { number = number; code = 0x0D; ref1 = Some before; ref2 = None; retire = retired }
+    record { number = number; code = INTER_REFERENCE_1; ref1 = Some before; ref2 = None; retire = retired }
 anchor_of number before (Some second) retired =
-    record { number = number; code = 0x0E; ref1 = Some before; ref2 = Some second; retire = retired }
+    record { number = number; code = INTER_REFERENCE_2; ref1 = Some before; ref2 = Some second; retire = retired }
 
 -- a picture between two anchors, to which none refers: with one reference to the anchor before it, with two also to the
 -- one behind it
 abbrev pub between_of : ℕ → ℕ → ℕ → ℕ → Planned
 between_of references before after number =
     if references == 2
-    then record { number = number; code = 0x0A; ref1 = Some before; ref2 = Some after; retire = None }
-    else record { number = number; code = 0x09; ref1 = Some before; ref2 = None; retire = None }
+    then record { number = number; code = INTER_NON_REFERENCE_2; ref1 = Some before; ref2 = Some after; retire = None }
+    else record { number = number; code = INTER_NON_REFERENCE_1; ref1 = Some before; ref2 = None; retire = None }
 
 -- how far anchor k stands behind the first frame of its group, which has len frames: a group's last frame is an anchor
 abbrev pub anchor_offset : Settings → ℕ → ℕ → ℕ

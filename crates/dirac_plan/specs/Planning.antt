@@ -2,7 +2,9 @@
 use Rattle.std.specs.Prelude.{◌≡◌, ℕ, ◌+◌, ◌-◌, ◌%◌, ◌==◌, ◌≤◌, min, nat_lt, not, ◌||◌, ◌&&◌, if◌then◌else◌, Bool, false, List, [], ◌∷◌, ◌++◌, length, slice_get, Option, None, Some}
 use Rattle.dirac_types.specs.declared.picture.Picture.{Picture}
 use Rattle.dirac_types.specs.declared.settings.Settings.{Settings}
+use Rattle.dirac_units.specs.declared.codes.TheConstants.{INTER_NON_REFERENCE_1, INTER_NON_REFERENCE_2}
 use Rattle.dirac_plan.specs.declared.planned.Planned.{Planned}
+use Rattle.dirac_plan.specs.declared.planner.TheConstants.{WAITING_PLACES}
 use Rattle.dirac_plan.specs.Plan.{plan}
 
 -- how many pictures a planner accepted, how many planned ones it gave, whether the pictures have ended, and those that
@@ -41,11 +43,11 @@ next_planned p = slice_get (plan p.accepted p.settings) p.given
 -- a planned picture stands between two anchors: none refers to it
 abbrev pub stands_between : Option Planned → Bool
 stands_between None = false
-stands_between (Some p) = p.code == 0x09 || p.code == 0x0A
+stands_between (Some p) = p.code == INTER_NON_REFERENCE_1 || p.code == INTER_NON_REFERENCE_2
 
 -- no picture is accepted for now: four wait, or pictures between two anchors are still to be taken
 abbrev pub is_closed : Planning → Bool
-is_closed p = length p.waiting == 4 || stands_between (next_planned p)
+is_closed p = length p.waiting == WAITING_PLACES || stands_between (next_planned p)
 
 -- how many waiting pictures the next planned one needs, unless it stands between two anchors: one that opens a group
 -- needs itself; an anchor all those up to it, or all that the group can still have

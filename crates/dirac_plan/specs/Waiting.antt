@@ -4,6 +4,7 @@ use Rattle.std.specs.List.{range_with_len}
 use Rattle.dirac_types.specs.declared.picture.Picture.{Picture}
 use Rattle.dirac_types.specs.declared.settings.Settings.{Settings}
 use Rattle.dirac_types.specs.Settings.{IsAccepted}
+use Rattle.dirac_plan.specs.declared.planner.TheConstants.{WAITING_PLACES}
 
 -- so far behind the first picture of a group: the anchor that was coded before its time, if there is one
 abbrev pub ahead_behind : ℕ → Settings → ℕ → ℕ → Option ℕ
@@ -34,7 +35,7 @@ pub record IsPlanning (s : Settings) (accepted given : ℕ) (ended : Bool) (wait
   pub settings : IsAccepted s
   pub in_range : accepted ≤ 2147483647
   pub given_in_range : given ≤ accepted
-  pub at_most_4_wait : length waiting ≤ 4
+  pub at_most_4_wait : length waiting ≤ WAITING_PLACES
   pub counts : accepted ≡ given + length waiting
   pub numbers : map number_of waiting ≡ left_by accepted given (ahead accepted s given)
   -- while pictures may still come, the anchor ahead is the same however many come

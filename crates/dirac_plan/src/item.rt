@@ -6,6 +6,9 @@ ghost use Rattle.dirac_plan.specs.Plan as plans;
 
 use crate::planned::Planned;
 use dirac_types::Settings;
+use dirac_units::{
+    INTER_NON_REFERENCE_1, INTER_NON_REFERENCE_2, INTER_REFERENCE_1, INTER_REFERENCE_2,
+};
 
 /// A picture to which others may refer, which refers to the anchor `before`, and to `second` if there is one.
 fn anchor(number: u32, before: u32, second: Option<u32>, retire: Option<u32>) -> Planned
@@ -14,14 +17,14 @@ fn anchor(number: u32, before: u32, second: Option<u32>, retire: Option<u32>) ->
     match second {
         None => Planned {
             number,
-            code: 0x0D,
+            code: INTER_REFERENCE_1,
             ref1: Some(before),
             ref2: None,
             retire,
         },
         Some(second) => Planned {
             number,
-            code: 0x0E,
+            code: INTER_REFERENCE_2,
             ref1: Some(before),
             ref2: Some(second),
             retire,
@@ -36,7 +39,7 @@ fn between(references: u32, before: u32, after: u32, number: u32) -> Planned
     if references == 2 {
         Planned {
             number,
-            code: 0x0A,
+            code: INTER_NON_REFERENCE_2,
             ref1: Some(before),
             ref2: Some(after),
             retire: None,
@@ -44,7 +47,7 @@ fn between(references: u32, before: u32, after: u32, number: u32) -> Planned
     } else {
         Planned {
             number,
-            code: 0x09,
+            code: INTER_NON_REFERENCE_1,
             ref1: Some(before),
             ref2: None,
             retire: None,

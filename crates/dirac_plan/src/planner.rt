@@ -11,6 +11,7 @@ use crate::item::item_of;
 use crate::planned::Planned;
 use circular_buffer::HeapCircularBuffer;
 use dirac_types::{NoMemory, Picture, Settings};
+use dirac_units::{INTER_NON_REFERENCE_1, INTER_NON_REFERENCE_2};
 use std::alloc::Global;
 use std::marker::Model;
 
@@ -31,6 +32,7 @@ pub struct Planner {
 
 impl Model for Planner {
     ghost use Rattle.std.specs.Prelude.{◌≡◌};
+    ghost use Rattle.dirac_plan.specs.declared.planner.TheConstants.{WAITING_PLACES};
     ghost use Rattle.dirac_plan.specs.Planning.{Planning};
     ghost use Rattle.dirac_plan.specs.Waiting.{IsPlanning};
 
@@ -44,7 +46,7 @@ impl Model for Planner {
       waiting = p.queue.items;
     } };
 
-    ghost invariant = { λ p. (p.queue.capacity ≡ 4) × IsPlanning p.settings p.accepted p.given p.ended p.queue.items };
+    ghost invariant = { λ p. (p.queue.capacity ≡ WAITING_PLACES) × IsPlanning p.settings p.accepted p.given p.ended p.queue.items };
 }
 
 impl Planner {
@@ -79,7 +81,7 @@ impl Planner {
         ensures closed { IsErr result ↔ (plannings.is_closed self.old ≡ true) }
         ensures accepted { OnOk result (self.new ≡ plannings.with_picture self.old picture) }
         ensures handed_back { IfErr result (λ p. (p ≡ picture) × (self.new ≡ self.old)) }
-        ensures at_most_4_wait { length self.new.waiting ≤ 4 }
+        ensures at_most_4_wait { length self.new.waiting ≤ WAITING_PLACES }
         ensures counts { self.new.accepted ≡ self.new.given + length self.new.waiting }
     {
         if self.queue.is_full() || is_between_left(&self.settings, self.accepted, self.given) {
@@ -106,7 +108,7 @@ impl Planner {
         ensures settings { self.new.settings ≡ self.old.settings }
         ensures accepted { self.new.accepted ≡ self.old.accepted }
         ensures ended { self.new.ended ≡ ended }
-        ensures at_most_4_wait { length self.new.waiting ≤ 4 }
+        ensures at_most_4_wait { length self.new.waiting ≤ WAITING_PLACES }
         ensures counts { self.new.accepted ≡ self.new.given + length self.new.waiting }
     {
         let waiting = self.queue.len();
@@ -133,7 +135,7 @@ fn is_between_left(settings: &Settings, accepted: u32, given: u32) -> bool
         return false;
     }
     let next = item_of(accepted, settings, given);
-    next.code == 0x09 || next.code == 0x0A
+    next.code == INTER_NON_REFERENCE_1 || next.code == INTER_NON_REFERENCE_2
 }
 
 /// How many waiting pictures the next planned one needs, unless it stands between two anchors.

@@ -1,11 +1,11 @@
 -- The headers of planned pictures.
 use Rattle.std.specs.Prelude.{◌≡◌, ℕ, ◌==◌, nat_le, true, false, Ok}
+use Rattle.dirac_units.specs.declared.codes.TheConstants.{SEQUENCE_HEADER}
 use Rattle.dirac_units.specs.declared.info.UnitKind.TheVariants as kind
+use Rattle.dirac_units.specs.Codes.{is_intra, is_reference, references_of}
 use Rattle.dirac_units.specs.Info.{fields_are_read, unit_kind}
 use Rattle.dirac_header.specs.declared.header.PictureHeader.{PictureHeader}
-use Rattle.dirac_header.specs.Codes.{is_reference, references_of}
 use Rattle.dirac_header.specs.Written.{HasReferences, IsInRange, MayRetire}
-use Rattle.dirac_picture.specs.Grammar.{is_intra}
 use Rattle.dirac_plan.specs.declared.planned.Planned.{Planned}
 
 -- the header of a planned picture
@@ -15,7 +15,7 @@ header_of p = record { number = p.number; ref1 = p.ref1; ref2 = p.ref2; retire =
 -- a unit of this code is a picture, and its payload is read
 pub record IsPictureCode (code : ℕ) : Type 0 where
   pub read : fields_are_read code ≡ true
-  pub other : (code == 0x00) ≡ false
+  pub other : (code == SEQUENCE_HEADER) ≡ false
   pub kind : unit_kind code ≡ Ok kind.Picture
 
 -- a planned picture can be coded: its header can be written for its code, and an inter picture has a reference

@@ -1,9 +1,8 @@
 -- The references of planned pictures, and the list of reference pictures that coded ones leave behind.
-use Rattle.std.specs.Prelude.{◌≡◌, ℕ, true, if◌then◌else◌, List, [], ◌∷◌, ◌++◌, map, Option, None, Some, ⊤}
+use Rattle.std.specs.Prelude.{◌≡◌, ℕ, true, List, [], ◌∷◌, ◌++◌, map, Option, None, Some, ⊤}
 use Rattle.dirac_types.specs.declared.picture.Picture.{Picture}
 use Rattle.dirac_types.specs.declared.settings.Settings.{Settings}
-use Rattle.dirac_header.specs.Codes.{is_reference}
-use Rattle.dirac_refs.specs.References.{Commit, committed, refs_of}
+use Rattle.dirac_refs.specs.References.{Commit, as_reference, committed, refs_of}
 use Rattle.dirac_picture.specs.Grammar.{are_listed}
 use Rattle.dirac_plan.specs.declared.planned.Planned.{Planned}
 use Rattle.dirac_plan.specs.Plan.{plan}
@@ -20,7 +19,7 @@ ArePlanned planned pictures = map number_of pictures ≡ map planned_number plan
 
 -- what a planned picture becomes, if others may refer to it
 abbrev pub reference_of : Planned → Picture → Option Picture
-reference_of p coded = if is_reference p.code then Some coded else None
+reference_of p coded = as_reference p.code coded
 
 -- the list once a planned picture is coded as this one
 abbrev pub list_with : List Picture → Planned → Picture → List Picture

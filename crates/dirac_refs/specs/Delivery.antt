@@ -3,6 +3,7 @@ use Rattle.std.specs.Prelude.{ℕ, zero, suc, ℤ, pos, ◌+◌, ◌-◌, ◌%�
 use Rattle.std.specs.Int.{cast_signed, w32}
 use Rattle.std.specs.List.{remove}
 use Rattle.dirac_types.specs.declared.picture.Picture.{Picture}
+use Rattle.dirac_refs.specs.declared.delivery.TheConstants.{MOST_WAITING}
 use Rattle.dirac_refs.specs.declared.waiting.Waiting.{Waiting}
 
 -- a picture's key: its number minus the sequence's first one, modulo 2 ^ 32, read as signed
@@ -57,7 +58,7 @@ pub record Leaving : Type 0 where
 
 -- where more than four wait, one leaves
 abbrev pub delivered : List Waiting → Leaving
-delivered ws = if nat_le (length ws) 4 then record { waiting = ws; gone = [] } else record { waiting = others ws; gone = least ws }
+delivered ws = if nat_le (length ws) MOST_WAITING then record { waiting = ws; gone = [] } else record { waiting = others ws; gone = least ws }
 
 -- so many pictures, as they leave one after another
 abbrev pub flushed_by : ℕ → List Waiting → List Picture

@@ -1,12 +1,23 @@
 -- The reference pictures of a sequence: a list, oldest first, changed once for each coded picture.
-use Rattle.std.specs.Prelude.{ℕ, ◌==◌, nat_le, not, if◌then◌else◌, List, [], ◌∷◌, ◌++◌, Option, None, Some, length, drop, ◌≤◌}
+use Rattle.std.specs.Prelude.{ℕ, ◌==◌, nat_le, not, if◌then◌else◌, Bool, true, List, [], ◌∷◌, ◌++◌, Option, None, Some, is_some, length, drop, ◌≤◌}
 use Rattle.std.specs.List.{filter}
 use Rattle.dirac_types.specs.declared.picture.Picture.{Picture}
+use Rattle.dirac_refs.specs.declared.ref_buffer.TheConstants.{MOST_REFERENCES}
+use Rattle.dirac_units.specs.Codes.{is_reference}
 
 -- the first listed picture of this number
 abbrev pub listed : List Picture → ℕ → Option Picture
 listed [] number = None
 listed (p ∷ list) number = if p.number == number then Some p else listed list number
+
+-- a reference that a header names is listed
+abbrev pub is_listed : List Picture → Option ℕ → Bool
+is_listed refs None = true
+is_listed refs (Some number) = is_some (listed refs number)
+
+-- a picture, if its code is that of a reference picture
+abbrev pub as_reference : ℕ → Picture → Option Picture
+as_reference code p = if is_reference code then Some p else None
 
 -- the list without the pictures of this number
 abbrev pub without : ℕ → List Picture → List Picture
@@ -19,7 +30,7 @@ retire list (Some number) = without number list
 
 -- a picture goes to the end; where eight are listed the oldest leaves
 abbrev pub append : List Picture → Picture → List Picture
-append list p = (if nat_le 8 (length list) then drop 1 list else list) ++ p ∷ []
+append list p = (if nat_le MOST_REFERENCES (length list) then drop 1 list else list) ++ p ∷ []
 
 -- a reference picture is appended in place of one of its own number
 abbrev pub appended : List Picture → Option Picture → List Picture
@@ -46,4 +57,4 @@ refs_of commits = refs_from [] commits
 
 -- the list never has more than eight pictures
 abbrev pub RefsAreFew : Type 0
-RefsAreFew = (commits : List Commit) → length (refs_of commits) ≤ 8
+RefsAreFew = (commits : List Commit) → length (refs_of commits) ≤ MOST_REFERENCES

@@ -7,23 +7,28 @@ use crate::waiting::Waiting;
 use dirac_types::Picture;
 use std::marker::Model;
 
+/// The most decoded pictures that wait for delivery.
+pub const MOST_WAITING: usize = 4;
+
+// A place more, for the picture that makes another one leave.
+const PLACES: usize = MOST_WAITING + 1;
+
 /// The decoded pictures of a sequence that wait for delivery, in the order of pushing: at most four.
-///
-/// A fifth place is for the picture that makes another one leave.
 #[derive(Drop)]
 pub struct Delivery {
-    list: Bounded<Waiting, 5>,
+    list: Bounded<Waiting, PLACES>,
 }
 
 impl Model for Delivery {
     ghost use Rattle.std.specs.Prelude.{List, length, ◌≤◌};
+    ghost use Rattle.dirac_refs.specs.declared.delivery.TheConstants.{MOST_WAITING};
     ghost use Rattle.dirac_refs.specs.declared.waiting.Waiting.{Waiting};
 
     ghost Value = { List Waiting };
 
     ghost view = { λ d. d.list };
 
-    ghost invariant = { λ d. length d.list ≤ 4 };
+    ghost invariant = { λ d. length d.list ≤ MOST_WAITING };
 }
 
 /// The key of a picture's number in a sequence whose first picture has the number `first`.
@@ -46,7 +51,7 @@ impl Delivery {
     /// How many pictures wait.
     pub fn count(&self) -> u8
         ensures value { result ≡ length self.now }
-        ensures few { result ≤ 4 }
+        ensures few { result ≤ MOST_WAITING }
     {
         self.list.len() as u8
     }
@@ -56,12 +61,12 @@ impl Delivery {
     pub fn push(&mut self, key: i32, picture: Picture) -> Option<Picture>
         ensures waiting { self.new ≡ (delivered (self.old ++ record { key = key; picture = picture } ∷ [])).waiting }
         ensures gone { option_to_list result ≡ (delivered (self.old ++ record { key = key; picture = picture } ∷ [])).gone }
-        ensures some { IsSome result ↔ (length self.old ≡ 4) }
-        ensures few { length self.new ≤ 4 }
+        ensures some { IsSome result ↔ (length self.old ≡ MOST_WAITING) }
+        ensures few { length self.new ≤ MOST_WAITING }
         ensures count { length self.new + length (option_to_list result) ≡ length self.old + 1 }
     {
         self.list.push(Waiting { key, picture });
-        if self.list.len() <= 4 {
+        if self.list.len() <= MOST_WAITING {
             return None;
         }
         Some(take_least(&mut self.list))
@@ -72,7 +77,7 @@ impl Delivery {
         ensures waiting { self.new ≡ others self.old }
         ensures gone { option_to_list result ≡ least self.old }
         ensures some { IsSome result ↔ (0 < length self.old) }
-        ensures few { length self.new ≤ 4 }
+        ensures few { length self.new ≤ MOST_WAITING }
         ensures count { length self.new + length (option_to_list result) ≡ length self.old }
     {
         if self.list.len() == 0 {
@@ -83,7 +88,7 @@ impl Delivery {
 }
 
 /// Takes the picture that leaves first out of the list.
-fn take_least(list: &mut Bounded<Waiting, 5>) -> Picture
+fn take_least(list: &mut Bounded<Waiting, PLACES>) -> Picture
     requires { 0 < length list.old }
     ensures gone { result ∷ [] ≡ least list.old }
     ensures rest { list.new ≡ others list.old }
@@ -95,7 +100,7 @@ fn take_least(list: &mut Bounded<Waiting, 5>) -> Picture
 
 /// The place of the picture that leaves first.
 #[tactic(auto, unfolding(crate::specs::Delivery::least_among))]
-fn least_of(list: &Bounded<Waiting, 5>) -> usize
+fn least_of(list: &Bounded<Waiting, PLACES>) -> usize
     requires { 0 < length list.now }
     ensures value { result ≡ least_place list.now }
     ensures inside { result < length list.now }
@@ -110,7 +115,7 @@ fn least_of(list: &Bounded<Waiting, 5>) -> usize
 }
 
 /// Whether the key at place `n` is less than the one at place `best`.
-fn is_before(list: &Bounded<Waiting, 5>, n: usize, best: usize) -> bool
+fn is_before(list: &Bounded<Waiting, PLACES>, n: usize, best: usize) -> bool
     requires { (n < length list.now) × (best < length list.now) }
     ensures { result ≡ int_lt (key_at list.now n) (key_at list.now best) }
 {
@@ -118,7 +123,7 @@ fn is_before(list: &Bounded<Waiting, 5>, n: usize, best: usize) -> bool
 }
 
 /// The key at a place.
-fn key_here(list: &Bounded<Waiting, 5>, n: usize) -> i32
+fn key_here(list: &Bounded<Waiting, PLACES>, n: usize) -> i32
     requires { n < length list.now }
     ensures { result ≡ key_at list.now n }
 {

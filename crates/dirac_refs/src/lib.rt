@@ -8,7 +8,7 @@ mod ref_buffer;
 mod shared;
 mod waiting;
 
-pub use delivery::{Delivery, key};
+pub use delivery::{Delivery, MOST_WAITING, key};
 pub use laws::{least_leaves_first, refs_are_few};
-pub use ref_buffer::RefBuffer;
+pub use ref_buffer::{MOST_REFERENCES, RefBuffer};
 pub use waiting::Waiting;

@@ -6,21 +6,25 @@ use crate::bounded::Bounded;
 use dirac_types::Picture;
 use std::marker::Model;
 
+/// The most reference pictures that are listed.
+pub const MOST_REFERENCES: usize = 8;
+
 /// The reference pictures of a sequence, oldest first: at most eight (reference buffer, Dirac specification).
 #[derive(Drop)]
 pub struct RefBuffer {
-    list: Bounded<Picture, 8>,
+    list: Bounded<Picture, MOST_REFERENCES>,
 }
 
 impl Model for RefBuffer {
     ghost use Rattle.std.specs.Prelude.{List, length, ◌≤◌};
     ghost use Rattle.dirac_types.specs.declared.picture.Picture.{Picture};
+    ghost use Rattle.dirac_refs.specs.declared.ref_buffer.TheConstants.{MOST_REFERENCES};
 
     ghost Value = { List Picture };
 
     ghost view = { λ b. b.list };
 
-    ghost invariant = { λ b. length b.list ≤ 8 };
+    ghost invariant = { λ b. length b.list ≤ MOST_REFERENCES };
 }
 
 impl RefBuffer {
@@ -51,7 +55,7 @@ impl RefBuffer {
     #[tactic(auto, using(crate::proofs::Listed::few_without))]
     pub fn commit(&mut self, retire: Option<u32>, picture: Option<Picture>)
         ensures list { self.new ≡ committed self.old retire picture }
-        ensures few { length self.new ≤ 8 }
+        ensures few { length self.new ≤ MOST_REFERENCES }
     {
         if let Some(number) = retire {
             leave(&mut self.list, number);
@@ -65,14 +69,14 @@ impl RefBuffer {
     /// How many pictures are listed.
     pub fn count(&self) -> u8
         ensures value { result ≡ length self.now }
-        ensures few { result ≤ 8 }
+        ensures few { result ≤ MOST_REFERENCES }
     {
         self.list.len() as u8
     }
 }
 
 /// Takes the pictures of this number out of the list.
-fn leave(list: &mut Bounded<Picture, 8>, number: u32)
+fn leave(list: &mut Bounded<Picture, MOST_REFERENCES>, number: u32)
     ensures { list.new ≡ without number list.old }
 {
     let mut place = 0;
@@ -87,12 +91,12 @@ fn leave(list: &mut Bounded<Picture, 8>, number: u32)
 
 /// Appends a picture, in place of the oldest where eight are listed.
 #[tactic(auto, using(crate::proofs::Listed::few_append))]
-fn append_last(list: &mut Bounded<Picture, 8>, picture: Picture)
-    requires { length list.old ≤ 8 }
-    ensures few { length list.new ≤ 8 }
+fn append_last(list: &mut Bounded<Picture, MOST_REFERENCES>, picture: Picture)
+    requires { length list.old ≤ MOST_REFERENCES }
+    ensures few { length list.new ≤ MOST_REFERENCES }
     ensures longer { list.new ≡ append list.old picture }
 {
-    if list.len() == 8 {
+    if list.len() == MOST_REFERENCES {
         list.remove(0);
     }
     list.push(picture);

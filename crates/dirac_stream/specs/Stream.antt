@@ -4,6 +4,7 @@ use Rattle.std.specs.List.{AllByRecursion}
 use Rattle.dirac_types.specs.declared.picture.Picture.{Picture}
 use Rattle.dirac_types.specs.declared.settings.Settings.{Settings}
 use Rattle.dirac_types.specs.Settings.{IsAccepted}
+use Rattle.dirac_units.specs.declared.codes.TheConstants.{END_OF_SEQUENCE, SEQUENCE_HEADER}
 use Rattle.dirac_units.specs.declared.info.ParseInfo.{ParseInfo}
 use Rattle.dirac_units.specs.Cut.{UnitText, IsCut, start}
 use Rattle.dirac_units.specs.Writing.{info_bytes}
@@ -23,7 +24,7 @@ unit code previous payload = info_bytes (info_for code previous payload) ++ payl
 
 -- the end unit, with next offset 0
 abbrev pub end_info : ℕ → ParseInfo
-end_info previous = record { code = 0x10; next = 0; previous = previous }
+end_info previous = record { code = END_OF_SEQUENCE; next = 0; previous = previous }
 
 -- its bytes
 abbrev pub end_unit : ℕ → List ℕ
@@ -39,7 +40,7 @@ picture_length m = 13 + length m.payload
 
 -- a sequence header's unit behind a unit of this length
 abbrev pub header_unit : Settings → ℕ → List ℕ
-header_unit t previous = unit 0x00 previous (sequence_payload t)
+header_unit t previous = unit SEQUENCE_HEADER previous (sequence_payload t)
 
 -- it stands before an intra picture
 abbrev pub header_before : Settings → Made → ℕ → List ℕ
@@ -79,7 +80,7 @@ stream_of t pictures = stream_from t (coding t pictures)
 
 -- those units, each with its parse info and its payload
 unfoldable pub header_text : Settings → ℕ → UnitText
-header_text t previous = record { info = info_for 0x00 previous (sequence_payload t); payload = sequence_payload t }
+header_text t previous = record { info = info_for SEQUENCE_HEADER previous (sequence_payload t); payload = sequence_payload t }
 
 unfoldable pub picture_text : Settings → Made → ℕ → UnitText
 picture_text t m previous = record {

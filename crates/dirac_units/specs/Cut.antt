@@ -4,6 +4,7 @@ use Rattle.dirac_types.specs.declared.faults.Cause.{Cause}
 use Rattle.dirac_types.specs.declared.faults.Cause.TheVariants.{MissingEnd, Truncated}
 use Rattle.dirac_types.specs.declared.faults.Refusal.{Refusal}
 use Rattle.dirac_types.specs.declared.faults.Fault.{Fault}
+use Rattle.dirac_units.specs.declared.codes.TheConstants.{END_OF_SEQUENCE}
 use Rattle.dirac_units.specs.declared.info.ParseInfo.{ParseInfo}
 use Rattle.dirac_units.specs.declared.spot.Spot.{Spot}
 use Rattle.dirac_units.specs.Info.{info_read, span_of}
@@ -19,7 +20,7 @@ start = record { index = 0; at = 0; closed = false }
 
 -- where the next unit begins
 abbrev pub after : Spot → ParseInfo → Spot
-after spot info = record { index = spot.index + 1; at = spot.at + span_of info; closed = info.code == 0x10 }
+after spot info = record { index = spot.index + 1; at = spot.at + span_of info; closed = info.code == END_OF_SEQUENCE }
 
 -- a fault of the unit that begins there, so many bytes behind its first
 abbrev pub fault_at : Spot → ℕ → Cause → Fault

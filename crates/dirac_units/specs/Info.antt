@@ -5,25 +5,31 @@ use Rattle.std.specs.Int.{from_be_bytes, w32}
 use Rattle.dirac_types.specs.declared.faults.Cause.{Cause}
 use Rattle.dirac_types.specs.declared.faults.Cause.TheVariants as cause
 use Rattle.dirac_types.specs.declared.faults.Refusal.{Refusal}
+use Rattle.dirac_units.specs.declared.codes.TheConstants.{AUXILIARY_DATA, END_OF_SEQUENCE, PADDING, SEQUENCE_HEADER}
+use Rattle.dirac_units.specs.declared.codes.TheConstants.{INTER_NON_REFERENCE_1, INTER_NON_REFERENCE_2}
+use Rattle.dirac_units.specs.declared.codes.TheConstants.{INTER_REFERENCE_1, INTER_REFERENCE_2}
+use Rattle.dirac_units.specs.declared.codes.TheConstants.{INTRA_NON_REFERENCE, INTRA_REFERENCE}
 use Rattle.dirac_units.specs.declared.info.ParseInfo.{ParseInfo}
 use Rattle.dirac_units.specs.declared.info.UnitKind.{UnitKind}
 use Rattle.dirac_units.specs.declared.info.UnitKind.TheVariants as kind
 
 -- the codes of auxiliary data
 abbrev pub is_auxiliary : ℕ → Bool
-is_auxiliary code = nat_le 0x20 code && nat_le code 0x27
+is_auxiliary code = nat_le AUXILIARY_DATA code && nat_le code 0x27
 
 -- the codes of pictures with arithmetic coding: intra, inter with one reference, inter with two
 abbrev pub is_picture : ℕ → Bool
 is_picture code =
-    (code == 0x08 || code == 0x0C) || (code == 0x09 || code == 0x0D) || (code == 0x0A || code == 0x0E)
+    (code == INTRA_NON_REFERENCE || code == INTRA_REFERENCE)
+    || (code == INTER_NON_REFERENCE_1 || code == INTER_REFERENCE_1)
+    || (code == INTER_NON_REFERENCE_2 || code == INTER_REFERENCE_2)
 
 -- the kind of a unit, or why its code is refused
 abbrev pub unit_kind : ℕ → Result UnitKind Cause
 unit_kind code =
-    if code == 0x00 then Ok kind.Sequence
-    else if code == 0x10 then Ok kind.End
-    else if code == 0x30 then Ok kind.Padding
+    if code == SEQUENCE_HEADER then Ok kind.Sequence
+    else if code == END_OF_SEQUENCE then Ok kind.End
+    else if code == PADDING then Ok kind.Padding
     else if is_auxiliary code then Ok kind.Auxiliary
     else if is_picture code then Ok kind.Picture
     else if code == 0x48 || code == 0x4C then Err cause.Vlc
@@ -32,7 +38,7 @@ unit_kind code =
 
 -- the units whose payload is read
 abbrev pub fields_are_read : ℕ → Bool
-fields_are_read code = code == 0x00 || is_picture code
+fields_are_read code = code == SEQUENCE_HEADER || is_picture code
 
 -- the next offsets that a unit may have: an end unit is its header alone, others hold theirs
 abbrev pub offset_is_lawful : UnitKind → ℕ → Bool

@@ -1,3 +1,4 @@
+pub mod Codes
 pub mod Info
 pub mod Cut
 pub mod Progress

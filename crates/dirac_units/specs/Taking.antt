@@ -1,4 +1,5 @@
 -- Taking the next unit of a source, and no byte beyond it.
+-- Inner: for the proofs of this crate.
 use Rattle.std.specs.Prelude.{◌≡◌, ℕ, ◌+◌, ◌<◌, ◌≤◌, Bool, if◌then◌else◌, List, [], length, Option, None, Some, IfSome, Ok, Err, ⊤}
 use Rattle.std.specs.Io.KnownBytes.{Consumes, IsAtEnd}
 use Rattle.dirac_types.specs.declared.faults.Cause.TheVariants.{Truncated}

@@ -1,10 +1,15 @@
 ghost use Rattle.std.specs.Prelude.{◌≡◌, ℕ, ◌≤◌, ◌<◌, ◌^◌, length, IfErr};
 ghost use Rattle.dirac_units.specs.Info.{unit_kind, fields_are_read as has_fields, offset_is_lawful, info_read, span_of};
 
+use crate::codes::{
+    AUXILIARY_DATA, END_OF_SEQUENCE, INTER_NON_REFERENCE_1, INTER_NON_REFERENCE_2,
+    INTER_REFERENCE_1, INTER_REFERENCE_2, INTRA_NON_REFERENCE, INTRA_REFERENCE, PADDING,
+    SEQUENCE_HEADER,
+};
 use dirac_types::{Cause, Refusal};
 
 /// How many bytes a parse info takes.
-pub const HEADER_LENGTH: usize = 13;
+pub const PARSE_INFO_LENGTH: usize = 13;
 
 // The parse info prefix, `BBCD`.
 const PREFIX: [u8; 4] = [0x42, 0x42, 0x43, 0x44];
@@ -33,11 +38,13 @@ pub fn kind_of(code: u8) -> Result<UnitKind, Cause>
     ensures { result ≡ unit_kind code }
 {
     match code {
-        0x00 => Ok(UnitKind::Sequence),
-        0x10 => Ok(UnitKind::End),
-        0x30 => Ok(UnitKind::Padding),
-        0x20..=0x27 => Ok(UnitKind::Auxiliary),
-        0x08 | 0x09 | 0x0A | 0x0C | 0x0D | 0x0E => Ok(UnitKind::Picture),
+        SEQUENCE_HEADER => Ok(UnitKind::Sequence),
+        END_OF_SEQUENCE => Ok(UnitKind::End),
+        PADDING => Ok(UnitKind::Padding),
+        AUXILIARY_DATA..=0x27 => Ok(UnitKind::Auxiliary),
+        INTRA_NON_REFERENCE | INTRA_REFERENCE => Ok(UnitKind::Picture),
+        INTER_NON_REFERENCE_1 | INTER_REFERENCE_1 => Ok(UnitKind::Picture),
+        INTER_NON_REFERENCE_2 | INTER_REFERENCE_2 => Ok(UnitKind::Picture),
         0x48 | 0x4C => Err(Cause::Vlc),
         0xC8 | 0xCC => Err(Cause::LowDelay),
         _ => Err(Cause::UnknownCode),
@@ -56,15 +63,15 @@ fn is_lawful_offset(kind: UnitKind, next: u32) -> bool
     ensures { result ≡ offset_is_lawful kind next }
 {
     match kind {
-        UnitKind::End => next == 0 || next == 13,
-        _ => next >= 13,
+        UnitKind::End => next == 0 || next == PARSE_INFO_LENGTH as u32,
+        _ => next >= PARSE_INFO_LENGTH as u32,
     }
 }
 
 /// Reads a parse info. A refusal's place counts from the header's first byte: the prefix is looked
 /// at first, then the code, then the next offset. The previous offset is never refused.
 pub fn read_info(header: &[u8]) -> Result<ParseInfo, Refusal>
-    requires { length header.now ≡ 13 }
+    requires { length header.now ≡ PARSE_INFO_LENGTH }
     ensures read { result ≡ info_read header.now }
     ensures early { IfErr result (λ refusal. refusal.at ≤ 5) }
 {
@@ -101,6 +108,6 @@ impl ParseInfo {
         ensures span { result ≡ span_of self.now }
         ensures fits { result < 2 ^ 32 }
     {
-        u64::from(self.next.max(13))
+        u64::from(self.next.max(PARSE_INFO_LENGTH as u32))
     }
 }

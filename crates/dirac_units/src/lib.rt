@@ -1,6 +1,7 @@
 //! Data units: how the bytes of a stream are cut into units, and the first fault of the cutting.
 #![tactic(auto)]
 
+mod codes;
 mod info;
 mod law;
 mod spot;
@@ -9,7 +10,12 @@ mod unit;
 mod units;
 mod write;
 
-pub use info::{ParseInfo, UnitKind, fields_are_read, kind_of, read_info};
+pub use codes::{
+    AUXILIARY_DATA, END_OF_SEQUENCE, INTER_NON_REFERENCE_1, INTER_NON_REFERENCE_2,
+    INTER_REFERENCE_1, INTER_REFERENCE_2, INTRA_NON_REFERENCE, INTRA_REFERENCE, PADDING,
+    SEQUENCE_HEADER, is_intra, is_reference, references,
+};
+pub use info::{PARSE_INFO_LENGTH, ParseInfo, UnitKind, fields_are_read, kind_of, read_info};
 pub use law::bytes_have_one_cut;
 pub use spot::Spot;
 pub use unit::{Met, Payload, Unit, UnitStep};

@@ -1,6 +1,7 @@
 ghost use Rattle.std.specs.Prelude.{◌≡◌, ℕ, ◌+◌, ◌<◌, ◌^◌};
 ghost use Rattle.dirac_units.specs.Info.{span_of};
 
+use crate::codes::END_OF_SEQUENCE;
 use crate::info::ParseInfo;
 use dirac_types::{Cause, Fault};
 
@@ -36,7 +37,7 @@ impl Spot {
         Spot {
             index: self.index + 1,
             at: self.at + info.span(),
-            closed: info.code == 0x10,
+            closed: info.code == END_OF_SEQUENCE,
         }
     }
 

@@ -4,7 +4,7 @@ ghost use Rattle.dirac_units.specs.Info.{span_of};
 ghost use Rattle.dirac_units.specs.Cut.{fault_at, front_of};
 ghost use Rattle.dirac_units.specs.Taking.{CutsPayload, TakesInfo, TakesNone, TakesPayload, TakesUnit};
 
-use crate::info::{HEADER_LENGTH, ParseInfo, fields_are_read, read_info};
+use crate::info::{PARSE_INFO_LENGTH, ParseInfo, fields_are_read, read_info};
 use crate::spot::Spot;
 use crate::unit::{Payload, Unit};
 use dirac_io::{Filled, Source, fill};
@@ -41,7 +41,7 @@ pub fn take_unit<S: Source>(
 {
     let info = take_info(spot, source)?;
     let kept = keep && fields_are_read(info.code);
-    let length = info.span() - HEADER_LENGTH as u64;
+    let length = info.span() - PARSE_INFO_LENGTH as u64;
     let payload = take_payload(alloc, spot, length, kept, source)?;
     Ok(Unit {
         index: spot.index,
@@ -56,12 +56,12 @@ fn take_info<S: Source>(spot: Spot, source: &mut S) -> Result<ParseInfo, NoUnit>
     requires place { spot.at + S.left source.old < 2 ^ 63 }
     ensures info { IfOk result (λ info. TakesInfo info (S.held source.old) (S.held source.new)) }
     ensures no_unit { IfErr result (λ why. TakesNone why spot (S.held source.old) (S.held source.new)) }
-    ensures lowers { IfOk result (λ _. 13 + S.left source.new ≤ S.left source.old) }
+    ensures lowers { IfOk result (λ _. PARSE_INFO_LENGTH + S.left source.new ≤ S.left source.old) }
     ensures never_rises { S.left source.new ≤ S.left source.old }
     ensures read { result ≡ Err NoUnit.ReadFault → Rose (S.faults source.old) (S.faults source.new) }
     ensures count { S.faults source.old ≤ S.faults source.new }
 {
-    let mut header = [0; HEADER_LENGTH];
+    let mut header = [0; PARSE_INFO_LENGTH];
     match fill(source, &mut header) {
         Filled::Whole => {}
         Filled::Part(n) => return Err(NoUnit::End(end_in_header(spot, &header[..n]))),
@@ -82,7 +82,7 @@ fn take_payload<S: Source>(
     keep: bool,
     source: &mut S,
 ) -> Result<Payload, NoUnit>
-    requires place { spot.at + 13 + S.left source.old < 2 ^ 64 }
+    requires place { spot.at + PARSE_INFO_LENGTH + S.left source.old < 2 ^ 64 }
     ensures payload { IfOk result (λ payload. TakesPayload count keep payload (S.held source.old) (S.held source.new)) }
     ensures cut { IfErr result (λ why. CutsPayload why spot count (S.held source.old) (S.held source.new)) }
     ensures lowers { IfOk result (λ _. count + S.left source.new ≤ S.left source.old) }
@@ -98,7 +98,7 @@ fn take_payload<S: Source>(
         match fill(source, piece) {
             Filled::Whole => {}
             Filled::Part(n) => {
-                let at = HEADER_LENGTH as u64 + (count - rest) + n as u64;
+                let at = PARSE_INFO_LENGTH as u64 + (count - rest) + n as u64;
                 return Err(NoUnit::End(Some(spot.fault(at, Cause::Truncated))));
             }
             Filled::Failed => return Err(NoUnit::ReadFault),
@@ -113,7 +113,7 @@ fn take_payload<S: Source>(
 
 // What it means that the input ends behind these bytes, fewer than a parse info has.
 fn end_in_header(spot: Spot, bytes: &[u8]) -> Option<Fault>
-    requires cut { length bytes.now < 13 }
+    requires cut { length bytes.now < PARSE_INFO_LENGTH }
     requires place { spot.at + length bytes.now < 2 ^ 63 }
     ensures { front_of spot bytes.now ≡ Err result }
 {

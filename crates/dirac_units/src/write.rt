@@ -2,10 +2,10 @@ ghost use Rattle.std.specs.Prelude.{◌≡◌, Ok};
 ghost use Rattle.dirac_units.specs.Info.{IsLawful, info_read};
 ghost use Rattle.dirac_units.specs.Writing.{info_bytes, IsReadAsWritten};
 
-use crate::info::ParseInfo;
+use crate::info::{PARSE_INFO_LENGTH, ParseInfo};
 
 /// The bytes of a parse info header (parse info, Dirac specification).
-pub fn write_info(info: ParseInfo) -> [u8; 13]
+pub fn write_info(info: ParseInfo) -> [u8; PARSE_INFO_LENGTH]
     ensures bytes { result ≡ info_bytes info }
     ensures read { IsLawful info → info_read result ≡ Ok info }
 {
