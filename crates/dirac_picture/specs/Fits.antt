@@ -3,6 +3,7 @@ use Rattle.std.specs.Prelude.{◌≡◌, ℕ, ◌+◌, ◌≤◌, true, false, I
 use Rattle.dirac_types.specs.declared.formats.Chroma.{Chroma}
 use Rattle.dirac_bands.specs.Geometry.{band_length}
 use Rattle.dirac_sequence.specs.declared.sequence.Sequence.{Sequence}
+use Rattle.dirac_sequence.specs.Sizes.{chroma_height, chroma_width, picture_height}
 use Rattle.dirac_header.specs.declared.header.PictureHeader.{PictureHeader}
 use Rattle.dirac_header.specs.declared.prediction.Prediction.{Prediction}
 use Rattle.dirac_header.specs.declared.transform.Transform.{Transform}
@@ -15,7 +16,7 @@ use Rattle.dirac_picture.specs.declared.coded.CodedMotion.{CodedMotion}
 use Rattle.dirac_picture.specs.declared.coded.CodedPicture.{CodedPicture}
 use Rattle.dirac_picture.specs.declared.coded.CodedResidual.{CodedResidual}
 use Rattle.dirac_picture.specs.Bands.{band_count, counts_at, spot_of}
-use Rattle.dirac_picture.specs.Grammar.{chroma_width, chroma_height, is_intra, superblocks_over}
+use Rattle.dirac_picture.specs.Grammar.{is_intra, superblocks_over}
 
 -- a count of codeblocks is from 1 to so many
 abbrev pub IsCount : ℕ → ℕ → Type 0
@@ -52,8 +53,8 @@ pub record AreBandsOf (t : Transform) (width height : ℕ) (bands : List CodedBa
 
 -- the residual of a picture of this sequence
 pub record IsResidual (s : Sequence) (r : CodedResidual) : Type 0 where
-  pub transform : IsTransform s.width s.height r.transform
-  pub y : AreBandsOf r.transform s.width s.height r.y
+  pub transform : IsTransform s.width (picture_height s) r.transform
+  pub y : AreBandsOf r.transform s.width (picture_height s) r.y
   pub u : AreBandsOf r.transform (chroma_width s) (chroma_height s) r.u
   pub v : AreBandsOf r.transform (chroma_width s) (chroma_height s) r.v
 
@@ -73,7 +74,7 @@ pub record IsPrediction (chroma : Chroma) (p : Prediction) : Type 0 where
 pub record IsMotion (code : ℕ) (s : Sequence) (m : CodedMotion) : Type 0 where
   pub prediction : IsPrediction s.chroma m.prediction
   pub across : m.blocks.across ≡ superblocks_over s.width m.prediction.grid.xbsep
-  pub down : m.blocks.down ≡ superblocks_over s.height m.prediction.grid.ybsep
+  pub down : m.blocks.down ≡ superblocks_over (picture_height s) m.prediction.grid.ybsep
   pub refs : m.blocks.refs ≡ references_of code
   pub table : IsBlockTable m.blocks
 

@@ -1,5 +1,5 @@
 -- The payload of a picture, field after field: picture parsing, Dirac specification.
-use Rattle.std.specs.Prelude.{ℕ, zero, suc, ◌+◌, ◌-◌, ◌*◌, ◌/◌, ◌==◌, nat_le, ◌&&◌, ◌||◌, if◌then◌else◌, Bool, true, false, List, [], ◌∷◌, ◌++◌, length, Option, None, Some, is_some, Result}
+use Rattle.std.specs.Prelude.{ℕ, zero, suc, ◌+◌, ◌-◌, ◌*◌, ◌/◌, ◌==◌, nat_le, ◌&&◌, ◌||◌, if◌then◌else◌, Bool, false, List, [], ◌∷◌, ◌++◌, length, Option, None, Some, Result}
 use Rattle.dirac_types.specs.declared.faults.Cause.TheVariants.{MissingReference}
 use Rattle.dirac_types.specs.declared.faults.Refusal.{Refusal}
 use Rattle.dirac_types.specs.declared.picture.Picture.{Picture}
@@ -7,17 +7,17 @@ use Rattle.dirac_bits.specs.Answers.{value_of}
 use Rattle.dirac_bits.specs.Cursor.{start}
 use Rattle.dirac_bits.specs.Syntax.{Syntax, done, refuse, ◌>>=◌, align, flag, read}
 use Rattle.dirac_sequence.specs.declared.sequence.Sequence.{Sequence}
-use Rattle.dirac_sequence.specs.Ratios.{ratio_across, ratio_down}
+pub use Rattle.dirac_sequence.specs.Sizes.{chroma_height, chroma_width, picture_height}
 use Rattle.dirac_header.specs.declared.header.PictureHeader.{PictureHeader}
 use Rattle.dirac_header.specs.declared.transform.Transform.{Transform}
-use Rattle.dirac_header.specs.Codes.{references_of}
+pub use Rattle.dirac_units.specs.Codes.{is_intra, references_of}
 use Rattle.dirac_header.specs.Header.{header}
 use Rattle.dirac_header.specs.Prediction.{prediction}
 use Rattle.dirac_header.specs.Transform.{transform}
 use Rattle.dirac_coeffs.specs.declared.spot.CodedBand.{CodedBand}
 use Rattle.dirac_coeffs.specs.Grammar.{band}
 use Rattle.dirac_blocks.specs.Grammar.{blocks}
-use Rattle.dirac_refs.specs.References.{listed}
+pub use Rattle.dirac_refs.specs.References.{is_listed}
 use Rattle.dirac_picture.specs.declared.coded.CodedMotion.{CodedMotion}
 use Rattle.dirac_picture.specs.declared.coded.CodedPicture.{CodedPicture}
 use Rattle.dirac_picture.specs.declared.coded.CodedResidual.{CodedResidual}
@@ -34,18 +34,10 @@ bands_behind t width height before (suc more) = do
 abbrev pub plane_bands : Transform → ℕ → ℕ → Syntax (List CodedBand)
 plane_bands t width height = bands_behind t width height [] (band_count t.depth)
 
--- the columns of a chroma plane
-abbrev pub chroma_width : Sequence → ℕ
-chroma_width s = s.width / ratio_across s.chroma
-
--- its rows
-abbrev pub chroma_height : Sequence → ℕ
-chroma_height s = s.height / ratio_down s.chroma
-
 -- the bands of Y, U and V, with these transform parameters
 unfoldable pub planes : Sequence → Transform → Syntax CodedResidual
 planes s t = do
-  y ← plane_bands t s.width s.height
+  y ← plane_bands t s.width (picture_height s)
   u ← plane_bands t (chroma_width s) (chroma_height s)
   v ← plane_bands t (chroma_width s) (chroma_height s)
   done (record { transform = t; y = y; u = u; v = v })
@@ -53,12 +45,8 @@ planes s t = do
 -- the transform parameters and the bands
 unfoldable pub residual : Sequence → Syntax CodedResidual
 residual s = do
-  t ← transform s.width s.height
+  t ← transform s.width (picture_height s)
   planes s t
-
--- the parse codes of intra pictures
-abbrev pub is_intra : ℕ → Bool
-is_intra code = code == 0x08 || code == 0x0C
 
 -- the parse codes of pictures: inter pictures have references
 abbrev pub is_picture : ℕ → Bool
@@ -72,7 +60,7 @@ superblocks_over size separation = (size + 4 * separation - 1) / (4 * separation
 unfoldable pub prediction_fields : ℕ → Sequence → Syntax CodedMotion
 prediction_fields code s = do
   p ← prediction code s.chroma
-  t ← blocks (superblocks_over s.width p.grid.xbsep) (superblocks_over s.height p.grid.ybsep) (references_of code)
+  t ← blocks (superblocks_over s.width p.grid.xbsep) (superblocks_over (picture_height s) p.grid.ybsep) (references_of code)
   done (record { prediction = p; blocks = t })
 
 -- what an inter picture is predicted from
@@ -96,12 +84,7 @@ body code s head = do
   coded ← residual_unless none s
   done (record { code = code; header = head; motion = motion; residual = coded })
 
--- a reference that a header names is listed
-abbrev pub is_listed : List Picture → Option ℕ → Bool
-is_listed refs None = true
-is_listed refs (Some number) = is_some (listed refs number)
-
--- each reference that it names is
+-- each reference that a header names is listed
 abbrev pub are_listed : List Picture → PictureHeader → Bool
 are_listed refs head = is_listed refs head.ref1 && is_listed refs head.ref2
 

@@ -13,7 +13,8 @@ mod shared;
 mod spots;
 
 pub use coded::{CodedMotion, CodedPicture, CodedResidual};
-pub use motion::{is_intra, superblocks_over};
+pub use dirac_units::is_intra;
+pub use motion::superblocks_over;
 pub use picture::read_picture;
 pub use plane_bands::PlaneBands;
 pub use spots::spot;

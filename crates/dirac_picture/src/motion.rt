@@ -8,17 +8,11 @@ ghost use Rattle.dirac_picture.specs.Fits.{HasMotion, IsMotion};
 use crate::coded::CodedMotion;
 use dirac_bits::BitReader;
 use dirac_blocks::read_blocks;
-use dirac_header::{read_prediction, references};
+use dirac_header::read_prediction;
 use dirac_sequence::Sequence;
 use dirac_types::Stop;
+use dirac_units::{is_intra, references};
 use std::alloc::Global;
-
-/// Whether a picture with this parse code is intra coded.
-pub fn is_intra(code: u8) -> bool
-    ensures { result ≡ grammar.is_intra code }
-{
-    code == 0x08 || code == 0x0C
-}
 
 /// How many superblocks cover so many luma samples, each four block separations long.
 pub fn superblocks_over(size: u32, separation: u32) -> u32
@@ -51,7 +45,7 @@ fn read_prediction_fields(
 {
     let prediction = read_prediction(r, code, sequence.chroma)?;
     let across = superblocks_over(sequence.width, prediction.grid.xbsep);
-    let down = superblocks_over(sequence.height, prediction.grid.ybsep);
+    let down = superblocks_over(sequence.picture_height(), prediction.grid.ybsep);
     let blocks = read_blocks(alloc, r, across, down, references(code))?;
     Ok(CodedMotion { prediction, blocks })
 }

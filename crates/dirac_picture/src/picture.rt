@@ -3,19 +3,21 @@ ghost use Rattle.dirac_bits.specs.Laws.{StartsWith};
 ghost use Rattle.dirac_bits.specs.Answers.{Reads, ReadsOrStops, IsEarly};
 ghost use Rattle.dirac_bits.specs.Syntax.{read};
 ghost use Rattle.dirac_sequence.specs.Lawful.{IsSequence};
+ghost use Rattle.dirac_sequence.specs.Sizes.{chroma_height, chroma_width, picture_height};
 ghost use Rattle.dirac_picture.specs.declared.coded.CodedPicture.{CodedPicture as ThePicture};
 ghost use Rattle.dirac_picture.specs.Answers.{GivesOrStops};
 ghost use Rattle.dirac_picture.specs.Grammar as grammar;
 ghost use Rattle.dirac_picture.specs.Fits.{FitsSequence, IsLayout, IsPlaneSize, HasResidual, IsResidual, IsTransform, NamesReferences};
 
 use crate::coded::{CodedPicture, CodedResidual};
-use crate::motion::{is_intra, read_motion};
+use crate::motion::read_motion;
 use crate::plane::read_plane_bands;
 use dirac_bits::BitReader;
 use dirac_header::{PictureHeader, Transform, read_header, read_transform};
 use dirac_refs::RefBuffer;
-use dirac_sequence::{Sequence, ratio_across, ratio_down};
-use dirac_types::{Cause, Refusal, Stop};
+use dirac_sequence::Sequence;
+use dirac_types::{Cause, Part, Refusal, Stop};
+use dirac_units::is_intra;
 use std::alloc::Global;
 
 /// Reads the payload of a picture (picture parsing, Dirac specification). The place of a refusal counts from
@@ -159,7 +161,7 @@ fn read_residual(
     ensures kept { r.new.bytes ≡ r.old.bytes }
     ensures fits { IfOk result (IsResidual sequence.now) }
 {
-    let transform = read_transform(r, sequence.width, sequence.height)?;
+    let transform = read_transform(r, sequence.width, sequence.picture_height())?;
     read_planes(alloc, r, transform, sequence)
 }
 
@@ -171,18 +173,19 @@ fn read_planes(
     transform: Transform,
     sequence: &Sequence,
 ) -> Result<CodedResidual, Stop>
-    requires transform { IsTransform sequence.now.width sequence.now.height transform }
+    requires transform { IsTransform sequence.now.width (picture_height sequence.now) transform }
     requires layout { IsLayout transform }
-    requires luma { IsPlaneSize sequence.now.width sequence.now.height }
-    requires chroma { IsPlaneSize (grammar.chroma_width sequence.now) (grammar.chroma_height sequence.now) }
+    requires luma { IsPlaneSize sequence.now.width (picture_height sequence.now) }
+    requires chroma { IsPlaneSize (chroma_width sequence.now) (chroma_height sequence.now) }
     ensures value { ReadsOrStops result r.new (read (grammar.planes sequence.now transform) r.old) }
     ensures early { IfErr result (IsEarly (length r.old.bytes)) }
     ensures kept { r.new.bytes ≡ r.old.bytes }
     ensures fits { IfOk result (IsResidual sequence.now) }
 {
-    let width = sequence.width / ratio_across(sequence.chroma);
-    let height = sequence.height / ratio_down(sequence.chroma);
-    let y = read_plane_bands(alloc, r, &transform, sequence.width, sequence.height)?;
+    let (width, height) = (sequence.width, sequence.picture_height());
+    let y = read_plane_bands(alloc, r, &transform, width, height)?;
+    let width = sequence.plane_width(Part::U);
+    let height = sequence.plane_height(Part::U);
     let u = read_plane_bands(alloc, r, &transform, width, height)?;
     let v = read_plane_bands(alloc, r, &transform, width, height)?;
     Ok(CodedResidual { transform, y, u, v })

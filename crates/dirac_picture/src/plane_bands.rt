@@ -32,13 +32,6 @@ impl PlaneBands {
         }
     }
 
-    /// The bands of this list.
-    pub fn from_list(list: Vec<CodedBand>) -> PlaneBands
-        ensures { result ≡ list.items }
-    {
-        PlaneBands { list }
-    }
-
     /// Gives the list back.
     pub fn into_list(self) -> Vec<CodedBand>
         ensures { result.items ≡ self }

@@ -7,7 +7,7 @@ pub read_planes-requires-clause-transform : goal.read_planes-requires-clause-tra
 read_planes-requires-clause-transform c =
     let s = c.args.sequence.now in
     transform_lawful s.width s.height c.args.r.now c.read_transform.new.r c.in_ok-transform.transform c.requires.sequence.size.0 c.requires.sequence.size.2
-    c.in_ok-transform.ensures.wavelet c.in_ok-transform.ensures.depth c.in_ok-transform.ensures.levels c.in_ok-transform.ensures.value
+    c.in_ok-transform.ensures.wavelet c.in_ok-transform.ensures.depth c.in_ok-transform.ensures.levels (rw c.picture_height.ensures at c.in_ok-transform.ensures.value)
 
 pub read_planes-requires-clause-layout : goal.read_planes-requires-clause-layout
 read_planes-requires-clause-layout c =
@@ -15,5 +15,5 @@ read_planes-requires-clause-layout c =
     let high : s.height ≤ 4096 = omega (arith, c.requires.sequence.size.3) in
     let lawful : IsTransform s.width s.height c.in_ok-transform.transform =
     transform_lawful s.width s.height c.args.r.now c.read_transform.new.r c.in_ok-transform.transform c.requires.sequence.size.0 c.requires.sequence.size.2
-    c.in_ok-transform.ensures.wavelet c.in_ok-transform.ensures.depth c.in_ok-transform.ensures.levels c.in_ok-transform.ensures.value in
+    c.in_ok-transform.ensures.wavelet c.in_ok-transform.ensures.depth c.in_ok-transform.ensures.levels (rw c.picture_height.ensures at c.in_ok-transform.ensures.value) in
     layout_lawful s.width s.height c.in_ok-transform.transform c.requires.sequence.size.1 high lawful
