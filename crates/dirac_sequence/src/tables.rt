@@ -1,15 +1,11 @@
 //! The tables of the sequence header, as the standard has them.
 
 ghost use Rattle.std.specs.Prelude.{◌≡◌, ◌≤◌};
-ghost use Rattle.dirac_sequence.specs.Tables.{format, preset as preset_of, rate_of, aspect_of, range_of};
+ghost use Rattle.dirac_sequence.specs.Tables.{preset as preset_of, rate_of, aspect_of, range_of};
 ghost use Rattle.dirac_sequence.specs.Lawful.{IsSize};
 
 use crate::sequence::{Sequence, SignalRange};
-use dirac_types::Chroma;
-
-const P: bool = false;
-
-const I: bool = true;
+use dirac_types::base_format;
 
 /// The values of a base video format: base video format parameters, Dirac specification.
 /// Versions, profile and level are 0.
@@ -19,110 +15,21 @@ pub fn preset(n: u8) -> Sequence
     ensures value { result ≡ preset_of n }
     ensures size { IsSize result.width result.height }
 {
-    match n {
-        0 => row(0, (640, 480), Chroma::C420, P, 1, 1, (640, 480, 0, 0), 1),
-        1 => row(1, (176, 120), Chroma::C420, P, 9, 2, (176, 120, 0, 0), 1),
-        2 => row(2, (176, 144), Chroma::C420, P, 10, 3, (176, 144, 0, 0), 1),
-        3 => row(3, (352, 240), Chroma::C420, P, 9, 2, (352, 240, 0, 0), 1),
-        4 => row(4, (352, 288), Chroma::C420, P, 10, 3, (352, 288, 0, 0), 1),
-        5 => row(5, (704, 480), Chroma::C420, P, 9, 2, (704, 480, 0, 0), 1),
-        6 => row(6, (704, 576), Chroma::C420, P, 10, 3, (704, 576, 0, 0), 1),
-        7 => row(7, (720, 480), Chroma::C422, I, 4, 2, (704, 480, 8, 0), 3),
-        8 => row(8, (720, 576), Chroma::C422, I, 3, 3, (704, 576, 8, 0), 3),
-        9 => row(9, (1280, 720), Chroma::C422, P, 7, 1, (1280, 720, 0, 0), 3),
-        10 => row(10, (1280, 720), Chroma::C422, P, 6, 1, (1280, 720, 0, 0), 3),
-        11 => row(
-            11,
-            (1920, 1080),
-            Chroma::C422,
-            I,
-            4,
-            1,
-            (1920, 1080, 0, 0),
-            3,
-        ),
-        12 => row(
-            12,
-            (1920, 1080),
-            Chroma::C422,
-            I,
-            3,
-            1,
-            (1920, 1080, 0, 0),
-            3,
-        ),
-        13 => row(
-            13,
-            (1920, 1080),
-            Chroma::C422,
-            P,
-            7,
-            1,
-            (1920, 1080, 0, 0),
-            3,
-        ),
-        14 => row(
-            14,
-            (1920, 1080),
-            Chroma::C422,
-            P,
-            6,
-            1,
-            (1920, 1080, 0, 0),
-            3,
-        ),
-        15 => row(
-            15,
-            (2048, 1080),
-            Chroma::C444,
-            P,
-            2,
-            1,
-            (2048, 1080, 0, 0),
-            4,
-        ),
-        _ => row(
-            16,
-            (4096, 2160),
-            Chroma::C444,
-            P,
-            2,
-            1,
-            (4096, 2160, 0, 0),
-            4,
-        ),
-    }
-}
-
-fn row(
-    base: u8,
-    size: (u32, u32),
-    chroma: Chroma,
-    interlaced: bool,
-    rate_index: u64,
-    aspect_index: u64,
-    clean: (u64, u64, u64, u64),
-    signal_index: u64,
-) -> Sequence
-    requires rate { (1 ≤ rate_index) × (rate_index ≤ 10) }
-    requires aspect { (1 ≤ aspect_index) × (aspect_index ≤ 6) }
-    requires signal { (1 ≤ signal_index) × (signal_index ≤ 4) }
-    ensures { result ≡ format base size chroma interlaced rate_index aspect_index clean signal_index }
-{
-    let signal = range(signal_index);
+    let format = base_format(u32::from(n));
+    let signal = range(u64::from(format.signal));
     Sequence {
         major: 0,
         minor: 0,
         profile: 0,
         level: 0,
-        base,
-        width: size.0,
-        height: size.1,
-        chroma,
-        interlaced,
-        rate: rate(rate_index),
-        aspect: aspect(aspect_index),
-        clean,
+        base: n,
+        width: format.size.0,
+        height: format.size.1,
+        chroma: format.chroma,
+        interlaced: format.interlaced,
+        rate: rate(u64::from(format.rate)),
+        aspect: aspect(u64::from(format.aspect)),
+        clean: format.clean,
         luma: signal.luma,
         colour: signal.colour,
     }

@@ -4,7 +4,7 @@ use Rattle.dirac_types.specs.declared.settings.Name.TheVariants as name
 use Rattle.dirac_types.specs.declared.settings.Settings.{Settings}
 use Rattle.dirac_types.specs.Bits.{bits_of, number_from}
 use Rattle.dirac_types.specs.Bytes.{bytes_in, bytes_of}
-use Rattle.dirac_types.specs.Settings.{first_bad, table, format_of, of_base}
+use Rattle.dirac_types.specs.Settings.{first_bad, table, format_of, formats, of_base, defaults as gives}
 use Rattle.dirac_types.specs.Numbers.{digits_within, digits_of, uint, sint, literal}
 use Rattle.dirac_types.specs.Table.{Table, cell_at, table_at}
 
@@ -50,3 +50,10 @@ defaults s is = rw is (refl, refl, refl, refl)
 -- a table of numbers has 0 outside
 number_at : (t : Table) (x y : ℕ) → cell_at (pos 0) t x y ≡ table_at t x y
 number_at t x y = refl
+
+-- what each base video format gives to the settings
+given : formats ≡ gives 2 640 480 1 1 ∷ gives 2 176 120 9 1 ∷ gives 2 176 144 10 1 ∷ gives 2 352 240 9 1
+    ∷ gives 2 352 288 10 1 ∷ gives 2 704 480 9 1 ∷ gives 2 704 576 10 1 ∷ gives 1 720 480 4 2 ∷ gives 1 720 576 3 2
+    ∷ gives 1 1280 720 7 2 ∷ gives 1 1280 720 6 2 ∷ gives 1 1920 1080 4 2 ∷ gives 1 1920 1080 3 2
+    ∷ gives 1 1920 1080 7 2 ∷ gives 1 1920 1080 6 2 ∷ gives 0 2048 1080 2 2 ∷ gives 0 4096 2160 2 2 ∷ []
+given = refl

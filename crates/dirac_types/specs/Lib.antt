@@ -1,3 +1,4 @@
+pub mod BaseFormats
 pub mod Bits
 pub mod Bytes
 pub mod Causes

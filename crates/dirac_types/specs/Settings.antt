@@ -1,6 +1,10 @@
 -- The settings of the encoder: their ranges and defaults, and which of them is out of its range.
-use Rattle.std.specs.Prelude.{◌≡◌, ℕ, ◌≤◌, ◌%◌, ◌==◌, nat_le, ◌&&◌, if◌then◌else◌, Bool, List, [], ◌∷◌, slice_index_or, Option, Some, None, Result, Ok, Err}
+use Rattle.std.specs.Prelude.{◌≡◌, ℕ, ◌≤◌, ◌%◌, ◌==◌, nat_le, ◌&&◌, if◌then◌else◌, Bool, List, [], ◌∷◌, map, slice_index_or, Option, Some, None, Result, Ok, Err}
 use Rattle.std.specs.List.{AllByRecursion}
+use Rattle.dirac_types.specs.BaseFormats.{base_formats}
+use Rattle.dirac_types.specs.declared.base_formats.BaseFormat.{BaseFormat}
+use Rattle.dirac_types.specs.declared.formats.Chroma.{Chroma}
+use Rattle.dirac_types.specs.declared.formats.Chroma.TheVariants.{C444, C422, C420}
 use Rattle.dirac_types.specs.declared.settings.BadSetting.{BadSetting}
 use Rattle.dirac_types.specs.declared.settings.Name.{Name}
 use Rattle.dirac_types.specs.declared.settings.Name.TheVariants as name
@@ -74,27 +78,19 @@ IsAccepted s = AllByRecursion IsInRange (table s)
 abbrev pub defaults : ℕ → ℕ → ℕ → ℕ → ℕ → Format
 defaults chroma width height rate signal = record { chroma = chroma; width = width; height = height; rate = rate; signal = signal }
 
+-- the number of a chroma format
+abbrev pub chroma_number : Chroma → ℕ
+chroma_number C444 = 0
+chroma_number C422 = 1
+chroma_number C420 = 2
+
+-- what a row of their table gives: of the signal ranges the settings have those of 8 bits, 1 and 2
+abbrev pub defaults_of : BaseFormat → Format
+defaults_of f = defaults (chroma_number f.chroma) f.size.0 f.size.1 f.rate (if f.signal == 1 then 1 else 2)
+
 -- chroma format, size, frame rate and signal range of the base video formats, by their numbers
 abbrev pub formats : List Format
-formats =
-    defaults 2 640 480 1 1
-    ∷ defaults 2 176 120 9 1
-    ∷ defaults 2 176 144 10 1
-    ∷ defaults 2 352 240 9 1
-    ∷ defaults 2 352 288 10 1
-    ∷ defaults 2 704 480 9 1
-    ∷ defaults 2 704 576 10 1
-    ∷ defaults 1 720 480 4 2
-    ∷ defaults 1 720 576 3 2
-    ∷ defaults 1 1280 720 7 2
-    ∷ defaults 1 1280 720 6 2
-    ∷ defaults 1 1920 1080 4 2
-    ∷ defaults 1 1920 1080 3 2
-    ∷ defaults 1 1920 1080 7 2
-    ∷ defaults 1 1920 1080 6 2
-    ∷ defaults 0 2048 1080 2 2
-    ∷ defaults 0 4096 2160 2 2
-    ∷ []
+formats = map defaults_of base_formats
 
 -- those of this base; beyond the last they are those of base 0
 unfoldable pub format_of : ℕ → Format

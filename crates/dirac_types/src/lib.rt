@@ -2,6 +2,7 @@
 //! definitions of the standard's numbers (in `specs/`).
 #![tactic(auto)]
 
+mod base_formats;
 mod element;
 mod faults;
 mod formats;
@@ -14,6 +15,7 @@ mod shared;
 mod sizes;
 mod table;
 
+pub use base_formats::{BaseFormat, base_format};
 pub use faults::{Cause, Fault, Refusal, Stop};
 pub use formats::{Band, BlockGrid, Chroma, Kind, Part, Vector};
 pub use memory::NoMemory;

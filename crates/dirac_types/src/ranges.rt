@@ -1,8 +1,10 @@
 //! The ranges of the settings, and what the base video formats say of them.
 
-ghost use Rattle.std.specs.Prelude.{◌≡◌, ◌≤◌, ◌<◌, All};
+ghost use Rattle.std.specs.Prelude.{◌≡◌, ◌≤◌, ◌<◌, ◌==◌, if◌then◌else◌, All};
 ghost use Rattle.dirac_types.specs.Settings as settings;
 
+use crate::base_formats::{BaseFormat, base_format};
+use crate::formats::Chroma;
 use crate::settings::{BadSetting, Name, Settings};
 
 /// A setting with its value and its range: from `least` to `most`, and a multiple of `step`.
@@ -110,40 +112,40 @@ fn is_in_range(row: &Ranged) -> bool
 }
 
 /// The settings that depend on the base video format.
-#[tactic(auto, unfolding(crate::specs::Settings::format_of))]
 pub fn format_of(base: u32) -> Format
     requires { base ≤ 16 }
     ensures { result ≡ settings.format_of base }
 {
-    match base {
-        0 => defaults(2, 640, 480, 1, 1),
-        1 => defaults(2, 176, 120, 9, 1),
-        2 => defaults(2, 176, 144, 10, 1),
-        3 => defaults(2, 352, 240, 9, 1),
-        4 => defaults(2, 352, 288, 10, 1),
-        5 => defaults(2, 704, 480, 9, 1),
-        6 => defaults(2, 704, 576, 10, 1),
-        7 => defaults(1, 720, 480, 4, 2),
-        8 => defaults(1, 720, 576, 3, 2),
-        9 => defaults(1, 1280, 720, 7, 2),
-        10 => defaults(1, 1280, 720, 6, 2),
-        11 => defaults(1, 1920, 1080, 4, 2),
-        12 => defaults(1, 1920, 1080, 3, 2),
-        13 => defaults(1, 1920, 1080, 7, 2),
-        14 => defaults(1, 1920, 1080, 6, 2),
-        15 => defaults(0, 2048, 1080, 2, 2),
-        _ => defaults(0, 4096, 2160, 2, 2),
+    let format = base_format(base);
+    defaults_of(&format)
+}
+
+fn defaults_of(format: &BaseFormat) -> Format
+    ensures { result ≡ settings.defaults_of format.now }
+{
+    Format {
+        chroma: chroma_number(format.chroma),
+        width: format.size.0,
+        height: format.size.1,
+        rate: format.rate,
+        signal: signal_of(format.signal),
     }
 }
 
-fn defaults(chroma: u32, width: u32, height: u32, rate: u32, signal: u32) -> Format
-    ensures { result ≡ settings.defaults chroma width height rate signal }
+/// The number of a chroma format.
+fn chroma_number(chroma: Chroma) -> u32
+    ensures { result ≡ settings.chroma_number chroma }
 {
-    Format {
-        chroma,
-        width,
-        height,
-        rate,
-        signal,
+    match chroma {
+        Chroma::C444 => 0,
+        Chroma::C422 => 1,
+        Chroma::C420 => 2,
     }
+}
+
+/// The signal range of the settings: 1, or 2 in place of all others.
+fn signal_of(index: u32) -> u32
+    ensures { result ≡ (if index == 1 then 1 else 2) }
+{
+    if index == 1 { 1 } else { 2 }
 }
