@@ -1,4 +1,5 @@
 -- What one unit of a stream does to a decoder, whatever was given so far.
+-- Inner: for the proofs of this crate.
 use Rattle.std.specs.Prelude.{◌≡◌, ℕ, ◌<◌, Bool, true, false, List, [], ◌∷◌, Option, None, Some, ⊤}
 use Rattle.dirac_types.specs.declared.picture.Picture.{Picture}
 use Rattle.dirac_units.specs.declared.unit.Met.{Met}

@@ -1,4 +1,5 @@
 -- How far the coding of raw pictures is, while a planner gives them.
+-- Inner: for the proofs of this crate.
 use Rattle.std.specs.Prelude.{◌≡◌, ℕ, ◌≤◌, ◌^◌, Bool, true, List, [], ◌∷◌, ◌++◌, length, Option}
 use Rattle.std.specs.List.{AllByRecursion}
 use Rattle.dirac_types.specs.declared.picture.Picture.{Picture}
