@@ -1,6 +1,6 @@
-use Rattle.std.proofs.Common.{◌≡◌, ◌*◌, ◌≤◌, ℕ, subst, sym, arith}
+use Rattle.std.proofs.Common.{◌≤◌, ℕ, subst, sym}
 use Rattle.dirac_types.specs.Settings.{step_across, step_down}
-use Rattle.dirac_generator.proofs.Sizes.{sizes_fit, chroma_some, times_some, count_bounded, bounded_by}
+use Rattle.dirac_generator.proofs.Sizes.{sizes_fit, chroma_some, times_some, bounded_by}
 use Rattle.dirac_generator.proofs.picture.sizes_of.Goals as goal
 
 pub returns-clause-some_chroma : goal.returns-clause-some_chroma
