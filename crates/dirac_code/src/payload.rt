@@ -15,8 +15,8 @@ use dirac_bits::BitWriter;
 use dirac_blocks::{BlockData, write_blocks};
 use dirac_header::{write_header, write_prediction, write_transform};
 use dirac_picture::{CodedMotion, CodedPicture, CodedResidual, is_intra};
-use dirac_sequence::{Sequence, ratio_across, ratio_down};
-use dirac_types::{NoMemory, Settings};
+use dirac_sequence::Sequence;
+use dirac_types::{NoMemory, Part, Settings};
 use std::alloc::Global;
 
 /// Writes the bands of Y, U and V.
@@ -31,16 +31,10 @@ fn write_planes(
     ensures { OnOk result (w.new ≡ with_planes sequence.now residual.now w.old) }
 {
     let transform = &residual.transform;
-    let width = sequence.width / ratio_across(sequence.chroma);
-    let height = sequence.height / ratio_down(sequence.chroma);
-    write_plane(
-        alloc,
-        w,
-        transform,
-        sequence.width,
-        sequence.height,
-        &residual.y,
-    )?;
+    let (width, height) = (sequence.width, sequence.picture_height());
+    write_plane(alloc, w, transform, width, height, &residual.y)?;
+    let width = sequence.plane_width(Part::U);
+    let height = sequence.plane_height(Part::U);
     write_plane(alloc, w, transform, width, height, &residual.u)?;
     write_plane(alloc, w, transform, width, height, &residual.v)?;
     Ok(())

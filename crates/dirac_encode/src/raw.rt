@@ -11,8 +11,8 @@ ghost use Rattle.dirac_decode.specs.Raw.{raw as raw_of};
 ghost use Rattle.dirac_stream.specs.Coded.{IsSource};
 ghost use Rattle.dirac_stream.specs.Raw.{picture_from, picture_in, plane_from, raw_length as length_of, sample_of};
 
-use dirac_sequence::{Sequence, ratio_across, ratio_down, sequence_of};
-use dirac_types::{NoMemory, Picture, Plane, Settings};
+use dirac_sequence::{Sequence, sequence_of};
+use dirac_types::{NoMemory, Part, Picture, Plane, Settings};
 use std::alloc::Global;
 
 /// The sample of a byte.
@@ -62,9 +62,9 @@ fn length_in(settings: &Settings, sequence: &Sequence) -> usize
     requires chroma { IsPlaneSize (chroma_width sequence.now) (chroma_height sequence.now) }
     ensures { result ≡ settings.now.width * settings.now.height + chroma_width sequence.now * chroma_height sequence.now + chroma_width sequence.now * chroma_height sequence.now }
 {
-    let width = sequence.width / ratio_across(sequence.chroma);
-    let height = sequence.height / ratio_down(sequence.chroma);
-    let luma = settings.width as usize * settings.height as usize;
+    let width = sequence.plane_width(Part::U);
+    let height = sequence.plane_height(Part::U);
+    let luma = settings.width as usize * settings.picture_height() as usize;
     let chroma = width as usize * height as usize;
     luma + chroma + chroma
 }
@@ -103,13 +103,13 @@ fn planes_of(
     ensures u { IfOk result (λ p. AreSamples p.u.values) }
     ensures v { IfOk result (λ p. AreSamples p.v.values) }
 {
-    let width = sequence.width / ratio_across(sequence.chroma);
-    let height = sequence.height / ratio_down(sequence.chroma);
-    let luma = settings.width as usize * settings.height as usize;
+    let width = sequence.plane_width(Part::U);
+    let height = sequence.plane_height(Part::U);
+    let luma = settings.width as usize * settings.picture_height() as usize;
     let chroma = width as usize * height as usize;
     Ok(Picture {
         number,
-        y: plane_of(alloc, settings.width, settings.height, &bytes[..luma])?,
+        y: plane_of(alloc, settings.width, settings.picture_height(), &bytes[..luma])?,
         u: plane_of(alloc, width, height, &bytes[luma..luma + chroma])?,
         v: plane_of(alloc, width, height, &bytes[luma + chroma..])?,
     })

@@ -30,6 +30,7 @@ use dirac_picture::is_intra;
 use dirac_plan::Planned;
 use dirac_stream::Encoded;
 use dirac_types::{NoMemory, Picture};
+use dirac_units::PARSE_INFO_LENGTH;
 use std::alloc::Global;
 use std::thread::Threads;
 
@@ -86,7 +87,7 @@ fn put_coded<K: Sink, N: Sink>(
         Put::NoMemory => return Err(Encoded::NoMemory),
     }
     coding.count += 1;
-    coding.previous = 13 + coded.payload.len() as u32;
+    coding.previous = (PARSE_INFO_LENGTH + coded.payload.len()) as u32;
     coding.refs.commit(planned.retire, reference);
     match deliver(
         side,
@@ -107,7 +108,7 @@ fn length_before(code: u8, header: &[u8], previous: u32) -> u32
     ensures { result ≡ (if is_intra_code code then 13 + length header.now else previous) }
 {
     if is_intra(code) {
-        13 + header.len() as u32
+        (PARSE_INFO_LENGTH + header.len()) as u32
     } else {
         previous
     }
@@ -160,7 +161,7 @@ pub(crate) fn put_source<R: Threads + Sync, K: Sink, N: Sink, G: RowGate>(
     ) else {
         return Err(Encoded::NoMemory);
     };
-    if 13 + coded.payload.len() as u64 > u64::from(settings.unit_bytes) {
+    if (PARSE_INFO_LENGTH + coded.payload.len()) as u64 > u64::from(settings.unit_bytes) {
         return Err(Encoded::UnitTooLong(planned.number));
     }
     let previous = length_before(planned.code, coder.header, coding.previous);

@@ -12,7 +12,9 @@ ghost use Rattle.dirac_stream.specs.Stream.{end_unit, header_unit, unit};
 use dirac_io::{Put, Sink, put_all};
 use dirac_picture::is_intra;
 use dirac_types::Settings;
-use dirac_units::{ParseInfo, write_info};
+use dirac_units::{
+    END_OF_SEQUENCE, PARSE_INFO_LENGTH, ParseInfo, SEQUENCE_HEADER, write_info,
+};
 
 /// Writes a unit with this parse code behind a unit of `previous` bytes.
 pub(crate) fn put_unit<K: Sink>(out: &mut K, code: u8, previous: u32, payload: &[u8]) -> Put
@@ -22,7 +24,7 @@ pub(crate) fn put_unit<K: Sink>(out: &mut K, code: u8, previous: u32, payload: &
     ensures failed { result ≡ Put.Failed → Rose (K.faults out.old) (K.faults out.new) }
     ensures count { K.faults out.old ≤ K.faults out.new }
 {
-    let next = 13 + payload.len() as u32;
+    let next = (PARSE_INFO_LENGTH + payload.len()) as u32;
     let info = write_info(ParseInfo {
         code,
         next,
@@ -52,7 +54,7 @@ pub(crate) fn put_header<K: Sink>(
     ensures count { K.faults out.old ≤ K.faults out.new }
 {
     if is_intra(code) {
-        put_unit(out, 0x00, previous, header)
+        put_unit(out, SEQUENCE_HEADER, previous, header)
     } else {
         Put::All
     }
@@ -66,7 +68,7 @@ pub(crate) fn put_end<K: Sink>(out: &mut K, previous: u32) -> Put
     ensures count { K.faults out.old ≤ K.faults out.new }
 {
     let info = write_info(ParseInfo {
-        code: 0x10,
+        code: END_OF_SEQUENCE,
         next: 0,
         previous,
     });
@@ -92,8 +94,8 @@ pub(crate) fn put_end_units<K: Sink>(
     if count > 0 {
         return put_end(out, previous);
     }
-    match put_unit(out, 0x00, 0, header) {
-        Put::All => put_end(out, 13 + header.len() as u32),
+    match put_unit(out, SEQUENCE_HEADER, 0, header) {
+        Put::All => put_end(out, (PARSE_INFO_LENGTH + header.len()) as u32),
         Put::Failed => Put::Failed,
         Put::NoMemory => Put::NoMemory,
     }
