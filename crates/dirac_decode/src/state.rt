@@ -8,9 +8,7 @@ use crate::picture::{Rebuilt, make_picture};
 use dirac_refs::{Delivery, RefBuffer, key};
 use dirac_sequence::read_sequence;
 use dirac_types::{Cause, Picture, Refusal, Stop};
-use dirac_units::{
-    END_OF_SEQUENCE, PARSE_INFO_LENGTH, Payload, SEQUENCE_HEADER, fields_are_read,
-};
+use dirac_units::{END_OF_SEQUENCE, PARSE_INFO_LENGTH, Payload, SEQUENCE_HEADER, fields_are_read};
 use std::alloc::Global;
 use std::marker::Model;
 
