@@ -1,6 +1,7 @@
 -- The blocks of an inter picture cover each of its planes.
-use Rattle.std.proofs.Common.{◌≡◌, ℕ, ◌+◌, ◌-◌, ◌*◌, ◌/◌, ◌%◌, ◌<◌, ◌≤◌, IsTrue, IsSome, Option, None, Some, arith, rules, ap, subst, ◌∙◌}
-use Rattle.std.specs.Option.{ForSome}
+use Rattle.std.proofs.Common.{◌≡◌, ℕ, ◌+◌, ◌-◌, ◌*◌, ◌/◌, ◌%◌, ◌<◌, ◌≤◌, IsTrue, IsSome, Option, None, Some, arith, ap, refl, subst, ◌∙◌}
+use Rattle.std.specs.Borrow.{Bor}
+use Rattle.std.specs.Option.{ForSome, option_copied}
 use Rattle.std.proofs.Math.Nat.{lt-div-mul-add}
 use Rattle.std.proofs.lemmas.Bool.Decides.{nat_tests}
 use Rattle.dirac_types.specs.declared.formats.BlockGrid.{BlockGrid}
@@ -19,6 +20,7 @@ use Rattle.dirac_picture.specs.declared.coded.CodedMotion.{CodedMotion}
 use Rattle.dirac_picture.specs.Fits.{IsMotion}
 use Rattle.dirac_picture.specs.Grammar.{superblocks_over}
 use Rattle.dirac_decode.specs.Content.{IsPicture, IsPlane, width_of, height_of, plane_of, up_of, compensated}
+use Rattle.dirac_decode.specs.Predicting.{IsUpOfPart}
 
 -- what a grid says of separations
 grid_across : (chroma : Chroma) (g : BlockGrid) → IsTrue (is_grid chroma g) → (1 ≤ g.xbsep) × (g.xbsep % ratio_across chroma ≡ 0)
@@ -86,10 +88,8 @@ plane_size s picture part.U fits = fits.u
 plane_size s picture part.V fits = fits.v
 
 -- so each plane can be predicted from upconverted planes of its size
-is_compensation : (code : ℕ) (s : Sequence) (m : CodedMotion) (first : Up) (second : Option Up) (p : Part) → IsSequence s → IsMotion code s m
-    → (first.width ≡ width_of s p) × (first.height ≡ height_of s p)
-    → ForSome second (λ u. (u.width ≡ width_of s p) × (u.height ≡ height_of s p))
-    → (m.blocks.refs ≡ 2 → IsSome second)
+pub is_compensation : (code : ℕ) (s : Sequence) (m : CodedMotion) (first : Up) (second : Option Up) (p : Part) → IsSequence s → IsMotion code s m
+    → IsUpOfPart s p first → ForSome second (IsUpOfPart s p) → (m.blocks.refs ≡ 2 → IsSome second)
     → IsPredictable (compensated s m first second p)
 is_compensation code s m first second p lawful fits one two there =
     let grid = fits.prediction.grid in
@@ -111,11 +111,20 @@ is_compensation code s m first second p lawful fits one two there =
       two = there;
     }
 
-up_size : (s : Sequence) (picture : Picture) (p : Part) (u : Up) → IsPicture s picture → u ≡ up_of (plane_of picture p)
-    → (u.width ≡ width_of s p) × (u.height ≡ height_of s p)
+-- a lent plane is there where its loan is
+pub there_lent : {X : Type 0} (o : Option (Bor X)) → IsSome o → IsSome (option_copied o)
+there_lent None there = absurd cc
+there_lent (Some b) there = refl
+
+-- the upconverted planes of a picture have the sizes of their parts
+pub up_size : (s : Sequence) (picture : Picture) (p : Part) (u : Up) → IsPicture s picture → u ≡ up_of (plane_of picture p) → IsUpOfPart s p u
 up_size s picture p u fits is =
     let size = plane_size s picture p fits in
     (ap (λ (x : Up). x.width) is ∙ size.across, ap (λ (x : Up). x.height) is ∙ size.down)
+
+-- one that is lent too
+pub lent_size : (s : Sequence) (picture : Picture) (p : Part) (u x : Up) → IsPicture s picture → u ≡ up_of (plane_of picture p) → Some u ≡ Some x → IsUpOfPart s p x
+lent_size s picture p u x fits is e = let same : u ≡ x = cc in subst (IsUpOfPart s p) same (up_size s picture p u fits is)
 
 -- from one reference
 pub from_one : (code : ℕ) (s : Sequence) (m : CodedMotion) (picture : Picture) (first : Up) (p : Part) → IsSequence s → IsMotion code s m
@@ -129,5 +138,4 @@ pub from_two : (code : ℕ) (s : Sequence) (m : CodedMotion) (picture other : Pi
     → IsPredictable (compensated s m first (Some second) p)
 from_two code s m picture other first second p lawful fits one two is also =
     is_compensation code s m first (Some second) p lawful fits (up_size s picture p first one is)
-    (λ u e. let same : u ≡ up_of (plane_of other p) = cc in up_size s other p u two same)
-    (λ refs. search rules)
+    (λ u e. lent_size s other p second u two also e) (λ refs. refl)

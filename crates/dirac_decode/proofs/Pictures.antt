@@ -1,5 +1,6 @@
 -- Rebuilt pictures are pictures of their sequence.
-use Rattle.std.proofs.Common.{ℤ, pos, negsuc, List, map, get_or, Option, None, Some, arith, refl}
+use Rattle.std.proofs.Common.{◌≡◌, ◌∙◌, ap, ap₂, sym, ℤ, pos, negsuc, List, map, get_or, Option, None, Some, arith, refl}
+use Rattle.std.specs.Prelude.{Result, Ok, Err, IfOk}
 use Rattle.std.specs.List.{All}
 use Rattle.std.specs.Int.{int_min}
 use Rattle.std.proofs.lemmas.Int.{ints, int_max_is, int_min_is}
@@ -10,10 +11,12 @@ use Rattle.dirac_sequence.specs.declared.sequence.Sequence.{Sequence}
 use Rattle.dirac_header.specs.declared.header.PictureHeader.{PictureHeader}
 use Rattle.dirac_upconvert.specs.HalfSamples.{IsSample}
 use Rattle.dirac_types.specs.declared.formats.Part.{Part}
+use Rattle.dirac_types.specs.declared.formats.Part.TheVariants as part
 use Rattle.dirac_picture.specs.declared.coded.CodedMotion.{CodedMotion}
 use Rattle.dirac_picture.specs.declared.coded.CodedPicture.{CodedPicture}
 use Rattle.dirac_picture.specs.declared.coded.CodedResidual.{CodedResidual}
-use Rattle.dirac_decode.specs.Content.{IsPlane, width_of, height_of, samples_from, plane_samples}
+use Rattle.dirac_decode.specs.Content.{IsPicture, IsPlane, width_of, height_of, named, samples_from, plane_samples, rebuilt}
+use Rattle.dirac_decode.specs.Predicting.{inter_picture, intra_picture}
 
 -- a clipped value is a sample
 clip_is_sample : (v : ℤ) → IsSample (clip v)
@@ -35,3 +38,37 @@ samples_fit s refs head (Some m) (Some r) part = record { across = refl; down = 
 
 pub plane_fits : (s : Sequence) (refs : List Picture) (coded : CodedPicture) (part : Part) → IsPlane (width_of s part) (height_of s part) (plane_samples s refs coded part)
 plane_fits s refs coded part = samples_fit s refs coded.header coded.motion coded.residual part
+
+pub picture_fits : (s : Sequence) (refs : List Picture) (coded : CodedPicture) → IsPicture s (rebuilt s refs coded)
+picture_fits s refs coded = record {
+  y = plane_fits s refs coded part.Y;
+  u = plane_fits s refs coded part.U;
+  v = plane_fits s refs coded part.V;
+}
+
+-- an inter picture is the one that its references stand for, once these are looked up
+pub inter_found : {E : Type 0} (s : Sequence) (refs : List Picture) (coded : CodedPicture) (m : CodedMotion) (first : Picture) (second : Option Picture) (r : Result Picture E)
+    → coded.motion ≡ Some m → named refs coded.header.ref1 ≡ Some first → second ≡ named refs coded.header.ref2
+    → IfOk r (λ p. p ≡ inter_picture s (Some first) second coded.header m coded.residual) → IfOk r (λ p. p ≡ rebuilt s refs coded)
+inter_found s refs coded m first second (Ok p) moves e f is =
+    let of : Option CodedMotion → Picture = λ x. record {
+      number = coded.header.number;
+      y = samples_from s refs coded.header x coded.residual part.Y;
+      u = samples_from s refs coded.header x coded.residual part.U;
+      v = samples_from s refs coded.header x coded.residual part.V;
+    } in
+    is ∙ ap₂ (λ (a b : Option Picture). inter_picture s a b coded.header m coded.residual) (sym e) f ∙ ap of (sym moves)
+inter_found s refs coded m first second (Err stop) moves e f is = tt
+
+-- and an intra picture is the one of its residual
+pub intra_found : {E : Type 0} (s : Sequence) (refs : List Picture) (coded : CodedPicture) (r : Result Picture E)
+    → coded.motion ≡ None → IfOk r (λ p. p ≡ intra_picture s coded.header coded.residual) → IfOk r (λ p. p ≡ rebuilt s refs coded)
+intra_found s refs coded (Ok p) stays is =
+    let of : Option CodedMotion → Picture = λ x. record {
+      number = coded.header.number;
+      y = samples_from s refs coded.header x coded.residual part.Y;
+      u = samples_from s refs coded.header x coded.residual part.U;
+      v = samples_from s refs coded.header x coded.residual part.V;
+    } in
+    is ∙ ap of (sym stays)
+intra_found s refs coded (Err stop) stays is = tt

@@ -7,3 +7,4 @@ pub mod Advancing
 pub mod Raw
 pub mod Decoded
 pub mod Sequences
+pub mod Predicting

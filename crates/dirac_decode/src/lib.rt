@@ -17,7 +17,7 @@ mod stream;
 mod written;
 
 pub use answers::{Decoded, Next, Tally};
-pub use compensate::{named, predict};
+pub use compensate::{named, predict, predict_from, predict_with};
 pub use decoder::Decoder;
 pub use dirac_picture::{CodedMotion, CodedPicture, CodedResidual, PlaneBands, read_picture};
 pub use laws::a_stream_shows_its_sequences;

@@ -1,5 +1,6 @@
-ghost use Rattle.std.specs.Prelude.{◌≡◌, ◌*◌, ◌≤◌, length, IfErr, IfOk, IfSome, IsTrue};
+ghost use Rattle.std.specs.Prelude.{◌≡◌, ◌*◌, ◌≤◌, length, Some, IfErr, IfOk, IfSome, IsSome, IsTrue};
 ghost use Rattle.std.specs.List.{All};
+ghost use Rattle.std.specs.Option.{ForSome, option_copied};
 ghost use Rattle.dirac_types.specs.declared.formats.Kind.TheVariants.{Inter};
 ghost use Rattle.dirac_sequence.specs.Lawful.{IsSequence};
 ghost use Rattle.dirac_picture.specs.Fits.{FitsSequence, IsMotion, IsResidual, NamesReferences};
@@ -8,11 +9,12 @@ ghost use Rattle.dirac_residual.specs.Residual.{clipped as clipped_table, with_p
 ghost use Rattle.dirac_decode.specs.Content as content;
 ghost use Rattle.dirac_decode.specs.Content.{AreReferences, IsPicture, rebuilt};
 ghost use Rattle.dirac_decode.specs.Course.{as_reference};
+ghost use Rattle.dirac_decode.specs.Predicting.{inter_picture, inter_plane, intra_picture};
 ghost use Rattle.dirac_decode.specs.Taking.{IfStopped, IsRebuilt};
 
-use crate::compensate::predict;
+use crate::compensate::{named, predict_from};
 use crate::planes::residual_of;
-use dirac_header::{PictureHeader, is_reference};
+use dirac_header::is_reference;
 use dirac_obmc::Part;
 use dirac_picture::{CodedMotion, CodedPicture, CodedResidual, read_picture};
 use dirac_refs::RefBuffer;
@@ -54,53 +56,117 @@ pub fn predicted_samples(
     clipped_sum(alloc, &residual, predicted)
 }
 
-/// The samples of a plane of an inter picture: its residual and what is predicted, clipped.
+/// The samples of a plane of an inter picture: its residual and what its references predict, clipped.
 fn inter_samples(
     alloc: Global,
-    code: u8,
-    sequence: &Sequence,
-    refs: &RefBuffer,
-    header: &PictureHeader,
+    coded: &CodedPicture,
     motion: &CodedMotion,
-    residual: &Option<CodedResidual>,
+    sequence: &Sequence,
+    first: &Picture,
+    second: Option<&Picture>,
     part: Part,
 ) -> Result<Plane, NoMemory>
     requires sequence { IsSequence sequence.now }
-    requires motion { IsMotion code sequence.now motion.now }
-    requires names { NamesReferences code header.now }
-    requires refs { AreReferences sequence.now refs.now header.now }
-    requires fits { IfSome residual.now (IsResidual sequence.now) }
-    ensures value { IfOk result (λ t. t ≡ content.inter_samples sequence.now refs.now header.now motion.now residual.now part) }
+    requires motion { IsMotion coded.now.code sequence.now motion.now }
+    requires fits { IfSome coded.now.residual (IsResidual sequence.now) }
+    requires first { IsPicture sequence.now first.now }
+    requires second { ForSome (option_copied second) (IsPicture sequence.now) }
+    requires two { motion.now.blocks.refs ≡ 2 → IsSome second }
+    ensures value { IfOk result (λ t. t ≡ inter_plane sequence.now (Some first.now) (option_copied second.entry)
+        motion.now coded.now.residual part) }
 {
-    let predicted = predict(alloc, code, sequence, refs, header, motion, part)?;
-    predicted_samples(alloc, sequence, residual, predicted.values(), part)
+    let predicted = predict_from(alloc, coded.code, sequence, motion, first, second, part)?;
+    predicted_samples(alloc, sequence, &coded.residual, predicted.values(), part)
 }
 
-/// The samples of a plane.
-fn samples(
+/// An inter picture, from its references.
+fn rebuild_from(
+    alloc: Global,
+    coded: &CodedPicture,
+    motion: &CodedMotion,
+    sequence: &Sequence,
+    first: &Picture,
+    second: Option<&Picture>,
+) -> Result<Picture, NoMemory>
+    requires sequence { IsSequence sequence.now }
+    requires motion { IsMotion coded.now.code sequence.now motion.now }
+    requires fits { IfSome coded.now.residual (IsResidual sequence.now) }
+    requires first { IsPicture sequence.now first.now }
+    requires second { ForSome (option_copied second) (IsPicture sequence.now) }
+    requires two { motion.now.blocks.refs ≡ 2 → IsSome second }
+    ensures { IfOk result (λ p. p ≡ inter_picture sequence.now (Some first.now) (option_copied second.entry)
+        coded.now.header motion.now coded.now.residual) }
+{
+    let y = inter_samples(alloc, coded, motion, sequence, first, second, Part::Y)?;
+    let u = inter_samples(alloc, coded, motion, sequence, first, second, Part::U)?;
+    let v = inter_samples(alloc, coded, motion, sequence, first, second, Part::V)?;
+    Ok(Picture {
+        number: coded.header.number,
+        y,
+        u,
+        v,
+    })
+}
+
+/// An inter picture. Its references are looked up once.
+fn rebuild_inter(
+    alloc: Global,
+    coded: &CodedPicture,
+    motion: &CodedMotion,
+    sequence: &Sequence,
+    refs: &RefBuffer,
+) -> Result<Picture, NoMemory>
+    requires sequence { IsSequence sequence.now }
+    requires inter { coded.now.motion ≡ Some motion.now }
+    requires motion { IsMotion coded.now.code sequence.now motion.now }
+    requires names { NamesReferences coded.now.code coded.now.header }
+    requires refs { AreReferences sequence.now refs.now coded.now.header }
+    requires fits { IfSome coded.now.residual (IsResidual sequence.now) }
+    ensures { IfOk result (λ p. p ≡ rebuilt sequence.now refs.now coded.now) }
+{
+    let second = named(refs, coded.header.ref2);
+    match named(refs, coded.header.ref1) {
+        None => unreachable!(),
+        Some(first) => rebuild_from(alloc, coded, motion, sequence, first, second),
+    }
+}
+
+/// The planes of an intra picture.
+fn intra_planes(
+    alloc: Global,
+    coded: &CodedPicture,
+    sequence: &Sequence,
+) -> Result<Picture, NoMemory>
+    requires sequence { IsSequence sequence.now }
+    requires fits { IfSome coded.now.residual (IsResidual sequence.now) }
+    ensures { IfOk result (λ p. p ≡ intra_picture sequence.now coded.now.header coded.now.residual) }
+{
+    let y = intra_samples(alloc, sequence, Part::Y, &coded.residual)?;
+    let u = intra_samples(alloc, sequence, Part::U, &coded.residual)?;
+    let v = intra_samples(alloc, sequence, Part::V, &coded.residual)?;
+    Ok(Picture {
+        number: coded.header.number,
+        y,
+        u,
+        v,
+    })
+}
+
+/// An intra picture from its residual, an inter picture from its references too.
+fn rebuild_planes(
     alloc: Global,
     coded: &CodedPicture,
     sequence: &Sequence,
     refs: &RefBuffer,
-    part: Part,
-) -> Result<Plane, NoMemory>
+) -> Result<Picture, NoMemory>
     requires sequence { IsSequence sequence.now }
     requires fits { FitsSequence coded.now.code sequence.now coded.now }
     requires refs { AreReferences sequence.now refs.now coded.now.header }
-    ensures value { IfOk result (λ t. t ≡ content.plane_samples sequence.now refs.now coded.now part) }
+    ensures value { IfOk result (λ p. p ≡ rebuilt sequence.now refs.now coded.now) }
 {
     match &coded.motion {
-        None => intra_samples(alloc, sequence, part, &coded.residual),
-        Some(motion) => inter_samples(
-            alloc,
-            coded.code,
-            sequence,
-            refs,
-            &coded.header,
-            motion,
-            &coded.residual,
-            part,
-        ),
+        None => intra_planes(alloc, coded, sequence),
+        Some(motion) => rebuild_inter(alloc, coded, motion, sequence, refs),
     }
 }
 
@@ -118,12 +184,8 @@ pub fn rebuild(
     ensures value { IfOk result (λ p. p ≡ rebuilt sequence.now refs.now coded.now) }
     ensures fits { IfOk result (IsPicture sequence.now) }
 {
-    Ok(Picture {
-        number: coded.header.number,
-        y: samples(alloc, coded, sequence, refs, Part::Y)?,
-        u: samples(alloc, coded, sequence, refs, Part::U)?,
-        v: samples(alloc, coded, sequence, refs, Part::V)?,
-    })
+    let picture = rebuild_planes(alloc, coded, sequence, refs)?;
+    Ok(picture)
 }
 
 /// A picture as it was coded, and as it was rebuilt; and once more where later pictures may refer to it.
