@@ -19,6 +19,7 @@ use Rattle.dirac_search.proofs.Bounds.{all_short, sub_bound, sub_former}
 use Rattle.dirac_decide.specs.Deciding.{IsDeciding, IsSearched, IsView, View, deciding}
 use Rattle.dirac_decide.proofs.Accepted.{across_within, bias_within, down_within, grid_within, precision_within}
 use Rattle.dirac_choose.specs.Chosen.{searched_in, view_in}
+use Rattle.dirac_choose.specs.Lent.{HasLuma}
 
 pub size_accepted : (s : Settings) → IsAccepted s → IsSize (sequence_of s).width (sequence_of s).height
 unfolding table sequence_of
@@ -60,6 +61,13 @@ width_within s p a is = omega (arith, is.y.across, (size_accepted s a).1)
 
 pub height_within : (s : Settings) (p : Picture) → IsAccepted s → IsPicture (sequence_of s) p → p.y.height ≤ 4096
 height_within s p a is = omega (arith, is.y.down, (size_accepted s a).3)
+
+-- its luma can be upconverted
+pub has_luma : (s : Settings) (p : Picture) → IsAccepted s → IsPicture (sequence_of s) p → HasLuma p
+has_luma s p a is = record { across = width_within s p a is; down = height_within s p a is; samples = is.y.samples }
+
+pub have_luma : (s : Settings) (o : Option Picture) → IsAccepted s → ForSome o (IsPicture (sequence_of s)) → ForSome o HasLuma
+have_luma s o a are p e = has_luma s p a (are p e)
 
 -- what is searched can be searched
 pub is_search : (s : Settings) (p r : Picture) → IsAccepted s → IsPicture (sequence_of s) p → IsSearch (searched_in s p r) s

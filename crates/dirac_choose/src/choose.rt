@@ -1,11 +1,13 @@
 ghost use Rattle.std.specs.Prelude.{◌≡◌, IfOk, Some, None, false, is_none};
-ghost use Rattle.std.specs.Option.{ForSome, option_copied};
+ghost use Rattle.std.specs.Option.{ForSome};
 ghost use Rattle.dirac_types.specs.Settings.{IsAccepted};
 ghost use Rattle.dirac_sequence.specs.Written.{sequence_of};
 ghost use Rattle.dirac_picture.specs.Grammar.{is_intra as is_intra_code};
 ghost use Rattle.dirac_decode.specs.Content.{IsPicture};
 ghost use Rattle.dirac_choose.specs.Chosen.{IsChoosing, IsChosen, IsChosenAtEachIndex, blocks_from, chosen, chosen_unless_intra};
+ghost use Rattle.dirac_choose.specs.Lent.{AreLent, IsReference, first_of, second_of};
 
+use crate::lent::{Lumas, Reference, References};
 use crate::search::vectors_in;
 use dirac_blocks::BlockData;
 use dirac_decide::{RefView, decide};
@@ -16,7 +18,6 @@ use dirac_plan::Planned;
 use dirac_pyramid::Pyramid;
 use dirac_refs::RefBuffer;
 use dirac_types::{NoMemory, Picture, Settings};
-use dirac_upconvert::upconvert;
 use std::alloc::Global;
 use std::marker::Sync;
 use std::thread::Threads;
@@ -26,20 +27,19 @@ fn choose_from_one<R: Threads + Sync, G: RowGate>(
     rt: &R,
     alloc: Global,
     source: &Picture,
-    first: &Picture,
+    first: Reference<'_>,
     settings: &Settings,
     gate: &G,
 ) -> Result<BlockData, NoMemory>
     requires settings { IsAccepted settings.now }
     requires source { IsPicture (sequence_of settings.now) source.now }
-    requires first { IsPicture (sequence_of settings.now) first.now }
-    ensures { IfOk result (λ t. t ≡ blocks_from settings.now source.now first.now None) }
+    requires first { IsReference (sequence_of settings.now) first }
+    ensures { IfOk result (λ t. t ≡ blocks_from settings.now source.now first.entry.picture.now None) }
 {
     let pyramid = Pyramid::build(alloc, &source.y, settings.pyramid as u8)?;
-    let up = upconvert(alloc, &first.y)?;
-    let field = vectors_in(rt, alloc, source, &pyramid, first, &up, settings, gate)?;
+    let field = vectors_in(rt, alloc, source, &pyramid, first, settings, gate)?;
     let view = RefView {
-        up: &up,
+        up: first.luma,
         field: &field,
     };
     decide(alloc, source, settings, view, None)
@@ -50,50 +50,52 @@ fn choose_from_two<R: Threads + Sync, G: RowGate>(
     rt: &R,
     alloc: Global,
     source: &Picture,
-    first: &Picture,
-    second: &Picture,
+    first: Reference<'_>,
+    second: Reference<'_>,
     settings: &Settings,
     gate: &G,
 ) -> Result<BlockData, NoMemory>
     requires settings { IsAccepted settings.now }
     requires source { IsPicture (sequence_of settings.now) source.now }
-    requires first { IsPicture (sequence_of settings.now) first.now }
-    requires second { IsPicture (sequence_of settings.now) second.now }
-    ensures { IfOk result (λ t. t ≡ blocks_from settings.now source.now first.now (Some second.now)) }
+    requires first { IsReference (sequence_of settings.now) first }
+    requires second { IsReference (sequence_of settings.now) second }
+    ensures { IfOk result (λ t. t
+        ≡ blocks_from settings.now source.now first.entry.picture.now (Some second.entry.picture.now)) }
 {
     let pyramid = Pyramid::build(alloc, &source.y, settings.pyramid as u8)?;
-    let up1 = upconvert(alloc, &first.y)?;
-    let up2 = upconvert(alloc, &second.y)?;
-    let field1 = vectors_in(rt, alloc, source, &pyramid, first, &up1, settings, gate)?;
-    let field2 = vectors_in(rt, alloc, source, &pyramid, second, &up2, settings, gate)?;
+    let field1 = vectors_in(rt, alloc, source, &pyramid, first, settings, gate)?;
+    let field2 = vectors_in(rt, alloc, source, &pyramid, second, settings, gate)?;
     let view1 = RefView {
-        up: &up1,
+        up: first.luma,
         field: &field1,
     };
     let view2 = RefView {
-        up: &up2,
+        up: second.luma,
         field: &field2,
     };
     decide(alloc, source, settings, view1, Some(view2))
 }
 
-/// The block table of a picture with one reference or two.
-fn choose_from<R: Threads + Sync, G: RowGate>(
+/// The block table of a picture with these references, whose luma is upconverted already.
+///
+/// The gate is called before each row of superblocks of each stage of the search, in reference 1, then in
+/// reference 2.
+pub fn choose_from<R: Threads + Sync, G: RowGate>(
     rt: &R,
     alloc: Global,
     source: &Picture,
-    first: &Picture,
-    second: Option<&Picture>,
+    references: &References<'_>,
     settings: &Settings,
     gate: &G,
 ) -> Result<BlockData, NoMemory>
     requires settings { IsAccepted settings.now }
     requires source { IsPicture (sequence_of settings.now) source.now }
-    requires first { IsPicture (sequence_of settings.now) first.now }
-    requires second { ForSome (option_copied second) (IsPicture (sequence_of settings.now)) }
-    ensures { IfOk result (λ t. t ≡ blocks_from settings.now source.now first.now (option_copied second.entry)) }
+    requires references { AreLent (sequence_of settings.now) references.now }
+    ensures { IfOk result (λ t. t
+        ≡ blocks_from settings.now source.now (first_of references.now) (second_of references.now)) }
 {
-    match second {
+    let first = references.first;
+    match references.second {
         None => choose_from_one(rt, alloc, source, first, settings, gate),
         Some(second) => choose_from_two(rt, alloc, source, first, second, settings, gate),
     }
@@ -116,7 +118,11 @@ fn choose_for<R: Threads + Sync, G: RowGate>(
     let second = named(refs, planned.ref2);
     match named(refs, planned.ref1) {
         None => unreachable!(),
-        Some(first) => choose_from(rt, alloc, source, first, second, settings, gate),
+        Some(first) => {
+            let lumas = Lumas::of(alloc, first, second)?;
+            let references = lumas.lend(first, second);
+            choose_from(rt, alloc, source, &references, settings, gate)
+        }
     }
 }
 

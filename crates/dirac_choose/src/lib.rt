@@ -5,7 +5,10 @@
 
 mod choose;
 mod laws;
+mod lent;
 mod search;
+mod shared;
 
-pub use choose::choose_blocks;
+pub use choose::{choose_blocks, choose_from};
 pub use laws::chosen_tables_fit;
+pub use lent::{Lumas, Reference, References};

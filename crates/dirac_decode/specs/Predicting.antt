@@ -6,8 +6,8 @@ use Rattle.dirac_types.specs.Table.{Table}
 use Rattle.dirac_sequence.specs.declared.sequence.Sequence.{Sequence}
 use Rattle.dirac_header.specs.declared.header.PictureHeader.{PictureHeader}
 use Rattle.dirac_upconvert.specs.SubSamples.{Up}
-use Rattle.dirac_obmc.specs.declared.motion.Part.{Part}
-use Rattle.dirac_obmc.specs.declared.motion.Part.TheVariants as part
+use Rattle.dirac_types.specs.declared.formats.Part.{Part}
+use Rattle.dirac_types.specs.declared.formats.Part.TheVariants as part
 use Rattle.dirac_picture.specs.declared.coded.CodedMotion.{CodedMotion}
 use Rattle.dirac_picture.specs.declared.coded.CodedResidual.{CodedResidual}
 use Rattle.dirac_residual.specs.Residual.{clipped, with_prediction}

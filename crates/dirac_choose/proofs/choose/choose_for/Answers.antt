@@ -1,9 +1,31 @@
-use Rattle.std.proofs.Common.{ap, sym, ◌∙◌}
-use Rattle.std.specs.Option.{option_copied}
+use Rattle.std.proofs.Common.{◌≡◌, Option, Some, ap, sym, subst, ◌∙◌}
+use Rattle.std.specs.Option.{ForSome, option_copied}
+use Rattle.dirac_types.specs.declared.picture.Picture.{Picture}
+use Rattle.dirac_sequence.specs.Written.{sequence_of}
+use Rattle.dirac_decode.specs.Content.{IsPicture, named}
+use Rattle.dirac_choose.specs.Lent.{first_of, second_of}
+use Rattle.dirac_choose.proofs.Asked.{has_luma, have_luma}
 use Rattle.dirac_choose.proofs.Fitting.{chosen_found}
 use Rattle.dirac_choose.proofs.choose.choose_for.Goals as goal
 
+pub of-requires-clause-first : goal.of-requires-clause-first
+of-requires-clause-first g c =
+    has_luma c.args.settings.now c.in-Some.first.now c.requires.asked.accepted
+    (c.requires.asked.references.first c.in-Some.first.now (sym c.named.ensures ∙ ap option_copied c.in-Some.is))
+
+pub of-requires-clause-second : goal.of-requires-clause-second
+of-requires-clause-second g c =
+    have_luma c.args.settings.now (option_copied c.named-second.result) c.requires.asked.accepted
+    (subst (λ (o : Option Picture). ForSome o (IsPicture (sequence_of c.args.settings.now))) (sym c.named-second.ensures) c.requires.asked.references.second)
+
+pub choose_from-requires-clause-references : goal.choose_from-requires-clause-references
+choose_from-requires-clause-references g c κs within =
+    c.lend-references.ensures.lent (sequence_of c.args.settings.now)
+    (c.requires.asked.references.first c.in-Some.first.now (sym c.named.ensures ∙ ap option_copied c.in-Some.is))
+    (subst (λ (o : Option Picture). ForSome o (IsPicture (sequence_of c.args.settings.now))) (sym c.named-second.ensures) c.requires.asked.references.second)
+
 pub returns : goal.returns
 returns g c =
-    chosen_found c.args.settings.now c.args.refs.now c.args.planned.now c.args.source.now c.in-Some.first.now _ c.choose_from.result
-    (sym c.named.ensures ∙ ap option_copied c.in-Some.is) c.named-second.ensures c.choose_from.ensures
+    let r = c.lend-references.result in
+    chosen_found c.args.settings.now c.args.refs.now c.args.planned.now c.args.source.now (first_of r) (second_of r) c.choose_from.result
+    (sym c.named.ensures ∙ ap option_copied c.in-Some.is ∙ ap Some (sym c.lend-references.ensures.first)) (c.lend-references.ensures.second ∙ c.named-second.ensures) c.choose_from.ensures

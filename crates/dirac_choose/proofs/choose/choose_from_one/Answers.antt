@@ -13,9 +13,3 @@ build-requires-clause-at_most_8192_across g c = omega (arith, width_within c.arg
 
 pub build-requires-clause-at_most_8192_down : goal.build-requires-clause-at_most_8192_down
 build-requires-clause-at_most_8192_down g c = omega (arith, height_within c.args.settings.now c.args.source.now c.requires.settings c.requires.source)
-
-pub upconvert-requires-clause-across : goal.upconvert-requires-clause-across
-upconvert-requires-clause-across g c = width_within c.args.settings.now c.args.first.now c.requires.settings c.requires.first
-
-pub upconvert-requires-clause-down : goal.upconvert-requires-clause-down
-upconvert-requires-clause-down g c = height_within c.args.settings.now c.args.first.now c.requires.settings c.requires.first
