@@ -3,5 +3,6 @@ pub mod Bandwise
 pub mod Choices
 pub mod Differences
 pub mod Facts
+pub mod Lending
 pub mod Predicting
 pub mod Taken

@@ -1,5 +1,5 @@
 -- What is predicted for a source is what its definitions say, and can be taken away from it.
-use Rattle.std.proofs.Common.{◌≡◌, ℕ, ◌*◌, ℤ, if◌then◌else◌, List, length, Option, None, Some, sym, ap, ap₂, ◌∙◌, subst}
+use Rattle.std.proofs.Common.{◌≡◌, ℕ, ◌*◌, ℤ, if◌then◌else◌, List, length, IsSome, Option, None, Some, refl, sym, ap, ap₂, ◌∙◌, subst}
 use Rattle.std.specs.List.{All}
 use Rattle.std.specs.Option.{ForSome}
 use Rattle.dirac_types.specs.declared.formats.Kind.TheVariants.{Inter}
@@ -23,15 +23,36 @@ use Rattle.dirac_plan_laws.specs.Headers.{header_of}
 use Rattle.dirac_stream.specs.Coded.{IsSource, bands_of, coded_with, is_zero_residual, less_prediction, motion_with, residual_of, transform_of}
 use Rattle.dirac_stream.specs.Laws.{IsWhole}
 use Rattle.dirac_choose.specs.Chosen.{IsChosen}
+use Rattle.dirac_choose.specs.Lent.{AreNamed, first_of, second_of}
+use Rattle.dirac_choose.specs.declared.lent.References.{References}
 use Rattle.dirac_stream.proofs.Lefts.{named_is, predicted_are}
 use Rattle.dirac_stream.proofs.Reading.{predicting, second_found, source_plane}
 use Rattle.dirac_code.specs.declared.predictions.Predictions.{Predictions}
 use Rattle.dirac_code.specs.Asked.{IsAsked}
 use Rattle.dirac_code.specs.Predictions.{ArePredictions, IsPicturePredictedBy, IsPredictedBy, IsPrediction, picture_from, residual_less, residual_whole}
 
+-- what is predicted from the references that a header names
+pub named_predictions : (s : Sequence) (refs : List Picture) (q : Planned) (head : PictureHeader) (m : CodedMotion) (ps : Predictions) (r : References) → head ≡ header_of q → AreNamed refs q r
+    → ArePredictions s (Some (first_of r)) (second_of r) m ps → ArePredictions s (named refs head.ref1) (named refs head.ref2) m ps
+named_predictions s refs q head m ps r eh is predicted =
+    subst (λ (h : PictureHeader). ArePredictions s (named refs h.ref1) (named refs h.ref2) m ps) (sym eh)
+    (subst (λ (o : Option Picture). ArePredictions s o (named refs q.ref2) m ps) (sym is.first)
+    (subst (λ (o : Option Picture). ArePredictions s (Some (first_of r)) o m ps) (sym is.second) predicted))
+
+some_of : (o : Option Picture) → (o ≡ None → ⊥) → IsSome o
+some_of None there = absurd (there refl)
+some_of (Some p) there = refl
+
+-- as many references are lent as the blocks have
+pub second_lent : (t : Settings) (refs : List Picture) (q : Planned) (p : Picture) (m : CodedMotion) (b : BlockTable) (r : References) → IsAsked t refs q p → m ≡ motion_with t b → IsChosen t q.code b
+    → AreNamed refs q r → m.blocks.refs ≡ 2 → IsSome (second_of r)
+second_lent t refs q p m b r is em chose lent two =
+    subst IsSome lent.second
+    (some_of (named refs q.ref2) (second_found refs q is.planned is.found (sym chose.refs ∙ ap (λ (x : CodedMotion). x.blocks.refs) (sym em) ∙ two)))
+
 -- what is predicted, by the definitions
 same_among : (t : Settings) (s : Sequence) (refs : List Picture) (q : Planned) (head : PictureHeader) (m : CodedMotion) (b : BlockTable) (o : Part) (values : List ℤ) → s ≡ sequence_of t → head ≡ header_of q → m ≡ motion_with t b
-    → IsPrediction s refs head m o values → values ≡ predicted_among (sequence_of t) (motion_with t b) (named refs q.ref1) (named refs q.ref2) o
+    → IsPrediction s (named refs head.ref1) (named refs head.ref2) m o values → values ≡ predicted_among (sequence_of t) (motion_with t b) (named refs q.ref1) (named refs q.ref2) o
 same_among t s refs q head m b o values es eh em is =
     is.same ∙ ap₂ (λ (x : Sequence) (y : CodedMotion). predicted_among x y (named refs head.ref1) (named refs head.ref2) o) es em
     ∙ ap (λ (h : PictureHeader). predicted_among (sequence_of t) (motion_with t b) (named refs h.ref1) (named refs h.ref2) o) eh
@@ -43,7 +64,7 @@ whole_plane p part.V is = is.v
 
 -- it can be taken away from a plane of the source
 plane_asked : (t : Settings) (s : Sequence) (refs : List Picture) (q : Planned) (p : Picture) (head : PictureHeader) (m : CodedMotion) (b : BlockTable) (o : Part) (values : List ℤ) → IsAsked t refs q p → IsWhole p → s ≡ sequence_of t → head ≡ header_of q
-    → m ≡ motion_with t b → IsChosen t q.code b → IsPrediction s refs head m o values → IsPredictedBy (plane_of p o) values
+    → m ≡ motion_with t b → IsChosen t q.code b → IsPrediction s (named refs head.ref1) (named refs head.ref2) m o values → IsPredictedBy (plane_of p o) values
 plane_asked t s refs q p head m b o values is whole es eh em chose predicted =
     let one : (x : Option ℕ) → ForSome (named refs x) (IsSource t) = λ x. named_is (IsSource t) refs x is.listed in
     let plane = source_plane t p o is.source in
@@ -54,7 +75,7 @@ plane_asked t s refs q p head m b o values is whole es eh em chose predicted =
     }
 
 pub picture_asked : (t : Settings) (s : Sequence) (refs : List Picture) (q : Planned) (p : Picture) (head : PictureHeader) (m : CodedMotion) (b : BlockTable) (ps : Predictions) → IsAsked t refs q p → IsWhole p → s ≡ sequence_of t → head ≡ header_of q
-    → m ≡ motion_with t b → IsChosen t q.code b → ArePredictions s refs head m ps → IsPicturePredictedBy p ps
+    → m ≡ motion_with t b → IsChosen t q.code b → ArePredictions s (named refs head.ref1) (named refs head.ref2) m ps → IsPicturePredictedBy p ps
 picture_asked t s refs q p head m b ps is whole es eh em chose predicted = record {
   y = plane_asked t s refs q p head m b part.Y ps.y.values is whole es eh em chose predicted.y;
   u = plane_asked t s refs q p head m b part.U ps.u.values is whole es eh em chose predicted.u;
@@ -63,7 +84,7 @@ picture_asked t s refs q p head m b ps is whole es eh em chose predicted = recor
 
 -- the coded residual is the one of the definitions
 residual_same : (t : Settings) (s : Sequence) (refs : List Picture) (q : Planned) (p : Picture) (head : PictureHeader) (m : CodedMotion) (b : BlockTable) (ps : Predictions) → s ≡ sequence_of t → head ≡ header_of q → m ≡ motion_with t b
-    → ArePredictions s refs head m ps → residual_less t p ps ≡ residual_of t refs (header_of q) (Some (motion_with t b)) p
+    → ArePredictions s (named refs head.ref1) (named refs head.ref2) m ps → residual_less t p ps ≡ residual_of t refs (header_of q) (Some (motion_with t b)) p
 residual_same t s refs q p head m b ps es eh em is =
     made _ _ _ _ _ _
     (same_among t s refs q head m b part.Y ps.y.values es eh em is.y) (same_among t s refs q head m b part.U ps.u.values es eh em is.u) (same_among t s refs q head m b part.V ps.v.values es eh em is.v)
@@ -81,7 +102,7 @@ residual_same t s refs q p head m b ps es eh em is =
 
 -- and so is the coded picture
 pub coded_same : (t : Settings) (s : Sequence) (refs : List Picture) (q : Planned) (p : Picture) (head : PictureHeader) (m : CodedMotion) (b : BlockTable) (ps : Predictions) (r : CodedResidual) (o : Option CodedResidual) → s ≡ sequence_of t → head ≡ header_of q
-    → m ≡ motion_with t b → ArePredictions s refs head m ps → r ≡ residual_less t p ps → o ≡ (if is_zero_residual r then None else Some r)
+    → m ≡ motion_with t b → ArePredictions s (named refs head.ref1) (named refs head.ref2) m ps → r ≡ residual_less t p ps → o ≡ (if is_zero_residual r then None else Some r)
     → let c : CodedPicture = record { code = q.code; header = head; motion = Some m; residual = o } in c ≡ coded_with t refs q p (Some (motion_with t b))
 coded_same t s refs q p head m b ps r o es eh em is er eo =
     let of : PictureHeader → CodedMotion → Option CodedResidual → CodedPicture = λ h x y. record { code = q.code; header = h; motion = Some x; residual = y } in
@@ -97,7 +118,7 @@ intra_same t refs q p head r eh er =
     ap₂ (λ (h : PictureHeader) (x : CodedResidual). of h x) eh er
 
 -- the picture that is made of residual and predictions is the one that decoders rebuild
-pub shown_same : (s : Sequence) (refs : List Picture) (head : PictureHeader) (m : CodedMotion) (ps : Predictions) (code : ℕ) (o : Option CodedResidual) → ArePredictions s refs head m ps
+pub shown_same : (s : Sequence) (refs : List Picture) (head : PictureHeader) (m : CodedMotion) (ps : Predictions) (code : ℕ) (o : Option CodedResidual) → ArePredictions s (named refs head.ref1) (named refs head.ref2) m ps
     → let c : CodedPicture = record { code = code; header = head; motion = Some m; residual = o } in picture_from s c ps ≡ rebuilt s refs c
 shown_same s refs head m ps code o is =
     let from : Part → List ℤ → Table = λ x values. clipped (with_prediction (residual_among s Inter x o) values) in

@@ -1,12 +1,11 @@
 -- The predictions of the planes of an inter picture, and what is made of them.
-use Rattle.std.specs.Prelude.{◌≡◌, ℤ, ◌*◌, ◌≤◌, List, length}
+use Rattle.std.specs.Prelude.{◌≡◌, ℤ, ◌*◌, ◌≤◌, List, length, Option}
 use Rattle.std.specs.List.{All}
 use Rattle.dirac_types.specs.declared.formats.Kind.TheVariants.{Intra, Inter}
 use Rattle.dirac_types.specs.declared.picture.Picture.{Picture}
 use Rattle.dirac_types.specs.declared.settings.Settings.{Settings}
 use Rattle.dirac_types.specs.Table.{Table}
 use Rattle.dirac_sequence.specs.declared.sequence.Sequence.{Sequence}
-use Rattle.dirac_header.specs.declared.header.PictureHeader.{PictureHeader}
 use Rattle.dirac_upconvert.specs.HalfSamples.{IsSample}
 use Rattle.dirac_types.specs.declared.formats.Part.{Part}
 use Rattle.dirac_types.specs.declared.formats.Part.TheVariants as part
@@ -15,22 +14,22 @@ use Rattle.dirac_picture.specs.declared.coded.CodedPicture.{CodedPicture}
 use Rattle.dirac_picture.specs.declared.coded.CodedResidual.{CodedResidual}
 use Rattle.dirac_residual.specs.Residual.{clipped, with_prediction}
 use Rattle.dirac_analysis.specs.Fits.{AreSamples}
-use Rattle.dirac_decode.specs.Content.{height_of, named, predicted_among, residual_among, width_of}
+use Rattle.dirac_decode.specs.Content.{height_of, predicted_among, residual_among, width_of}
 use Rattle.dirac_stream.specs.Coded.{bands_of, less_prediction, transform_of}
 use Rattle.dirac_code.specs.declared.predictions.Predictions.{Predictions}
 
--- what is predicted for a plane of a picture, by rows: a value for each sample
-pub record IsPrediction (s : Sequence) (refs : List Picture) (head : PictureHeader) (m : CodedMotion) (part : Part)
+-- what is predicted for a plane of a picture from these references, by rows: a value for each sample
+pub record IsPrediction (s : Sequence) (first second : Option Picture) (m : CodedMotion) (part : Part)
     (values : List ℤ) : Type 0 where
-  pub same : values ≡ predicted_among s m (named refs head.ref1) (named refs head.ref2) part
+  pub same : values ≡ predicted_among s m first second part
   pub len : length values ≡ width_of s part * height_of s part
 
 -- what is predicted for its planes
-pub record ArePredictions (s : Sequence) (refs : List Picture) (head : PictureHeader) (m : CodedMotion)
+pub record ArePredictions (s : Sequence) (first second : Option Picture) (m : CodedMotion)
     (ps : Predictions) : Type 0 where
-  pub y : IsPrediction s refs head m part.Y ps.y.values
-  pub u : IsPrediction s refs head m part.U ps.u.values
-  pub v : IsPrediction s refs head m part.V ps.v.values
+  pub y : IsPrediction s first second m part.Y ps.y.values
+  pub u : IsPrediction s first second m part.U ps.u.values
+  pub v : IsPrediction s first second m part.V ps.v.values
 
 -- a plane of samples, of a size that can be analysed
 pub record IsCodablePlane (plane : Table) : Type 0 where

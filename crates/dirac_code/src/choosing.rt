@@ -1,24 +1,61 @@
 //! A picture, its block table chosen and then coded.
 
-ghost use Rattle.std.specs.Prelude.{◌≡◌, true, Ok, IfOk};
+ghost use Rattle.std.specs.Prelude.{◌≡◌, false, true, Ok, Some, IfOk};
 ghost use Rattle.std.specs.List.{AllByRecursion};
 ghost use Rattle.dirac_types.specs.Settings.{IsAccepted};
 ghost use Rattle.dirac_sequence.specs.Written.{sequence_of};
-ghost use Rattle.dirac_picture.specs.Grammar.{are_listed, picture_read};
+ghost use Rattle.dirac_picture.specs.Grammar.{are_listed, is_intra as is_intra_code, picture_read};
 ghost use Rattle.dirac_decode.specs.Content.{rebuilt};
 ghost use Rattle.dirac_plan_laws.specs.Headers.{IsPlanned, header_of};
 ghost use Rattle.dirac_stream.specs.Coded.{IsSource, coded_of, motion_of, residual_of};
 ghost use Rattle.dirac_stream.specs.Payload.{payload_of};
 ghost use Rattle.dirac_stream.specs.Writable.{AreSmall};
+ghost use Rattle.dirac_choose.specs.Chosen.{chosen};
+ghost use Rattle.dirac_code.specs.Asked.{IsAsked, IsCoding};
 
-use crate::picture::{Coded, code_with_blocks};
-use dirac_choose::choose_blocks;
+use crate::making::Moving;
+use crate::picture::{Coded, code_by};
+use dirac_choose::{Lumas, choose_from};
+use dirac_decode::named;
 use dirac_io::RowGate;
+use dirac_picture::is_intra;
 use dirac_plan::Planned;
 use dirac_refs::RefBuffer;
 use dirac_types::{NoMemory, Picture, Settings};
 use std::alloc::Global;
 use std::thread::Threads;
+
+/// Codes an inter picture. Its references are looked up, and their luma is upconverted once: the search, the choice of
+/// modes and the prediction are lent it.
+fn code_searched<R: Threads + Sync, G: RowGate>(
+    rt: &R,
+    alloc: Global,
+    planned: &Planned,
+    source: &Picture,
+    refs: &RefBuffer,
+    settings: &Settings,
+    gate: &G,
+) -> Result<Coded, NoMemory>
+    requires asked { IsAsked settings.now refs.now planned.now source.now }
+    requires inter { is_intra_code planned.now.code ≡ false }
+    ensures { IfOk result (IsCoding settings.now refs.now planned.now source.now
+        (Some (chosen settings.now refs.now planned.now source.now))) }
+{
+    let second = named(refs, planned.ref2);
+    match named(refs, planned.ref1) {
+        None => unreachable!(),
+        Some(first) => {
+            let lumas = Lumas::of(alloc, first, second)?;
+            let references = lumas.lend(first, second);
+            let blocks = choose_from(rt, alloc, source, &references, settings, gate)?;
+            let moving = Moving {
+                references: &references,
+                blocks: &blocks,
+            };
+            code_by(alloc, planned, source, refs, settings, Some(moving))
+        }
+    }
+}
 
 /// Codes a picture as it is planned: its payload, and the picture that decoders show for it. An inter picture's blocks
 /// are chosen first, and the gate is called before each row of each stage of the search for them.
@@ -51,6 +88,8 @@ pub fn code_picture<R: Threads + Sync, G: RowGate>(
     ensures lossless { IfOk result (λ c. source.now.number ≡ planned.now.number → settings.now.index ≡ 0
         → c.shown ≡ source.now) }
 {
-    let blocks = choose_blocks(rt, alloc, planned, source, refs, settings, gate)?;
-    code_with_blocks(alloc, planned, source, refs, settings, blocks.as_ref())
+    if is_intra(planned.code) {
+        return code_by(alloc, planned, source, refs, settings, None);
+    }
+    code_searched(rt, alloc, planned, source, refs, settings, gate)
 }

@@ -1,20 +1,21 @@
 //! From a planned source to its coded picture, and to the picture that decoders show for it.
 
 ghost use Rattle.std.specs.Prelude.{◌≡◌, false, true, None, Some, IfOk};
-ghost use Rattle.std.specs.Option.{option_copied};
+ghost use Rattle.std.specs.Option.{ForSome};
 ghost use Rattle.dirac_sequence.specs.Written.{sequence_of as sequence_for};
 ghost use Rattle.dirac_picture.specs.Grammar.{is_intra};
 ghost use Rattle.dirac_decode.specs.Content.{rebuilt};
 ghost use Rattle.dirac_stream.specs.Coded as coding;
 ghost use Rattle.dirac_stream.specs.Laws.{IsWhole};
 ghost use Rattle.dirac_choose.specs.Chosen.{IsChosen};
-ghost use Rattle.dirac_code.specs.Asked.{HasBlocks, IsAsked, coded_by};
+ghost use Rattle.dirac_code.specs.Asked.{HasBlocks, IsAsked, IsMoving, blocks_of, coded_by};
 
 use crate::motion::motion_of;
 use crate::predictions::predict_planes;
 use crate::residual::{code_differences, code_source, unless_zero};
 use crate::showing::show_predicted;
 use dirac_blocks::BlockData;
+use dirac_choose::References;
 use dirac_decode::rebuild;
 use dirac_header::PictureHeader;
 use dirac_picture::CodedPicture;
@@ -23,6 +24,13 @@ use dirac_refs::RefBuffer;
 use dirac_sequence::Sequence;
 use dirac_types::{NoMemory, Picture, Settings};
 use std::alloc::Global;
+
+/// What an inter picture is predicted from, and the block table by which it is.
+#[derive(Clone, Copy)]
+pub(crate) struct Moving<'a> {
+    pub(crate) references: &'a References<'a>,
+    pub(crate) blocks: &'a BlockData,
+}
 
 /// A coded picture, and the picture that decoders show for it.
 #[derive(Drop)]
@@ -70,7 +78,7 @@ fn make_intra(
     Ok(Remade { coded, shown })
 }
 
-/// Codes an inter picture, predicted by this block table.
+/// Codes an inter picture, predicted by this block table from these references, which are among the listed pictures.
 fn make_inter(
     alloc: Global,
     settings: &Settings,
@@ -78,21 +86,23 @@ fn make_inter(
     planned: &Planned,
     source: &Picture,
     refs: &RefBuffer,
-    blocks: &BlockData,
+    moving: Moving<'_>,
 ) -> Result<Remade, NoMemory>
     requires sequence { sequence.now ≡ sequence_for settings.now }
     requires asked { IsAsked settings.now refs.now planned.now source.now }
     requires whole { IsWhole source.now }
     requires inter { is_intra planned.now.code ≡ false }
-    requires blocks { IsChosen settings.now planned.now.code blocks.now }
+    requires moving { IsMoving settings.now refs.now planned.now moving }
+    requires blocks { IsChosen settings.now planned.now.code moving.blocks.now }
     ensures coded { IfOk result (λ r. r.coded
-        ≡ coded_by settings.now refs.now planned.now source.now (Some blocks.now)) }
+        ≡ coded_by settings.now refs.now planned.now source.now (Some moving.entry.blocks.now)) }
     ensures shown { IfOk result (λ r. r.shown
-        ≡ rebuilt sequence.now refs.now (coded_by settings.now refs.now planned.now source.now (Some blocks.now))) }
+        ≡ rebuilt sequence.now refs.now
+        (coded_by settings.now refs.now planned.now source.now (Some moving.entry.blocks.now))) }
 {
     let header = header_of(planned);
-    let motion = motion_of(alloc, settings, blocks)?;
-    let predictions = predict_planes(alloc, planned.code, sequence, refs, &header, &motion)?;
+    let motion = motion_of(alloc, settings, moving.blocks)?;
+    let predictions = predict_planes(alloc, planned.code, sequence, moving.references, &motion)?;
     let residual = code_differences(alloc, settings, source, &predictions)?;
     let coded = CodedPicture {
         code: planned.code,
@@ -112,20 +122,21 @@ pub(crate) fn make(
     planned: &Planned,
     source: &Picture,
     refs: &RefBuffer,
-    blocks: Option<&BlockData>,
+    moving: Option<Moving<'_>>,
 ) -> Result<Remade, NoMemory>
     requires sequence { sequence.now ≡ sequence_for settings.now }
     requires asked { IsAsked settings.now refs.now planned.now source.now }
     requires whole { IsWhole source.now }
-    requires blocks { HasBlocks settings.now planned.now.code (option_copied blocks) }
+    requires moving { ForSome moving (IsMoving settings.now refs.now planned.now) }
+    requires blocks { HasBlocks settings.now planned.now.code (blocks_of moving) }
     ensures coded { IfOk result (λ r. r.coded
-        ≡ coded_by settings.now refs.now planned.now source.now (option_copied blocks.entry)) }
+        ≡ coded_by settings.now refs.now planned.now source.now (blocks_of moving.entry)) }
     ensures shown { IfOk result (λ r. r.shown
         ≡ rebuilt sequence.now refs.now
-        (coded_by settings.now refs.now planned.now source.now (option_copied blocks.entry))) }
+        (coded_by settings.now refs.now planned.now source.now (blocks_of moving.entry))) }
 {
-    match blocks {
+    match moving {
         None => make_intra(alloc, settings, sequence, planned, source, refs),
-        Some(blocks) => make_inter(alloc, settings, sequence, planned, source, refs, blocks),
+        Some(moving) => make_inter(alloc, settings, sequence, planned, source, refs, moving),
     }
 }

@@ -1,8 +1,8 @@
 //! A picture, coded.
 
-ghost use Rattle.std.specs.Prelude.{◌≡◌, ◌++◌, ◌≤◌, ◌<◌, ◌^◌, [], true, Ok, IfOk, IfSome};
+ghost use Rattle.std.specs.Prelude.{◌≡◌, ◌++◌, ◌≤◌, ◌<◌, ◌^◌, [], false, true, Ok, Some, IfOk, IfSome};
 ghost use Rattle.std.specs.List.{AllByRecursion};
-ghost use Rattle.std.specs.Option.{option_copied};
+ghost use Rattle.std.specs.Option.{ForSome, option_copied};
 ghost use Rattle.dirac_types.specs.Bits.{bits_of};
 ghost use Rattle.dirac_types.specs.Settings.{IsAccepted};
 ghost use Rattle.dirac_bits.specs.Writing.{up_to_byte};
@@ -10,19 +10,22 @@ ghost use Rattle.dirac_sequence.specs.Lawful.{IsSequence};
 ghost use Rattle.dirac_sequence.specs.Written.{sequence_of as sequence_for};
 ghost use Rattle.dirac_header.specs.Codes.{is_reference};
 ghost use Rattle.dirac_header.specs.Written.{HasReferences, MayRetire, header_bits};
-ghost use Rattle.dirac_picture.specs.Grammar.{are_listed, picture_read};
+ghost use Rattle.dirac_picture.specs.Grammar.{are_listed, is_intra, picture_read};
 ghost use Rattle.dirac_decode.specs.Content.{rebuilt};
 ghost use Rattle.dirac_plan_laws.specs.Headers.{IsPlanned, header_of};
 ghost use Rattle.dirac_stream.specs.Coded.{IsSource, motion_among, residual_of};
 ghost use Rattle.dirac_stream.specs.Laws.{IsWhole};
 ghost use Rattle.dirac_stream.specs.Payload.{HasSpelledBlocks, payload_of, with_picture};
 ghost use Rattle.dirac_stream.specs.Writable.{AreSmall, IsWritten};
-ghost use Rattle.dirac_code.specs.Asked.{HasBlocks, coded_by};
+ghost use Rattle.dirac_code.specs.Asked.{HasBlocks, IsAsked, IsCoding, IsMoving, blocks_of, coded_by};
+ghost use Rattle.dirac_choose.specs.Chosen.{IsChosen};
 
-use crate::making::{Remade, make};
+use crate::making::{Moving, Remade, make};
 use crate::payload::write_picture;
 use dirac_bits::BitWriter;
 use dirac_blocks::BlockData;
+use dirac_choose::Lumas;
+use dirac_decode::named;
 use dirac_picture::CodedPicture;
 use dirac_plan::Planned;
 use dirac_refs::RefBuffer;
@@ -76,6 +79,57 @@ fn are_whole(picture: &Picture)
     let _v = picture.v.width();
 }
 
+/// Codes a picture as it is planned, an inter picture predicted by this block table from these references.
+pub(crate) fn code_by(
+    alloc: Global,
+    planned: &Planned,
+    source: &Picture,
+    refs: &RefBuffer,
+    settings: &Settings,
+    moving: Option<Moving<'_>>,
+) -> Result<Coded, NoMemory>
+    requires asked { IsAsked settings.now refs.now planned.now source.now }
+    requires moving { ForSome moving (IsMoving settings.now refs.now planned.now) }
+    requires blocks { HasBlocks settings.now planned.now.code (blocks_of moving) }
+    ensures { IfOk result (IsCoding settings.now refs.now planned.now source.now (blocks_of moving.entry)) }
+{
+    let sequence = sequence_of(settings);
+    are_whole(source);
+    let Remade { coded, shown } = make(alloc, settings, &sequence, planned, source, refs, moving)?;
+    let payload = payload_bytes(alloc, settings, &sequence, &coded)?;
+    are_bytes(payload.as_slice());
+    Ok(Coded { payload, shown })
+}
+
+/// Codes an inter picture by this block table. Its references are looked up, and their luma is upconverted.
+fn code_inter(
+    alloc: Global,
+    planned: &Planned,
+    source: &Picture,
+    refs: &RefBuffer,
+    settings: &Settings,
+    blocks: &BlockData,
+) -> Result<Coded, NoMemory>
+    requires asked { IsAsked settings.now refs.now planned.now source.now }
+    requires inter { is_intra planned.now.code ≡ false }
+    requires blocks { IsChosen settings.now planned.now.code blocks.now }
+    ensures { IfOk result (IsCoding settings.now refs.now planned.now source.now (Some blocks.now)) }
+{
+    let second = named(refs, planned.ref2);
+    match named(refs, planned.ref1) {
+        None => unreachable!(),
+        Some(first) => {
+            let lumas = Lumas::of(alloc, first, second)?;
+            let references = lumas.lend(first, second);
+            let moving = Moving {
+                references: &references,
+                blocks,
+            };
+            code_by(alloc, planned, source, refs, settings, Some(moving))
+        }
+    }
+}
+
 /// Codes a picture as it is planned, an inter picture predicted by this block table: its payload, and the picture that
 /// decoders show for it. The payload is the one spelling of its coded picture.
 pub fn code_with_blocks(
@@ -109,10 +163,8 @@ pub fn code_with_blocks(
     ensures lossless { IfOk result (λ c. source.now.number ≡ planned.now.number → settings.now.index ≡ 0
         → c.shown ≡ source.now) }
 {
-    let sequence = sequence_of(settings);
-    are_whole(source);
-    let Remade { coded, shown } = make(alloc, settings, &sequence, planned, source, refs, blocks)?;
-    let payload = payload_bytes(alloc, settings, &sequence, &coded)?;
-    are_bytes(payload.as_slice());
-    Ok(Coded { payload, shown })
+    match blocks {
+        None => code_by(alloc, planned, source, refs, settings, None),
+        Some(blocks) => code_inter(alloc, planned, source, refs, settings, blocks),
+    }
 }

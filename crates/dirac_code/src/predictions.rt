@@ -1,16 +1,16 @@
 //! What is predicted for the planes of an inter picture.
 
-ghost use Rattle.std.specs.Prelude.{IfOk};
+ghost use Rattle.std.specs.Prelude.{◌≡◌, Some, IfOk, IsSome};
 ghost use Rattle.dirac_sequence.specs.Lawful.{IsSequence};
-ghost use Rattle.dirac_picture.specs.Fits.{IsMotion, NamesReferences};
-ghost use Rattle.dirac_decode.specs.Content.{AreReferences};
-ghost use Rattle.dirac_code.specs.Predictions.{ArePredictions};
+ghost use Rattle.dirac_types.specs.declared.formats.Part.TheVariants as part;
+ghost use Rattle.dirac_picture.specs.Fits.{IsMotion};
+ghost use Rattle.dirac_choose.specs.Lent.{AreLent, first_of, second_of};
+ghost use Rattle.dirac_code.specs.Predictions.{ArePredictions, IsPrediction};
 
-use dirac_decode::predict;
-use dirac_header::PictureHeader;
+use dirac_choose::References;
+use dirac_decode::{predict_from, predict_with};
 use dirac_obmc::{Part, Predicted};
 use dirac_picture::CodedMotion;
-use dirac_refs::RefBuffer;
 use dirac_sequence::Sequence;
 use dirac_types::NoMemory;
 use std::alloc::Global;
@@ -24,23 +24,74 @@ pub(crate) struct Predictions {
     pub(crate) v: Predicted,
 }
 
+/// Predicts luma from what is lent of the references.
+fn predict_luma(
+    alloc: Global,
+    code: u8,
+    sequence: &Sequence,
+    references: &References<'_>,
+    motion: &CodedMotion,
+) -> Result<Predicted, NoMemory>
+    requires sequence { IsSequence sequence.now }
+    requires motion { IsMotion code sequence.now motion.now }
+    requires lent { AreLent sequence.now references.now }
+    requires two { motion.now.blocks.refs ≡ 2 → IsSome (second_of references.now) }
+    ensures { IfOk result (λ t. IsPrediction sequence.now (Some (first_of references.now)) (second_of references.now)
+        motion.now part.Y t.values) }
+{
+    let first = references.first.luma;
+    match references.second {
+        None => predict_with(alloc, code, sequence, motion, first, None, Part::Y),
+        Some(second) => {
+            let second = Some(second.luma);
+            predict_with(alloc, code, sequence, motion, first, second, Part::Y)
+        }
+    }
+}
+
+/// Predicts a plane of chroma, for which the references are upconverted: this is done once a picture.
+fn predict_chroma(
+    alloc: Global,
+    code: u8,
+    sequence: &Sequence,
+    references: &References<'_>,
+    motion: &CodedMotion,
+    part: Part,
+) -> Result<Predicted, NoMemory>
+    requires sequence { IsSequence sequence.now }
+    requires motion { IsMotion code sequence.now motion.now }
+    requires lent { AreLent sequence.now references.now }
+    requires two { motion.now.blocks.refs ≡ 2 → IsSome (second_of references.now) }
+    ensures { IfOk result (λ t. IsPrediction sequence.now (Some (first_of references.now)) (second_of references.now)
+        motion.now part t.values) }
+{
+    let first = references.first.picture;
+    match references.second {
+        None => predict_from(alloc, code, sequence, motion, first, None, part),
+        Some(second) => {
+            let second = Some(second.picture);
+            predict_from(alloc, code, sequence, motion, first, second, part)
+        }
+    }
+}
+
 /// Predicts the planes of an inter picture as decoders do.
 pub(crate) fn predict_planes(
     alloc: Global,
     code: u8,
     sequence: &Sequence,
-    refs: &RefBuffer,
-    header: &PictureHeader,
+    references: &References<'_>,
     motion: &CodedMotion,
 ) -> Result<Predictions, NoMemory>
     requires sequence { IsSequence sequence.now }
     requires motion { IsMotion code sequence.now motion.now }
-    requires names { NamesReferences code header.now }
-    requires refs { AreReferences sequence.now refs.now header.now }
-    ensures { IfOk result (ArePredictions sequence.now refs.now header.now motion.now) }
+    requires lent { AreLent sequence.now references.now }
+    requires two { motion.now.blocks.refs ≡ 2 → IsSome (second_of references.now) }
+    ensures { IfOk result (ArePredictions sequence.now (Some (first_of references.now)) (second_of references.now)
+        motion.now) }
 {
-    let y = predict(alloc, code, sequence, refs, header, motion, Part::Y)?;
-    let u = predict(alloc, code, sequence, refs, header, motion, Part::U)?;
-    let v = predict(alloc, code, sequence, refs, header, motion, Part::V)?;
+    let y = predict_luma(alloc, code, sequence, references, motion)?;
+    let u = predict_chroma(alloc, code, sequence, references, motion, Part::U)?;
+    let v = predict_chroma(alloc, code, sequence, references, motion, Part::V)?;
     Ok(Predictions { y, u, v })
 }
