@@ -1,6 +1,6 @@
 use crate::ended::Ended;
 use crate::tests::{SMALL, STREAM, decoded, header, joined};
-use crate::tries::{Outside, counts_its_fault, pieces, tried};
+use crate::tries::{Left, Outside, counts_its_fault, pieces, tried};
 use crate::words::Words;
 use dirac_types::{BadSetting, Name};
 use std::alloc::Global;
@@ -295,15 +295,16 @@ fn shape_words(alloc: Global, shape: &Shape, wavelet: u32, depth: u32) -> Result
     Ok(words)
 }
 
-// Encodes raw pictures, decodes the stream, and compares what both gave; where nothing is lost, with the input.
-fn codes_back<R: Abort + Threads + Sync>(
+// Encodes raw pictures, decodes the stream, and compares what both gave; where nothing is lost, with the input. What
+// encoding left is the answer.
+fn coded_back<R: Abort + Threads + Sync>(
     rt: &R,
     alloc: Global,
     words: &Words,
     raw: &[u8],
     is_lossless: bool,
     tally: &str,
-) -> Result<(), Fail> {
+) -> Result<Left, Fail> {
     let coded = tried(rt, alloc, words, raw, &pieces(4096))?;
     assert_eq!(rt; coded.ended, Ended::Done);
     assert_eq!(rt; coded.side.taken().len(), raw.len());
@@ -314,6 +315,19 @@ fn codes_back<R: Abort + Threads + Sync>(
     assert_eq!(rt; shown.ended, Ended::Done);
     assert_eq!(rt; shown.out.taken(), coded.side.taken());
     assert_eq!(rt; shown.side.taken(), tally.as_bytes());
+    Ok(coded)
+}
+
+// The same, without an answer.
+fn codes_back<R: Abort + Threads + Sync>(
+    rt: &R,
+    alloc: Global,
+    words: &Words,
+    raw: &[u8],
+    is_lossless: bool,
+    tally: &str,
+) -> Result<(), Fail> {
+    coded_back(rt, alloc, words, raw, is_lossless, tally)?;
     Ok(())
 }
 
@@ -421,4 +435,47 @@ fn decodes_what_it_encodes(rt: HostRuntime) -> Result<(), Fail> {
     round_trips(&rt, alloc, &shape_of((2, 2), 2, 0, 1, 12))?;
     round_trips(&rt, alloc, &shape_of((4, 6), 2, 0, 3, 72))?;
     round_trips(&rt, alloc, &shape_of((12, 10), 2, 12, 3, 360))
+}
+
+// Appends a plane of 576 rows: a slope with noise in its lowest bits.
+fn push_slope(bytes: &mut Vec<u8>, state: &mut u32, start: u32, columns: u32) -> Result<(), Fail> {
+    for place in 0..columns.saturating_mul(576) {
+        *state = state.wrapping_mul(1664525).wrapping_add(1013904223);
+        let slope = (place % columns.max(1))
+            .wrapping_mul(2)
+            .wrapping_add(place / 240);
+        let value = start.wrapping_add(slope).wrapping_add(*state >> 27) / 4;
+        let [_, _, _, byte] = value.to_be_bytes();
+        bytes.push(byte)?;
+    }
+    Ok(())
+}
+
+// Twelve pictures of 720 by 576 samples, 4:2:2: from one to the next the slope moves.
+fn slopes(alloc: Global) -> Result<Vec<u8>, Fail> {
+    let mut bytes = Vec::new(alloc);
+    let mut state = 1;
+    for number in 0..12u32 {
+        let start = number.wrapping_mul(5);
+        push_slope(&mut bytes, &mut state, start, 720)?;
+        push_slope(&mut bytes, &mut state, start.wrapping_add(40), 360)?;
+        push_slope(&mut bytes, &mut state, start.wrapping_add(80), 360)?;
+    }
+    Ok(bytes)
+}
+
+// The other settings are their defaults, among them groups of twelve pictures with two between anchors.
+#[test]
+fn encodes_pictures_of_720_by_576(rt: HostRuntime) -> Result<(), Fail> {
+    let alloc = rt.alloc();
+    let raw = slopes(alloc)?;
+    assert_eq!(rt; raw.len(), 9953280);
+    for (index, is_lossless) in [(PLAIN, false), ("--index=0", true)] {
+        let words = encode_words(alloc, &["--base=8"], &[index])?;
+        let tally = "pictures=12 references=3\n";
+        let coded = coded_back(&rt, alloc, &words, raw.as_slice(), is_lossless, tally)?;
+        let header = [0x6F, 0x06, 0x05, 0xA0];
+        assert!(rt; coded.out.taken().get(13..17) == Some(header.as_slice()));
+    }
+    Ok(())
 }
