@@ -12,7 +12,7 @@ use std::alloc::Global;
 
 #[inline(always)]
 fn reduce_value(value: i128, index: u8) -> i64
-    requires small { unsigned_abs value < 2 ^ 38 }
+    requires below_2_38 { unsigned_abs value < 2 ^ 38 }
     requires index { index ≤ 99 }
     ensures { result ≡ reduced value index }
 {
@@ -23,7 +23,7 @@ fn reduce_value(value: i128, index: u8) -> i64
 fn reduce_values(values: &[i128], index: u8, coded: &mut [i64])
     requires len { length coded.old ≡ length values.now }
     requires index { index ≤ 99 }
-    requires small { All (λ v. unsigned_abs v < 2 ^ 38) values.now }
+    requires magnitudes_below_2_38 { All (λ v. unsigned_abs v < 2 ^ 38) values.now }
     ensures { coded.new ≡ map (λ v. reduced v index) values.now }
 {
     for i in 0..values.len() {
@@ -48,7 +48,7 @@ pub(crate) fn code_band(alloc: Global, table: &Wide, index: u8) -> Result<CodedB
     requires index { index ≤ 99 }
     requires across { table.now.width ≤ 8192 }
     requires down { table.now.height ≤ 8192 }
-    requires small { All (λ v. unsigned_abs v < 2 ^ 38) table.now.values }
+    requires magnitudes_below_2_38 { All (λ v. unsigned_abs v < 2 ^ 38) table.now.values }
     ensures { IfOk result (λ b. b ≡ coded index table.now) }
 {
     let mut numbers = BandTable::try_new(alloc, table.width(), table.height(), 0)?;

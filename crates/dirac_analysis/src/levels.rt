@@ -27,7 +27,7 @@ fn code_lowest(alloc: Global, kind: Kind, low: Wide, index: u8) -> Result<CodedB
     requires index { index ≤ 99 }
     requires across { low.width ≤ 8192 }
     requires down { low.height ≤ 8192 }
-    requires small { All (λ v. unsigned_abs v ≤ 2 ^ 36) low.values }
+    requires magnitudes_at_most_2_36 { All (λ v. unsigned_abs v ≤ 2 ^ 36) low.values }
     ensures { IfOk result (λ b. b ≡ coded_lowest kind index low) }
 {
     match kind {
@@ -40,7 +40,7 @@ fn code_lowest(alloc: Global, kind: Kind, low: Wide, index: u8) -> Result<CodedB
 fn code_differences(alloc: Global, mut low: Wide) -> Result<CodedBand, NoMemory>
     requires across { low.width ≤ 8192 }
     requires down { low.height ≤ 8192 }
-    requires small { All (λ v. unsigned_abs v ≤ 2 ^ 36) low.values }
+    requires magnitudes_at_most_2_36 { All (λ v. unsigned_abs v ≤ 2 ^ 36) low.values }
     ensures { IfOk result (λ b. b ≡ coded 0 (differences low)) }
 {
     dc_subtract(&mut low);
@@ -54,7 +54,7 @@ fn split_level(alloc: Global, mut plane: Wide, wavelet: u8, index: u8) -> Result
     requires index { index ≤ 99 }
     requires across { (plane.width % 2 ≡ 0) × (plane.width ≤ 8192) }
     requires down { (plane.height % 2 ≡ 0) × (plane.height ≤ 8192) }
-    requires small { All (λ v. unsigned_abs v ≤ 2 ^ 29) plane.values }
+    requires magnitudes_at_most_2_29 { All (λ v. unsigned_abs v ≤ 2 ^ 29) plane.values }
     ensures low { IfOk result (λ l. l.low ≡ band_of (analysed wavelet plane) 0 0) }
     ensures hl { IfOk result (λ l. l.hl ≡ coded index (band_of (analysed wavelet plane) 1 0)) }
     ensures lh { IfOk result (λ l. l.lh ≡ coded index (band_of (analysed wavelet plane) 0 1)) }
@@ -88,7 +88,7 @@ pub(crate) fn code_levels(
     requires across { plane.width ≤ 8192 }
     requires down { plane.height ≤ 8192 }
     requires whole { IsDivisible depth plane }
-    requires small { All (λ v. unsigned_abs v ≤ grown (4 - depth)) plane.values }
+    requires magnitudes_bounded { All (λ v. unsigned_abs v ≤ grown (4 - depth)) plane.values }
     ensures { IfOk result (λ b. b ≡ coded_bands kind wavelet index plane depth) }
 {
     if depth == 0 {

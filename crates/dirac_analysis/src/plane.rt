@@ -26,7 +26,7 @@ pub fn analyse_plane(
     requires index { index ≤ 99 }
     requires across { plane.now.width ≤ 4096 }
     requires down { plane.now.height ≤ 4096 }
-    requires small { AreDifferences plane.now.values }
+    requires magnitudes_bounded { AreDifferences plane.now.values }
     ensures value { IfOk result (λ b. b ≡ plane_bands kind wavelet depth index plane.now) }
     // Each band has the sizes of its level, and its coefficients stay below 2^38.
     ensures fits { IfOk result (AreLevelBands (lowest_size plane.now.width depth) (lowest_size plane.now.height depth) depth) }

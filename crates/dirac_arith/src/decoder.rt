@@ -61,14 +61,14 @@ impl<'a> Decoder<'a> {
     /// One decision in a context. A block that begins with sixteen ones, as an empty one does, has none: `CodeWord`.
     pub fn decision(&mut self, ctx: u8) -> Result<bool, Cause>
         requires context { ctx < 38 }
-        requires room { self.old.at.doublings < 2 ^ 62 }
+        requires no_overflow { self.old.at.doublings < 2 ^ 62 }
         ensures read { Gives result self.new (decided ctx self.old) }
-        ensures moves { IfOk result (λ truth. self.new ≡ record { block = self.old.block; at = narrowed self.old.at (ctx, truth) }) }
-        ensures lies { IfOk result (λ truth. Lies self.old.block (narrowed self.old.at (ctx, truth))) }
-        ensures one { (truth : Bool) → Lies self.old.block (narrowed self.old.at (ctx, truth)) → result ≡ Ok truth }
-        ensures few { self.new.at.doublings ≤ self.old.at.doublings + 9 }
+        ensures narrows { IfOk result (λ truth. self.new ≡ record { block = self.old.block; at = narrowed self.old.at (ctx, truth) }) }
+        ensures lies_inside { IfOk result (λ truth. Lies self.old.block (narrowed self.old.at (ctx, truth))) }
+        ensures no_other_truth { (truth : Bool) → Lies self.old.block (narrowed self.old.at (ctx, truth)) → result ≡ Ok truth }
+        ensures few_doublings { self.new.at.doublings ≤ self.old.at.doublings + 9 }
         ensures refused { (result ≡ Err Cause.CodeWord) ↔ (front self.old.block 16 ≡ 0xFFFF) }
-        ensures only { OnErr result (result ≡ Err Cause.CodeWord) }
+        ensures no_other_cause { OnErr result (result ≡ Err Cause.CodeWord) }
         ensures unchanged { OnErr result (self.new ≡ self.old) }
     {
         if self.refused {
@@ -85,13 +85,13 @@ impl<'a> Decoder<'a> {
     /// A number, whose follow decisions stand in these contexts, the last one repeated, and its digits in the context `bits`.
     /// One of more than 38 digits behind its leading one is refused `NumberTooLong`; the decisions up to there were taken.
     pub fn number(&mut self, follow: &[u8], bits: u8) -> Result<u64, Cause>
-        requires some { 0 < length follow.now }
+        requires not_empty { 0 < length follow.now }
         requires follow { AreContexts follow.now }
         requires bits { bits < 38 }
-        requires room { self.old.at.doublings < 2 ^ 61 }
+        requires no_overflow { self.old.at.doublings < 2 ^ 61 }
         ensures read { Gives result self.new (number_read follow.now bits self.old) }
         ensures found { IfOk result (λ v. Reads self.old (spelling follow.now bits v) self.new) }
-        ensures most { IfOk result (λ v. v < 2 ^ 39 - 1) }
+        ensures below_2_39 { IfOk result (λ v. v < 2 ^ 39 - 1) }
         ensures long { result ≡ Err Cause.NumberTooLong →
             (digits : List Bool) × (length digits ≡ 38) × Reads self.old (spelt follow.now bits digits false) self.new }
         ensures number { (v : ℕ) → v < 2 ^ 39 - 1 → Lies self.old.block (narrowed_by self.old.at (spelling follow.now bits v)) →
@@ -100,9 +100,9 @@ impl<'a> Decoder<'a> {
             Lies self.old.block (narrowed_by self.old.at (spelt follow.now bits digits false)) →
             result ≡ Err Cause.NumberTooLong }
         ensures refused { (result ≡ Err Cause.CodeWord) ↔ (front self.old.block 16 ≡ 0xFFFF) }
-        ensures only { IfErr result (λ e. (e ≡ Cause.CodeWord) ⊎ (e ≡ Cause.NumberTooLong)) }
+        ensures no_other_cause { IfErr result (λ e. (e ≡ Cause.CodeWord) ⊎ (e ≡ Cause.NumberTooLong)) }
         ensures unchanged { result ≡ Err Cause.CodeWord → self.new ≡ self.old }
-        ensures few { self.new.at.doublings ≤ self.old.at.doublings + 693 }
+        ensures few_doublings { self.new.at.doublings ≤ self.old.at.doublings + 693 }
     {
         let _ = &self.contexts;
         self.read_number(follow, bits)
@@ -110,18 +110,18 @@ impl<'a> Decoder<'a> {
 
     // Reads digits until a true follow decision.
     fn read_number(&mut self, follow: &[u8], bits: u8) -> Result<u64, Cause>
-        requires some { 0 < length follow.now }
+        requires not_empty { 0 < length follow.now }
         requires follow { AreContexts follow.now }
         requires bits { bits < 38 }
-        requires room { self.old.at.doublings < 2 ^ 61 }
+        requires no_overflow { self.old.at.doublings < 2 ^ 61 }
         ensures found { IfOk result (λ v. Reads self.old (spelling follow.now bits v) self.new) }
-        ensures most { IfOk result (λ v. v < 2 ^ 39 - 1) }
+        ensures below_2_39 { IfOk result (λ v. v < 2 ^ 39 - 1) }
         ensures long { result ≡ Err Cause.NumberTooLong →
             (digits : List Bool) × (length digits ≡ 38) × Reads self.old (spelt follow.now bits digits false) self.new }
         ensures refused { (result ≡ Err Cause.CodeWord) ↔ (front self.old.block 16 ≡ 0xFFFF) }
-        ensures only { IfErr result (λ e. (e ≡ Cause.CodeWord) ⊎ (e ≡ Cause.NumberTooLong)) }
+        ensures no_other_cause { IfErr result (λ e. (e ≡ Cause.CodeWord) ⊎ (e ≡ Cause.NumberTooLong)) }
         ensures unchanged { result ≡ Err Cause.CodeWord → self.new ≡ self.old }
-        ensures few { self.new.at.doublings ≤ self.old.at.doublings + 693 }
+        ensures few_doublings { self.new.at.doublings ≤ self.old.at.doublings + 693 }
     {
         let mut value: u64 = 1;
         'digits: for i in 0..38usize {
@@ -141,14 +141,14 @@ impl<'a> Decoder<'a> {
 
     /// A signed number: its magnitude as `number` reads it, and where it isn't 0 its sign in a context of its own.
     pub fn signed(&mut self, follow: &[u8], bits: u8, sign: u8) -> Result<i64, Cause>
-        requires some { 0 < length follow.now }
+        requires not_empty { 0 < length follow.now }
         requires follow { AreContexts follow.now }
         requires bits { bits < 38 }
         requires sign { sign < 38 }
-        requires room { self.old.at.doublings < 2 ^ 61 }
+        requires no_overflow { self.old.at.doublings < 2 ^ 61 }
         ensures read { Gives result self.new (signed_read follow.now bits sign self.old) }
         ensures found { IfOk result (λ v. Reads self.old (signed_spelling follow.now bits sign v) self.new) }
-        ensures most { IfOk result (λ v. nat_abs v < 2 ^ 39 - 1) }
+        ensures below_2_39 { IfOk result (λ v. nat_abs v < 2 ^ 39 - 1) }
         ensures long { result ≡ Err Cause.NumberTooLong →
             (digits : List Bool) × (length digits ≡ 38) × Reads self.old (spelt follow.now bits digits false) self.new }
         ensures number { (v : ℤ) → nat_abs v < 2 ^ 39 - 1 → Lies self.old.block (narrowed_by self.old.at (signed_spelling follow.now bits sign v)) →
@@ -157,9 +157,9 @@ impl<'a> Decoder<'a> {
             Lies self.old.block (narrowed_by self.old.at (spelt follow.now bits digits false)) →
             result ≡ Err Cause.NumberTooLong }
         ensures refused { (result ≡ Err Cause.CodeWord) ↔ (front self.old.block 16 ≡ 0xFFFF) }
-        ensures only { IfErr result (λ e. (e ≡ Cause.CodeWord) ⊎ (e ≡ Cause.NumberTooLong)) }
+        ensures no_other_cause { IfErr result (λ e. (e ≡ Cause.CodeWord) ⊎ (e ≡ Cause.NumberTooLong)) }
         ensures unchanged { result ≡ Err Cause.CodeWord → self.new ≡ self.old }
-        ensures few { self.new.at.doublings ≤ self.old.at.doublings + 702 }
+        ensures few_doublings { self.new.at.doublings ≤ self.old.at.doublings + 702 }
     {
         let _ = &self.contexts;
         self.read_signed(follow, bits, sign)
@@ -167,19 +167,19 @@ impl<'a> Decoder<'a> {
 
     // Reads a magnitude and its sign.
     fn read_signed(&mut self, follow: &[u8], bits: u8, sign: u8) -> Result<i64, Cause>
-        requires some { 0 < length follow.now }
+        requires not_empty { 0 < length follow.now }
         requires follow { AreContexts follow.now }
         requires bits { bits < 38 }
         requires sign { sign < 38 }
-        requires room { self.old.at.doublings < 2 ^ 61 }
+        requires no_overflow { self.old.at.doublings < 2 ^ 61 }
         ensures found { IfOk result (λ v. Reads self.old (signed_spelling follow.now bits sign v) self.new) }
-        ensures most { IfOk result (λ v. nat_abs v < 2 ^ 39 - 1) }
+        ensures below_2_39 { IfOk result (λ v. nat_abs v < 2 ^ 39 - 1) }
         ensures long { result ≡ Err Cause.NumberTooLong →
             (digits : List Bool) × (length digits ≡ 38) × Reads self.old (spelt follow.now bits digits false) self.new }
         ensures refused { (result ≡ Err Cause.CodeWord) ↔ (front self.old.block 16 ≡ 0xFFFF) }
-        ensures only { IfErr result (λ e. (e ≡ Cause.CodeWord) ⊎ (e ≡ Cause.NumberTooLong)) }
+        ensures no_other_cause { IfErr result (λ e. (e ≡ Cause.CodeWord) ⊎ (e ≡ Cause.NumberTooLong)) }
         ensures unchanged { result ≡ Err Cause.CodeWord → self.new ≡ self.old }
-        ensures few { self.new.at.doublings ≤ self.old.at.doublings + 702 }
+        ensures few_doublings { self.new.at.doublings ≤ self.old.at.doublings + 702 }
     {
         let magnitude = self.read_number(follow, bits)?;
         if magnitude == 0 {

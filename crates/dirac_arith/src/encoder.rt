@@ -54,7 +54,7 @@ fn part_after(range: u32, probability: u16, truth: bool) -> Part
     ensures range { let part = part_of range (range * probability / 2 ^ 16) truth in
         result.range ≡ part * 2 ^ doublings_for part }
     ensures within { result.lift + part_of range (range * probability / 2 ^ 16) truth ≤ range }
-    ensures few { result.doublings ≤ 9 }
+    ensures few_doublings { result.doublings ≤ 9 }
     ensures wide { 0x4000 < result.range }
     ensures narrow { result.range ≤ 0xFFFF }
 {
@@ -113,7 +113,7 @@ impl Encoder {
 
     /// A number, whose follow decisions stand in these contexts, the last one repeated, and its digits in the context `bits`.
     pub fn number(&mut self, follow: &[u8], bits: u8, value: u64) -> Result<(), NoMemory>
-        requires some { 0 < length follow.now }
+        requires not_empty { 0 < length follow.now }
         requires follow { AreContexts follow.now }
         requires bits { bits < 38 }
         requires value { value < 2 ^ 39 - 1 }
@@ -132,7 +132,7 @@ impl Encoder {
 
     /// A signed number: its magnitude as `number` writes it, and where it isn't 0 its sign in a context of its own.
     pub fn signed(&mut self, follow: &[u8], bits: u8, sign: u8, value: i64) -> Result<(), NoMemory>
-        requires some { 0 < length follow.now }
+        requires not_empty { 0 < length follow.now }
         requires follow { AreContexts follow.now }
         requires bits { bits < 38 }
         requires sign { sign < 38 }

@@ -4,7 +4,7 @@ ghost use Rattle.dirac_arith.specs.Spelling.{AreContexts, follow_at};
 
 /// The context of follow decision number `i`: the last one of the list repeats.
 pub fn follow_context(follow: &[u8], i: usize) -> u8
-    requires some { 0 < length follow.now }
+    requires not_empty { 0 < length follow.now }
     requires contexts { AreContexts follow.now }
     ensures exact { result ≡ follow_at follow.now i }
     ensures context { result < 38 }

@@ -16,11 +16,11 @@ fn step(upper: u16) -> u16
 
 /// The probability of a context after a decision of this truth.
 pub fn adapt(probability: u16, truth: bool) -> u16
-    requires some { 254 ≤ probability }
-    requires most { probability ≤ 65281 }
+    requires at_least_254 { 254 ≤ probability }
+    requires at_most_65281 { probability ≤ 65281 }
     ensures exact { result ≡ adapted probability truth }
-    ensures some { 254 ≤ result }
-    ensures most { result ≤ 65281 }
+    ensures at_least_254_result { 254 ≤ result }
+    ensures at_most_65281_result { result ≤ 65281 }
 {
     if truth {
         probability - step(probability / 256)

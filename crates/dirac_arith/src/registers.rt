@@ -33,7 +33,7 @@ fn byte_at(block: &[u8], place: usize) -> u8
 /// Reads bytes until no more fit behind the window.
 pub fn refill(block: &[u8], mut registers: Registers) -> Registers
     requires narrow { registers.window < 65536 * 2 ^ registers.ahead }
-    requires room { registers.next < 2 ^ 60 }
+    requires no_overflow { registers.next < 2 ^ 60 }
     requires ahead { registers.ahead ≤ 48 }
     ensures stands { (low doublings : ℕ) → Stands block.now registers low doublings → Stands block.now result low doublings }
     ensures range { result.range ≡ registers.range }
@@ -53,7 +53,7 @@ pub fn refill(block: &[u8], mut registers: Registers) -> Registers
 /// Reads bytes where fewer bits are ahead than a decision may take.
 pub fn fill(block: &[u8], registers: Registers) -> Registers
     requires narrow { registers.window < 65536 * 2 ^ registers.ahead }
-    requires room { registers.next < 2 ^ 60 }
+    requires no_overflow { registers.next < 2 ^ 60 }
     requires ahead { registers.ahead ≤ 48 }
     ensures stands { (low doublings : ℕ) → Stands block.now registers low doublings → Stands block.now result low doublings }
     ensures range { result.range ≡ registers.range }
@@ -99,10 +99,10 @@ pub fn is_past(registers: Registers) -> bool
 
 /// The number of doublings that take a range above 0x4000: the count of leading zeros of a 15-bit number.
 pub fn doublings(range: u32) -> u32
-    requires some { 32 < range }
+    requires above_32 { 32 < range }
     requires narrow { range ≤ 0xFFFF }
     ensures least { result ≡ doublings_for range }
-    ensures few { result ≤ 9 }
+    ensures at_most_9 { result ≤ 9 }
 {
     (range - 1).leading_zeros().saturating_sub(17)
 }
@@ -125,8 +125,8 @@ pub fn decide(registers: Registers, probability: u16) -> Decided
     ensures wide { 0x4000 < result.registers.range }
     ensures narrow { result.registers.range ≤ 0xFFFF }
     ensures next { result.registers.next ≡ registers.next }
-    ensures few { registers.ahead ≤ result.registers.ahead + 9 }
-    ensures most { result.registers.ahead ≤ registers.ahead }
+    ensures few_doublings { registers.ahead ≤ result.registers.ahead + 9 }
+    ensures no_more_ahead { result.registers.ahead ≤ registers.ahead }
     ensures inside { result.registers.window < result.registers.range * 2 ^ result.registers.ahead }
 {
     let split = registers.range * u32::from(probability) / 65536;

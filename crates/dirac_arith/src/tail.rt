@@ -47,7 +47,7 @@ fn carry(bytes: &mut [u8])
 fn carried(bytes: &mut [u8], register: u64, pending: u32) -> u64
     requires pending { pending ≤ 47 }
     requires fits { register < 2 ^ (17 + pending) }
-    requires room { 2 ^ (16 + pending) ≤ register → bytes_from 0 bytes.old + 1 < 2 ^ (8 * length bytes.old) }
+    requires no_overflow { 2 ^ (16 + pending) ≤ register → bytes_from 0 bytes.old + 1 < 2 ^ (8 * length bytes.old) }
     ensures value { bytes_from 0 bytes.new * 2 ^ (16 + pending) + result ≡ bytes_from 0 bytes.old * 2 ^ (16 + pending) + register }
     ensures fits { result < 2 ^ (16 + pending) }
 {
@@ -81,8 +81,8 @@ impl Tail {
 
     /// By how many doublings the next whole byte ends behind the next two bits.
     pub fn gap(&self) -> u32
-        ensures some { 2 ≤ result }
-        ensures most { result ≤ 9 }
+        ensures at_least_2 { 2 ≤ result }
+        ensures at_most_9 { result ≤ 9 }
         ensures exact { self.now.doublings + result ≡ 8 * ((self.now.doublings + 9) / 8) }
     {
         9 - (self.pending + 1) % 8
@@ -91,7 +91,7 @@ impl Tail {
     /// Adds to the low end, and doubles it.
     pub fn advance(&mut self, amount: u32, count: u32)
         requires amount { self.old.register + amount < 2 ^ (17 + self.old.pending) }
-        requires room { self.old.pending + count ≤ 47 }
+        requires at_most_47_bits { self.old.pending + count ≤ 47 }
         ensures { self.new ≡ record {
           value = (self.old.value + amount) * 2 ^ count;
           doublings = self.old.doublings + count;
@@ -108,7 +108,7 @@ impl Tail {
         requires { self.old.value < 0xFFFF * 2 ^ self.old.doublings }
         ensures value { self.new.value ≡ self.old.value }
         ensures doublings { self.new.doublings ≡ self.old.doublings }
-        ensures room { OnOk result (self.new.pending ≤ 38) }
+        ensures at_most_38_bits { OnOk result (self.new.pending ≤ 38) }
         ensures pending { self.new.pending ≤ 47 }
         ensures register { (range : ℕ) → range ≤ 0xFFFF → self.old.register + range ≤ 2 ^ (17 + self.old.pending) →
             self.new.register + range ≤ 2 ^ (17 + self.new.pending) }
@@ -124,7 +124,7 @@ impl Tail {
         requires { self.old.value < 0xFFFF * 2 ^ self.old.doublings }
         ensures value { self.new.value ≡ self.old.value }
         ensures doublings { self.new.doublings ≡ self.old.doublings }
-        ensures few { OnOk result (self.new.pending < 8) }
+        ensures below_8_bits { OnOk result (self.new.pending < 8) }
         ensures whole { OnOk result (self.new.pending ≡ self.new.doublings % 8) }
         ensures pending { self.new.pending ≤ 47 }
         ensures register { self.new.register < 2 ^ (16 + self.new.pending) }

@@ -36,9 +36,9 @@ fn mean(left: i128, above: i128, corner: i128) -> i128
 fn predict(values: &[i128], width: usize, x: usize, y: usize) -> i128
     requires across { x < width }
     requires down { y * width + x < length values.now }
-    requires small { All (λ v. unsigned_abs v ≤ 2 ^ 120) values.now }
+    requires magnitudes_at_most_2_120 { All (λ v. unsigned_abs v ≤ 2 ^ 120) values.now }
     ensures value { result ≡ prediction_in values.now width x y }
-    ensures small { unsigned_abs result ≤ 2 ^ 120 }
+    ensures at_most_2_120 { unsigned_abs result ≤ 2 ^ 120 }
 {
     let at = y * width + x;
     if y == 0 {
@@ -53,9 +53,9 @@ fn predict(values: &[i128], width: usize, x: usize, y: usize) -> i128
 /// Adds its prediction to each value, by rows.
 fn add_predictions(values: &mut [i128], width: usize, height: usize)
     requires len { length values.old ≡ width * height }
-    requires some { 1 ≤ width }
+    requires at_least_1 { 1 ≤ width }
     requires sizes { width + height ≤ 2 ^ 33 }
-    requires small { All (λ v. unsigned_abs v ≤ 2 ^ 64) values.old }
+    requires magnitudes_at_most_2_64 { All (λ v. unsigned_abs v ≤ 2 ^ 64) values.old }
     ensures value { IsDcSum (by_rows width height values.old) (by_rows width height values.new) }
     ensures growth { (b : ℕ) → All (λ v. unsigned_abs v ≤ b) values.old → All (λ v. unsigned_abs v ≤ (width + height) * b) values.new }
 {
@@ -70,8 +70,8 @@ fn add_predictions(values: &mut [i128], width: usize, height: usize)
 /// Takes its prediction from each value, the last one first, so that predictions read values as they were.
 fn subtract_predictions(values: &mut [i128], width: usize, height: usize)
     requires len { length values.old ≡ width * height }
-    requires some { 1 ≤ width }
-    requires small { All (λ v. unsigned_abs v ≤ 2 ^ 64) values.old }
+    requires at_least_1 { 1 ≤ width }
+    requires magnitudes_at_most_2_64 { All (λ v. unsigned_abs v ≤ 2 ^ 64) values.old }
     ensures value { IsDcSum (by_rows width height values.new) (by_rows width height values.old) }
     ensures growth { (b : ℕ) → All (λ v. unsigned_abs v ≤ b) values.old → All (λ v. unsigned_abs v ≤ 2 * b) values.new }
 {
@@ -88,7 +88,7 @@ fn subtract_predictions(values: &mut [i128], width: usize, height: usize)
 pub fn dc_add(ll: &mut Wide)
     requires { All (λ v. unsigned_abs v < 2 ^ 64) ll.old.values }
     ensures sums { IsDcSum ll.old ll.new }
-    ensures only { (sums : Table) → IsDcSum ll.old sums → sums ≡ ll.new }
+    ensures no_other_sums { (sums : Table) → IsDcSum ll.old sums → sums ≡ ll.new }
     ensures value { ll.new ≡ dc_sum ll.old }
     ensures growth { (b : ℕ) → All (λ v. unsigned_abs v ≤ b) ll.old.values → All (λ v. unsigned_abs v ≤ (ll.old.width + ll.old.height) * b) ll.new.values }
 {

@@ -11,7 +11,7 @@ pub fn padded(size: u32, depth: u8) -> u32
     ensures whole { result % 2 ^ depth ≡ 0 }
     ensures at_least { size ≤ result }
     ensures nearest { result < size + 2 ^ depth }
-    ensures most { result ≤ 8192 }
+    ensures at_most_8192 { result ≤ 8192 }
 {
     let step = 1u32 << depth;
     (size + step - 1) / step * step
@@ -25,7 +25,7 @@ pub fn band_size(padded: u32, depth: u8, level: u8) -> u32
     requires depth { (1 ≤ depth) × (depth ≤ 5) }
     requires level { level ≤ depth }
     ensures value { result ≡ size_of_band padded depth level }
-    ensures most { result ≤ 4096 }
+    ensures at_most_4096 { result ≤ 4096 }
 {
     if level == 0 {
         padded >> depth

@@ -23,7 +23,7 @@ pub fn next_bit(bytes: &[u8], spot: Spot) -> Result<(bool, Spot), Cause>
 pub fn next_number(bytes: &[u8], first: Spot) -> Result<(u64, Spot), Cause>
     ensures value { Steps bytes.now result (number_on 38 1 (cursor_at bytes.now first)) }
     ensures inside { IfOk result (λ x. bit_number x.1 ≤ 8 * length bytes.now) }
-    ensures small { IfOk result (λ x. x.0 + 1 < 2 ^ 39) }
+    ensures below_2_39 { IfOk result (λ x. x.0 + 1 < 2 ^ 39) }
 {
     let mut spot = first;
     let mut value = 1;
@@ -49,7 +49,7 @@ pub fn next_number(bytes: &[u8], first: Spot) -> Result<(u64, Spot), Cause>
 pub fn next_signed(bytes: &[u8], first: Spot) -> Result<(i64, Spot), Cause>
     ensures value { Steps bytes.now result (signed_on (cursor_at bytes.now first)) }
     ensures inside { IfOk result (λ x. bit_number x.1 ≤ 8 * length bytes.now) }
-    ensures small { IfOk result (λ x. unsigned_abs x.0 + 1 < 2 ^ 39) }
+    ensures below_2_39 { IfOk result (λ x. unsigned_abs x.0 + 1 < 2 ^ 39) }
 {
     let (magnitude, behind) = next_number(bytes, first)?;
     if magnitude == 0 {

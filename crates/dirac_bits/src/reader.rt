@@ -44,7 +44,7 @@ impl<'a> BitReader<'a> {
     /// The number of the byte that holds the next bit, counted from the payload's first byte.
     pub fn place(&self) -> u64
         ensures value { result ≡ place self.now }
-        ensures early { result ≤ length self.now.bytes }
+        ensures place_inside { result ≤ length self.now.bytes }
         ensures inside { self.now.at ≤ 8 * length self.now.bytes }
     {
         self.spot.byte as u64
@@ -54,7 +54,7 @@ impl<'a> BitReader<'a> {
     #[tactic(auto, unfolding(crate::specs::Fields::flag_at))]
     pub fn bit(&mut self) -> Result<bool, Refusal>
         ensures value { Takes (λ b. b) result self.old self.new (flag_at self.old) }
-        ensures early { IfErr result (λ e. e.at ≤ length self.old.bytes) }
+        ensures place_inside { IfErr result (λ e. e.at ≤ length self.old.bytes) }
         ensures kept { self.new.bytes ≡ self.old.bytes }
     {
         match next_bit(self.bytes, self.spot) {
@@ -70,9 +70,9 @@ impl<'a> BitReader<'a> {
     #[tactic(auto, unfolding(crate::specs::Fields::uint_at))]
     pub fn uint(&mut self) -> Result<u64, Refusal>
         ensures value { Takes (λ n. n) result self.old self.new (uint_at self.old) }
-        ensures early { IfErr result (λ e. e.at ≤ length self.old.bytes) }
+        ensures place_inside { IfErr result (λ e. e.at ≤ length self.old.bytes) }
         ensures kept { self.new.bytes ≡ self.old.bytes }
-        ensures small { IfOk result (λ n. n + 1 < 2 ^ 39) }
+        ensures below_2_39 { IfOk result (λ n. n + 1 < 2 ^ 39) }
     {
         match next_number(self.bytes, self.spot) {
             Ok((number, behind)) => {
@@ -86,7 +86,7 @@ impl<'a> BitReader<'a> {
     /// An unsigned number from `least` to `most`; any other is refused with this cause, at the byte of its first bit.
     pub fn field(&mut self, cause: Cause, least: u64, most: u64) -> Result<u64, Refusal>
         ensures value { Reads (λ n. n) result self.new (read (field cause (between least most)) self.old) }
-        ensures early { IfErr result (λ e. e.at ≤ length self.old.bytes) }
+        ensures place_inside { IfErr result (λ e. e.at ≤ length self.old.bytes) }
         ensures kept { self.new.bytes ≡ self.old.bytes }
         ensures inside { IfOk result (λ n. (least ≤ n) × (n ≤ most)) }
     {
@@ -103,9 +103,9 @@ impl<'a> BitReader<'a> {
     #[tactic(auto, unfolding(crate::specs::Fields::sint_at))]
     pub fn sint(&mut self) -> Result<i64, Refusal>
         ensures value { Takes (λ z. z) result self.old self.new (sint_at self.old) }
-        ensures early { IfErr result (λ e. e.at ≤ length self.old.bytes) }
+        ensures place_inside { IfErr result (λ e. e.at ≤ length self.old.bytes) }
         ensures kept { self.new.bytes ≡ self.old.bytes }
-        ensures small { IfOk result (λ z. unsigned_abs z + 1 < 2 ^ 39) }
+        ensures below_2_39 { IfOk result (λ z. unsigned_abs z + 1 < 2 ^ 39) }
     {
         match next_signed(self.bytes, self.spot) {
             Ok((number, behind)) => {
@@ -121,7 +121,7 @@ impl<'a> BitReader<'a> {
     pub fn literal(&mut self) -> Result<u32, Refusal>
         requires { IsAligned self.old }
         ensures value { Takes (λ n. n) result self.old self.new (literal_at self.old) }
-        ensures early { IfErr result (λ e. e.at ≤ length self.old.bytes) }
+        ensures place_inside { IfErr result (λ e. e.at ≤ length self.old.bytes) }
         ensures kept { self.new.bytes ≡ self.old.bytes }
         ensures aligned { IsAligned self.new }
     {
@@ -154,7 +154,7 @@ impl<'a> BitReader<'a> {
         ensures value { Takes (λ part. part.now) result self.old self.new (block_at len self.old) }
         ensures lent { IfOk result (λ part. part.now ≡ slice_range self.old.bytes (place self.old) (place self.old + len)) }
         ensures whole { IsOk result ↔ (place self.old + len ≤ length self.old.bytes) }
-        ensures early { IfErr result (λ e. e.at ≤ length self.old.bytes) }
+        ensures place_inside { IfErr result (λ e. e.at ≤ length self.old.bytes) }
         ensures kept { self.new.bytes ≡ self.old.bytes }
         ensures aligned { IsAligned self.new }
     {

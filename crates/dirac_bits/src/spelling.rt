@@ -16,7 +16,7 @@ pub struct Run {
 pub fn unsigned(value: u64) -> Run
     requires { value + 1 < 2 ^ 39 }
     ensures spelled { bits_below result.count result.number ≡ numbers.uint value }
-    ensures few { result.count ≤ 77 }
+    ensures at_most_77 { result.count ≤ 77 }
     ensures fits { result.number < 2 ^ result.count }
 {
     let mut rest = value + 1;
@@ -34,7 +34,7 @@ pub fn unsigned(value: u64) -> Run
 /// A digit with its follow bit 0, before the bits of `run`.
 fn behind_digit(run: Run, digit: u64) -> Run
     requires digit { digit < 2 }
-    requires few { run.count ≤ 75 }
+    requires at_most_75 { run.count ≤ 75 }
     requires fits { run.number < 2 ^ run.count }
     ensures number { result.number ≡ digit * 2 ^ run.count + run.number }
     ensures count { result.count ≡ run.count + 2 }
@@ -50,7 +50,7 @@ fn behind_digit(run: Run, digit: u64) -> Run
 pub fn signed(value: i64) -> Run
     requires { unsigned_abs value + 1 < 2 ^ 39 }
     ensures spelled { bits_below result.count result.number ≡ numbers.sint value }
-    ensures few { result.count ≤ 78 }
+    ensures at_most_78 { result.count ≤ 78 }
     ensures fits { result.number < 2 ^ result.count }
 {
     let run = unsigned(value.unsigned_abs());
@@ -62,7 +62,7 @@ pub fn signed(value: i64) -> Run
 
 /// One more bit, behind those of `run`.
 fn before_bit(run: Run, bit: bool) -> Run
-    requires few { run.count ≤ 77 }
+    requires at_most_77 { run.count ≤ 77 }
     requires fits { run.number < 2 ^ run.count }
     ensures bits { bits_below result.count result.number ≡ bits_below run.count run.number ++ bit ∷ [] }
     ensures count { result.count ≡ run.count + 1 }
@@ -77,7 +77,7 @@ fn before_bit(run: Run, bit: bool) -> Run
 /// The `used` bits of `pending`, and those of `run` behind them.
 pub fn joined(pending: u8, used: u8, run: Run) -> Run
     requires pending { (used < 8) × (pending < 2 ^ used) }
-    requires few { run.count ≤ 80 }
+    requires at_most_80 { run.count ≤ 80 }
     requires fits { run.number < 2 ^ run.count }
     ensures bits { bits_below result.count result.number ≡ bits_below used pending ++ bits_below run.count run.number }
     ensures count { result.count ≡ used + run.count }

@@ -114,7 +114,7 @@ impl BitWriter {
     }
 
     fn put(&mut self, run: Run) -> Result<(), NoMemory>
-        requires few { run.count ≤ 80 }
+        requires at_most_80 { run.count ≤ 80 }
         requires fits { run.number < 2 ^ run.count }
         ensures ok { OnOk result (self.new ≡ self.old ++ bits_below run.count run.number) }
         ensures err { OnErr result (self.new ≡ self.old) }

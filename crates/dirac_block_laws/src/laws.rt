@@ -13,7 +13,7 @@ pub fn read_tables_are_carried()
 /// A table is read from the blocks that carry its lists, so these carry no other one.
 pub fn carried_tables_are_read()
     ensures read { CarriedIsRead }
-    ensures one { OneIsCarried }
+    ensures one_is_carried { OneIsCarried }
 {
     carried_lists_are_read();
 }

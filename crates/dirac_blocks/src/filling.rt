@@ -7,7 +7,7 @@ use crate::lists::Blocks;
 /// Writes a block to `count` places from `start` on.
 fn fill_row(blocks: &mut Blocks, start: usize, block: Block, count: usize)
     requires inside { start + count ≤ length blocks.old }
-    requires most { length blocks.old ≤ 2 ^ 24 }
+    requires at_most_2_24 { length blocks.old ≤ 2 ^ 24 }
     ensures exact { blocks.new ≡ row_filled blocks.old start block count }
     ensures len { length blocks.new ≡ length blocks.old }
 {
@@ -26,10 +26,10 @@ pub fn fill_rows(
     block: Block,
     count: usize,
 )
-    requires some { 1 ≤ width }
+    requires at_least_1 { 1 ≤ width }
     requires columns { i + size ≤ width }
     requires rows { (j + count) * width ≤ length blocks.old }
-    requires most { length blocks.old ≤ 2 ^ 24 }
+    requires at_most_2_24 { length blocks.old ≤ 2 ^ 24 }
     ensures exact { blocks.new ≡ rows_filled width blocks.old size i j block count }
     ensures len { length blocks.new ≡ length blocks.old }
 {

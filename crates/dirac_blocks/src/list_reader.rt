@@ -17,7 +17,7 @@ fn read_split_list(r: &mut BitReader<'_>, table: &mut BlockData) -> Result<(), R
     requires { AllGrey table.old.blocks }
     ensures value { Lists result table.new r.new (read (listed splits_step table.old) r.old) }
     ensures blocks { SameBlocks table.old table.new }
-    ensures early { IfErr result (λ e. e.at ≤ length r.old.bytes) }
+    ensures place_inside { IfErr result (λ e. e.at ≤ length r.old.bytes) }
     ensures kept { r.new.bytes ≡ r.old.bytes }
 {
     let len = r.uint()?;
@@ -36,7 +36,7 @@ fn read_split_list(r: &mut BitReader<'_>, table: &mut BlockData) -> Result<(), R
 fn read_list(r: &mut BitReader<'_>, table: &mut BlockData, part: Part) -> Result<(), Refusal>
     ensures value { Lists result table.new r.new (read (listed (units_step part) table.old) r.old) }
     ensures shape { SameShape table.old table.new }
-    ensures early { IfErr result (λ e. e.at ≤ length r.old.bytes) }
+    ensures place_inside { IfErr result (λ e. e.at ≤ length r.old.bytes) }
     ensures kept { r.new.bytes ≡ r.old.bytes }
 {
     let len = r.uint()?;
@@ -59,7 +59,7 @@ fn read_vectors(
 ) -> Result<(), Refusal>
     ensures value { Lists result table.new r.new (read (vectors_listed reference table.old) r.old) }
     ensures shape { SameShape table.old table.new }
-    ensures early { IfErr result (λ e. e.at ≤ length r.old.bytes) }
+    ensures place_inside { IfErr result (λ e. e.at ≤ length r.old.bytes) }
     ensures kept { r.new.bytes ≡ r.old.bytes }
 {
     match read_list(r, table, Part::Across(reference)) {
@@ -73,7 +73,7 @@ fn read_vectors(
 fn read_second(r: &mut BitReader<'_>, table: &mut BlockData) -> Result<(), Refusal>
     ensures value { Lists result table.new r.new (read (second_listed table.old) r.old) }
     ensures shape { SameShape table.old table.new }
-    ensures early { IfErr result (λ e. e.at ≤ length r.old.bytes) }
+    ensures place_inside { IfErr result (λ e. e.at ≤ length r.old.bytes) }
     ensures kept { r.new.bytes ≡ r.old.bytes }
 {
     if table.refs() == 2 {
@@ -87,7 +87,7 @@ fn read_second(r: &mut BitReader<'_>, table: &mut BlockData) -> Result<(), Refus
 fn read_dcs(r: &mut BitReader<'_>, table: &mut BlockData) -> Result<(), Refusal>
     ensures value { Lists result table.new r.new (read (dcs_listed table.old) r.old) }
     ensures shape { SameShape table.old table.new }
-    ensures early { IfErr result (λ e. e.at ≤ length r.old.bytes) }
+    ensures place_inside { IfErr result (λ e. e.at ≤ length r.old.bytes) }
     ensures kept { r.new.bytes ≡ r.old.bytes }
 {
     match read_list(r, table, Part::Dc(Component::Y)) {
@@ -104,7 +104,7 @@ fn read_dcs(r: &mut BitReader<'_>, table: &mut BlockData) -> Result<(), Refusal>
 fn read_values(r: &mut BitReader<'_>, table: &mut BlockData) -> Result<(), Refusal>
     ensures value { Lists result table.new r.new (read (values_listed table.old) r.old) }
     ensures shape { SameShape table.old table.new }
-    ensures early { IfErr result (λ e. e.at ≤ length r.old.bytes) }
+    ensures place_inside { IfErr result (λ e. e.at ≤ length r.old.bytes) }
     ensures kept { r.new.bytes ≡ r.old.bytes }
 {
     match read_vectors(r, table, Reference::First) {
@@ -122,7 +122,7 @@ pub fn read_lists(r: &mut BitReader<'_>, table: &mut BlockData) -> Result<(), Re
     requires { AllGrey table.old.blocks }
     ensures value { Lists result table.new r.new (read (lists_of table.old) r.old) }
     ensures size { SameSize table.old table.new }
-    ensures early { IfErr result (λ e. e.at ≤ length r.old.bytes) }
+    ensures place_inside { IfErr result (λ e. e.at ≤ length r.old.bytes) }
     ensures kept { r.new.bytes ≡ r.old.bytes }
 {
     match read_split_list(r, table) {

@@ -228,7 +228,7 @@ fn left_split(table: &BlockData, sx: u32, sy: u32) -> Option<u8>
     requires column { sx < table.now.across }
     requires row { sy < table.now.down }
     ensures value { result ≡ left_of (λ x y. Some (split_at table.now x y)) sx sy }
-    ensures most { ForSome result (λ s. s ≤ 2) }
+    ensures at_most_2 { ForSome result (λ s. s ≤ 2) }
 {
     if sx == 0 {
         None
@@ -242,7 +242,7 @@ fn above_split(table: &BlockData, sx: u32, sy: u32) -> Option<u8>
     requires column { sx < table.now.across }
     requires row { sy < table.now.down }
     ensures value { result ≡ above_of (λ x y. Some (split_at table.now x y)) sx sy }
-    ensures most { ForSome result (λ s. s ≤ 2) }
+    ensures at_most_2 { ForSome result (λ s. s ≤ 2) }
 {
     if sy == 0 {
         None
@@ -256,7 +256,7 @@ fn corner_split(table: &BlockData, sx: u32, sy: u32) -> Option<u8>
     requires column { sx < table.now.across }
     requires row { sy < table.now.down }
     ensures value { result ≡ corner_of (λ x y. Some (split_at table.now x y)) sx sy }
-    ensures most { ForSome result (λ s. s ≤ 2) }
+    ensures at_most_2 { ForSome result (λ s. s ≤ 2) }
 {
     if sx == 0 {
         None
@@ -272,7 +272,7 @@ pub fn predict_split_at(table: &BlockData, sx: u32, sy: u32) -> u8
     requires column { sx < table.now.across }
     requires row { sy < table.now.down }
     ensures value { result ≡ predicted_split table.now sx sy }
-    ensures most { result ≤ 2 }
+    ensures at_most_2 { result ≤ 2 }
 {
     let left = left_split(table, sx, sy);
     let above = above_split(table, sx, sy);

@@ -23,7 +23,7 @@ pub fn read_blocks(
 ) -> Result<BlockData, Stop>
     requires size { IsSize across down refs }
     ensures value { ReadsOrStops result r.new (read (blocks across down refs) r.old) }
-    ensures early { IfErr result (IsEarly (length r.old.bytes)) }
+    ensures place_inside { IfErr result (IsEarly (length r.old.bytes)) }
     ensures kept { r.new.bytes ≡ r.old.bytes }
     ensures lawful { IfOk result IsBlockTable }
     ensures across { IfOk result (λ t. t.across ≡ across) }

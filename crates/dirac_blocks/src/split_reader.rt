@@ -19,10 +19,10 @@ fn read_split(
     requires column { sx < table.old.across }
     requires row { sy < table.old.down }
     requires grey { AllGrey table.old.blocks }
-    requires room { decoder.old.at.doublings < 2 ^ 61 }
+    requires no_overflow { decoder.old.at.doublings < 2 ^ 61 }
     ensures value { Moves result table.new decoder.new (split_step sy sx (progress table.old decoder.old)) }
     ensures blocks { SameBlocks table.old table.new }
-    ensures few { decoder.new.at.doublings ≤ decoder.old.at.doublings + 693 }
+    ensures few_doublings { decoder.new.at.doublings ≤ decoder.old.at.doublings + 693 }
 {
     match decoder.number(&SPLIT_FOLLOW, 24) {
         Ok(number) => {
@@ -44,12 +44,12 @@ fn read_split_row(
 ) -> Result<(), Cause>
     requires column { count ≤ table.old.across }
     requires row { sy < table.old.down }
-    requires most { table.old.across ≤ 1024 }
+    requires at_most_1024 { table.old.across ≤ 1024 }
     requires grey { AllGrey table.old.blocks }
-    requires room { decoder.old.at.doublings < 2 ^ 60 }
+    requires no_overflow { decoder.old.at.doublings < 2 ^ 60 }
     ensures value { Moves result table.new decoder.new (repeated (split_step sy) count (progress table.old decoder.old)) }
     ensures blocks { SameBlocks table.old table.new }
-    ensures few { decoder.new.at.doublings ≤ decoder.old.at.doublings + 693 * count }
+    ensures few_doublings { decoder.new.at.doublings ≤ decoder.old.at.doublings + 693 * count }
 {
     'superblocks: for n in 0..count {
         match read_split(decoder, table, n, sy) {
@@ -72,7 +72,7 @@ fn read_split_rows(
     requires most_across { table.old.across ≤ 1024 }
     requires most_down { table.old.down ≤ 1024 }
     requires grey { AllGrey table.old.blocks }
-    requires room { decoder.old.at.doublings ≡ 0 }
+    requires at_the_start { decoder.old.at.doublings ≡ 0 }
     ensures value { Moves result table.new decoder.new (repeated (λ sy. repeated (split_step sy) across) count (progress table.old decoder.old)) }
     ensures blocks { SameBlocks table.old table.new }
 {
@@ -88,7 +88,7 @@ fn read_split_rows(
 /// Reads how all superblocks are split; no block is read yet.
 pub fn read_splits(decoder: &mut Decoder<'_>, table: &mut BlockData) -> Result<(), Cause>
     requires grey { AllGrey table.old.blocks }
-    requires room { decoder.old.at.doublings ≡ 0 }
+    requires at_the_start { decoder.old.at.doublings ≡ 0 }
     ensures value { Moves result table.new decoder.new (splits_step (progress table.old decoder.old)) }
     ensures blocks { SameBlocks table.old table.new }
 {

@@ -9,8 +9,8 @@ use crate::lists::Blocks;
 pub fn unit_blocks(split: u8) -> usize
     requires { split ≤ 2 }
     ensures value { result ≡ unit_size split }
-    ensures some { 1 ≤ result }
-    ensures few { result ≤ 4 }
+    ensures at_least_1 { 1 ≤ result }
+    ensures at_most_4 { result ≤ 4 }
 {
     match split {
         0 => 4,
@@ -23,7 +23,7 @@ pub fn unit_blocks(split: u8) -> usize
 pub fn units_across(split: u8) -> usize
     requires { split ≤ 2 }
     ensures value { result ≡ 2 ^ split }
-    ensures few { result ≤ 4 }
+    ensures at_most_4 { result ≤ 4 }
 {
     match split {
         0 => 1,
@@ -36,7 +36,7 @@ pub fn units_across(split: u8) -> usize
 fn put_row(blocks: &mut Blocks, start: usize, split: u8, units: &[Block], from: usize)
     requires split { split ≤ 2 }
     requires row { start + 4 ≤ length blocks.old }
-    requires most { length blocks.old ≤ 2 ^ 24 }
+    requires at_most_2_24 { length blocks.old ≤ 2 ^ 24 }
     requires units { from + 2 ^ split ≤ length units.now }
     ensures { RowPut start split units.now from 4 blocks.old blocks.new }
 {
@@ -58,7 +58,7 @@ pub fn put_superblock(
     requires split { split ≤ 2 }
     requires columns { left + 4 ≤ width }
     requires rows { (top + 4) * width ≤ length blocks.old }
-    requires most { length blocks.old ≤ 2 ^ 24 }
+    requires at_most_2_24 { length blocks.old ≤ 2 ^ 24 }
     requires units { length units.now ≡ 4 ^ split }
     ensures rows { RowsPut width left top split units.now 4 blocks.old blocks.new }
     ensures lawful { (refs : ℕ) → All (IsBlock refs) units.now → All (IsBlock refs) blocks.old → All (IsBlock refs) blocks.new }

@@ -80,7 +80,7 @@ impl BlockData {
         requires across { sx < self.now.across }
         requires down { sy < self.now.down }
         ensures value { result ≡ split_at self.now sx sy }
-        ensures most { result ≤ 2 }
+        ensures at_most_2 { result ≤ 2 }
         ensures lawful { IsBlockTable self.now }
     {
         self.splits

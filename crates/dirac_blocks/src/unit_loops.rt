@@ -23,7 +23,7 @@ fn write_unit_row(
     requires size { 1 ≤ size }
     requires column { i + count * size ≤ 4 * table.now.across }
     requires row { j < 4 * table.now.down }
-    requires most { table.now.across ≤ 1024 }
+    requires at_most_1024 { table.now.across ≤ 1024 }
     ensures { OnOk result (encoder.new ≡ narrowed_by encoder.old (unit_row (part_at part table.now) size i j count)) }
 {
     'units: for n in 0..count {

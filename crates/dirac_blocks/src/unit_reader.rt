@@ -30,15 +30,15 @@ fn read_value(
     sign: u8,
     prediction: i32,
 ) -> Result<i32, Cause>
-    requires some { 0 < length follow.now }
+    requires not_empty { 0 < length follow.now }
     requires follow { AreContexts follow.now }
     requires bits { bits < 38 }
     requires sign { sign < 38 }
     requires prediction { IsShort prediction }
-    requires room { decoder.old.at.doublings < 2 ^ 61 }
+    requires no_overflow { decoder.old.at.doublings < 2 ^ 61 }
     ensures value { Gives result decoder.new (value_read cause follow.now bits sign prediction decoder.old) }
     ensures short { IfOk result IsShort }
-    ensures few { decoder.new.at.doublings ≤ decoder.old.at.doublings + 702 }
+    ensures few_doublings { decoder.new.at.doublings ≤ decoder.old.at.doublings + 702 }
 {
     match decoder.signed(follow, bits, sign) {
         Ok(number) => {
@@ -56,10 +56,10 @@ fn read_value(
 /// Reads a component of a vector that is predicted.
 fn read_component(decoder: &mut Decoder<'_>, prediction: i32) -> Result<i32, Cause>
     requires prediction { IsShort prediction }
-    requires room { decoder.old.at.doublings < 2 ^ 61 }
+    requires no_overflow { decoder.old.at.doublings < 2 ^ 61 }
     ensures value { Gives result decoder.new (component_read prediction decoder.old) }
     ensures short { IfOk result IsShort }
-    ensures few { decoder.new.at.doublings ≤ decoder.old.at.doublings + 702 }
+    ensures few_doublings { decoder.new.at.doublings ≤ decoder.old.at.doublings + 702 }
 {
     read_value(
         decoder,
@@ -80,10 +80,10 @@ fn read_second_use(
 ) -> Result<bool, Cause>
     requires column { i < 4 * table.now.across }
     requires row { j < 4 * table.now.down }
-    requires room { decoder.old.at.doublings < 2 ^ 61 }
+    requires no_overflow { decoder.old.at.doublings < 2 ^ 61 }
     ensures value { Gives result decoder.new (second_use_read table.now i j decoder.old) }
     ensures single { table.now.refs ≡ 1 → IfOk result (λ second. second ≡ false) }
-    ensures few { decoder.new.at.doublings ≤ decoder.old.at.doublings + 9 }
+    ensures few_doublings { decoder.new.at.doublings ≤ decoder.old.at.doublings + 9 }
 {
     if table.refs() != 2 {
         return Ok(false);
@@ -117,10 +117,10 @@ fn block_of(first: bool, second: bool) -> Block
 fn read_mode(decoder: &mut Decoder<'_>, table: &BlockData, i: u32, j: u32) -> Result<Block, Cause>
     requires column { i < 4 * table.now.across }
     requires row { j < 4 * table.now.down }
-    requires room { decoder.old.at.doublings < 2 ^ 60 }
+    requires no_overflow { decoder.old.at.doublings < 2 ^ 60 }
     ensures value { Gives result decoder.new (mode_read table.now i j decoder.old) }
     ensures block { IfOk result (IsBlock table.now.refs) }
-    ensures few { decoder.new.at.doublings ≤ decoder.old.at.doublings + 18 }
+    ensures few_doublings { decoder.new.at.doublings ≤ decoder.old.at.doublings + 18 }
 {
     match decoder.decision(25) {
         Ok(bit) => {
@@ -189,10 +189,10 @@ fn read_across(
 ) -> Result<Block, Cause>
     requires column { i < 4 * table.now.across }
     requires row { j < 4 * table.now.down }
-    requires room { decoder.old.at.doublings < 2 ^ 61 }
+    requires no_overflow { decoder.old.at.doublings < 2 ^ 61 }
     ensures value { Gives result decoder.new (unit_read (Part.Across reference) table.now i j decoder.old) }
     ensures block { IfOk result (IsBlock table.now.refs) }
-    ensures few { decoder.new.at.doublings ≤ decoder.old.at.doublings + 702 }
+    ensures few_doublings { decoder.new.at.doublings ≤ decoder.old.at.doublings + 702 }
 {
     let block = table.at(i, j);
     if !has_reference(block, reference) {
@@ -215,10 +215,10 @@ fn read_down(
 ) -> Result<Block, Cause>
     requires column { i < 4 * table.now.across }
     requires row { j < 4 * table.now.down }
-    requires room { decoder.old.at.doublings < 2 ^ 61 }
+    requires no_overflow { decoder.old.at.doublings < 2 ^ 61 }
     ensures value { Gives result decoder.new (unit_read (Part.Down reference) table.now i j decoder.old) }
     ensures block { IfOk result (IsBlock table.now.refs) }
-    ensures few { decoder.new.at.doublings ≤ decoder.old.at.doublings + 702 }
+    ensures few_doublings { decoder.new.at.doublings ≤ decoder.old.at.doublings + 702 }
 {
     let block = table.at(i, j);
     if !has_reference(block, reference) {
@@ -241,10 +241,10 @@ fn read_dc(
 ) -> Result<Block, Cause>
     requires column { i < 4 * table.now.across }
     requires row { j < 4 * table.now.down }
-    requires room { decoder.old.at.doublings < 2 ^ 61 }
+    requires no_overflow { decoder.old.at.doublings < 2 ^ 61 }
     ensures value { Gives result decoder.new (unit_read (Part.Dc component) table.now i j decoder.old) }
     ensures block { IfOk result (IsBlock table.now.refs) }
-    ensures few { decoder.new.at.doublings ≤ decoder.old.at.doublings + 702 }
+    ensures few_doublings { decoder.new.at.doublings ≤ decoder.old.at.doublings + 702 }
 {
     let block = table.at(i, j);
     if block.ref1 || block.ref2 {
@@ -267,10 +267,10 @@ pub fn read_unit_block(
 ) -> Result<Block, Cause>
     requires column { i < 4 * table.now.across }
     requires row { j < 4 * table.now.down }
-    requires room { decoder.old.at.doublings < 2 ^ 60 }
+    requires no_overflow { decoder.old.at.doublings < 2 ^ 60 }
     ensures value { Gives result decoder.new (unit_read part table.now i j decoder.old) }
     ensures block { IfOk result (IsBlock table.now.refs) }
-    ensures few { decoder.new.at.doublings ≤ decoder.old.at.doublings + 702 }
+    ensures few_doublings { decoder.new.at.doublings ≤ decoder.old.at.doublings + 702 }
 {
     match part {
         Part::Modes => read_mode(decoder, table, i, j),

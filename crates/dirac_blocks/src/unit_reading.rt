@@ -22,10 +22,10 @@ fn read_unit(
     requires unit { IsUnit table.old size i j }
     requires column { i < 4 * table.old.across }
     requires row { j < 4 * table.old.down }
-    requires room { decoder.old.at.doublings < 2 ^ 60 }
+    requires no_overflow { decoder.old.at.doublings < 2 ^ 60 }
     ensures value { Moves result table.new decoder.new (unit_step part size i j (progress table.old decoder.old)) }
     ensures shape { SameShape table.old table.new }
-    ensures few { decoder.new.at.doublings ≤ decoder.old.at.doublings + 702 }
+    ensures few_doublings { decoder.new.at.doublings ≤ decoder.old.at.doublings + 702 }
 {
     match read_unit_block(decoder, table, part, i, j) {
         Ok(block) => {
@@ -50,12 +50,12 @@ fn read_unit_row(
     requires size { 1 ≤ size }
     requires column { i + count * size ≤ 4 * table.old.across }
     requires row { j < 4 * table.old.down }
-    requires most { table.old.across ≤ 1024 }
-    requires room { decoder.old.at.doublings < 2 ^ 59 }
-    requires few { count ≤ 4 }
+    requires at_most_1024 { table.old.across ≤ 1024 }
+    requires no_overflow { decoder.old.at.doublings < 2 ^ 59 }
+    requires at_most_4 { count ≤ 4 }
     ensures value { Moves result table.new decoder.new (unit_row_step part size i j count (progress table.old decoder.old)) }
     ensures shape { SameShape table.old table.new }
-    ensures few { decoder.new.at.doublings ≤ decoder.old.at.doublings + 702 * count }
+    ensures few_doublings { decoder.new.at.doublings ≤ decoder.old.at.doublings + 702 * count }
 {
     'units: for n in 0..count {
         match read_unit(decoder, table, part, size, i + n * size, j) {
@@ -83,12 +83,12 @@ fn read_unit_rows(
     requires row { j + count * size ≤ 4 * table.old.down }
     requires most_across { table.old.across ≤ 1024 }
     requires most_down { table.old.down ≤ 1024 }
-    requires room { decoder.old.at.doublings < 2 ^ 58 }
+    requires no_overflow { decoder.old.at.doublings < 2 ^ 58 }
     requires few_across { across ≤ 4 }
-    requires few { count ≤ 4 }
+    requires at_most_4 { count ≤ 4 }
     ensures value { Moves result table.new decoder.new (unit_rows_step part size across i j count (progress table.old decoder.old)) }
     ensures shape { SameShape table.old table.new }
-    ensures few { decoder.new.at.doublings ≤ decoder.old.at.doublings + 2808 * count }
+    ensures few_doublings { decoder.new.at.doublings ≤ decoder.old.at.doublings + 2808 * count }
 {
     'rows: for n in 0..count {
         match read_unit_row(decoder, table, part, size, i, j + n * size, across) {
@@ -112,10 +112,10 @@ fn read_superblock(
     requires row { sy < table.old.down }
     requires most_across { table.old.across ≤ 1024 }
     requires most_down { table.old.down ≤ 1024 }
-    requires room { decoder.old.at.doublings < 2 ^ 57 }
+    requires no_overflow { decoder.old.at.doublings < 2 ^ 57 }
     ensures value { Moves result table.new decoder.new (superblock_step part sy sx (progress table.old decoder.old)) }
     ensures shape { SameShape table.old table.new }
-    ensures few { decoder.new.at.doublings ≤ decoder.old.at.doublings + 11232 }
+    ensures few_doublings { decoder.new.at.doublings ≤ decoder.old.at.doublings + 11232 }
 {
     let split = table.split(sx, sy);
     let size = unit_blocks(split) as u32;
@@ -135,10 +135,10 @@ fn read_superblock_row(
     requires row { sy < table.old.down }
     requires most_across { table.old.across ≤ 1024 }
     requires most_down { table.old.down ≤ 1024 }
-    requires room { decoder.old.at.doublings < 2 ^ 56 }
+    requires no_overflow { decoder.old.at.doublings < 2 ^ 56 }
     ensures value { Moves result table.new decoder.new (repeated (superblock_step part sy) count (progress table.old decoder.old)) }
     ensures shape { SameShape table.old table.new }
-    ensures few { decoder.new.at.doublings ≤ decoder.old.at.doublings + 11232 * count }
+    ensures few_doublings { decoder.new.at.doublings ≤ decoder.old.at.doublings + 11232 * count }
 {
     'superblocks: for n in 0..count {
         match read_superblock(decoder, table, part, n, sy) {
@@ -161,7 +161,7 @@ fn read_superblock_rows(
     requires row { count ≤ table.old.down }
     requires most_across { table.old.across ≤ 1024 }
     requires most_down { table.old.down ≤ 1024 }
-    requires room { decoder.old.at.doublings ≡ 0 }
+    requires at_the_start { decoder.old.at.doublings ≡ 0 }
     ensures value { Moves result table.new decoder.new (repeated (λ sy. repeated (superblock_step part sy) across) count (progress table.old decoder.old)) }
     ensures shape { SameShape table.old table.new }
 {
@@ -176,7 +176,7 @@ fn read_superblock_rows(
 
 /// Reads what this list tells of all units.
 pub fn read_units(decoder: &mut Decoder<'_>, table: &mut BlockData, part: Part) -> Result<(), Cause>
-    requires room { decoder.old.at.doublings ≡ 0 }
+    requires at_the_start { decoder.old.at.doublings ≡ 0 }
     ensures value { Moves result table.new decoder.new (units_step part (progress table.old decoder.old)) }
     ensures shape { SameShape table.old table.new }
 {

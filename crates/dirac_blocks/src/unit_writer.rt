@@ -62,7 +62,7 @@ fn write_less(
     prediction: i32,
     value: i32,
 ) -> Result<(), NoMemory>
-    requires some { 0 < length follow.now }
+    requires not_empty { 0 < length follow.now }
     requires follow { AreContexts follow.now }
     requires bits { bits < 38 }
     requires sign { sign < 38 }
@@ -82,7 +82,7 @@ fn write_difference(
     prediction: i32,
     value: Option<i32>,
 ) -> Result<(), NoMemory>
-    requires some { 0 < length follow.now }
+    requires not_empty { 0 < length follow.now }
     requires follow { AreContexts follow.now }
     requires bits { bits < 38 }
     requires sign { sign < 38 }

@@ -82,7 +82,7 @@ pub fn code_picture<R: Threads + Sync, G: RowGate>(
     ensures read { IfOk result (λ c. picture_read planned.now.code (sequence_of settings.now) refs.now c.payload.items
         ≡ Ok (coded_of settings.now refs.now planned.now source.now)) }
     // Its coefficients stay below 2^38.
-    ensures small { IfOk result (λ c. AreSmall (residual_of settings.now refs.now (header_of planned.now)
+    ensures magnitudes_bounded { IfOk result (λ c. AreSmall (residual_of settings.now refs.now (header_of planned.now)
         (motion_of settings.now refs.now planned.now source.now) source.now)) }
     // At index 0 nothing is lost.
     ensures lossless { IfOk result (λ c. source.now.number ≡ planned.now.number → settings.now.index ≡ 0

@@ -157,7 +157,7 @@ pub fn code_with_blocks(
         picture_read planned.now.code (sequence_for settings.now) refs.now c.payload.items
         ≡ Ok (coded_by settings.now refs.now planned.now source.now (option_copied blocks.entry))) }
     // Its coefficients stay below 2^38.
-    ensures small { IfOk result (λ c. AreSmall (residual_of settings.now refs.now (header_of planned.now)
+    ensures magnitudes_bounded { IfOk result (λ c. AreSmall (residual_of settings.now refs.now (header_of planned.now)
         (motion_among settings.now (option_copied blocks.entry)) source.now)) }
     // At index 0 nothing is lost.
     ensures lossless { IfOk result (λ c. source.now.number ≡ planned.now.number → settings.now.index ≡ 0

@@ -30,7 +30,7 @@ fn code_plane(
     requires codable { IsCodable settings.now }
     requires across { plane.now.width ≤ 4096 }
     requires down { plane.now.height ≤ 4096 }
-    requires small { AreDifferences plane.now.values }
+    requires magnitudes_bounded { AreDifferences plane.now.values }
     ensures value { IfOk result (λ b. b ≡ coding.bands_of settings.now kind plane.now) }
 {
     analyse_plane(

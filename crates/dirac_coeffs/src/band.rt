@@ -32,7 +32,7 @@ fn read_coded(
 ) -> Result<CodedBand, Stop>
     requires { IsSpot spot }
     ensures value { ReadsOrStops result r.new (read (coded_band spot parent.now len) r.old) }
-    ensures early { IfErr result (IsEarly (length r.old.bytes)) }
+    ensures place_inside { IfErr result (IsEarly (length r.old.bytes)) }
     ensures kept { r.new.bytes ≡ r.old.bytes }
     ensures lawful { IfOk result (IsCodedBand spot) }
 {
@@ -66,7 +66,7 @@ pub fn read_band(
     requires spot { IsSpot spot }
     requires parent { ForSome parent (IsParentOf spot) }
     ensures value { ReadsOrStops result r.new (read (band spot (values_of_parent parent.entry)) r.old) }
-    ensures early { IfErr result (IsEarly (length r.old.bytes)) }
+    ensures place_inside { IfErr result (IsEarly (length r.old.bytes)) }
     ensures kept { r.new.bytes ≡ r.old.bytes }
     ensures lawful { IfOk result (IsCodedBand spot) }
 {

@@ -27,7 +27,7 @@ fn write_coded(
 ) -> Result<(), NoMemory>
     requires spot { IsSpot spot }
     requires len { length values.now ≡ spot.width * spot.height }
-    requires small { AreSmall values.now }
+    requires magnitudes_bounded { AreSmall values.now }
     ensures exact { OnOk result (w.new ≡ with_block index (block_of spot parent.now values.now) w.old) }
 {
     let block = write_block(alloc, values, spot, parent)?;

@@ -22,7 +22,7 @@ pub fn read_block(
     requires { IsSpot spot }
     ensures value { GivesBlock spot at result (band_read spot parent.now block.now) }
     ensures len { IfOk result (λ t. length t.values ≡ spot.width * spot.height) }
-    ensures small { IfOk result (λ t. AreSmall t.values) }
+    ensures magnitudes_bounded { IfOk result (λ t. AreSmall t.values) }
     ensures long { result ≡ Err (Stop.Refused (record { at = at; cause = Cause.NumberTooLong })) → CarriesLong spot parent.now block.now }
 {
     let mut table = BandTable::try_new(alloc, spot.width, spot.height, 0)?;

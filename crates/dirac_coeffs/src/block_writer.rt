@@ -20,7 +20,7 @@ pub fn write_block(
 ) -> Result<Vec<u8>, NoMemory>
     requires spot { IsSpot spot }
     requires len { length values.now ≡ spot.width * spot.height }
-    requires small { AreSmall values.now }
+    requires magnitudes_bounded { AreSmall values.now }
     ensures exact { IfOk result (λ block. block.items ≡ block_of spot parent.now values.now) }
     ensures read_back { IfOk result (λ block. band_read spot parent.now block.items ≡ Ok values.now) }
 {

@@ -26,7 +26,7 @@ fn write_block_values(
     requires row { cy < spot.down }
     requires column { cx < spot.across }
     requires len { length values.now ≡ spot.width * spot.height }
-    requires small { AreSmall values.now }
+    requires magnitudes_bounded { AreSmall values.now }
     ensures { OnOk result (encoder.new ≡ narrowed_by encoder.old (rows_part (frame_of spot parent.now) values.now (edge_of spot.width spot.across cx) (span_of spot.width spot.across cx) (edge_of spot.height spot.down cy) (span_of spot.height spot.down cy))) }
 {
     let columns = part_of(spot.width, spot.across, cx);
@@ -56,7 +56,7 @@ fn write_codeblock(
     requires row { cy < spot.down }
     requires column { cx < spot.across }
     requires len { length values.now ≡ spot.width * spot.height }
-    requires small { AreSmall values.now }
+    requires magnitudes_bounded { AreSmall values.now }
     ensures { OnOk result (encoder.new ≡ narrowed_by encoder.old (block_part spot parent.now values.now cy cx (marks_of spot values.now cy cx))) }
 {
     if !has_flags(spot) {
@@ -82,7 +82,7 @@ fn write_codeblocks(
     requires spot { IsSpot spot }
     requires row { cy < spot.down }
     requires len { length values.now ≡ spot.width * spot.height }
-    requires small { AreSmall values.now }
+    requires magnitudes_bounded { AreSmall values.now }
     ensures { OnOk result (encoder.new ≡ narrowed_by encoder.old (blocks_part spot parent.now values.now (marks_of spot values.now cy) cy spot.across)) }
 {
     'across: for cx in 0..spot.across {
@@ -103,7 +103,7 @@ pub fn write_all(
 ) -> Result<(), NoMemory>
     requires spot { IsSpot spot }
     requires len { length values.now ≡ spot.width * spot.height }
-    requires small { AreSmall values.now }
+    requires magnitudes_bounded { AreSmall values.now }
     ensures { OnOk result (encoder.new ≡ narrowed_by encoder.old (band_decisions spot parent.now values.now (marks_of spot values.now))) }
 {
     'down: for cy in 0..spot.down {

@@ -22,10 +22,10 @@ fn read_block_values(
     requires row { cy < spot.down }
     requires column { cx < spot.across }
     requires len { length values.old ≡ spot.width * spot.height }
-    requires room { decoder.old.at.doublings < 2 ^ 58 }
+    requires no_overflow { decoder.old.at.doublings < 2 ^ 58 }
     ensures value { Moves result values.new decoder.new (filled_step spot parent.now cy cx (progress values.old decoder.old)) }
     ensures len { length values.new ≡ length values.old }
-    ensures few { decoder.new.at.doublings ≤ decoder.old.at.doublings + 702 * 8192 * span_of spot.width spot.across cx }
+    ensures few_doublings { decoder.new.at.doublings ≤ decoder.old.at.doublings + 702 * 8192 * span_of spot.width spot.across cx }
 {
     let columns = part_of(spot.width, spot.across, cx);
     let rows = part_of(spot.height, spot.down, cy);
@@ -55,10 +55,10 @@ fn read_codeblock(
     requires row { cy < spot.down }
     requires column { cx < spot.across }
     requires len { length values.old ≡ spot.width * spot.height }
-    requires room { decoder.old.at.doublings < 2 ^ 57 }
+    requires no_overflow { decoder.old.at.doublings < 2 ^ 57 }
     ensures value { Moves result values.new decoder.new (block_step spot parent.now cy cx (progress values.old decoder.old)) }
     ensures len { length values.new ≡ length values.old }
-    ensures few { decoder.new.at.doublings ≤ decoder.old.at.doublings + 9 + 702 * 8192 * span_of spot.width spot.across cx }
+    ensures few_doublings { decoder.new.at.doublings ≤ decoder.old.at.doublings + 9 + 702 * 8192 * span_of spot.width spot.across cx }
 {
     if !has_flags(spot) {
         return read_block_values(decoder, values, spot, parent, cy, cx);
@@ -81,10 +81,10 @@ fn read_codeblocks(
     requires spot { IsSpot spot }
     requires row { cy < spot.down }
     requires len { length values.old ≡ spot.width * spot.height }
-    requires room { decoder.old.at.doublings < 2 ^ 56 }
+    requires no_overflow { decoder.old.at.doublings < 2 ^ 56 }
     ensures value { Moves result values.new decoder.new (blocks_step spot parent.now cy spot.across (progress values.old decoder.old)) }
     ensures len { length values.new ≡ length values.old }
-    ensures few { decoder.new.at.doublings ≤ decoder.old.at.doublings + 9 * 8192 + 702 * 8192 * 8192 }
+    ensures few_doublings { decoder.new.at.doublings ≤ decoder.old.at.doublings + 9 * 8192 + 702 * 8192 * 8192 }
 {
     'across: for cx in 0..spot.across {
         match read_codeblock(decoder, values, spot, parent, cy, cx) {
@@ -104,7 +104,7 @@ pub fn read_all(
 ) -> Result<(), Cause>
     requires spot { IsSpot spot }
     requires len { length values.old ≡ spot.width * spot.height }
-    requires room { decoder.old.at.doublings ≡ 0 }
+    requires at_the_start { decoder.old.at.doublings ≡ 0 }
     ensures value { Moves result values.new decoder.new (block_rows_step spot parent.now spot.down (progress values.old decoder.old)) }
     ensures len { length values.new ≡ length values.old }
 {

@@ -4,7 +4,7 @@ ghost use Rattle.dirac_coeffs.specs.Laws.{OneBandIsCarried, NoBandBesideLong, On
 /// A block carries the decisions of one band at most, and none beside those of a number that is too long;
 /// one that begins with sixteen ones carries neither.
 pub fn one_band_is_carried()
-    ensures one { OneBandIsCarried }
+    ensures one_band_is_carried { OneBandIsCarried }
     ensures or_long { NoBandBesideLong }
     ensures or_ones { OnesCarryNothing }
 {}

@@ -42,7 +42,7 @@ fn write_at(
     requires width { spot.width ≤ 8192 }
     requires row { y < 8192 }
     requires inside { (y + 1) * spot.width ≤ length values.now }
-    requires small { AreSmall values.now }
+    requires magnitudes_bounded { AreSmall values.now }
     ensures { OnOk result (encoder.new ≡ narrowed_by encoder.old (value_part (frame_of spot parent.now) values.now x y)) }
 {
     let width = spot.width as usize;
@@ -75,7 +75,7 @@ fn write_row(
     requires width { spot.width ≤ 8192 }
     requires row { y < 8192 }
     requires inside { (y + 1) * spot.width ≤ length values.now }
-    requires small { AreSmall values.now }
+    requires magnitudes_bounded { AreSmall values.now }
     ensures { OnOk result (encoder.new ≡ narrowed_by encoder.old (row_part (frame_of spot parent.now) values.now y from count)) }
 {
     'values: for i in 0..count {
@@ -102,7 +102,7 @@ pub fn write_rows(
     requires width { spot.width ≤ 8192 }
     requires rows { top + rows ≤ 8192 }
     requires inside { (top + rows) * spot.width ≤ length values.now }
-    requires small { AreSmall values.now }
+    requires magnitudes_bounded { AreSmall values.now }
     ensures { OnOk result (encoder.new ≡ narrowed_by encoder.old (rows_part (frame_of spot parent.now) values.now from count top rows)) }
 {
     'rows: for j in 0..rows {

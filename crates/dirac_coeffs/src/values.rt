@@ -20,9 +20,9 @@ fn read_value(
     corner: i64,
     parent: i64,
 ) -> Result<i64, Cause>
-    requires room { decoder.old.at.doublings < 2 ^ 61 }
+    requires no_overflow { decoder.old.at.doublings < 2 ^ 61 }
     ensures read { Gives result decoder.new (signed_read (follow_among left above corner parent) bits_context (sign_of (sign_neighbour band left above)) decoder.old) }
-    ensures few { decoder.new.at.doublings ≤ decoder.old.at.doublings + 702 }
+    ensures few_doublings { decoder.new.at.doublings ≤ decoder.old.at.doublings + 702 }
 {
     let follow = contexts::follow_among(left, above, corner, parent);
     let sign = contexts::sign_context(band, left, above);
@@ -44,10 +44,10 @@ fn read_at(
     requires width { spot.width ≤ 8192 }
     requires row { y < 8192 }
     requires inside { (y + 1) * spot.width ≤ length values.old }
-    requires room { decoder.old.at.doublings < 2 ^ 61 }
+    requires no_overflow { decoder.old.at.doublings < 2 ^ 61 }
     ensures value { Moves result values.new decoder.new (value_step (frame_of spot parent.now) x y (progress values.old decoder.old)) }
     ensures len { length values.new ≡ length values.old }
-    ensures few { decoder.new.at.doublings ≤ decoder.old.at.doublings + 702 }
+    ensures few_doublings { decoder.new.at.doublings ≤ decoder.old.at.doublings + 702 }
 {
     let width = spot.width as usize;
     let left = contexts::left_value(values, width, x, y);
@@ -77,10 +77,10 @@ fn read_row(
     requires width { spot.width ≤ 8192 }
     requires row { y < 8192 }
     requires inside { (y + 1) * spot.width ≤ length values.old }
-    requires room { decoder.old.at.doublings < 2 ^ 60 }
+    requires no_overflow { decoder.old.at.doublings < 2 ^ 60 }
     ensures value { Moves result values.new decoder.new (row_step (frame_of spot parent.now) y from count (progress values.old decoder.old)) }
     ensures len { length values.new ≡ length values.old }
-    ensures few { decoder.new.at.doublings ≤ decoder.old.at.doublings + 702 * count }
+    ensures few_doublings { decoder.new.at.doublings ≤ decoder.old.at.doublings + 702 * count }
 {
     'values: for i in 0..count {
         match read_at(decoder, values, spot, parent, from + i, y) {
@@ -106,10 +106,10 @@ pub fn read_rows(
     requires width { spot.width ≤ 8192 }
     requires rows { top + rows ≤ 8192 }
     requires inside { (top + rows) * spot.width ≤ length values.old }
-    requires room { decoder.old.at.doublings < 2 ^ 59 }
+    requires no_overflow { decoder.old.at.doublings < 2 ^ 59 }
     ensures value { Moves result values.new decoder.new (rows_step (frame_of spot parent.now) from count top rows (progress values.old decoder.old)) }
     ensures len { length values.new ≡ length values.old }
-    ensures few { decoder.new.at.doublings ≤ decoder.old.at.doublings + 702 * 8192 * count }
+    ensures few_doublings { decoder.new.at.doublings ≤ decoder.old.at.doublings + 702 * 8192 * count }
 {
     'rows: for j in 0..rows {
         match read_row(decoder, values, spot, parent, top + j, from, count) {

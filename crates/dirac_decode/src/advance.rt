@@ -36,17 +36,17 @@ pub(crate) fn advance_by_unit<S: Source>(
     source: &mut S,
 ) -> Advanced
     requires going { units.old.met ≡ Met.Going }
-    requires room { units.old.spot.at + length units.old.ahead + S.left source.old < 2 ^ 63 }
+    requires no_overflow { units.old.spot.at + length units.old.ahead + S.left source.old < 2 ^ 63 }
     ensures advances { Advances result units.old units.new state.old state.new (S.held source.old) (S.held source.new) }
     ensures goes_on { GoesOn result units.old units.new }
-    ensures few { units.old.spot.index + shown_by result + length state.new.waiting
+    ensures no_more_than_units { units.old.spot.index + shown_by result + length state.new.waiting
         ≤ units.new.spot.index + length state.old.waiting }
     ensures fits { units.new.spot.index < 2 ^ 64 }
-    ensures most { state.old.most ≤ state.new.most }
+    ensures greatest_never_falls { state.old.most ≤ state.new.most }
     ensures whole { result ≡ Advanced.End → IsAtEnd (S.held source.new) }
     ensures read { result ≡ Advanced.ReadFault → Rose (S.faults source.old) (S.faults source.new) }
     ensures count { S.faults source.old ≤ S.faults source.new }
-    ensures room { units.new.spot.at + length units.new.ahead + S.left source.new
+    ensures no_overflow_result { units.new.spot.at + length units.new.ahead + S.left source.new
         ≤ units.old.spot.at + length units.old.ahead + S.left source.old }
 {
     let unit = match units.next(source, true) {
@@ -76,7 +76,7 @@ pub(crate) fn next_due(state: &mut State, draining: bool) -> Option<Picture>
     ensures due { IfSome result (λ p. due_of draining state.old ≡ p ∷ flushed state.new.waiting) }
     ensures fewer { length state.new.waiting + length (option_to_list result) ≤ length state.old.waiting }
     ensures same { draining ≡ false → state.new ≡ state.old }
-    ensures most { state.new.most ≡ state.old.most }
+    ensures greatest_stays { state.new.most ≡ state.old.most }
 {
     if draining {
         return state.pop();

@@ -52,7 +52,7 @@ impl Decoder {
     /// How many pictures were given so far, and the greatest length that the list of references had so far.
     pub fn tally(&self) -> Tally
         ensures value { result ≡ tally self.now }
-        ensures few { result.references ≤ 8 }
+        ensures at_most_8_references { result.references ≤ 8 }
     {
         Tally {
             pictures: self.given,
@@ -67,14 +67,14 @@ impl Decoder {
         requires { self.old.units.spot.at + length self.old.units.ahead + S.left source.old < 2 ^ 63 }
         ensures gives { Gives result self.old self.new (S.held source.old) (S.held source.new) }
         ensures repeated { Answers self.old.met self.old.due result }
-        ensures still { (self.old.met ≡ Met.Going → ⊥) → source.new ≡ source.old }
+        ensures repeats_without_reading { (self.old.met ≡ Met.Going → ⊥) → source.new ≡ source.old }
         ensures whole { (self.old.met ≡ Met.Ended → IsAtEnd (S.held source.old)) → self.new.met ≡ Met.Ended → IsAtEnd (S.held source.new) }
         ensures read { result ≡ Next.ReadFault → Rose (S.faults source.old) (S.faults source.new) }
         ensures count { S.faults source.old ≤ S.faults source.new }
         ensures fits { self.new.given < 2 ^ 64 }
         // Whatever is answered, the greatest length of the list never falls.
         ensures greatest { self.old.course.most ≤ self.new.course.most }
-        ensures room { self.new.units.spot.at + length self.new.units.ahead + S.left source.new
+        ensures no_overflow { self.new.units.spot.at + length self.new.units.ahead + S.left source.new
             ≤ self.old.units.spot.at + length self.old.units.ahead + S.left source.old }
     {
         if let Met::Stopped = self.met {

@@ -220,7 +220,7 @@ pub(crate) fn make_picture(
     requires refs { All (IsPicture sequence.now) refs.now }
     ensures value { IsRebuilt result (picture_read code sequence.now refs.now payload.now) sequence.now refs.now }
     ensures fits { IfOk result (λ r. IsPicture sequence.now r.picture) }
-    ensures early { IfErr result (λ e. IfStopped e (λ r. r.at ≤ length payload.now)) }
+    ensures place_inside { IfErr result (λ e. IfStopped e (λ r. r.at ≤ length payload.now)) }
 {
     let coded = match read_picture(alloc, payload, code, sequence, refs) {
         Err(stop) => return Err(stop),

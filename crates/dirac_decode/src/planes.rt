@@ -15,8 +15,8 @@ use std::alloc::Global;
 pub fn width_of(sequence: &Sequence, part: Part) -> u32
     requires { IsSequence sequence.now }
     ensures value { result ≡ content.width_of sequence.now part }
-    ensures some { 1 ≤ result }
-    ensures few { result ≤ 4096 }
+    ensures at_least_1 { 1 ≤ result }
+    ensures at_most_4096 { result ≤ 4096 }
 {
     sequence.plane_width(part)
 }
@@ -25,8 +25,8 @@ pub fn width_of(sequence: &Sequence, part: Part) -> u32
 pub fn height_of(sequence: &Sequence, part: Part) -> u32
     requires { IsSequence sequence.now }
     ensures value { result ≡ content.height_of sequence.now part }
-    ensures some { 1 ≤ result }
-    ensures few { result ≤ 4096 }
+    ensures at_least_1 { 1 ≤ result }
+    ensures at_most_4096 { result ≤ 4096 }
 {
     sequence.plane_height(part)
 }

@@ -63,7 +63,7 @@ impl State {
     /// The greatest length that a list of references had.
     pub(crate) fn most(&self) -> u8
         ensures value { result ≡ self.now.most }
-        ensures few { result ≤ 8 }
+        ensures at_most_8 { result ≤ 8 }
     {
         self.most
     }
@@ -80,9 +80,9 @@ impl State {
     pub(crate) fn take(&mut self, alloc: Global, code: u8, payload: Payload) -> Took
         requires { length payload < 2 ^ 63 }
         ensures took { IsTook result (moved self.old code payload) self.old self.new }
-        ensures early { IfRefused result (λ e. e.at ≤ 13 + length payload) }
-        ensures few { Fewer result (length self.old.waiting) (length self.new.waiting) }
-        ensures most { self.old.most ≤ self.new.most }
+        ensures place_inside { IfRefused result (λ e. e.at ≤ 13 + length payload) }
+        ensures fewer_wait { Fewer result (length self.old.waiting) (length self.new.waiting) }
+        ensures greatest_never_falls { self.old.most ≤ self.new.most }
     {
         if !fields_are_read(code) {
             return self.pass(code);
@@ -97,8 +97,8 @@ impl State {
     /// Passes over a unit without content, or closes the sequence.
     fn pass(&mut self, code: u8) -> Took
         ensures took { IsTook result (Ok (passed self.old code)) self.old self.new }
-        ensures few { Fewer result (length self.old.waiting) (length self.new.waiting) }
-        ensures most { self.old.most ≤ self.new.most }
+        ensures fewer_wait { Fewer result (length self.old.waiting) (length self.new.waiting) }
+        ensures greatest_never_falls { self.old.most ≤ self.new.most }
     {
         if code == END_OF_SEQUENCE {
             self.opened = None;
@@ -113,9 +113,9 @@ impl State {
     fn take_header(&mut self, payload: Payload) -> Took
         requires { length payload < 2 ^ 63 }
         ensures took { IsTook result (header_moves self.old self.old.opened payload) self.old self.new }
-        ensures early { IfRefused result (λ e. e.at ≤ 13 + length payload) }
-        ensures few { Fewer result (length self.old.waiting) (length self.new.waiting) }
-        ensures most { self.old.most ≤ self.new.most }
+        ensures place_inside { IfRefused result (λ e. e.at ≤ 13 + length payload) }
+        ensures fewer_wait { Fewer result (length self.old.waiting) (length self.new.waiting) }
+        ensures greatest_never_falls { self.old.most ≤ self.new.most }
     {
         if let Some(opened) = &self.opened {
             if is_same(payload.bytes(), opened.header.bytes()) {
@@ -142,11 +142,11 @@ impl State {
     /// Reads and rebuilds a picture of the open sequence.
     fn take_picture(&mut self, alloc: Global, code: u8, payload: &[u8]) -> Took
         requires code { IsTrue (is_picture code) }
-        requires few { length payload.now < 2 ^ 63 }
+        requires below_2_63 { length payload.now < 2 ^ 63 }
         ensures took { IsTook result (picture_moves self.old self.old.opened code payload.now) self.old self.new }
-        ensures early { IfRefused result (λ e. e.at ≤ 13 + length payload.now) }
-        ensures few { Fewer result (length self.old.waiting) (length self.new.waiting) }
-        ensures most { self.old.most ≤ self.new.most }
+        ensures place_inside { IfRefused result (λ e. e.at ≤ 13 + length payload.now) }
+        ensures fewer_wait { Fewer result (length self.old.waiting) (length self.new.waiting) }
+        ensures greatest_never_falls { self.old.most ≤ self.new.most }
     {
         let Some(opened) = &self.opened else {
             return Took::Refused(Refusal {
@@ -166,8 +166,8 @@ impl State {
         requires reference { made.reference ≡ as_reference made.coded.code made.picture }
         requires fits { IsOfOpen self.old.opened made.picture }
         ensures took { IsTook result (Ok (shows self.old made.coded made.picture)) self.old self.new }
-        ensures few { Fewer result (length self.old.waiting) (length self.new.waiting) }
-        ensures most { self.old.most ≤ self.new.most }
+        ensures fewer_wait { Fewer result (length self.old.waiting) (length self.new.waiting) }
+        ensures greatest_never_falls { self.old.most ≤ self.new.most }
         ensures accepted { IfRefused result (λ e. ⊥) }
     {
         let Rebuilt {

@@ -14,7 +14,7 @@ use std::alloc::Global;
 pub fn decode_stream<S: Source, K: Sink>(alloc: Global, source: &mut S, out: &mut K) -> Decoded
     ensures decoded { IfSome (S.held source.old) (λ bytes. IsDecoded bytes result (K.taken out.old) (K.taken out.new)) }
     ensures whole { IfDone result (IsAtEnd (S.held source.new)) }
-    ensures few { IfTally result (λ tally. tally.references ≤ 8) }
+    ensures at_most_8_references { IfTally result (λ tally. tally.references ≤ 8) }
     ensures read { result ≡ Decoded.ReadFault → Rose (S.faults source.old) (S.faults source.new) }
     ensures write { result ≡ Decoded.WriteFault → Rose (K.faults out.old) (K.faults out.new) }
     ensures reads { S.faults source.old ≤ S.faults source.new }
@@ -35,7 +35,7 @@ fn write_pictures<S: Source, K: Sink>(
     requires { decoder.old ≡ begun }
     ensures decoded { IfSome (S.held source.old) (λ bytes. IsDecoded bytes result (K.taken out.old) (K.taken out.new)) }
     ensures whole { IfDone result (IsAtEnd (S.held source.new)) }
-    ensures few { IfTally result (λ tally. tally.references ≤ 8) }
+    ensures at_most_8_references { IfTally result (λ tally. tally.references ≤ 8) }
     ensures read { result ≡ Decoded.ReadFault → Rose (S.faults source.old) (S.faults source.new) }
     ensures write { result ≡ Decoded.WriteFault → Rose (K.faults out.old) (K.faults out.new) }
     ensures reads { S.faults source.old ≤ S.faults source.new }

@@ -24,7 +24,7 @@ pub(crate) fn put_last<R, K: Sink, N: Sink, G>(
     requires header { coder.now.header.now ≡ sequence_payload coder.now.settings.now }
     ensures ended { OnOk result (IsEnded coder.now.settings.now (so_far coding.old)
         (K.taken out.old) (K.taken out.new) (N.taken side.old) (N.taken side.new)) }
-    ensures early { EndsEarly coder.now.settings.now (so_far coding.old)
+    ensures ends_early { EndsEarly coder.now.settings.now (so_far coding.old)
         (K.taken out.old) (K.taken out.new) (N.taken side.old) (N.taken side.new) }
     ensures stopped { IfErr result IsFault }
     ensures write_fault { result ≡ Err Encoded.WriteFault → Rose (K.faults out.old) (K.faults out.new) }

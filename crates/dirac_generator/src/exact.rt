@@ -24,7 +24,7 @@ pub fn exact_pictures(
 /// The same, with a buffer for a picture, whatever it holds.
 fn exact_among(settings: &Settings, count: u32, bytes: &[u8], picture: &mut [u8]) -> u32
     requires accepted { IsAccepted settings.now }
-    requires room { length picture.old ≡ picture_count settings.now }
+    requires of_picture_size { length picture.old ≡ picture_count settings.now }
     ensures value { result ≡ exact_from settings.now count 0 bytes.now }
     ensures bounded { result ≤ count }
 {

@@ -36,7 +36,7 @@ fn sizes_of(settings: &Settings) -> Sizes
 pub fn picture_length(settings: &Settings) -> usize
     requires { IsAccepted settings.now }
     ensures value { result ≡ picture_count settings.now }
-    ensures some { 1 ≤ result }
+    ensures at_least_1 { 1 ≤ result }
     ensures bounded { result ≤ 28311552 }
 {
     let sizes = sizes_of(settings);
@@ -55,7 +55,7 @@ fn byte_at(number: u32, plane: u8, x: u32, y: u32) -> u8
 /// Writes rows of this width of a plane of a picture.
 fn fill_rows(number: u32, plane: u8, width: usize, bytes: &mut [u8])
     requires width { (1 ≤ width) × (width ≤ 4096) }
-    requires room { length bytes.old ≤ 28311552 }
+    requires at_most_28311552 { length bytes.old ≤ 28311552 }
     ensures { bytes.new ≡ generated_rows number plane width (length bytes.old) }
 {
     'bytes: for place in 0..bytes.len() {
@@ -67,7 +67,7 @@ fn fill_rows(number: u32, plane: u8, width: usize, bytes: &mut [u8])
 /// Writes the picture of this number.
 pub(crate) fn fill_picture(settings: &Settings, number: u32, bytes: &mut [u8])
     requires accepted { IsAccepted settings.now }
-    requires room { length bytes.old ≡ picture_count settings.now }
+    requires of_picture_size { length bytes.old ≡ picture_count settings.now }
     ensures { bytes.new ≡ bytes_of settings.now number }
 {
     let sizes = sizes_of(settings);

@@ -30,8 +30,8 @@ pub fn read_header(r: &mut BitReader<'_>, code: u8) -> Result<PictureHeader, Ref
     // What is answered is spelled by the bits left.
     ensures spelled { IfOk result (λ h. BeginsWith (grammar.header code) h r.old r.new) }
     // What they spell is answered.
-    ensures only { (h : TheHeader) (d : Cursor) → BeginsWith (grammar.header code) h r.old d → (result ≡ Ok h) × (r.new ≡ d) }
-    ensures early { IfErr result (λ e. e.at ≤ length r.old.bytes) }
+    ensures no_other_reading { (h : TheHeader) (d : Cursor) → BeginsWith (grammar.header code) h r.old d → (result ≡ Ok h) × (r.new ≡ d) }
+    ensures place_inside { IfErr result (λ e. e.at ≤ length r.old.bytes) }
     ensures kept { r.new.bytes ≡ r.old.bytes }
 {
     let _at = r.place();
@@ -41,7 +41,7 @@ pub fn read_header(r: &mut BitReader<'_>, code: u8) -> Result<PictureHeader, Ref
 #[tactic(auto, unfolding(crate::specs::Header::header), using(dirac_bits::specs::Then::read_then))]
 fn read_fields(r: &mut BitReader<'_>, code: u8) -> Result<PictureHeader, Refusal>
     ensures value { Reads (λ h. h) result r.new (read (grammar.header code) r.old) }
-    ensures early { IfErr result (λ e. e.at ≤ length r.old.bytes) }
+    ensures place_inside { IfErr result (λ e. e.at ≤ length r.old.bytes) }
     ensures kept { r.new.bytes ≡ r.old.bytes }
 {
     r.align();
@@ -61,7 +61,7 @@ fn read_fields(r: &mut BitReader<'_>, code: u8) -> Result<PictureHeader, Refusal
 #[tactic(auto, unfolding(crate::specs::Header::reference))]
 fn read_reference(r: &mut BitReader<'_>, there: bool, number: u32) -> Result<Option<u32>, Refusal>
     ensures value { Reads (λ x. x) result r.new (read (grammar.reference there number) r.old) }
-    ensures early { IfErr result (λ e. e.at ≤ length r.old.bytes) }
+    ensures place_inside { IfErr result (λ e. e.at ≤ length r.old.bytes) }
     ensures kept { r.new.bytes ≡ r.old.bytes }
 {
     if !there {
@@ -74,7 +74,7 @@ fn read_reference(r: &mut BitReader<'_>, there: bool, number: u32) -> Result<Opt
 #[tactic(auto, unfolding(crate::specs::Header::retirement))]
 fn read_retirement(r: &mut BitReader<'_>, there: bool, number: u32) -> Result<Option<u32>, Refusal>
     ensures value { Reads (λ x. x) result r.new (read (grammar.retirement there number) r.old) }
-    ensures early { IfErr result (λ e. e.at ≤ length r.old.bytes) }
+    ensures place_inside { IfErr result (λ e. e.at ≤ length r.old.bytes) }
     ensures kept { r.new.bytes ≡ r.old.bytes }
 {
     if !there {

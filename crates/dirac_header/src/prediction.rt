@@ -48,8 +48,8 @@ pub fn read_prediction(
     // What is answered is spelled by the bits left.
     ensures spelled { IfOk result (λ p. BeginsWith (grammar.prediction code chroma) p r.old r.new) }
     // What they spell is answered.
-    ensures only { (p : ThePrediction) (d : Cursor) → BeginsWith (grammar.prediction code chroma) p r.old d → (result ≡ Ok p) × (r.new ≡ d) }
-    ensures early { IfErr result (λ e. e.at ≤ length r.old.bytes) }
+    ensures no_other_reading { (p : ThePrediction) (d : Cursor) → BeginsWith (grammar.prediction code chroma) p r.old d → (result ≡ Ok p) × (r.new ≡ d) }
+    ensures place_inside { IfErr result (λ e. e.at ≤ length r.old.bytes) }
     ensures kept { r.new.bytes ≡ r.old.bytes }
     ensures grid { IfOk result (λ p. IsTrue (grammar.is_grid chroma p.grid)) }
     ensures precision { IfOk result (λ p. p.precision ≤ 3) }
@@ -63,7 +63,7 @@ pub fn read_prediction(
 #[tactic(auto, unfolding(crate::specs::Prediction::prediction), using(dirac_bits::specs::Then::read_then))]
 fn read_parameters(r: &mut BitReader<'_>, code: u8, chroma: Chroma) -> Result<Prediction, Refusal>
     ensures value { Reads (λ p. p) result r.new (read (grammar.prediction code chroma) r.old) }
-    ensures early { IfErr result (λ e. e.at ≤ length r.old.bytes) }
+    ensures place_inside { IfErr result (λ e. e.at ≤ length r.old.bytes) }
     ensures kept { r.new.bytes ≡ r.old.bytes }
     ensures grid { IfOk result (λ p. IsTrue (grammar.is_grid chroma p.grid)) }
     ensures precision { IfOk result (λ p. p.precision ≤ 3) }
@@ -93,9 +93,9 @@ fn weighted(grid: BlockGrid, precision: u8, weights: Weights) -> Prediction
 #[tactic(auto, unfolding(crate::specs::Prediction::vector_precision))]
 fn read_vector_precision(r: &mut BitReader<'_>) -> Result<u8, Refusal>
     ensures value { Reads (λ n. n) result r.new (read grammar.vector_precision r.old) }
-    ensures early { IfErr result (λ e. e.at ≤ length r.old.bytes) }
+    ensures place_inside { IfErr result (λ e. e.at ≤ length r.old.bytes) }
     ensures kept { r.new.bytes ≡ r.old.bytes }
-    ensures small { IfOk result (λ n. n ≤ 3) }
+    ensures at_most_3 { IfOk result (λ n. n ≤ 3) }
 {
     let precision = r.field(Cause::Precision, 0, 3)?;
     Ok(precision as u8)
@@ -104,7 +104,7 @@ fn read_vector_precision(r: &mut BitReader<'_>) -> Result<u8, Refusal>
 #[tactic(auto, unfolding(crate::specs::Prediction::block_grid), using(dirac_bits::specs::Then::read_then))]
 fn read_block_grid(r: &mut BitReader<'_>, chroma: Chroma) -> Result<BlockGrid, Refusal>
     ensures value { Reads (λ g. g) result r.new (read (grammar.block_grid chroma) r.old) }
-    ensures early { IfErr result (λ e. e.at ≤ length r.old.bytes) }
+    ensures place_inside { IfErr result (λ e. e.at ≤ length r.old.bytes) }
     ensures kept { r.new.bytes ≡ r.old.bytes }
     ensures grid { IfOk result (λ g. IsTrue (grammar.is_grid chroma g)) }
 {
@@ -144,7 +144,7 @@ pub fn block_grid(index: u64) -> BlockGrid
 #[tactic(auto, unfolding(crate::specs::Prediction::own_grid), using(dirac_bits::specs::Then::read_then))]
 fn read_own_grid(r: &mut BitReader<'_>, chroma: Chroma) -> Result<BlockGrid, Refusal>
     ensures value { Reads (λ g. g) result r.new (read (grammar.own_grid chroma) r.old) }
-    ensures early { IfErr result (λ e. e.at ≤ length r.old.bytes) }
+    ensures place_inside { IfErr result (λ e. e.at ≤ length r.old.bytes) }
     ensures kept { r.new.bytes ≡ r.old.bytes }
     ensures grid { IfOk result (λ g. IsTrue (grammar.is_grid chroma g)) }
 {
@@ -172,7 +172,7 @@ fn read_own_grid(r: &mut BitReader<'_>, chroma: Chroma) -> Result<BlockGrid, Ref
 /// Whether blocks overlap their neighbours alone, and aren't longer than 64.
 fn is_overlap(length: u64, separation: u64) -> bool
     ensures value { result ≡ grammar.is_overlap length separation }
-    ensures small { IsTrue result → (length ≤ 64) × (separation ≤ 64) }
+    ensures at_most_64_each { IsTrue result → (length ≤ 64) × (separation ≤ 64) }
 {
     1 <= separation && separation <= length && length <= 64 && length <= 2 * separation
 }
@@ -191,7 +191,7 @@ fn is_divisible(ratio: u32, length: u64, separation: u64) -> bool
 #[tactic(auto, unfolding(crate::specs::Prediction::modes), using(dirac_bits::specs::Then::read_then))]
 fn read_modes(r: &mut BitReader<'_>) -> Result<(), Refusal>
     ensures value { Reads (λ x. x) result r.new (read grammar.modes r.old) }
-    ensures early { IfErr result (λ e. e.at ≤ length r.old.bytes) }
+    ensures place_inside { IfErr result (λ e. e.at ≤ length r.old.bytes) }
     ensures kept { r.new.bytes ≡ r.old.bytes }
 {
     let at = r.place();
@@ -208,7 +208,7 @@ fn read_modes(r: &mut BitReader<'_>) -> Result<(), Refusal>
 #[tactic(auto, unfolding(crate::specs::Prediction::weights), using(dirac_bits::specs::Then::read_then))]
 fn read_weights(r: &mut BitReader<'_>, two: bool) -> Result<Weights, Refusal>
     ensures value { Reads (λ w. w) result r.new (read (grammar.weights two) r.old) }
-    ensures early { IfErr result (λ e. e.at ≤ length r.old.bytes) }
+    ensures place_inside { IfErr result (λ e. e.at ≤ length r.old.bytes) }
     ensures kept { r.new.bytes ≡ r.old.bytes }
     ensures bits { IfOk result (λ w. (1 ≤ w.bits) × (w.bits ≤ 8)) }
     ensures weights { IfOk result (λ w. (unsigned_abs w.first ≤ 255) × (unsigned_abs w.second ≤ 255)) }
@@ -226,7 +226,7 @@ fn read_weights(r: &mut BitReader<'_>, two: bool) -> Result<Weights, Refusal>
 #[tactic(auto, unfolding(crate::specs::Prediction::own_weights), using(dirac_bits::specs::Then::read_then))]
 fn read_own_weights(r: &mut BitReader<'_>, two: bool) -> Result<Weights, Refusal>
     ensures value { Reads (λ w. w) result r.new (read (grammar.own_weights two) r.old) }
-    ensures early { IfErr result (λ e. e.at ≤ length r.old.bytes) }
+    ensures place_inside { IfErr result (λ e. e.at ≤ length r.old.bytes) }
     ensures kept { r.new.bytes ≡ r.old.bytes }
     ensures bits { IfOk result (λ w. (1 ≤ w.bits) × (w.bits ≤ 8)) }
     ensures weights { IfOk result (λ w. (unsigned_abs w.first ≤ 255) × (unsigned_abs w.second ≤ 255)) }
@@ -244,9 +244,9 @@ fn read_own_weights(r: &mut BitReader<'_>, two: bool) -> Result<Weights, Refusal
 #[tactic(auto, unfolding(crate::specs::Prediction::second_weight))]
 fn read_second_weight(r: &mut BitReader<'_>, two: bool) -> Result<i32, Refusal>
     ensures value { Reads (λ w. w) result r.new (read (grammar.second_weight two) r.old) }
-    ensures early { IfErr result (λ e. e.at ≤ length r.old.bytes) }
+    ensures place_inside { IfErr result (λ e. e.at ≤ length r.old.bytes) }
     ensures kept { r.new.bytes ≡ r.old.bytes }
-    ensures small { IfOk result (λ w. unsigned_abs w ≤ 255) }
+    ensures at_most_255 { IfOk result (λ w. unsigned_abs w ≤ 255) }
 {
     if two { read_weight(r) } else { Ok(1) }
 }
@@ -254,9 +254,9 @@ fn read_second_weight(r: &mut BitReader<'_>, two: bool) -> Result<i32, Refusal>
 #[tactic(auto, unfolding(crate::specs::Prediction::weight))]
 fn read_weight(r: &mut BitReader<'_>) -> Result<i32, Refusal>
     ensures value { Reads (λ w. w) result r.new (read grammar.weight r.old) }
-    ensures early { IfErr result (λ e. e.at ≤ length r.old.bytes) }
+    ensures place_inside { IfErr result (λ e. e.at ≤ length r.old.bytes) }
     ensures kept { r.new.bytes ≡ r.old.bytes }
-    ensures small { IfOk result (λ w. unsigned_abs w ≤ 255) }
+    ensures at_most_255 { IfOk result (λ w. unsigned_abs w ≤ 255) }
 {
     let at = r.place();
     let weight = r.sint()?;

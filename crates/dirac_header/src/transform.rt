@@ -27,8 +27,8 @@ pub fn read_transform(r: &mut BitReader<'_>, width: u32, height: u32) -> Result<
     // What is answered is spelled by the bits left.
     ensures spelled { IfOk result (λ t. BeginsWith (grammar.transform width height) t r.old r.new) }
     // What they spell is answered.
-    ensures only { (t : TheTransform) (d : Cursor) → BeginsWith (grammar.transform width height) t r.old d → (result ≡ Ok t) × (r.new ≡ d) }
-    ensures early { IfErr result (λ e. e.at ≤ length r.old.bytes) }
+    ensures no_other_reading { (t : TheTransform) (d : Cursor) → BeginsWith (grammar.transform width height) t r.old d → (result ≡ Ok t) × (r.new ≡ d) }
+    ensures place_inside { IfErr result (λ e. e.at ≤ length r.old.bytes) }
     ensures kept { r.new.bytes ≡ r.old.bytes }
     ensures wavelet { IfOk result (λ t. t.wavelet ≤ 6) }
     ensures depth { IfOk result (λ t. (1 ≤ t.depth) × (t.depth ≤ 5)) }
@@ -41,7 +41,7 @@ pub fn read_transform(r: &mut BitReader<'_>, width: u32, height: u32) -> Result<
 #[tactic(auto, unfolding(crate::specs::Transform::transform), using(dirac_bits::specs::Then::read_then))]
 fn read_fields(r: &mut BitReader<'_>, width: u32, height: u32) -> Result<Transform, Refusal>
     ensures value { Reads (λ t. t) result r.new (read (grammar.transform width height) r.old) }
-    ensures early { IfErr result (λ e. e.at ≤ length r.old.bytes) }
+    ensures place_inside { IfErr result (λ e. e.at ≤ length r.old.bytes) }
     ensures kept { r.new.bytes ≡ r.old.bytes }
     ensures wavelet { IfOk result (λ t. t.wavelet ≤ 6) }
     ensures depth { IfOk result (λ t. (1 ≤ t.depth) × (t.depth ≤ 5)) }
@@ -66,7 +66,7 @@ fn read_codeblocks(
 ) -> Result<Counts, Refusal>
     requires { (1 ≤ depth) × (depth ≤ 5) }
     ensures value { Reads (λ c. c) result r.new (read (grammar.codeblocks width height depth) r.old) }
-    ensures early { IfErr result (λ e. e.at ≤ length r.old.bytes) }
+    ensures place_inside { IfErr result (λ e. e.at ≤ length r.old.bytes) }
     ensures kept { r.new.bytes ≡ r.old.bytes }
     ensures levels { IfOk result (λ c. length c ≡ depth + 1) }
 {
@@ -98,7 +98,7 @@ fn read_partition(
 ) -> Result<Counts, Refusal>
     requires { (1 ≤ depth) × (depth ≤ 5) }
     ensures value { Reads (λ c. c) result r.new (read (grammar.partition width height depth) r.old) }
-    ensures early { IfErr result (λ e. e.at ≤ length r.old.bytes) }
+    ensures place_inside { IfErr result (λ e. e.at ≤ length r.old.bytes) }
     ensures kept { r.new.bytes ≡ r.old.bytes }
     ensures levels { IfOk result (λ c. length c ≡ depth + 1) }
 {
@@ -110,7 +110,7 @@ fn read_partition(
 fn read_counts(r: &mut BitReader<'_>, width: u32, height: u32, depth: u8) -> Result<Counts, Refusal>
     requires { (1 ≤ depth) × (depth ≤ 5) }
     ensures value { Reads (λ c. c) result r.new (read (grammar.counts_behind width height depth [] (depth + 1)) r.old) }
-    ensures early { IfErr result (λ e. e.at ≤ length r.old.bytes) }
+    ensures place_inside { IfErr result (λ e. e.at ≤ length r.old.bytes) }
     ensures kept { r.new.bytes ≡ r.old.bytes }
     ensures levels { IfOk result (λ c. length c ≡ depth + 1) }
 {
@@ -133,7 +133,7 @@ fn read_level_counts(
     requires depth { (1 ≤ depth) × (depth ≤ 5) }
     requires level { level ≤ depth }
     ensures value { Reads (λ x. x) result r.new (read (grammar.level_counts width height depth level) r.old) }
-    ensures early { IfErr result (λ e. e.at ≤ length r.old.bytes) }
+    ensures place_inside { IfErr result (λ e. e.at ≤ length r.old.bytes) }
     ensures kept { r.new.bytes ≡ r.old.bytes }
 {
     let across = r.field(Cause::Codeblocks, 1, band_length(width, depth, level))?;
@@ -146,7 +146,7 @@ fn band_length(size: u32, depth: u8, level: u8) -> u64
     requires depth { (1 ≤ depth) × (depth ≤ 5) }
     requires level { level ≤ depth }
     ensures value { result ≡ grammar.band_length size depth level }
-    ensures small { result < 2 ^ 32 }
+    ensures below_2_32 { result < 2 ^ 32 }
 {
     let unit = 1u64 << depth;
     let padded = (u64::from(size) + unit - 1) / unit * unit;

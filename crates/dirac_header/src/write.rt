@@ -65,7 +65,7 @@ fn write_retirement(
 /// The offset of the picture that is retired, 0 where none is.
 fn retired_offset(number: u32, retire: Option<u32>) -> i64
     ensures value { result ≡ written.retired_offset number retire }
-    ensures small { unsigned_abs result ≤ 2 ^ 31 }
+    ensures at_most_2_31 { unsigned_abs result ≤ 2 ^ 31 }
 {
     match retire {
         Some(retired) => offset_to(number, retired),
@@ -76,7 +76,7 @@ fn retired_offset(number: u32, retire: Option<u32>) -> i64
 /// By how much the number of a picture lies from that of another, from -2^31 to 2^31 - 1.
 fn offset_to(from: u32, to: u32) -> i64
     ensures value { result ≡ written.offset_to from to }
-    ensures small { unsigned_abs result ≤ 2 ^ 31 }
+    ensures at_most_2_31 { unsigned_abs result ≤ 2 ^ 31 }
 {
     let ahead = i64::from(to.wrapping_sub(from));
     if ahead < 1 << 31 {

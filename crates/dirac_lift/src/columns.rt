@@ -93,7 +93,7 @@ fn lift_columns_by(values: &mut [i128], width: usize, height: usize, step: Step,
     requires parity { step.parity ≤ 1 }
     requires shift { step.shift ≤ 32 }
     requires taps { sum_by unsigned_abs taps.now ≤ 2 ^ 14 }
-    requires small { ColumnsSmall width height values.old }
+    requires magnitudes_bounded { ColumnsSmall width height values.old }
     ensures { ColumnsBecome (lift (record { parity = step.parity; minus = step.minus; shift = step.shift; lead = step.lead; taps = taps.now })) width height values.old values.new }
 {
     for n in 0..height / 2 {
@@ -118,7 +118,7 @@ fn lift_columns(
     requires even { height % 2 ≡ 0 }
     requires shift { shift ≤ 32 }
     requires taps { sum_by unsigned_abs taps.now ≤ 2 ^ 14 }
-    requires small { ColumnsSmall width height values.old }
+    requires magnitudes_bounded { ColumnsSmall width height values.old }
     ensures { ColumnsBecome (lift (record { parity = parity_of change; minus = is_minus change; shift = shift; lead = lead; taps = taps.now })) width height values.old values.new }
 {
     let parity = change.parity();

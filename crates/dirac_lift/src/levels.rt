@@ -21,7 +21,7 @@ fn synth_rows(wavelet: u8, values: &mut [i128], width: usize, height: usize)
     requires wavelet { wavelet ≤ 6 }
     requires len { length values.old ≡ width * height }
     requires even { width % 2 ≡ 0 }
-    requires small { All (λ v. unsigned_abs v ≤ 2 ^ 108) values.old }
+    requires magnitudes_at_most_2_108 { All (λ v. unsigned_abs v ≤ 2 ^ 108) values.old }
     ensures { RowsBecome (synth wavelet) width height values.old values.new }
 {
     for y in 0..height {
@@ -34,7 +34,7 @@ fn analyse_rows(wavelet: u8, values: &mut [i128], width: usize, height: usize)
     requires wavelet { wavelet ≤ 6 }
     requires len { length values.old ≡ width * height }
     requires even { width % 2 ≡ 0 }
-    requires small { All (λ v. unsigned_abs v ≤ 2 ^ 108) values.old }
+    requires magnitudes_at_most_2_108 { All (λ v. unsigned_abs v ≤ 2 ^ 108) values.old }
     ensures { RowsBecome (analyse wavelet) width height values.old values.new }
 {
     for y in 0..height {
@@ -92,10 +92,10 @@ fn begin_level(wavelet: u8, values: &mut [i128])
 fn synth_values(wavelet: u8, values: &mut [i128], width: usize, height: usize)
     requires wavelet { wavelet ≤ 6 }
     requires len { length values.old ≡ width * height }
-    requires some { 1 ≤ width }
+    requires at_least_1 { 1 ≤ width }
     requires across { width % 2 ≡ 0 }
     requires down { height % 2 ≡ 0 }
-    requires small { All (λ v. unsigned_abs v ≤ 2 ^ 103) values.old }
+    requires magnitudes_at_most_2_103 { All (λ v. unsigned_abs v ≤ 2 ^ 103) values.old }
     ensures value { values.new ≡ (synthesised wavelet (by_rows width height values.old)).values }
     ensures growth { (b : ℕ) → All (λ v. unsigned_abs v ≤ b) values.old → All (λ v. unsigned_abs v ≤ 72 * b + 40) values.new }
 {
@@ -107,10 +107,10 @@ fn synth_values(wavelet: u8, values: &mut [i128], width: usize, height: usize)
 fn analyse_values(wavelet: u8, values: &mut [i128], width: usize, height: usize)
     requires wavelet { wavelet ≤ 6 }
     requires len { length values.old ≡ width * height }
-    requires some { 1 ≤ width }
+    requires at_least_1 { 1 ≤ width }
     requires across { width % 2 ≡ 0 }
     requires down { height % 2 ≡ 0 }
-    requires small { All (λ v. unsigned_abs v ≤ 2 ^ 103) values.old }
+    requires magnitudes_at_most_2_103 { All (λ v. unsigned_abs v ≤ 2 ^ 103) values.old }
     ensures value { values.new ≡ (analysed wavelet (by_rows width height values.old)).values }
     ensures growth { (b : ℕ) → All (λ v. unsigned_abs v ≤ b) values.old → All (λ v. unsigned_abs v ≤ 128 * b + 32) values.new }
     ensures undone { (synthesised wavelet (by_rows width height values.new)).values ≡ values.old }
@@ -127,7 +127,7 @@ pub fn synth_level(wavelet: u8, plane: &mut Wide)
     requires wavelet { wavelet ≤ 6 }
     requires across { plane.old.width % 2 ≡ 0 }
     requires down { plane.old.height % 2 ≡ 0 }
-    requires small { All (λ v. unsigned_abs v ≤ 2 ^ 103) plane.old.values }
+    requires magnitudes_at_most_2_103 { All (λ v. unsigned_abs v ≤ 2 ^ 103) plane.old.values }
     ensures value { plane.new ≡ synthesised wavelet plane.old }
     ensures growth { (b : ℕ) → All (λ v. unsigned_abs v ≤ b) plane.old.values → All (λ v. unsigned_abs v ≤ 72 * b + 40) plane.new.values }
 {
@@ -142,7 +142,7 @@ pub fn analyse_level(wavelet: u8, plane: &mut Wide)
     requires wavelet { wavelet ≤ 6 }
     requires across { plane.old.width % 2 ≡ 0 }
     requires down { plane.old.height % 2 ≡ 0 }
-    requires small { All (λ v. unsigned_abs v ≤ 2 ^ 103) plane.old.values }
+    requires magnitudes_at_most_2_103 { All (λ v. unsigned_abs v ≤ 2 ^ 103) plane.old.values }
     ensures value { plane.new ≡ analysed wavelet plane.old }
     ensures growth { (b : ℕ) → All (λ v. unsigned_abs v ≤ b) plane.old.values → All (λ v. unsigned_abs v ≤ 128 * b + 32) plane.new.values }
     ensures undone { synthesised wavelet plane.new ≡ plane.old }

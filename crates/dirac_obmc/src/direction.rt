@@ -28,8 +28,8 @@ fn ratio(part: Part, ratio: u32) -> u32
 /// How many luma samples a sample of the plane stands for across.
 pub fn across_ratio(motion: &Motion<'_>) -> u32
     ensures value { result ≡ Rattle.dirac_obmc.specs.Compensation.across_ratio (given motion.now) }
-    ensures some { 1 ≤ result }
-    ensures most { result ≤ 2 }
+    ensures at_least_1 { 1 ≤ result }
+    ensures at_most_2 { result ≤ 2 }
 {
     ratio(motion.part, ratio_across(motion.chroma))
 }
@@ -37,8 +37,8 @@ pub fn across_ratio(motion: &Motion<'_>) -> u32
 /// How many luma samples a sample of the plane stands for down.
 pub fn down_ratio(motion: &Motion<'_>) -> u32
     ensures value { result ≡ Rattle.dirac_obmc.specs.Compensation.down_ratio (given motion.now) }
-    ensures some { 1 ≤ result }
-    ensures most { result ≤ 2 }
+    ensures at_least_1 { 1 ≤ result }
+    ensures at_most_2 { result ≤ 2 }
 {
     ratio(motion.part, ratio_down(motion.chroma))
 }

@@ -54,12 +54,12 @@ fn rows_between(
     first: u32,
     end: u32,
 ) -> Result<Predicted, NoMemory>
-    requires some { first < end }
+    requires not_empty { first < end }
     requires inside { end ≤ motion.now.height }
     requires motion { IsMotion (given motion.now) }
     ensures value { IfOk result (λ t. t ≡ predicted_rows (given motion.now) first end) }
     ensures each { IfOk result (λ t. (x y : ℕ) → x < motion.now.width → y < end - first → table_at t x y ≡ predicted_at (given motion.now) x (first + y)) }
-    ensures small { IfOk result (λ t. All (λ v. unsigned_abs v ≤ 2 ^ 15) t.values) }
+    ensures magnitudes_at_most_2_15 { IfOk result (λ t. All (λ v. unsigned_abs v ≤ 2 ^ 15) t.values) }
 {
     lawful(motion);
     let blocks = across(motion);
@@ -97,12 +97,12 @@ pub fn predict_rows(
     first: u32,
     end: u32,
 ) -> Result<Predicted, NoMemory>
-    requires some { first < end }
+    requires not_empty { first < end }
     requires inside { end ≤ motion.now.height }
     requires motion { IsPredictable (given motion.now) }
     ensures value { IfOk result (λ t. t ≡ predicted_rows (given motion.now) first end) }
     ensures each { IfOk result (λ t. (x y : ℕ) → x < motion.now.width → y < end - first → table_at t x y ≡ predicted_at (given motion.now) x (first + y)) }
-    ensures small { IfOk result (λ t. All (λ v. unsigned_abs v ≤ 2 ^ 15) t.values) }
+    ensures magnitudes_at_most_2_15 { IfOk result (λ t. All (λ v. unsigned_abs v ≤ 2 ^ 15) t.values) }
 {
     bounded(motion);
     rows_between(alloc, motion, first, end)
@@ -113,7 +113,7 @@ pub fn predict_plane(alloc: Global, motion: &Motion<'_>) -> Result<Predicted, No
     requires motion { IsPredictable (given motion.now) }
     ensures value { IfOk result (λ t. t ≡ predicted_plane (given motion.now)) }
     ensures each { IfOk result (λ t. (x y : ℕ) → x < motion.now.width → y < motion.now.height → table_at t x y ≡ predicted_at (given motion.now) x y) }
-    ensures small { IfOk result (λ t. All (λ v. unsigned_abs v ≤ 2 ^ 15) t.values) }
+    ensures magnitudes_at_most_2_15 { IfOk result (λ t. All (λ v. unsigned_abs v ≤ 2 ^ 15) t.values) }
 {
     bounded(motion);
     predict_rows(alloc, motion, 0, motion.height)

@@ -40,7 +40,7 @@ fn add_block(
     requires below { j < blocks_down (given motion.now) }
     requires inside { y < motion.now.height }
     requires down { down ≡ Rattle.dirac_obmc.specs.Weights.share j (blocks_down (given motion.now)) (y_length (given motion.now)) (y_separation (given motion.now)) y }
-    requires small { down ≤ 8 }
+    requires at_most_8 { down ≤ 8 }
     requires lens { (length first.old ≡ x_length (given motion.now)) × (length second.old ≡ x_length (given motion.now)) × (length values.old ≡ x_length (given motion.now)) }
     requires len { length sums.old ≡ motion.now.width }
     requires sums { All (λ v. unsigned_abs v ≤ 2 ^ 22) sums.old }
@@ -85,7 +85,7 @@ fn add_blocks(
     requires below { j < blocks_down (given motion.now) }
     requires inside { y < motion.now.height }
     requires down { down ≡ Rattle.dirac_obmc.specs.Weights.share j (blocks_down (given motion.now)) (y_length (given motion.now)) (y_separation (given motion.now)) y }
-    requires small { down ≤ 8 }
+    requires at_most_8 { down ≤ 8 }
     requires lens { (length first.old ≡ x_length (given motion.now)) × (length second.old ≡ x_length (given motion.now)) × (length values.old ≡ x_length (given motion.now)) }
     requires len { length sums.old ≡ motion.now.width }
     requires sums { All (λ v. unsigned_abs v ≤ 2 ^ 21) sums.old }
@@ -141,7 +141,7 @@ fn add_rows(
     requires len { length sums.old ≡ motion.now.width }
     requires sums { (x : ℕ) → slice_index_or sums.old x (pos 0) ≡ pos 0 }
     ensures value { (x : ℕ) → x < motion.now.width → slice_index_or sums.new x (pos 0) ≡ blended (given motion.now) x y }
-    ensures small { All (λ v. unsigned_abs v ≤ 2 ^ 21) sums.new }
+    ensures magnitudes_at_most_2_21 { All (λ v. unsigned_abs v ≤ 2 ^ 21) sums.new }
 {
     for j in first_row(rows, y)..end_row(rows, y) {
         let down = share(rows, j, y);

@@ -10,7 +10,7 @@ fn weighted(weight: u8, down: u8, value: i32) -> i32
     requires down { down ≤ 8 }
     requires value { unsigned_abs value ≤ 2 ^ 15 }
     ensures value { result ≡ pos (weight * down) *ℤ value }
-    ensures small { unsigned_abs result ≤ 2 ^ 21 }
+    ensures at_most_2_21 { unsigned_abs result ≤ 2 ^ 21 }
 {
     i32::from(weight * down) * value
 }
@@ -66,7 +66,7 @@ pub fn clear_sums(sums: &mut [i32])
 fn divided(sum: i32) -> i32
     requires { unsigned_abs sum ≤ 2 ^ 21 }
     ensures value { result ≡ int_shr (sum +ℤ pos 32) 6 }
-    ensures small { unsigned_abs result ≤ 2 ^ 15 }
+    ensures at_most_2_15 { unsigned_abs result ≤ 2 ^ 15 }
 {
     (sum + 32) >> 6
 }

@@ -21,7 +21,7 @@ fn in_parts(precision: u8, place: u32) -> i64
     requires precision { precision ≤ 3 }
     requires place { place ≤ 8192 }
     ensures value { result ≡ pos (2 ^ precision * place) }
-    ensures small { unsigned_abs result ≤ 2 ^ 16 }
+    ensures at_most_2_16 { unsigned_abs result ≤ 2 ^ 16 }
 {
     let place = i64::from(place);
     match precision {
@@ -37,7 +37,7 @@ fn divided(vector: i32, ratio: u32) -> i64
     requires vector { IsShort vector }
     requires ratio { (1 ≤ ratio) × (ratio ≤ 2) }
     ensures value { result ≡ int_div_euclid vector (pos ratio) }
-    ensures small { unsigned_abs result ≤ 2 ^ 15 }
+    ensures at_most_2_15 { unsigned_abs result ≤ 2 ^ 15 }
 {
     let vector = i64::from(vector);
     if ratio == 1 {
@@ -54,7 +54,7 @@ fn position(precision: u8, ratio: u32, place: u32, vector: i32) -> i64
     requires place { place ≤ 8192 }
     requires vector { IsShort vector }
     ensures value { result ≡ Rattle.dirac_obmc.specs.Compensation.position precision ratio place vector }
-    ensures small { unsigned_abs result ≤ 2 ^ 17 }
+    ensures at_most_2_17 { unsigned_abs result ≤ 2 ^ 17 }
 {
     in_parts(precision, place) + divided(vector, ratio)
 }
@@ -65,7 +65,7 @@ fn moved_row(motion: &Motion<'_>, up: &UpPlane, vector: Vector, x: u32, y: u32, 
     requires vector { IsShortVector vector }
     requires x { x ≤ 4096 }
     requires y { y ≤ 4096 }
-    requires few { length out.old ≤ 64 }
+    requires at_most_64 { length out.old ≤ 64 }
     ensures value { (k : ℕ) → k < length out.old → slice_index_or out.new k (pos 0) ≡ moved_sample (given motion.now) up.now vector (x + k) y }
     ensures samples { All IsSample out.new }
 {
@@ -81,7 +81,7 @@ fn second_row(motion: &Motion<'_>, vector: Vector, x: u32, y: u32, out: &mut [i1
     requires vector { IsShortVector vector }
     requires x { x ≤ 4096 }
     requires y { y ≤ 4096 }
-    requires few { length out.old ≤ 64 }
+    requires at_most_64 { length out.old ≤ 64 }
     ensures value { (k : ℕ) → k < length out.old → slice_index_or out.new k (pos 0) ≡ second_sample (given motion.now) (given motion.now).up2 vector (x + k) y }
     ensures samples { All IsSample out.new }
 {
@@ -106,7 +106,7 @@ fn rounded(sum: i32, bits: u8) -> i32
     requires sum { unsigned_abs sum ≤ 65280 }
     requires bits { (1 ≤ bits) × (bits ≤ 8) }
     ensures value { result ≡ Rattle.dirac_upconvert.specs.SubSamples.rounded bits sum }
-    ensures small { unsigned_abs result ≤ 2 ^ 15 }
+    ensures at_most_2_15 { unsigned_abs result ≤ 2 ^ 15 }
 {
     let half = (1i32 << u32::from(bits)) >> 1;
     (sum + half) >> u32::from(bits)
@@ -118,7 +118,7 @@ fn times(sample: i16, weight: i32) -> i32
     requires sample { IsSample sample }
     requires weight { unsigned_abs weight ≤ 510 }
     ensures value { result ≡ sample *ℤ weight }
-    ensures small { unsigned_abs result ≤ 128 * unsigned_abs weight }
+    ensures at_most_128 { unsigned_abs result ≤ 128 * unsigned_abs weight }
 {
     i32::from(sample) * weight
 }
@@ -139,7 +139,7 @@ fn sum(a: i32, b: i32) -> i32
     requires a { unsigned_abs a ≤ 32640 }
     requires b { unsigned_abs b ≤ 32640 }
     ensures value { result ≡ a +ℤ b }
-    ensures small { unsigned_abs result ≤ 65280 }
+    ensures at_most_65280 { unsigned_abs result ≤ 65280 }
 {
     a + b
 }
@@ -160,7 +160,7 @@ fn weighted_both(first: i16, weight1: i32, second: i16, weight2: i32, bits: u8) 
 fn weight_of_one(p: &Prediction) -> i32
     requires weights { (unsigned_abs p.now.weight1 ≤ 255) × (unsigned_abs p.now.weight2 ≤ 255) }
     ensures value { result ≡ p.now.weight1 +ℤ p.now.weight2 }
-    ensures small { unsigned_abs result ≤ 510 }
+    ensures at_most_510 { unsigned_abs result ≤ 510 }
 {
     p.weight1 + p.weight2
 }
@@ -241,7 +241,7 @@ pub fn block_values(
     requires block { IsBlock motion.now.blocks.now.refs block.now }
     requires x { x ≤ 4096 }
     requires y { y ≤ 4096 }
-    requires few { length out.old ≤ 64 }
+    requires at_most_64 { length out.old ≤ 64 }
     requires lens { (length first.old ≡ length out.old) × (length second.old ≡ length out.old) }
     ensures { (k : ℕ) → k < length out.old → slice_index_or out.new k (pos 0) ≡ predicts (given motion.now) block.now (x + k) y }
 {

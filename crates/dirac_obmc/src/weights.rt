@@ -15,7 +15,7 @@ pub fn weight(block: u32, count: u32, length: u32, separation: u32, t: u32) -> u
     requires block { block < count }
     requires place { t < length }
     ensures value { result ≡ weight_at block count length separation t }
-    ensures small { result ≤ 8 }
+    ensures at_most_8 { result ≤ 8 }
 {
     let margin = (length - separation) / 2;
     if block == 0 && 2 * t < length {
@@ -38,7 +38,7 @@ fn ramp(margin: u32, t: u32) -> u32
     requires margin { margin ≤ 16 }
     requires place { t < 2 * margin }
     ensures value { result ≡ Rattle.dirac_obmc.specs.Weights.ramp margin t }
-    ensures small { result ≤ 8 }
+    ensures at_most_8 { result ≤ 8 }
 {
     if margin == 1 {
         return if t == 0 { 3 } else { 5 };
@@ -54,7 +54,7 @@ pub fn share(blocks: Direction, block: u32, place: u32) -> u8
     requires count { blocks.count ≤ 4096 }
     requires place { place ≤ 4096 }
     ensures value { result ≡ Rattle.dirac_obmc.specs.Weights.share block blocks.count blocks.length blocks.separation place }
-    ensures small { result ≤ 8 }
+    ensures at_most_8 { result ≤ 8 }
 {
     let place = place + (blocks.length - blocks.separation) / 2;
     let begin = block * blocks.separation;
@@ -76,7 +76,7 @@ fn weight_in_list(blocks: Direction, place: u32) -> u8
     requires sizes { IsOverlap blocks.length blocks.separation }
     requires place { place < blocks.count * blocks.length }
     ensures value { result ≡ weight_at (place / blocks.length) blocks.count blocks.length blocks.separation (place % blocks.length) }
-    ensures small { result ≤ 8 }
+    ensures at_most_8 { result ≤ 8 }
 {
     weight(
         place / blocks.length,

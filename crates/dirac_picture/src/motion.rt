@@ -16,13 +16,13 @@ use std::alloc::Global;
 
 /// How many superblocks cover so many luma samples, each four block separations long.
 pub fn superblocks_over(size: u32, separation: u32) -> u32
-    requires some { 1 ≤ size }
-    requires few { size ≤ 4096 }
+    requires at_least_1 { 1 ≤ size }
+    requires at_most_4096 { size ≤ 4096 }
     requires separation { 1 ≤ separation }
     requires short { separation ≤ 64 }
     ensures value { result ≡ grammar.superblocks_over size separation }
-    ensures some { 1 ≤ result }
-    ensures few { result ≤ 1024 }
+    ensures at_least_1_result { 1 ≤ result }
+    ensures at_most_1024 { result ≤ 1024 }
 {
     (size + 4 * separation - 1) / (4 * separation)
 }
@@ -39,7 +39,7 @@ fn read_prediction_fields(
     requires inter { grammar.is_intra code ≡ false }
     requires sequence { IsSequence sequence.now }
     ensures value { ReadsOrStops result r.new (read (grammar.prediction_fields code sequence.now) r.old) }
-    ensures early { IfErr result (IsEarly (length r.old.bytes)) }
+    ensures place_inside { IfErr result (IsEarly (length r.old.bytes)) }
     ensures kept { r.new.bytes ≡ r.old.bytes }
     ensures fits { IfOk result (IsMotion code sequence.now) }
 {
@@ -61,7 +61,7 @@ pub fn read_motion(
     requires code { IsTrue (grammar.is_picture code) }
     requires sequence { IsSequence sequence.now }
     ensures value { ReadsOrStops result r.new (read (grammar.motion code sequence.now) r.old) }
-    ensures early { IfErr result (IsEarly (length r.old.bytes)) }
+    ensures place_inside { IfErr result (IsEarly (length r.old.bytes)) }
     ensures kept { r.new.bytes ≡ r.old.bytes }
     ensures fits { IfOk result (HasMotion code sequence.now) }
 {

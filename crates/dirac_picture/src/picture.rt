@@ -35,8 +35,8 @@ pub fn read_picture(
     // What is answered is spelled by the payload's first bits.
     ensures spelled { IfOk result (λ p. StartsWith (grammar.picture code sequence.now refs.now) p payload.now) }
     // What its first bits spell is answered.
-    ensures only { (p : ThePicture) → StartsWith (grammar.picture code sequence.now refs.now) p payload.now → GivesOrStops result (Ok p) }
-    ensures early { IfErr result (IsEarly (length payload.now)) }
+    ensures no_other_reading { (p : ThePicture) → StartsWith (grammar.picture code sequence.now refs.now) p payload.now → GivesOrStops result (Ok p) }
+    ensures place_inside { IfErr result (IsEarly (length payload.now)) }
     ensures fits { IfOk result (FitsSequence code sequence.now) }
     // Each reference that its header names is listed.
     ensures listed { IfOk result (λ p. IsTrue (grammar.are_listed refs.now p.header)) }
@@ -57,7 +57,7 @@ fn read_fields(
     requires code { IsTrue (grammar.is_picture code) }
     requires sequence { IsSequence sequence.now }
     ensures value { ReadsOrStops result r.new (read (grammar.picture code sequence.now refs.now) r.old) }
-    ensures early { IfErr result (IsEarly (length r.old.bytes)) }
+    ensures place_inside { IfErr result (IsEarly (length r.old.bytes)) }
     ensures fits { IfOk result (FitsSequence code sequence.now) }
     ensures listed { IfOk result (λ p. IsTrue (grammar.are_listed refs.now p.header)) }
 {
@@ -94,7 +94,7 @@ fn read_body(
     requires sequence { IsSequence sequence.now }
     requires header { NamesReferences code header }
     ensures value { ReadsOrStops result r.new (read (grammar.body code sequence.now header) r.old) }
-    ensures early { IfErr result (IsEarly (length r.old.bytes)) }
+    ensures place_inside { IfErr result (IsEarly (length r.old.bytes)) }
     ensures kept { r.new.bytes ≡ r.old.bytes }
     ensures fits { IfOk result (FitsSequence code sequence.now) }
     ensures header { IfOk result (λ p. p.header ≡ header) }
@@ -115,7 +115,7 @@ fn read_body(
 #[tactic(auto, unfolding(crate::specs::Grammar::zero_residual))]
 fn read_zero_residual(r: &mut BitReader<'_>, code: u8) -> Result<bool, Refusal>
     ensures value { Reads (λ b. b) result r.new (read (grammar.zero_residual code) r.old) }
-    ensures early { IfErr result (λ e. e.at ≤ length r.old.bytes) }
+    ensures place_inside { IfErr result (λ e. e.at ≤ length r.old.bytes) }
     ensures kept { r.new.bytes ≡ r.old.bytes }
     ensures inter { IfOk result (λ zero. zero ≡ true → grammar.is_intra code ≡ false) }
 {
@@ -137,7 +137,7 @@ fn read_residual_unless(
     requires inter { zero ≡ true → grammar.is_intra code ≡ false }
     requires sequence { IsSequence sequence.now }
     ensures value { ReadsOrStops result r.new (read (grammar.residual_unless zero sequence.now) r.old) }
-    ensures early { IfErr result (IsEarly (length r.old.bytes)) }
+    ensures place_inside { IfErr result (IsEarly (length r.old.bytes)) }
     ensures kept { r.new.bytes ≡ r.old.bytes }
     ensures fits { IfOk result (HasResidual code sequence.now) }
 {
@@ -157,7 +157,7 @@ fn read_residual(
 ) -> Result<CodedResidual, Stop>
     requires sequence { IsSequence sequence.now }
     ensures value { ReadsOrStops result r.new (read (grammar.residual sequence.now) r.old) }
-    ensures early { IfErr result (IsEarly (length r.old.bytes)) }
+    ensures place_inside { IfErr result (IsEarly (length r.old.bytes)) }
     ensures kept { r.new.bytes ≡ r.old.bytes }
     ensures fits { IfOk result (IsResidual sequence.now) }
 {
@@ -178,7 +178,7 @@ fn read_planes(
     requires luma { IsPlaneSize sequence.now.width (picture_height sequence.now) }
     requires chroma { IsPlaneSize (chroma_width sequence.now) (chroma_height sequence.now) }
     ensures value { ReadsOrStops result r.new (read (grammar.planes sequence.now transform) r.old) }
-    ensures early { IfErr result (IsEarly (length r.old.bytes)) }
+    ensures place_inside { IfErr result (IsEarly (length r.old.bytes)) }
     ensures kept { r.new.bytes ≡ r.old.bytes }
     ensures fits { IfOk result (IsResidual sequence.now) }
 {

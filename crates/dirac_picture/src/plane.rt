@@ -40,10 +40,10 @@ fn read_next(
 ) -> Result<CodedBand, Stop>
     requires layout { IsLayout transform.now }
     requires size { IsPlaneSize width height }
-    requires room { length bands.now ≤ 3 * transform.now.depth }
+    requires a_place_left { length bands.now ≤ 3 * transform.now.depth }
     requires before { AreBands transform.now width height bands.now }
     ensures value { ReadsOrStops result r.new (read (band (places.spot_of transform.now width height (length bands.now)) (places.parent_values bands.now)) r.old) }
-    ensures early { IfErr result (IsEarly (length r.old.bytes)) }
+    ensures place_inside { IfErr result (IsEarly (length r.old.bytes)) }
     ensures kept { r.new.bytes ≡ r.old.bytes }
     ensures lawful { IfOk result (IsCodedBand (places.spot_of transform.now width height (length bands.now))) }
 {
@@ -63,7 +63,7 @@ pub(crate) fn read_plane_bands(
     requires layout { IsLayout transform.now }
     requires size { IsPlaneSize width height }
     ensures value { ReadsOrStops result r.new (read (grammar.plane_bands transform.now width height) r.old) }
-    ensures early { IfErr result (IsEarly (length r.old.bytes)) }
+    ensures place_inside { IfErr result (IsEarly (length r.old.bytes)) }
     ensures kept { r.new.bytes ≡ r.old.bytes }
     ensures lawful { IfOk result (AreBandsOf transform.now width height) }
 {

@@ -10,7 +10,7 @@ use std::alloc::Global;
 fn pair_sum(a: i16, b: i16) -> i32
     ensures value { result ≡ a +ℤ b }
     ensures least { negsuc 65535 ≤ℤ result }
-    ensures most { result ≤ℤ pos 65534 }
+    ensures at_most_65534 { result ≤ℤ pos 65534 }
 {
     i32::from(a) + i32::from(b)
 }
@@ -22,7 +22,7 @@ fn sum_to_round(first: i32, second: i32) -> i32
     requires second { (negsuc 65535 ≤ℤ second) × (second ≤ℤ pos 65534) }
     ensures value { result ≡ (first +ℤ second) +ℤ pos 2 }
     ensures least { negsuc 131071 ≤ℤ result }
-    ensures most { result ≤ℤ pos 131070 }
+    ensures at_most_131070 { result ≤ℤ pos 131070 }
 {
     first + second + 2
 }
@@ -30,10 +30,10 @@ fn sum_to_round(first: i32, second: i32) -> i32
 #[inline(always)]
 fn quarter(sum: i32) -> i32
     requires least { negsuc 131071 ≤ℤ sum }
-    requires most { sum ≤ℤ pos 131070 }
+    requires at_most_131070 { sum ≤ℤ pos 131070 }
     ensures value { result ≡ int_shr sum 2 }
     ensures least { negsuc 32767 ≤ℤ result }
-    ensures most { result ≤ℤ pos 32767 }
+    ensures at_most_32767 { result ≤ℤ pos 32767 }
 {
     sum >> 2
 }
@@ -41,7 +41,7 @@ fn quarter(sum: i32) -> i32
 #[inline(always)]
 fn narrowed(value: i32) -> i16
     requires least { negsuc 32767 ≤ℤ value }
-    requires most { value ≤ℤ pos 32767 }
+    requires at_most_32767 { value ≤ℤ pos 32767 }
     ensures { result ≡ value }
 {
     value as i16

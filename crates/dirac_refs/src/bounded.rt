@@ -34,7 +34,7 @@ impl<T: Drop, const CAP: usize> Bounded<T, CAP> {
     /// The number of items.
     pub(crate) fn len(&self) -> usize
         ensures value { result ≡ length self.now }
-        ensures few { result ≤ CAP }
+        ensures within_capacity { result ≤ CAP }
     {
         self.places.len()
     }

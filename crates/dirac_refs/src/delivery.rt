@@ -51,7 +51,7 @@ impl Delivery {
     /// How many pictures wait.
     pub fn count(&self) -> u8
         ensures value { result ≡ length self.now }
-        ensures few { result ≤ MOST_WAITING }
+        ensures at_most_4_wait { result ≤ MOST_WAITING }
     {
         self.list.len() as u8
     }
@@ -61,8 +61,8 @@ impl Delivery {
     pub fn push(&mut self, key: i32, picture: Picture) -> Option<Picture>
         ensures waiting { self.new ≡ (delivered (self.old ++ record { key = key; picture = picture } ∷ [])).waiting }
         ensures gone { option_to_list result ≡ (delivered (self.old ++ record { key = key; picture = picture } ∷ [])).gone }
-        ensures some { IsSome result ↔ (length self.old ≡ MOST_WAITING) }
-        ensures few { length self.new ≤ MOST_WAITING }
+        ensures exactly_when_4_wait { IsSome result ↔ (length self.old ≡ MOST_WAITING) }
+        ensures at_most_4_wait { length self.new ≤ MOST_WAITING }
         ensures count { length self.new + length (option_to_list result) ≡ length self.old + 1 }
     {
         self.list.push(Waiting { key, picture });
@@ -76,8 +76,8 @@ impl Delivery {
     pub fn pop(&mut self) -> Option<Picture>
         ensures waiting { self.new ≡ others self.old }
         ensures gone { option_to_list result ≡ least self.old }
-        ensures some { IsSome result ↔ (0 < length self.old) }
-        ensures few { length self.new ≤ MOST_WAITING }
+        ensures exactly_when_one_waits { IsSome result ↔ (0 < length self.old) }
+        ensures at_most_4_wait { length self.new ≤ MOST_WAITING }
         ensures count { length self.new + length (option_to_list result) ≡ length self.old }
     {
         if self.list.len() == 0 {

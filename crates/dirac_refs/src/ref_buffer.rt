@@ -55,7 +55,7 @@ impl RefBuffer {
     #[tactic(auto, using(crate::proofs::Listed::few_without))]
     pub fn commit(&mut self, retire: Option<u32>, picture: Option<Picture>)
         ensures list { self.new ≡ committed self.old retire picture }
-        ensures few { length self.new ≤ MOST_REFERENCES }
+        ensures at_most_8_references { length self.new ≤ MOST_REFERENCES }
     {
         if let Some(number) = retire {
             leave(&mut self.list, number);
@@ -69,7 +69,7 @@ impl RefBuffer {
     /// How many pictures are listed.
     pub fn count(&self) -> u8
         ensures value { result ≡ length self.now }
-        ensures few { result ≤ MOST_REFERENCES }
+        ensures at_most_8_references { result ≤ MOST_REFERENCES }
     {
         self.list.len() as u8
     }
@@ -93,7 +93,7 @@ fn leave(list: &mut Bounded<Picture, MOST_REFERENCES>, number: u32)
 #[tactic(auto, using(crate::proofs::Listed::few_append))]
 fn append_last(list: &mut Bounded<Picture, MOST_REFERENCES>, picture: Picture)
     requires { length list.old ≤ MOST_REFERENCES }
-    ensures few { length list.new ≤ MOST_REFERENCES }
+    ensures at_most_8_references { length list.new ≤ MOST_REFERENCES }
     ensures longer { list.new ≡ append list.old picture }
 {
     if list.len() == MOST_REFERENCES {

@@ -27,7 +27,7 @@ fn even_row(low: &[i128], right: &[i64], index: u8, kind: Kind, line: &mut [i128
     requires right { length right.now ≡ length low.now }
     requires line { length line.old ≡ 2 * length low.now }
     requires index { index ≤ 99 }
-    requires small { All (λ v. unsigned_abs v < 2 ^ 39 - 1) right.now }
+    requires magnitudes_below_2_39 { All (λ v. unsigned_abs v < 2 ^ 39 - 1) right.now }
     ensures { line.new ≡ interleaved low.now (map (λ v. restored v index kind) right.now) }
 {
     copy_into(low, line);

@@ -18,7 +18,7 @@ fn lowest_band(alloc: Global, band: &CodedBand, kind: Kind) -> Result<Wide, NoMe
     requires index { band.now.index ≤ 99 }
     requires across { band.now.table.width ≤ 4096 }
     requires down { band.now.table.height ≤ 4096 }
-    requires small { All (λ v. unsigned_abs v < 2 ^ 39 - 1) band.now.table.values }
+    requires magnitudes_below_2_39 { All (λ v. unsigned_abs v < 2 ^ 39 - 1) band.now.table.values }
     ensures value { IfOk result (λ t. t ≡ summed kind (restored_band kind band.now)) }
     ensures bound { IfOk result (λ t. All (λ v. unsigned_abs v ≤ 2 ^ 77) t.values) }
 {
@@ -46,7 +46,7 @@ fn next_level(
     requires hl { IsBesides low.now hl.now }
     requires lh { IsBesides low.now lh.now }
     requires hh { IsBesides low.now hh.now }
-    requires small { All (λ v. unsigned_abs v ≤ 2 ^ 103) low.now.values }
+    requires magnitudes_at_most_2_103 { All (λ v. unsigned_abs v ≤ 2 ^ 103) low.now.values }
     ensures value { IfOk result (λ t. t ≡ level wavelet low.now (restored_band kind hl.now) (restored_band kind lh.now) (restored_band kind hh.now)) }
     ensures growth { IfOk result (λ t. (b : ℕ) → 2 ^ 64 ≤ b → All (λ v. unsigned_abs v ≤ b) low.now.values → All (λ v. unsigned_abs v ≤ 72 * b + 40) t.values) }
 {

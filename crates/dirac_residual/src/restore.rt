@@ -21,7 +21,7 @@ pub fn restore_into(
     requires line { length line.old ≡ length coded.now * step }
     requires first { first < step }
     requires index { index ≤ 99 }
-    requires small { All (λ v. unsigned_abs v < 2 ^ 39 - 1) coded.now }
+    requires magnitudes_below_2_39 { All (λ v. unsigned_abs v < 2 ^ 39 - 1) coded.now }
     ensures written { (n : ℕ) → n < length coded.now → slice_index_or line.new (n * step + first) (pos 0) ≡ restored (slice_index_or coded.now n (pos 0)) index kind }
     ensures others { (x : ℕ) → x % step ≢ first → slice_index_or line.new x (pos 0) ≡ slice_index_or line.old x (pos 0) }
 {
@@ -34,7 +34,7 @@ pub fn restore_into(
 fn restore_values(coded: &[i64], index: u8, kind: Kind, values: &mut [i128])
     requires len { length values.old ≡ length coded.now }
     requires index { index ≤ 99 }
-    requires small { All (λ v. unsigned_abs v < 2 ^ 39 - 1) coded.now }
+    requires magnitudes_below_2_39 { All (λ v. unsigned_abs v < 2 ^ 39 - 1) coded.now }
     ensures value { values.new ≡ map (λ v. restored v index kind) coded.now }
     ensures bound { All (λ v. unsigned_abs v < 2 ^ 64) values.new }
 {
@@ -46,7 +46,7 @@ pub fn restore_band(alloc: Global, band: &CodedBand, kind: Kind) -> Result<Wide,
     requires index { band.now.index ≤ 99 }
     requires across { band.now.table.width ≤ 8192 }
     requires down { band.now.table.height ≤ 8192 }
-    requires small { All (λ v. unsigned_abs v < 2 ^ 39 - 1) band.now.table.values }
+    requires magnitudes_below_2_39 { All (λ v. unsigned_abs v < 2 ^ 39 - 1) band.now.table.values }
     ensures value { IfOk result (λ t. t ≡ restored_band kind band.now) }
     ensures bound { IfOk result (λ t. All (λ v. unsigned_abs v < 2 ^ 64) t.values) }
 {

@@ -16,7 +16,7 @@ use dirac_types::{Cause, Refusal};
 pub fn read_samples(r: &mut BitReader<'_>, s: Sequence) -> Result<Sequence, Refusal>
     requires { IsSequence s }
     ensures value { Reads (λ s. s) result r.new (read (grammar.samples s) r.old) }
-    ensures early { IfErr result (λ e. e.at ≤ length r.old.bytes) }
+    ensures place_inside { IfErr result (λ e. e.at ≤ length r.old.bytes) }
     ensures kept { r.new.bytes ≡ r.old.bytes }
     ensures lawful { IfOk result (λ s. IsSequence s) }
 {
@@ -39,7 +39,7 @@ pub fn read_samples(r: &mut BitReader<'_>, s: Sequence) -> Result<Sequence, Refu
 #[tactic(auto, unfolding(crate::specs::Grammar::aspect), using(dirac_bits::specs::Then::read_then))]
 fn read_aspect(r: &mut BitReader<'_>, default: (u64, u64)) -> Result<(u64, u64), Refusal>
     ensures value { Reads (λ x. x) result r.new (read (grammar.aspect default) r.old) }
-    ensures early { IfErr result (λ e. e.at ≤ length r.old.bytes) }
+    ensures place_inside { IfErr result (λ e. e.at ≤ length r.old.bytes) }
     ensures kept { r.new.bytes ≡ r.old.bytes }
 {
     if !r.bit()? {
@@ -59,7 +59,7 @@ fn read_clean_area(
     default: (u64, u64, u64, u64),
 ) -> Result<(u64, u64, u64, u64), Refusal>
     ensures value { Reads (λ x. x) result r.new (read (grammar.clean_area default) r.old) }
-    ensures early { IfErr result (λ e. e.at ≤ length r.old.bytes) }
+    ensures place_inside { IfErr result (λ e. e.at ≤ length r.old.bytes) }
     ensures kept { r.new.bytes ≡ r.old.bytes }
 {
     if !r.bit()? {
@@ -75,7 +75,7 @@ fn read_clean_area(
 #[tactic(auto, unfolding(crate::specs::Grammar::signal), using(dirac_bits::specs::Then::read_then))]
 fn read_signal(r: &mut BitReader<'_>, default: SignalRange) -> Result<SignalRange, Refusal>
     ensures value { Reads (λ x. x) result r.new (read (grammar.signal default) r.old) }
-    ensures early { IfErr result (λ e. e.at ≤ length r.old.bytes) }
+    ensures place_inside { IfErr result (λ e. e.at ≤ length r.old.bytes) }
     ensures kept { r.new.bytes ≡ r.old.bytes }
 {
     let at = r.place();
@@ -100,7 +100,7 @@ fn is_depth_8(excursion: u64) -> bool
 #[tactic(auto, unfolding(crate::specs::Grammar::signal_range), using(dirac_bits::specs::Then::read_then))]
 fn read_signal_range(r: &mut BitReader<'_>, default: SignalRange) -> Result<SignalRange, Refusal>
     ensures value { Reads (λ x. x) result r.new (read (grammar.signal_range default) r.old) }
-    ensures early { IfErr result (λ e. e.at ≤ length r.old.bytes) }
+    ensures place_inside { IfErr result (λ e. e.at ≤ length r.old.bytes) }
     ensures kept { r.new.bytes ≡ r.old.bytes }
 {
     if !r.bit()? {
@@ -117,7 +117,7 @@ fn read_signal_range(r: &mut BitReader<'_>, default: SignalRange) -> Result<Sign
 #[tactic(auto, unfolding(crate::specs::Grammar::own_range), using(dirac_bits::specs::Then::read_then))]
 fn read_own_range(r: &mut BitReader<'_>) -> Result<SignalRange, Refusal>
     ensures value { Reads (λ x. x) result r.new (read grammar.own_range r.old) }
-    ensures early { IfErr result (λ e. e.at ≤ length r.old.bytes) }
+    ensures place_inside { IfErr result (λ e. e.at ≤ length r.old.bytes) }
     ensures kept { r.new.bytes ≡ r.old.bytes }
 {
     let luma = read_fraction(r)?;
@@ -128,7 +128,7 @@ fn read_own_range(r: &mut BitReader<'_>) -> Result<SignalRange, Refusal>
 #[tactic(auto, unfolding(crate::specs::Grammar::colours), using(dirac_bits::specs::Then::read_then))]
 pub fn read_colours(r: &mut BitReader<'_>) -> Result<(), Refusal>
     ensures value { Reads (λ x. x) result r.new (read grammar.colours r.old) }
-    ensures early { IfErr result (λ e. e.at ≤ length r.old.bytes) }
+    ensures place_inside { IfErr result (λ e. e.at ≤ length r.old.bytes) }
     ensures kept { r.new.bytes ≡ r.old.bytes }
 {
     if !r.bit()? {
@@ -146,7 +146,7 @@ pub fn read_colours(r: &mut BitReader<'_>) -> Result<(), Refusal>
 #[tactic(auto, unfolding(crate::specs::Grammar::colour_parts), using(dirac_bits::specs::Then::read_then))]
 fn read_colour_parts(r: &mut BitReader<'_>) -> Result<(), Refusal>
     ensures value { Reads (λ x. x) result r.new (read grammar.colour_parts r.old) }
-    ensures early { IfErr result (λ e. e.at ≤ length r.old.bytes) }
+    ensures place_inside { IfErr result (λ e. e.at ≤ length r.old.bytes) }
     ensures kept { r.new.bytes ≡ r.old.bytes }
 {
     read_colour_part(r)?;
@@ -157,7 +157,7 @@ fn read_colour_parts(r: &mut BitReader<'_>) -> Result<(), Refusal>
 #[tactic(auto, unfolding(crate::specs::Grammar::colour_part))]
 fn read_colour_part(r: &mut BitReader<'_>) -> Result<(), Refusal>
     ensures value { Reads (λ x. x) result r.new (read grammar.colour_part r.old) }
-    ensures early { IfErr result (λ e. e.at ≤ length r.old.bytes) }
+    ensures place_inside { IfErr result (λ e. e.at ≤ length r.old.bytes) }
     ensures kept { r.new.bytes ≡ r.old.bytes }
 {
     if r.bit()? {

@@ -16,7 +16,7 @@ use dirac_types::{Cause, Chroma, Refusal};
 pub fn read_frames(r: &mut BitReader<'_>, s: Sequence) -> Result<Sequence, Refusal>
     requires { IsSize s.width s.height }
     ensures value { Reads (λ s. s) result r.new (read (grammar.frames s) r.old) }
-    ensures early { IfErr result (λ e. e.at ≤ length r.old.bytes) }
+    ensures place_inside { IfErr result (λ e. e.at ≤ length r.old.bytes) }
     ensures kept { r.new.bytes ≡ r.old.bytes }
     ensures lawful { IfOk result (λ s. IsSequence s) }
 {
@@ -38,7 +38,7 @@ pub fn read_frames(r: &mut BitReader<'_>, s: Sequence) -> Result<Sequence, Refus
 fn read_size(r: &mut BitReader<'_>, default: (u32, u32)) -> Result<(u32, u32), Refusal>
     requires { IsSize default.0 default.1 }
     ensures value { Reads (λ x. x) result r.new (read (grammar.size default) r.old) }
-    ensures early { IfErr result (λ e. e.at ≤ length r.old.bytes) }
+    ensures place_inside { IfErr result (λ e. e.at ≤ length r.old.bytes) }
     ensures kept { r.new.bytes ≡ r.old.bytes }
     ensures size { IfOk result (λ x. IsSize x.0 x.1) }
 {
@@ -53,7 +53,7 @@ fn read_size(r: &mut BitReader<'_>, default: (u32, u32)) -> Result<(u32, u32), R
 #[tactic(auto, unfolding(crate::specs::Grammar::chroma), using(dirac_bits::specs::Then::read_then))]
 fn read_chroma(r: &mut BitReader<'_>, size: (u32, u32), default: Chroma) -> Result<Chroma, Refusal>
     ensures value { Reads (λ c. c) result r.new (read (grammar.chroma size default) r.old) }
-    ensures early { IfErr result (λ e. e.at ≤ length r.old.bytes) }
+    ensures place_inside { IfErr result (λ e. e.at ≤ length r.old.bytes) }
     ensures kept { r.new.bytes ≡ r.old.bytes }
     ensures whole_across { IfOk result (λ c. size.0 % ratios.ratio_across c ≡ 0) }
     ensures whole_down { IfOk result (λ c. size.1 % ratios.ratio_down c ≡ 0) }
@@ -73,7 +73,7 @@ fn read_chroma(r: &mut BitReader<'_>, size: (u32, u32), default: Chroma) -> Resu
 #[tactic(auto, unfolding(crate::specs::Grammar::own_chroma), using(dirac_bits::specs::Then::read_then))]
 fn read_own_chroma(r: &mut BitReader<'_>, default: Chroma) -> Result<Chroma, Refusal>
     ensures value { Reads (λ c. c) result r.new (read (grammar.own_chroma default) r.old) }
-    ensures early { IfErr result (λ e. e.at ≤ length r.old.bytes) }
+    ensures place_inside { IfErr result (λ e. e.at ≤ length r.old.bytes) }
     ensures kept { r.new.bytes ≡ r.old.bytes }
 {
     if !r.bit()? {
@@ -89,7 +89,7 @@ fn read_own_chroma(r: &mut BitReader<'_>, default: Chroma) -> Result<Chroma, Ref
 #[tactic(auto, unfolding(crate::specs::Grammar::sampling), using(dirac_bits::specs::Then::read_then))]
 fn read_sampling(r: &mut BitReader<'_>, default: bool) -> Result<bool, Refusal>
     ensures value { Reads (λ b. b) result r.new (read (grammar.sampling default) r.old) }
-    ensures early { IfErr result (λ e. e.at ≤ length r.old.bytes) }
+    ensures place_inside { IfErr result (λ e. e.at ≤ length r.old.bytes) }
     ensures kept { r.new.bytes ≡ r.old.bytes }
 {
     if !r.bit()? {
@@ -102,7 +102,7 @@ fn read_sampling(r: &mut BitReader<'_>, default: bool) -> Result<bool, Refusal>
 #[tactic(auto, unfolding(crate::specs::Grammar::rate), using(dirac_bits::specs::Then::read_then))]
 fn read_rate(r: &mut BitReader<'_>, default: (u64, u64)) -> Result<(u64, u64), Refusal>
     ensures value { Reads (λ x. x) result r.new (read (grammar.rate default) r.old) }
-    ensures early { IfErr result (λ e. e.at ≤ length r.old.bytes) }
+    ensures place_inside { IfErr result (λ e. e.at ≤ length r.old.bytes) }
     ensures kept { r.new.bytes ≡ r.old.bytes }
 {
     if !r.bit()? {
@@ -120,7 +120,7 @@ fn read_rate(r: &mut BitReader<'_>, default: (u64, u64)) -> Result<(u64, u64), R
 #[tactic(auto, unfolding(crate::specs::Grammar::fraction))]
 pub fn read_fraction(r: &mut BitReader<'_>) -> Result<(u64, u64), Refusal>
     ensures value { Reads (λ x. x) result r.new (read grammar.fraction r.old) }
-    ensures early { IfErr result (λ e. e.at ≤ length r.old.bytes) }
+    ensures place_inside { IfErr result (λ e. e.at ≤ length r.old.bytes) }
     ensures kept { r.new.bytes ≡ r.old.bytes }
 {
     let first = r.uint()?;

@@ -24,9 +24,9 @@ pub fn read_sequence(payload: &[u8]) -> Result<Sequence, Refusal>
     // What is answered is spelled by the payload's first bits.
     ensures spelled { IfOk result (λ s. StartsWith grammar.sequence s payload.now) }
     // What its first bits spell is answered.
-    ensures only { (s : TheSequence) → StartsWith grammar.sequence s payload.now → result ≡ Ok s }
+    ensures no_other_reading { (s : TheSequence) → StartsWith grammar.sequence s payload.now → result ≡ Ok s }
     ensures lawful { IfOk result (λ s. IsSequence s) }
-    ensures early { IfErr result (λ e. e.at ≤ length payload.now) }
+    ensures place_inside { IfErr result (λ e. e.at ≤ length payload.now) }
 {
     let mut r = BitReader::new(payload);
     read_fields(&mut r)
@@ -35,7 +35,7 @@ pub fn read_sequence(payload: &[u8]) -> Result<Sequence, Refusal>
 #[tactic(auto, unfolding(crate::specs::Grammar::sequence), using(dirac_bits::specs::Then::read_then))]
 fn read_fields(r: &mut BitReader<'_>) -> Result<Sequence, Refusal>
     ensures value { Reads (λ s. s) result r.new (read grammar.sequence r.old) }
-    ensures early { IfErr result (λ e. e.at ≤ length r.old.bytes) }
+    ensures place_inside { IfErr result (λ e. e.at ≤ length r.old.bytes) }
     ensures lawful { IfOk result (λ s. IsSequence s) }
 {
     let s = read_values(r)?;
@@ -47,7 +47,7 @@ fn read_fields(r: &mut BitReader<'_>) -> Result<Sequence, Refusal>
 #[tactic(auto, unfolding(crate::specs::Grammar::values), using(dirac_bits::specs::Then::read_then))]
 fn read_values(r: &mut BitReader<'_>) -> Result<Sequence, Refusal>
     ensures value { Reads (λ s. s) result r.new (read grammar.values r.old) }
-    ensures early { IfErr result (λ e. e.at ≤ length r.old.bytes) }
+    ensures place_inside { IfErr result (λ e. e.at ≤ length r.old.bytes) }
     ensures kept { r.new.bytes ≡ r.old.bytes }
     ensures lawful { IfOk result (λ s. IsSequence s) }
 {
@@ -59,7 +59,7 @@ fn read_values(r: &mut BitReader<'_>) -> Result<Sequence, Refusal>
 #[tactic(auto, unfolding(crate::specs::Grammar::base_format), using(dirac_bits::specs::Then::read_then))]
 fn read_base_format(r: &mut BitReader<'_>) -> Result<Sequence, Refusal>
     ensures value { Reads (λ s. s) result r.new (read grammar.base_format r.old) }
-    ensures early { IfErr result (λ e. e.at ≤ length r.old.bytes) }
+    ensures place_inside { IfErr result (λ e. e.at ≤ length r.old.bytes) }
     ensures kept { r.new.bytes ≡ r.old.bytes }
     ensures size { IfOk result (λ s. IsSize s.width s.height) }
 {

@@ -21,7 +21,7 @@ pub fn decode<S: Source, K: Sink, N: Sink>(
     ensures answer { IsDecodeAnswer result }
     ensures decoded { IfSome (S.held source.old) (λ bytes. IsDecoded bytes result
         (K.taken out.old) (K.taken out.new) (N.taken side.old) (N.taken side.new)) }
-    ensures few { IfSome (S.held source.old) (TellsFew result) }
+    ensures tells_at_most_8_references { IfSome (S.held source.old) (TellsFew result) }
     ensures whole { result ≡ Ended.Done → IsAtEnd (S.held source.new) }
     ensures read { result ≡ Ended.ReadFault → Rose (S.faults source.old) (S.faults source.new) }
     ensures write { result ≡ Ended.WriteFault → Rose (K.faults out.old) (K.faults out.new) }

@@ -55,7 +55,7 @@ impl<T: Element> Table<T> {
     pub fn width(&self) -> u32
         ensures value { result ≡ self.now.width }
         ensures whole { length self.now.values ≡ self.now.width * self.now.height }
-        ensures some { 1 ≤ result }
+        ensures at_least_1 { 1 ≤ result }
     {
         self.width
     }
@@ -64,7 +64,7 @@ impl<T: Element> Table<T> {
     pub fn height(&self) -> u32
         ensures value { result ≡ self.now.height }
         ensures whole { length self.now.values ≡ self.now.width * self.now.height }
-        ensures some { 1 ≤ result }
+        ensures at_least_1 { 1 ≤ result }
     {
         self.height
     }

@@ -73,7 +73,7 @@ fn is_lawful_offset(kind: UnitKind, next: u32) -> bool
 pub fn read_info(header: &[u8]) -> Result<ParseInfo, Refusal>
     requires { length header.now ≡ PARSE_INFO_LENGTH }
     ensures read { result ≡ info_read header.now }
-    ensures early { IfErr result (λ refusal. refusal.at ≤ 5) }
+    ensures place_inside { IfErr result (λ refusal. refusal.at ≤ 5) }
 {
     if !header.starts_with(&PREFIX) {
         return Err(Refusal {

@@ -60,7 +60,7 @@ impl Units {
         ensures stopped { result ≡ UnitStep.Stopped → self.old.met ≡ Met.Stopped }
         ensures read { result ≡ UnitStep.ReadFault → Rose (S.faults source.old) (S.faults source.new) }
         ensures count { S.faults source.old ≤ S.faults source.new }
-        ensures room { self.new.spot.at + length self.new.ahead + S.left source.new
+        ensures no_overflow { self.new.spot.at + length self.new.ahead + S.left source.new
             ≤ self.old.spot.at + length self.old.ahead + S.left source.old }
         ensures index { self.old.spot.index ≤ self.new.spot.index }
         ensures fits { self.new.spot.index < 2 ^ 64 }

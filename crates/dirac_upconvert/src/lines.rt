@@ -124,7 +124,7 @@ fn half_inside(line: &[i16], i: usize) -> i16
 
 /// Writes a line with its half samples between.
 pub fn double_line(line: &[i16], out: &mut [i16])
-    requires some { 1 ≤ length line.now }
+    requires not_empty { 1 ≤ length line.now }
     requires len { length out.old + 1 ≡ 2 * length line.now }
     requires samples { All IsSample line.now }
     ensures { (p : ℕ) → p < length out.old → slice_index_or out.new p (pos 0) ≡ doubled_at (λ k. slice_index_or line.now k (pos 0)) (length line.now - 1) p }

@@ -44,7 +44,7 @@ fn row_of_samples(plane: &Plane, y: u32) -> &[i16]
 /// The half samples between row `y` and the next; rows beyond the plane are its last ones.
 fn half_row(plane: &Plane, y: u32, line: &mut [i16])
     requires inside { y < plane.now.height }
-    requires small { plane.now.height ≤ 4096 }
+    requires at_most_4096 { plane.now.height ≤ 4096 }
     requires len { length line.old ≡ plane.now.width }
     requires samples { All IsSample plane.now.values }
     ensures value { (x : ℕ) → x < plane.now.width → slice_index_or line.new x (pos 0) ≡ half_behind (λ j. table_at plane.now x j) (plane.now.height - 1) y }
@@ -67,8 +67,8 @@ fn half_row(plane: &Plane, y: u32, line: &mut [i16])
 /// Row `y` of the upconverted plane; `line` is room for one row of half samples.
 fn double_row(plane: &Plane, y: u32, line: &mut [i16], out: &mut [i16])
     requires inside { y + 1 < 2 * plane.now.height }
-    requires some { 1 ≤ plane.now.width }
-    requires small { plane.now.height ≤ 4096 }
+    requires at_least_1 { 1 ≤ plane.now.width }
+    requires at_most_4096 { plane.now.height ≤ 4096 }
     requires line { length line.old ≡ plane.now.width }
     requires out { length out.old + 1 ≡ 2 * plane.now.width }
     requires samples { All IsSample plane.now.values }
@@ -144,7 +144,7 @@ impl UpPlane {
         requires precision { precision ≤ 3 }
         requires x { unsigned_abs x < 2 ^ 31 }
         requires y { unsigned_abs y < 2 ^ 32 }
-        requires few { length out.old ≤ 4096 }
+        requires at_most_4096 { length out.old ≤ 4096 }
         ensures value { (k : ℕ) → k < length out.old → slice_index_or out.new k (pos 0) ≡ sub_sample self.now precision (x +ℤ pos (2 ^ precision * k)) y }
         ensures samples { All IsSample out.new }
     {

@@ -13,7 +13,7 @@ pub fn predict_split(left: Option<u8>, above: Option<u8>, corner: Option<u8>) ->
     requires above { ForSome above (λ s. s ≤ 2) }
     requires corner { ForSome corner (λ s. s ≤ 2) }
     ensures value { result ≡ split_of left above corner }
-    ensures most { result ≤ 2 }
+    ensures at_most_2 { result ≤ 2 }
 {
     match (left, above, corner) {
         (None, None, _) => 0,

@@ -4,8 +4,8 @@ use Rattle.dirac_analysis.proofs.OneLevel.{sizes_even}
 use Rattle.dirac_analysis.proofs.Undone.{levels_are, lowest_are}
 use Rattle.dirac_analysis.proofs.levels.+code_levels.Goals as goal
 
-pub code_lowest-requires-clause-small : goal.code_lowest-requires-clause-small
-code_lowest-requires-clause-small t c = small_lowest (4 - c.args.depth) c.args.plane.values (omega arith) c.requires.small
+pub code_lowest-requires-clause-magnitudes_at_most_2_36 : goal.code_lowest-requires-clause-magnitudes_at_most_2_36
+code_lowest-requires-clause-magnitudes_at_most_2_36 t c = small_lowest (4 - c.args.depth) c.args.plane.values (omega arith) c.requires.magnitudes_bounded
 
 pub returns-then-depth-eq0 : goal.returns-then-depth-eq0
 returns-then-depth-eq0 t c =
@@ -17,13 +17,13 @@ split_level-requires-clause-across t c = ((sizes_even c.args.depth (c.args.depth
 pub split_level-requires-clause-down : goal.split_level-requires-clause-down
 split_level-requires-clause-down t c = ((sizes_even c.args.depth (c.args.depth - 1) c.args.plane (omega (arith, c.if-depth-eq0.false)) c.requires.whole).1, c.requires.down)
 
-pub split_level-requires-clause-small : goal.split_level-requires-clause-small
-split_level-requires-clause-small t c = small_above (4 - c.args.depth) c.args.plane.values (omega (arith, c.if-depth-eq0.false)) c.requires.small
+pub split_level-requires-clause-magnitudes_at_most_2_29 : goal.split_level-requires-clause-magnitudes_at_most_2_29
+split_level-requires-clause-magnitudes_at_most_2_29 t c = small_above (4 - c.args.depth) c.args.plane.values (omega (arith, c.if-depth-eq0.false)) c.requires.magnitudes_bounded
 
 pub code_levels-requires : goal.code_levels-requires
 code_levels-requires t c =
     let next : c.args.depth ≡ suc (c.args.depth - 1) = omega (arith, c.if-depth-eq0.false) in
-    let low = low_ready c.args.wavelet c.args.depth (c.args.depth - 1) c.args.plane c.in_ok-low.field-0.low c.requires.wavelet next c.requires.depth c.in_ok-low.ensures.low c.requires.across c.requires.down c.requires.whole c.requires.small in
+    let low = low_ready c.args.wavelet c.args.depth (c.args.depth - 1) c.args.plane c.in_ok-low.field-0.low c.requires.wavelet next c.requires.depth c.in_ok-low.ensures.low c.requires.across c.requires.down c.requires.whole c.requires.magnitudes_bounded in
     (omega (arith, c.decreases, next), (c.requires.wavelet, (c.requires.index, (omega (arith, c.requires.depth), low))))
 
 pub returns : goal.returns

@@ -26,6 +26,6 @@ returns c =
     let depth = c.args.depth in
     let across : c.padded-width.result ≡ padded_size plane.width depth = c.padded-width.ensures.value ∙ ap (λ n. padded_size n depth) c.width.ensures.value in
     let down : c.padded-height.result ≡ padded_size plane.height depth = c.padded-height.ensures.value ∙ ap (λ n. padded_size n depth) c.height.ensures.value in
-    let some : 0 < c.padded-width.result = omega (arith, c.padded-width.ensures.at_least, c.width.ensures.some) in
+    let some : 0 < c.padded-width.result = omega (arith, c.padded-width.ensures.at_least, c.width.ensures.at_least_1) in
     rows_all (λ x y. table_at plane (min x (plane.width - 1)) (min y (plane.height - 1))) c.loop-y.table (padded_size plane.width depth) (padded_size plane.height depth) c.loop-y.y
     (c.loop-y.invariant.across ∙ across) (c.loop-y.invariant.down ∙ down) (subst (λ n. 0 < n) across some) (subst (λ n. n ≤ c.loop-y.y) down c.loop-y-test.false) c.loop-y.invariant.rows

@@ -10,8 +10,8 @@ use Rattle.dirac_analysis.proofs.plane.analyse_plane.Goals as goal
 pub code_levels-requires-clause-whole : goal.code_levels-requires-clause-whole
 code_levels-requires-clause-whole c = rw c.in_ok-table.ensures (padded_divisible c.args.depth c.args.plane.now)
 
-pub code_levels-requires-clause-small : goal.code_levels-requires-clause-small
-code_levels-requires-clause-small c = rw c.in_ok-table.ensures (padded_small (4 - c.args.depth) c.args.depth c.args.plane.now c.requires.small)
+pub code_levels-requires-clause-magnitudes_bounded : goal.code_levels-requires-clause-magnitudes_bounded
+code_levels-requires-clause-magnitudes_bounded c = rw c.in_ok-table.ensures (padded_small (4 - c.args.depth) c.args.depth c.args.plane.now c.requires.magnitudes_bounded)
 
 pub returns-clause-fits : goal.returns-clause-fits
 returns-clause-fits c =
@@ -19,7 +19,7 @@ returns-clause-fits c =
     ok_weaker c.code_levels.result
     (λ b is.
     let value : b ≡ plane_bands a.kind a.wavelet a.depth a.index a.plane.now = is ∙ ap (λ (t : Table). coded_bands a.kind a.wavelet a.index t a.depth) c.in_ok-table.ensures in
-    rw value (planes_fit a.kind a.wavelet a.depth a.index a.plane.now c.requires.wavelet c.requires.depth.1 c.requires.index c.requires.small))
+    rw value (planes_fit a.kind a.wavelet a.depth a.index a.plane.now c.requires.wavelet c.requires.depth.1 c.requires.index c.requires.magnitudes_bounded))
     c.code_levels.ensures
 
 pub returns-clause-lossless : goal.returns-clause-lossless

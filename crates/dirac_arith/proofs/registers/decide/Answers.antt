@@ -33,7 +33,7 @@ returns c =
       wide = settled.wide;
       narrow = settled.narrow;
       next = refl;
-      few = omega arith;
-      most = omega arith;
+      few_doublings = omega arith;
+      no_more_ahead = omega arith;
       inside = settled.inside;
     }

@@ -7,8 +7,8 @@ returns-clause-least c =
     let found = doubles_by_zeros c.args.range (omega arith) (omega arith) in
     c.saturating_sub.ensures ∙ sym found.exact
 
-pub returns-clause-few : goal.returns-clause-few
-returns-clause-few c =
+pub returns-clause-at_most_9 : goal.returns-clause-at_most_9
+returns-clause-at_most_9 c =
     let found = doubles_by_zeros c.args.range (omega arith) (omega arith) in
     let few = found.few (omega arith) in
     omega (arith, c.saturating_sub.ensures)

@@ -14,8 +14,8 @@ pub returns-then-ends-clause-value : goal.returns-then-ends-clause-value
 returns-then-ends-clause-value c =
     sym c.digits.invariant.0 ∙ ends_number _ _ _ _ (rw c.if-ends.true at c.in_ok-ends.ensures.value)
 
-pub returns-then-ends-clause-small : goal.returns-then-ends-clause-small
-returns-then-ends-clause-small c =
+pub returns-then-ends-clause-below_2_39 : goal.returns-then-ends-clause-below_2_39
+returns-then-ends-clause-below_2_39 c =
     let last : c.digits.doublings + 1 ≤ 38 = omega arith in
     let most : 2 ^ (c.digits.doublings + 1) ≤ 2 ^ 38 = pow_mono last in
     omega arith

@@ -10,8 +10,8 @@ digits-init c =
     let same : c.args.value + 1 - 1 ≡ c.args.value = omega arith in
     (rw (same, last_bit) refl, omega arith, omega arith, refl, omega arith, omega arith)
 
-pub behind_digit-run-requires-clause-few : goal.behind_digit-run-requires-clause-few
-behind_digit-run-requires-clause-few c =
+pub behind_digit-run-requires-clause-at_most_75 : goal.behind_digit-run-requires-clause-at_most_75
+behind_digit-run-requires-clause-at_most_75 c =
     let room = some_room c.digits.rest (39 - c.digits.run.count / 2) (omega arith) c.digits.invariant.2 in
     omega arith
 

@@ -5,4 +5,4 @@ use Rattle.dirac_block_laws.proofs.laws.carried_tables_are_read.Goals as goal
 pub returns : goal.returns
 returns c =
     let law : CarriedIsRead = whole_is_read c.carried_lists_are_read.ensures.units c.carried_lists_are_read.ensures.splits in
-    record { read = law; one = one_is_carried law }
+    record { read = law; one_is_carried = one_is_carried law }

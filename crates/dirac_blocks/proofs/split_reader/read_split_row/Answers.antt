@@ -18,7 +18,7 @@ superblocks-preserved c =
       value =
           repeated_next (split_step c.args.sy) c.superblocks.n (progress c.args.table.now c.args.decoder.now) (progress c.superblocks.table c.superblocks.decoder) _ c.superblocks.invariant.value c.in-Ok.ensures.value;
       blocks = blocks_join c.args.table.now c.superblocks.table c.read_split.new.table c.superblocks.invariant.blocks c.read_split.ensures.blocks;
-      few = omega (arith, c.read_split.ensures.few);
+      few = omega (arith, c.read_split.ensures.few_doublings);
     }
 
 pub returns-in-Err-clause-value : goal.returns-in-Err-clause-value

@@ -18,7 +18,7 @@ rows-preserved c =
       value =
           repeated_next (λ sy. repeated (split_step sy) c.args.across) c.rows.n (progress c.args.table.now c.args.decoder.now) (progress c.rows.table c.rows.decoder) _ c.rows.invariant.value c.in-Ok.ensures.value;
       blocks = blocks_join c.args.table.now c.rows.table c.read_split_row.new.table c.rows.invariant.blocks c.read_split_row.ensures.blocks;
-      few = omega (arith, c.read_split_row.ensures.few);
+      few = omega (arith, c.read_split_row.ensures.few_doublings);
     }
 
 pub returns-in-Err-clause-value : goal.returns-in-Err-clause-value

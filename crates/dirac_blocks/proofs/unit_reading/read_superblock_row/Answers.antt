@@ -18,7 +18,7 @@ superblocks-preserved c =
       value =
           repeated_next (superblock_step c.args.part c.args.sy) c.superblocks.n (progress c.args.table.now c.args.decoder.now) (progress c.superblocks.table c.superblocks.decoder) _ c.superblocks.invariant.value c.in-Ok.ensures.value;
       shape = shape_join c.args.table.now c.superblocks.table c.read_superblock.new.table c.superblocks.invariant.shape c.read_superblock.ensures.shape;
-      few = omega (arith, c.read_superblock.ensures.few);
+      few = omega (arith, c.read_superblock.ensures.few_doublings);
     }
 
 pub returns-in-Err-clause-value : goal.returns-in-Err-clause-value

@@ -18,7 +18,7 @@ rows-preserved c =
       value =
           repeated_next (λ sy. repeated (superblock_step c.args.part sy) c.args.across) c.rows.n (progress c.args.table.now c.args.decoder.now) (progress c.rows.table c.rows.decoder) _ c.rows.invariant.value c.in-Ok.ensures.value;
       shape = shape_join c.args.table.now c.rows.table c.read_superblock_row.new.table c.rows.invariant.shape c.read_superblock_row.ensures.shape;
-      few = omega (arith, c.read_superblock_row.ensures.few);
+      few = omega (arith, c.read_superblock_row.ensures.few_doublings);
     }
 
 pub returns-in-Err-clause-value : goal.returns-in-Err-clause-value

@@ -18,7 +18,7 @@ units-preserved c =
       value =
           repeated_next (λ u. unit_step c.args.part c.args.size (c.args.i + u * c.args.size) c.args.j) c.units.n (progress c.args.table.now c.args.decoder.now) (progress c.units.table c.units.decoder) _ c.units.invariant.value c.in-Ok.ensures.value;
       shape = shape_join c.args.table.now c.units.table c.read_unit.new.table c.units.invariant.shape c.read_unit.ensures.shape;
-      few = omega (arith, c.read_unit.ensures.few);
+      few = omega (arith, c.read_unit.ensures.few_doublings);
     }
 
 pub returns-in-Err-clause-value : goal.returns-in-Err-clause-value

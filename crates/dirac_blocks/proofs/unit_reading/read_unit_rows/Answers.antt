@@ -18,7 +18,7 @@ rows-preserved c =
       value =
           repeated_next (λ v. unit_row_step c.args.part c.args.size c.args.i (c.args.j + v * c.args.size) c.args.across) c.rows.n (progress c.args.table.now c.args.decoder.now) (progress c.rows.table c.rows.decoder) _ c.rows.invariant.value c.in-Ok.ensures.value;
       shape = shape_join c.args.table.now c.rows.table c.read_unit_row.new.table c.rows.invariant.shape c.read_unit_row.ensures.shape;
-      few = omega (arith, c.read_unit_row.ensures.few);
+      few = omega (arith, c.read_unit_row.ensures.few_doublings);
     }
 
 pub returns-in-Err-clause-value : goal.returns-in-Err-clause-value

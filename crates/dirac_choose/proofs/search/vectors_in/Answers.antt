@@ -20,4 +20,4 @@ search_field-requires-after_bounds g c =
     let grid : IsGrid c.block_grid-grid.result = subst IsGrid (sym c.block_grid-grid.ensures.value) (grid_within c.from.result) in
     λ lives bound. search_accepted _ c.args.settings.now c.requires.settings
     (ap length c.requires.pyramid ∙ pyramid_length c.args.source.now.y c.args.settings.now.pyramid)
-    c.in_ok-other.ensures.number_of_levels grid.columns.1 grid.rows.1 c.superblocks_over.ensures.few c.superblocks_over-2.ensures.few
+    c.in_ok-other.ensures.number_of_levels grid.columns.1 grid.rows.1 c.superblocks_over.ensures.at_most_1024 c.superblocks_over-2.ensures.at_most_1024

@@ -22,8 +22,8 @@ returns-in-Ok-clause-value c =
       subst (λ (l : List ℤ). band_read spot parent block ≡ Ok l) (sym over) read,
     )
 
-pub returns-in-Ok-clause-small : goal.returns-in-Ok-clause-small
-returns-in-Ok-clause-small c =
+pub returns-in-Ok-clause-magnitudes_bounded : goal.returns-in-Ok-clause-magnitudes_bounded
+returns-in-Ok-clause-magnitudes_bounded c =
     let ws = c.read_all.new.values in
     let t = c.in_ok-table.table in
     (band_carried c.args.spot c.args.parent.now c.args.block.now (take (length t.values) (ws ++ drop (length ws) t.values)) c.requires (returns-in-Ok-clause-value c).1).1.small

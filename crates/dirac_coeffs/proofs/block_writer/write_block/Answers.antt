@@ -22,5 +22,5 @@ returns-clause-read_back c =
     let parent = c.args.parent.now in
     let xs = c.args.values.now in
     IfOk-weaker c.finish.result (λ block. block.items ≡ block_of spot parent xs) (λ block. band_read spot parent block.items ≡ Ok xs)
-    (λ block e. ap (λ (l : List ℕ). band_read spot parent l) e ∙ written_read spot parent xs c.requires.spot c.requires.len c.requires.small)
+    (λ block e. ap (λ (l : List ℕ). band_read spot parent l) e ∙ written_read spot parent xs c.requires.spot c.requires.len c.requires.magnitudes_bounded)
     (returns-clause-exact c)

@@ -17,7 +17,7 @@ down-preserved c =
       value =
           repeated_next (λ cy. blocks_step c.args.spot c.args.parent.now cy c.args.spot.across) c.down.cy (progress c.args.values.now c.args.decoder.now) (progress c.down.values c.down.decoder) _ c.down.invariant.value c.in-Ok.ensures.value;
       len = c.read_codeblocks.ensures.len ∙ c.down.invariant.len;
-      few = omega (arith, c.read_codeblocks.ensures.few, c.down.invariant.few);
+      few = omega (arith, c.read_codeblocks.ensures.few_doublings, c.down.invariant.few);
     }
 
 pub returns-in-Err-clause-value : goal.returns-in-Err-clause-value

@@ -18,7 +18,7 @@ values-preserved c =
       value =
           repeated_next (λ i. value_step (frame_of c.args.spot c.args.parent.now) (c.args.from + i) c.args.y) c.values.i (progress c.args.values.now c.args.decoder.now) (progress c.values.values c.values.decoder) _ c.values.invariant.value c.in-Ok.ensures.value;
       len = c.read_at.ensures.len ∙ c.values.invariant.len;
-      few = omega (arith, c.read_at.ensures.few);
+      few = omega (arith, c.read_at.ensures.few_doublings);
     }
 
 pub returns-in-Err-clause-value : goal.returns-in-Err-clause-value

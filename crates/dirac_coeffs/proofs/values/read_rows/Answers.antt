@@ -18,7 +18,7 @@ rows-preserved c =
       value =
           repeated_next (λ j. row_step (frame_of c.args.spot c.args.parent.now) (c.args.top + j) c.args.from c.args.count) c.rows.j (progress c.args.values.now c.args.decoder.now) (progress c.rows.values c.rows.decoder) _ c.rows.invariant.value c.in-Ok.ensures.value;
       len = c.read_row.ensures.len ∙ c.rows.invariant.len;
-      few = omega (arith, c.read_row.ensures.few);
+      few = omega (arith, c.read_row.ensures.few_doublings);
     }
 
 pub returns-in-Err-clause-value : goal.returns-in-Err-clause-value

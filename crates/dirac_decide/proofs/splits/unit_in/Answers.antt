@@ -16,7 +16,7 @@ pub returns-clause-unit : goal.returns-clause-unit
 returns-clause-unit c =
     let fits = unit_fits c.args.split c.args.k c.units_across-units.result c.unit_blocks-size.result c.requires.split c.requires.inside c.units_across-units.ensures.value c.unit_blocks-size.ensures.value in
     record {
-      size = (c.unit_blocks-size.ensures.some, c.unit_blocks-size.ensures.few);
+      size = (c.unit_blocks-size.ensures.at_least_1, c.unit_blocks-size.ensures.at_most_4);
       inside_across = omega (arith, fits.0);
       inside_down = omega (arith, fits.1);
     }

@@ -34,7 +34,7 @@ pictures-preserved g c = record {
       c.pictures.invariant.streamed c.in-Shown.ensures.gives (c.in-All.ensures.all refl);
   moving = λ e. c.pictures.invariant.moving (c.in-Shown.ensures.gives.2 e);
   whole = c.in-Shown.ensures.whole c.pictures.invariant.whole;
-  room = omega (arith, c.pictures.invariant.room, c.in-Shown.ensures.room);
+  room = omega (arith, c.pictures.invariant.room, c.in-Shown.ensures.no_overflow);
   reads = omega (arith, c.pictures.invariant.reads, c.in-Shown.ensures.count);
   writes = omega (arith, c.pictures.invariant.writes, c.in-All.ensures.count);
 }

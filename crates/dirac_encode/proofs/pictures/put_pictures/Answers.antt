@@ -66,7 +66,7 @@ returns-in-Err-put_last-clause-encoded g c =
     end_early c.plans_can_be_coded.ensures t first c.pictures.planner c.put_planned.new.planner (so_far c.pictures.coding) (so_far c.put_planned.new.coding) _ c.in-Err-put_last.fault
     (g.K.Sink.taken c.args.out.now) (g.K.Sink.taken c.pictures.out) (g.K.Sink.taken c.put_planned.new.out) (g.K.Sink.taken c.put_last.new.out)
     (g.N.Sink.taken c.args.side.now) (g.N.Sink.taken c.pictures.side) (g.N.Sink.taken c.put_planned.new.side) (g.N.Sink.taken c.put_last.new.side)
-    c.requires.accepted ends c.in_default.ensures.led (c.in_default.ensures.all_given refl) c.in_default.ensures.accepted c.in-Err-put_last.ensures.stopped c.in-Err-put_last.ensures.early
+    c.requires.accepted ends c.in_default.ensures.led (c.in_default.ensures.all_given refl) c.in_default.ensures.accepted c.in-Err-put_last.ensures.stopped c.in-Err-put_last.ensures.ends_early
 
 pub returns-in-Err-put_last-clause-recovered : goal.returns-in-Err-put_last-clause-recovered
 returns-in-Err-put_last-clause-recovered g c =
@@ -130,7 +130,7 @@ returns-in-Err-put_last-2-clause-encoded g c =
     end_early c.plans_can_be_coded.ensures t first c.pictures.planner c.put_planned-then-number-settings.new.planner (so_far c.pictures.coding) (so_far c.put_planned-then-number-settings.new.coding) _ c.in-Err-put_last-2.fault
     (g.K.Sink.taken c.args.out.now) (g.K.Sink.taken c.pictures.out) (g.K.Sink.taken c.put_planned-then-number-settings.new.out) (g.K.Sink.taken c.put_last-then-number-settings.new.out)
     (g.N.Sink.taken c.args.side.now) (g.N.Sink.taken c.pictures.side) (g.N.Sink.taken c.put_planned-then-number-settings.new.side) (g.N.Sink.taken c.put_last-then-number-settings.new.side)
-    c.requires.accepted ends c.in_default-put_planned.ensures.led (c.in_default-put_planned.ensures.all_given refl) c.in_default-put_planned.ensures.accepted c.in-Err-put_last-2.ensures.stopped c.in-Err-put_last-2.ensures.early
+    c.requires.accepted ends c.in_default-put_planned.ensures.led (c.in_default-put_planned.ensures.all_given refl) c.in_default-put_planned.ensures.accepted c.in-Err-put_last-2.ensures.stopped c.in-Err-put_last-2.ensures.ends_early
 
 pub returns-in-Err-put_last-2-clause-recovered : goal.returns-in-Err-put_last-2-clause-recovered
 returns-in-Err-put_last-2-clause-recovered g c =

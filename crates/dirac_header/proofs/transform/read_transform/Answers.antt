@@ -6,6 +6,6 @@ pub returns-clause-spelled : goal.returns-clause-spelled
 returns-clause-spelled c =
     reads_spelled (transform c.args.width c.args.height) c.args.r.now c.read_fields.new.r c.read_fields.result c.place-at.ensures.inside c.read_fields.ensures.value
 
-pub returns-clause-only : goal.returns-clause-only
-returns-clause-only c =
+pub returns-clause-no_other_reading : goal.returns-clause-no_other_reading
+returns-clause-no_other_reading c =
     spelled_reads (transform c.args.width c.args.height) c.args.r.now c.read_fields.new.r c.read_fields.result c.read_fields.ensures.value

@@ -3,7 +3,7 @@ use Rattle.dirac_lift.proofs.Runs.{analyse_safe, analyse_grows, run_there, parit
 use Rattle.dirac_lift.proofs.lines.analyse_line.Goals as goal
 
 pub run_analysis-requires-clause-safe : goal.run_analysis-requires-clause-safe
-run_analysis-requires-clause-safe c = analyse_safe c.args.wavelet c.args.line.now c.requires.wavelet c.requires.even c.requires.small
+run_analysis-requires-clause-safe c = analyse_safe c.args.wavelet c.args.line.now c.requires.wavelet c.requires.even c.requires.magnitudes_at_most_2_108
 
 pub returns-clause-value : goal.returns-clause-value
 unfolding analyse

@@ -3,7 +3,7 @@ use Rattle.dirac_lift.proofs.Runs.{synth_safe, synth_grows, run_back, parities_o
 use Rattle.dirac_lift.proofs.lines.synth_line.Goals as goal
 
 pub run_synthesis-requires-clause-safe : goal.run_synthesis-requires-clause-safe
-run_synthesis-requires-clause-safe c = synth_safe c.args.wavelet c.args.line.now c.requires.wavelet c.requires.even c.requires.small
+run_synthesis-requires-clause-safe c = synth_safe c.args.wavelet c.args.line.now c.requires.wavelet c.requires.even c.requires.magnitudes_at_most_2_108
 
 pub returns-clause-value : goal.returns-clause-value
 unfolding synth

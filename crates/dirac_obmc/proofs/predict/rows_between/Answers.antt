@@ -50,7 +50,7 @@ pub returns-clause-each : goal.returns-clause-each
 returns-clause-each c =
     λ x y l k. c.loop-y.invariant.rows.done x y (omega (arith, l, c.loop-y.invariant.across)) (omega (arith, k))
 
-pub returns-clause-small : goal.returns-clause-small
-returns-clause-small c =
+pub returns-clause-magnitudes_at_most_2_15 : goal.returns-clause-magnitudes_at_most_2_15
+returns-clause-magnitudes_at_most_2_15 c =
     rows_are_small (given c.args.motion.now) c.loop-y.predicted c.args.first c.args.end c.requires.motion c.lawful.ensures c.requires.inside
     (rows_all _ c.loop-y.predicted _ _ (c.loop-y.y - c.args.first) c.loop-y.invariant.across c.loop-y.invariant.down (omega (arith, c.requires.motion.some_across)) (omega arith) c.loop-y.invariant.rows)

@@ -33,7 +33,7 @@ returns-clause-value c =
     λ x l. added_alone _ _ x _ _ c.loop-j.invariant.sums l c.requires.sums
     ∙ sym (nothing_below (given c.args.motion.now) c.args.rows c.args.y c.loop-j.j _ x c.requires.rows c.end_row-j-end.ensures.behind (omega arith) c.loop-j.invariant.within)
 
-pub returns-clause-small : goal.returns-clause-small
-returns-clause-small c =
+pub returns-clause-magnitudes_at_most_2_21 : goal.returns-clause-magnitudes_at_most_2_21
+returns-clause-magnitudes_at_most_2_21 c =
     adds_bounded (λ x. total (λ j. total (term (given c.args.motion.now) x c.args.y j) (blocks_across (given c.args.motion.now))) c.loop-j.j) c.args.motion.now.width 0 (2 ^ 21) (2 ^ 21) _ _ c.loop-j.invariant.sums c.requires.len (noughts_small _ c.requires.sums)
     (λ x l. rows_small (given c.args.motion.now) x c.args.y c.loop-j.j c.requires.motion c.requires.sound l c.requires.inside c.loop-j.invariant.within) (omega arith)

@@ -13,8 +13,8 @@ returns-clause-value c =
     let small : unsigned_abs (pos (c.args.weight * c.args.down) *ℤ c.args.value) ≤ 2 ^ 21 = weighed_small (c.args.weight * c.args.down) c.args.value few c.requires.value in
     rw (weight, to_z-of_z w32 c.args.value c.ranges.value) (to_z-of_z w32 _ (fits_signed_from_abs w32 _ (omega (arith, small))))
 
-pub returns-clause-small : goal.returns-clause-small
-returns-clause-small c =
+pub returns-clause-at_most_2_21 : goal.returns-clause-at_most_2_21
+returns-clause-at_most_2_21 c =
     let few : c.args.weight * c.args.down ≤ 64 = omega (arith, mul-le c.args.weight c.args.down 8 8 c.requires.weight c.requires.down) in
     let weight : to_z w32 (of_z w32 c.from.result) ≡ pos (c.args.weight * c.args.down) =
     to_z-of_z w32 _ (record { sfits = c.from.type_inv }) ∙ c.from.ensures in

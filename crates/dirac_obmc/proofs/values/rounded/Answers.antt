@@ -5,7 +5,7 @@ pub returns-clause-value : goal.returns-clause-value
 returns-clause-value c =
     rw (c.from.ensures, c.from-2.ensures) (rounded_is c.args.sum c.args.bits c.requires.bits.1 c.requires.sum)
 
-pub returns-clause-small : goal.returns-clause-small
-returns-clause-small c =
+pub returns-clause-at_most_2_15 : goal.returns-clause-at_most_2_15
+returns-clause-at_most_2_15 c =
     rw (c.from.ensures, c.from-2.ensures, rounded_is c.args.sum c.args.bits c.requires.bits.1 c.requires.sum)
     (rounded_small c.args.sum c.args.bits c.requires.bits.0 c.requires.bits.1 c.requires.sum)

@@ -8,8 +8,8 @@ returns-clause-spelled c =
     (payload_given (picture c.args.code c.args.sequence.now c.args.refs.now) c.args.payload.now c.new-r.result c.read_fields.new.r c.read_fields.result
     c.new-r.ensures c.read_fields.ensures.value)
 
-pub returns-clause-only : goal.returns-clause-only
-returns-clause-only c =
+pub returns-clause-no_other_reading : goal.returns-clause-no_other_reading
+returns-clause-no_other_reading c =
     spelled_given (picture c.args.code c.args.sequence.now c.args.refs.now) c.args.payload.now c.read_fields.result
     (payload_given (picture c.args.code c.args.sequence.now c.args.refs.now) c.args.payload.now c.new-r.result c.read_fields.new.r c.read_fields.result
     c.new-r.ensures c.read_fields.ensures.value)

@@ -21,8 +21,8 @@ lowest_band-requires-clause-down c =
     let fits : IsBandOf c.args.depth c.args.width c.args.height 0 c.index-bands-0.result = c.requires.bands.each 0 c.index-bands-0.result got in
     omega (arith, fits.down, lowest_length c.args.height c.args.depth, quotient_bound c.args.height c.args.depth 0 c.requires.down.1 c.requires.depth.0 c.requires.depth.1)
 
-pub lowest_band-requires-clause-small : goal.lowest_band-requires-clause-small
-lowest_band-requires-clause-small c =
+pub lowest_band-requires-clause-magnitudes_below_2_39 : goal.lowest_band-requires-clause-magnitudes_below_2_39
+lowest_band-requires-clause-magnitudes_below_2_39 c =
     let got : slice_get c.args.bands.now 0 ≡ Some c.index-bands-0.result = got_band c.args.bands.now 0 c.index-bands-0.result (omega (arith, c.requires.bands.count)) c.index-bands-0.is in
     let fits : IsBandOf c.args.depth c.args.width c.args.height 0 c.index-bands-0.result = c.requires.bands.each 0 c.index-bands-0.result got in
     fits.small
@@ -50,8 +50,8 @@ pub next_level-requires-clause-down : goal.next_level-requires-clause-down
 next_level-requires-clause-down c =
     omega (arith, c.loop-n.invariant.down, quotient_bound c.args.height c.args.depth c.loop-n.n c.requires.down.1 c.loop-n-test.true c.requires.depth.1)
 
-pub next_level-requires-clause-small : goal.next_level-requires-clause-small
-next_level-requires-clause-small c =
+pub next_level-requires-clause-magnitudes_at_most_2_103 : goal.next_level-requires-clause-magnitudes_at_most_2_103
+next_level-requires-clause-magnitudes_at_most_2_103 c =
     all_weaker (2 ^ 77 * 73 ^ c.loop-n.n) (2 ^ 103) c.loop-n.low.values
     (entry_bound c.loop-n.n (omega (arith, c.loop-n-test.true, c.requires.depth.1))) c.loop-n.invariant.bound
 

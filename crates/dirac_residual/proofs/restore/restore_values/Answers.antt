@@ -13,5 +13,5 @@ returns c =
     ap (λ i. get_or c.restore_into.new.line i (pos 0)) place ∙ c.restore_into.ensures.written k l) (omega arith) in
     record {
       value = value;
-      bound = rw value (All-map (λ v. unsigned_abs v < 2 ^ 64) (λ v. restored v c.args.index c.args.kind) c.args.coded.now (λ k d l. restored_small (get_or c.args.coded.now k d) c.args.index c.args.kind (c.requires.small k d l) c.requires.index));
+      bound = rw value (All-map (λ v. unsigned_abs v < 2 ^ 64) (λ v. restored v c.args.index c.args.kind) c.args.coded.now (λ k d l. restored_small (get_or c.args.coded.now k d) c.args.index c.args.kind (c.requires.magnitudes_below_2_39 k d l) c.requires.index));
     }

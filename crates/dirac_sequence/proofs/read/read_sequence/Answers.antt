@@ -7,7 +7,7 @@ returns-clause-spelled c =
     given_spelled sequence c.args.payload.now c.read_fields.result
     (reads_given c.read_fields.result c.read_fields.new.r _ (rw c.new-r.ensures at c.read_fields.ensures.value))
 
-pub returns-clause-only : goal.returns-clause-only
-returns-clause-only c =
+pub returns-clause-no_other_reading : goal.returns-clause-no_other_reading
+returns-clause-no_other_reading c =
     spelled_given sequence c.args.payload.now c.read_fields.result
     (reads_given c.read_fields.result c.read_fields.new.r _ (rw c.new-r.ensures at c.read_fields.ensures.value))

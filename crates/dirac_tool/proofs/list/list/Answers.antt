@@ -48,7 +48,7 @@ units-preserved g c = (
   goes_on c.in-Unit.unit c.units.units c.next.new.self _ _ _ _ (g.K.Sink.taken c.units.out) _ c.units.invariant.0 c.in-Unit.ensures.unit
       (subst (Appends _ _) (c.as_bytes.ensures.value ∙ c.in-Ok.ensures) (c.in-All.ensures.all refl)),
   c.in-Unit.ensures.met,
-  omega (arith, c.in-Unit.ensures.room),
+  omega (arith, c.in-Unit.ensures.no_overflow),
   omega (arith, c.in-Unit.ensures.count),
   omega (arith, c.put_all.ensures.count),
 )

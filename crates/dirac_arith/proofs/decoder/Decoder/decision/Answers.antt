@@ -13,8 +13,8 @@ use Rattle.dirac_arith.proofs.Windows.{window_from_lies}
 use Rattle.dirac_arith.proofs.Decisions.{probabilities_set, moves, lies_moved}
 use Rattle.dirac_arith.proofs.decoder.Decoder.decision.Goals as goal
 
-pub returns-then-self-clause-one : goal.returns-then-self-clause-one
-returns-then-self-clause-one c =
+pub returns-then-self-clause-no_other_truth : goal.returns-then-self-clause-no_other_truth
+returns-then-self-clause-no_other_truth c =
     λ truth h.
     let a = c.self.inside in
     let sound = c.self.invariant in
@@ -41,11 +41,11 @@ invariant_of-self c =
       most_ahead = filled.most_ahead;
       refused = λ e. absurd (both_ways a.refused c.if-self.false e);
       inside = λ e. ((sound.inside e).0, rw filled.range (filled.inside _ decided.inside));
-      probabilities = probabilities_set a.contexts c.args.ctx c.adapt.result c.adapt.ensures.some c.adapt.ensures.most sound.probabilities;
+      probabilities = probabilities_set a.contexts c.args.ctx c.adapt.result c.adapt.ensures.at_least_254_result c.adapt.ensures.at_most_65281_result sound.probabilities;
     }
 
-pub returns-clause-moves : goal.returns-clause-moves
-returns-clause-moves c =
+pub returns-clause-narrows : goal.returns-clause-narrows
+returns-clause-narrows c =
     let a = c.self.inside in
     let decided = c.decide-decided.ensures in
     let filled = c.fill-self-inside.ensures in
@@ -58,8 +58,8 @@ returns-clause-moves c =
     let P : Reading → Type 0 = λ x. new ≡ record { block = x.block; at = narrowed x.at (c.args.ctx, truth) } in
     subst P c.self.view_is (moves a c.args.ctx truth r contexts stands (filled.range ∙ decided.range) after)
 
-pub returns-clause-lies : goal.returns-clause-lies
-returns-clause-lies c =
+pub returns-clause-lies_inside : goal.returns-clause-lies_inside
+returns-clause-lies_inside c =
     let a = c.self.inside in
     let decided = c.decide-decided.ensures in
     let filled = c.fill-self-inside.ensures in
@@ -72,14 +72,14 @@ returns-clause-lies c =
     let P : Reading → Type 0 = λ x. Lies x.block (narrowed x.at (c.args.ctx, truth)) in
     subst P c.self.view_is (lies_moved a c.args.ctx truth r contexts stands (filled.range ∙ decided.range) after inside)
 
-pub returns-clause-one : goal.returns-clause-one
-returns-clause-one c =
+pub returns-clause-no_other_truth : goal.returns-clause-no_other_truth
+returns-clause-no_other_truth c =
     λ truth h.
-    let lies = returns-clause-lies c in
+    let lies = returns-clause-lies_inside c in
     ap Ok (one_truth c.args.self.now.block c.args.self.now.at c.args.ctx c.decide-decided.result.truth truth lies h)
 
-pub returns-clause-few : goal.returns-clause-few
-returns-clause-few c =
+pub returns-clause-few_doublings : goal.returns-clause-few_doublings
+returns-clause-few_doublings c =
     let a = c.self.inside in
     let decided = c.decide-decided.ensures in
     let filled = c.fill-self-inside.ensures in
@@ -88,7 +88,7 @@ returns-clause-few c =
     let after = stands.bits in
     let is = doublings_is a.block.now c.fill-self-inside.result _ _ (filled.stands _ _ stands) in
     let P : Reading → Type 0 = λ x. doublings_of c.fill-self-inside.result ≤ x.at.doublings + 9 in
-    subst P c.self.view_is (omega (arith, is, decided.few, decided.next))
+    subst P c.self.view_is (omega (arith, is, decided.few_doublings, decided.next))
 
 pub returns-then-self-clause-read : goal.returns-then-self-clause-read
 returns-then-self-clause-read c =
@@ -100,5 +100,5 @@ returns-clause-read c =
     let truth = c.decide-decided.result.truth in
     let P : Reading → Type 0 = λ x. front x.block 16 ≢ 0xFFFF in
     let some = subst P c.self.view_is (c.self.invariant.inside c.if-self.false).0 in
-    decided_is c.args.ctx truth c.args.self.now some (returns-clause-lies c)
-    ∙ ap (λ (s : Reading). let y : Result (Bool × Reading) Cause = Ok (truth, s) in y) (sym (returns-clause-moves c))
+    decided_is c.args.ctx truth c.args.self.now some (returns-clause-lies_inside c)
+    ∙ ap (λ (s : Reading). let y : Result (Bool × Reading) Cause = Ok (truth, s) in y) (sym (returns-clause-narrows c))

@@ -17,7 +17,7 @@ returns-clause-number c =
     let S : Reading → Type 0 = λ x. front x.block 16 ≡ 0xFFFF → Lies x.block x.at → ⊥ in
     let closed = subst S c.self.view_is (shut a c.self.invariant) in
     number_read c.read_number.result c.args.self.now c.read_number.new.self c.args.follow.now c.args.bits v tame
-    (λ e. closed (taken.refused.0 e)) taken.found taken.most taken.long taken.only fits lies
+    (λ e. closed (taken.refused.0 e)) taken.found taken.below_2_39 taken.long taken.no_other_cause fits lies
 
 pub returns-clause-no_number : goal.returns-clause-no_number
 returns-clause-no_number c =
@@ -29,11 +29,11 @@ returns-clause-no_number c =
     let S : Reading → Type 0 = λ x. front x.block 16 ≡ 0xFFFF → Lies x.block x.at → ⊥ in
     let closed = subst S c.self.view_is (shut a c.self.invariant) in
     no_number_read c.read_number.result c.args.self.now c.read_number.new.self c.args.follow.now c.args.bits digits tame
-    (λ e. closed (taken.refused.0 e)) taken.found taken.only count lies
+    (λ e. closed (taken.refused.0 e)) taken.found taken.no_other_cause count lies
 
 pub returns-clause-read : goal.returns-clause-read
 returns-clause-read c =
     let taken = c.read_number.ensures in
     let T : Reading → Type 0 = λ x. IsTame x.at in
     let tame = subst T c.self.view_is (sound_tame c.self.inside (omega arith) c.self.invariant) in
-    number_gives c.read_number.result c.args.self.now c.read_number.new.self c.args.follow.now c.args.bits tame taken.found taken.most taken.long taken.refused taken.only
+    number_gives c.read_number.result c.args.self.now c.read_number.new.self c.args.follow.now c.args.bits tame taken.found taken.below_2_39 taken.long taken.refused taken.no_other_cause

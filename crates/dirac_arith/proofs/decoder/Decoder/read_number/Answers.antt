@@ -26,10 +26,10 @@ returns-then-last-clause-found c =
     let kept = c.digits.invariant in
     let taken = c.in_ok-last.ensures in
     reads_spelling c.args.self.now c.digits.self c.decision.new.self c.args.follow.now c.args.bits c.follow_context.result c.digits.i (c.digits.value - 1) c.in_ok-last.last
-    kept.reads kept.digits c.follow_context.ensures.exact c.if-last.true taken.moves taken.lies
+    kept.reads kept.digits c.follow_context.ensures.exact c.if-last.true taken.narrows taken.lies_inside
 
-pub returns-then-last-clause-most : goal.returns-then-last-clause-most
-returns-then-last-clause-most c =
+pub returns-then-last-clause-below_2_39 : goal.returns-then-last-clause-below_2_39
+returns-then-last-clause-below_2_39 c =
     let high = pow-le-pow_right {n = 2} (omega arith) {i = c.digits.i + 1} {j = 39} (omega arith) in
     omega (arith, c.digits.invariant.below)
 
@@ -47,11 +47,11 @@ digits-preserved c =
       reads =
           reads_digit c.args.self.now c.digits.self c.decision.new.self c.decision-in-digits.new.self c.args.follow.now c.args.bits c.follow_context.result
           c.digits.i c.digits.value c.from.result c.in_ok-last.last c.in_ok-digit.digit
-          kept.reads kept.digits c.follow_context.ensures.exact c.if-last.false taken.moves taken.lies digit.moves digit.lies bit kept.some fits;
+          kept.reads kept.digits c.follow_context.ensures.exact c.if-last.false taken.narrows taken.lies_inside digit.narrows digit.lies_inside bit kept.some fits;
       some = omega (arith, kept.some);
       below = omega (arith, kept.below, twice, bit, small);
       digits = digits_grow c.digits.value c.digits.i c.from.result c.in_ok-digit.digit kept.digits bit kept.some fits;
-      room = omega (arith, kept.room, taken.few, digit.few);
+      room = omega (arith, kept.room, taken.few_doublings, digit.few_doublings);
       alive = λ some e. let there = ap (λ (x : Reading). front x.block 16) kept.reads.moved ∙ e in let bad = taken.refused.1 there in cc;
     }
 
@@ -61,7 +61,7 @@ returns-then-end-clause-found c =
     let taken = c.in_ok-end.ensures in
     let count : length (digits_of (c.digits.value - 1)) ≡ 38 = kept.digits ∙ omega arith in
     reads_spelling c.args.self.now c.digits.self c.decision-2.new.self c.args.follow.now c.args.bits c.follow_context-2.result 38 (c.digits.value - 1) c.in_ok-end.end
-    kept.reads count c.follow_context-2.ensures.exact c.if-end.true taken.moves taken.lies
+    kept.reads count c.follow_context-2.ensures.exact c.if-end.true taken.narrows taken.lies_inside
 
 pub returns-clause-long : goal.returns-clause-long
 returns-clause-long c =
@@ -75,5 +75,5 @@ returns-clause-long c =
       count,
       subst P c.if-end.false
           (reads_spelt c.args.self.now c.digits.self c.decision-2.new.self c.args.follow.now c.args.bits c.follow_context-2.result 38 digits c.in_ok-end.end
-          kept.reads count c.follow_context-2.ensures.exact taken.moves taken.lies),
+          kept.reads count c.follow_context-2.ensures.exact taken.narrows taken.lies_inside),
     )

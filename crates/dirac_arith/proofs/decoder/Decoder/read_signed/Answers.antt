@@ -17,4 +17,4 @@ returns-clause-found c =
     let value : to_z w64 (of_z w64 c.with_sign.result) ≡ signed_value c.in_ok-magnitude.magnitude c.in_ok-negative.negative = to_z-of_z w64 c.with_sign.result (search rules) ∙ c.with_sign.ensures.value in
     subst P (sym value)
     (reads_signed c.args.self.now c.read_number.new.self c.decision.new.self c.args.follow.now c.args.bits c.args.sign c.in_ok-magnitude.magnitude c.in_ok-negative.negative
-    c.if-magnitude-eq0.false c.in_ok-magnitude.ensures.found taken.moves taken.lies)
+    c.if-magnitude-eq0.false c.in_ok-magnitude.ensures.found taken.narrows taken.lies_inside)

@@ -17,7 +17,7 @@ returns-clause-number c =
     let S : Reading → Type 0 = λ x. front x.block 16 ≡ 0xFFFF → Lies x.block x.at → ⊥ in
     let closed = subst S c.self.view_is (shut a c.self.invariant) in
     signed_read c.read_signed.result c.args.self.now c.read_signed.new.self c.args.follow.now c.args.bits c.args.sign v tame
-    (λ e. closed (taken.refused.0 e)) taken.found taken.most taken.long taken.only fits lies
+    (λ e. closed (taken.refused.0 e)) taken.found taken.below_2_39 taken.long taken.no_other_cause fits lies
 
 pub returns-clause-no_number : goal.returns-clause-no_number
 returns-clause-no_number c =
@@ -29,11 +29,11 @@ returns-clause-no_number c =
     let S : Reading → Type 0 = λ x. front x.block 16 ≡ 0xFFFF → Lies x.block x.at → ⊥ in
     let closed = subst S c.self.view_is (shut a c.self.invariant) in
     no_signed_read c.read_signed.result c.args.self.now c.read_signed.new.self c.args.follow.now c.args.bits c.args.sign digits tame
-    (λ e. closed (taken.refused.0 e)) taken.found taken.only count lies
+    (λ e. closed (taken.refused.0 e)) taken.found taken.no_other_cause count lies
 
 pub returns-clause-read : goal.returns-clause-read
 returns-clause-read c =
     let taken = c.read_signed.ensures in
     let T : Reading → Type 0 = λ x. IsTame x.at in
     let tame = subst T c.self.view_is (sound_tame c.self.inside (omega arith) c.self.invariant) in
-    signed_gives c.read_signed.result c.args.self.now c.read_signed.new.self c.args.follow.now c.args.bits c.args.sign tame taken.found taken.most taken.long taken.refused taken.only
+    signed_gives c.read_signed.result c.args.self.now c.read_signed.new.self c.args.follow.now c.args.bits c.args.sign tame taken.found taken.below_2_39 taken.long taken.refused taken.no_other_cause

@@ -46,6 +46,6 @@ invariant_of-self-2 c =
       narrow = parts.narrow;
       within = subst W (sym c.advance.ensures) (rw range_is (kept_within tail.value a.range tail.doublings result.lift part result.doublings parts.within (rw (settled.value, settled.doublings) sound.within)));
       register = subst R (sym c.advance.ensures) (rw range_is (kept_register tail.register a.range tail.pending result.lift part result.doublings parts.within register));
-      pending = subst N (sym c.advance.ensures) (omega (arith, settled.room, parts.few));
-      probabilities = probabilities_set a.contexts c.args.ctx c.adapt.result c.adapt.ensures.some c.adapt.ensures.most sound.probabilities;
+      pending = subst N (sym c.advance.ensures) (omega (arith, settled.at_most_38_bits, parts.few_doublings));
+      probabilities = probabilities_set a.contexts c.args.ctx c.adapt.result c.adapt.ensures.at_least_254_result c.adapt.ensures.at_most_65281_result sound.probabilities;
     }

@@ -23,15 +23,15 @@ returns-then-is_fresh c =
 pub overflow_sub-range : goal.overflow_sub-range
 overflow_sub-range c =
     let gap = c.gap-gap.result in
-    let top = one_shl (16 - gap) 32 (omega (arith, c.gap-gap.ensures.some)) in
-    let low = pow-le-pow_right {n = 2} (omega arith) {i = 16 - gap} {j = 14} (omega (arith, c.gap-gap.ensures.some)) in
+    let top = one_shl (16 - gap) 32 (omega (arith, c.gap-gap.ensures.at_least_2)) in
+    let low = pow-le-pow_right {n = 2} (omega arith) {i = 16 - gap} {j = 14} (omega (arith, c.gap-gap.ensures.at_least_2)) in
     omega (arith, c.self.invariant.wide)
 
 pub advance-requires-clause-amount : goal.advance-requires-clause-amount
 advance-requires-clause-amount c =
     let gap = c.gap-gap.result in
-    let top = one_shl (16 - gap) 32 (omega (arith, c.gap-gap.ensures.some)) in
-    let low = pow-le-pow_right {n = 2} (omega arith) {i = 16 - gap} {j = 14} (omega (arith, c.gap-gap.ensures.some)) in
+    let top = one_shl (16 - gap) 32 (omega (arith, c.gap-gap.ensures.at_least_2)) in
+    let low = pow-le-pow_right {n = 2} (omega arith) {i = 16 - gap} {j = 14} (omega (arith, c.gap-gap.ensures.at_least_2)) in
     let some = pow_pos (16 - gap) in
     let room = roomy c.write.new.self.register c.write.new.self.pending c.self.inside.range c.in_ok-write.ensures.register c.self.invariant.narrow in
     omega (arith, c.self.invariant.wide)
@@ -41,8 +41,8 @@ write-requires-2 c =
     let gap = c.gap-gap.result in
     let tail = c.write.new.self in
     let range = c.self.inside.range in
-    let top = one_shl (16 - gap) 32 (omega (arith, c.gap-gap.ensures.some)) in
-    let low = pow-le-pow_right {n = 2} (omega arith) {i = 16 - gap} {j = 14} (omega (arith, c.gap-gap.ensures.some)) in
+    let top = one_shl (16 - gap) 32 (omega (arith, c.gap-gap.ensures.at_least_2)) in
+    let low = pow-le-pow_right {n = 2} (omega arith) {i = 16 - gap} {j = 14} (omega (arith, c.gap-gap.ensures.at_least_2)) in
     let some = pow_pos (16 - gap) in
     let wide = c.self.invariant.wide in
     let written = c.in_ok-write.ensures in
@@ -63,10 +63,10 @@ returns c =
     let s = encoding a in
     let facts = c.gap-gap.ensures in
     let written = c.in_ok-write.ensures in
-    let top = one_shl (16 - gap) 32 (omega (arith, facts.some)) in
-    let low = pow-le-pow_right {n = 2} (omega arith) {i = 16 - gap} {j = 14} (omega (arith, facts.some)) in
+    let top = one_shl (16 - gap) 32 (omega (arith, facts.at_least_2)) in
+    let low = pow-le-pow_right {n = 2} (omega arith) {i = 16 - gap} {j = 14} (omega (arith, facts.at_least_2)) in
     let wide = c.self.invariant.wide in
-    let last = bytes_of_last s gap facts.some facts.most (rw written.doublings at facts.exact) (omega arith) in
+    let last = bytes_of_last s gap facts.at_least_2 facts.at_most_9 (rw written.doublings at facts.exact) (omega arith) in
     let begun : (interval_of ds).range ≡ 0xFFFF → (interval_of ds).doublings ≡ 0 → ⊥ = λ full none.
     let full_here : a.range ≡ 0xFFFF = ap (λ (s : Interval). s.range) view ∙ full in
     let none_here = written.doublings ∙ ap (λ (s : Interval). s.doublings) view ∙ none in

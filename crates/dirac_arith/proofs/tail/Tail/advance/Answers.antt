@@ -9,7 +9,7 @@ invariant_of-self c =
     let P : Waiting → Type 0 = λ x. x.register + c.args.amount < 2 ^ (17 + x.pending) in
     let R : Waiting → Type 0 = λ x. x.pending + c.args.count ≤ 47 in
     let below = subst P (sym c.self.view_is) c.requires.amount in
-    let room = subst R (sym c.self.view_is) c.requires.room in
+    let room = subst R (sym c.self.view_is) c.requires.at_most_47_bits in
     let moved = advances (bytes_from 0 a.bytes.items) a.register a.pending c.from.result c.args.count (rw c.from.ensures below) room in
     record { room = room; fits = rw moved.exact moved.fits }
 
@@ -19,7 +19,7 @@ returns c =
     let P : Waiting → Type 0 = λ x. x.register + c.args.amount < 2 ^ (17 + x.pending) in
     let R : Waiting → Type 0 = λ x. x.pending + c.args.count ≤ 47 in
     let below = subst P (sym c.self.view_is) c.requires.amount in
-    let room = subst R (sym c.self.view_is) c.requires.room in
+    let room = subst R (sym c.self.view_is) c.requires.at_most_47_bits in
     let moved = advances (bytes_from 0 a.bytes.items) a.register a.pending c.from.result c.args.count (rw c.from.ensures below) room in
     let new : Waiting = waiting (record { bytes = a.bytes; register = (a.register + c.from.result) * 2 ^ c.args.count % 18446744073709551616; pending = a.pending + c.args.count }) in
     let Q : Waiting → Type 0 = λ x.

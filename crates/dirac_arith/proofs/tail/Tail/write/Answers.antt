@@ -3,8 +3,8 @@ use Rattle.dirac_arith.specs.Tail.{Waiting, bytes_from}
 use Rattle.dirac_arith.proofs.Tails.{pow17, carry_room, writes}
 use Rattle.dirac_arith.proofs.tail.Tail.write.Goals as goal
 
-pub carried-self-inside-requires-clause-room : goal.carried-self-inside-requires-clause-room
-carried-self-inside-requires-clause-room c =
+pub carried-self-inside-requires-clause-no_overflow : goal.carried-self-inside-requires-clause-no_overflow
+carried-self-inside-requires-clause-no_overflow c =
     λ h.
     let a = c.self.inside in
     let P : Waiting → Type 0 = λ x. x.value < 0xFFFF * 2 ^ x.doublings in

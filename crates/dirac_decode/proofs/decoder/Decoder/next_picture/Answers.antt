@@ -22,13 +22,13 @@ returns-in-Some g c = record {
   );
   repeated = answers_shown c.args.self.now.met c.args.self.now.due c.in-Some.picture (flushed c.next_due.new.state.waiting) (λ e. c.in_default.not-Stopped (ap (λ d. d.met) c.self.view_is ∙ e))
       (λ ne. sym (ap (λ d. d.due) (c.units.invariant.still ne).1) ∙ c.in-Some.ensures.due);
-  still = λ ne. (c.units.invariant.still ne).0;
+  repeats_without_reading = λ ne. (c.units.invariant.still ne).0;
   whole = c.units.invariant.whole;
   read = λ e. cc;
   count = c.units.invariant.count;
   fits = omega (arith, c.units.invariant.few, c.units.invariant.fits, c.in-Some.ensures.fewer);
-  greatest = omega (arith, c.units.invariant.most, c.in-Some.ensures.most, most_of c.units.self-inside.draining c.next_due.new.state);
-  room = c.units.invariant.room;
+  greatest = omega (arith, c.units.invariant.most, c.in-Some.ensures.greatest_stays, most_of c.units.self-inside.draining c.next_due.new.state);
+  no_overflow = c.units.invariant.room;
 }
 
 pub units-preserved-in-On : goal.units-preserved-in-On
@@ -40,14 +40,14 @@ units-preserved-in-On g c =
           (g.S.Source.held c.args.source.now) (g.S.Source.held c.units.source) (g.S.Source.held c.advance_by_unit.new.source) []
           c.units.invariant.leads c.in-None.ensures.settles c.in-Going.is c.in-On.ensures.advances;
       given = c.units.invariant.given;
-      few = omega (arith, c.units.invariant.few, c.in-None.ensures.fewer, c.in-On.ensures.few);
+      few = omega (arith, c.units.invariant.few, c.in-None.ensures.fewer, c.in-On.ensures.no_more_than_units);
       fits = c.in-On.ensures.fits;
-      most = omega (arith, c.units.invariant.most, c.in-None.ensures.most, c.in-On.ensures.most);
+      most = omega (arith, c.units.invariant.most, c.in-None.ensures.greatest_stays, c.in-On.ensures.greatest_never_falls);
       going = λ e. c.in-On.ensures.goes_on.0;
       moving = c.units.invariant.moving;
       still = λ ne. absurd (ne before);
       whole = λ a e. cc;
-      room = omega (arith, c.units.invariant.room, c.in-On.ensures.room);
+      room = omega (arith, c.units.invariant.room, c.in-On.ensures.no_overflow_result);
       count = omega (arith, c.units.invariant.count, c.in-On.ensures.count);
     }
 
@@ -60,14 +60,14 @@ units-preserved-in-Drains g c =
           (g.S.Source.held c.args.source.now) (g.S.Source.held c.units.source) (g.S.Source.held c.advance_by_unit.new.source) []
           c.units.invariant.leads c.in-None.ensures.settles c.in-Going.is c.in-Drains.ensures.advances;
       given = c.units.invariant.given;
-      few = omega (arith, c.units.invariant.few, c.in-None.ensures.fewer, c.in-Drains.ensures.few);
+      few = omega (arith, c.units.invariant.few, c.in-None.ensures.fewer, c.in-Drains.ensures.no_more_than_units);
       fits = c.in-Drains.ensures.fits;
-      most = omega (arith, c.units.invariant.most, c.in-None.ensures.most, c.in-Drains.ensures.most);
+      most = omega (arith, c.units.invariant.most, c.in-None.ensures.greatest_stays, c.in-Drains.ensures.greatest_never_falls);
       going = λ e. c.in-Drains.ensures.goes_on.0;
       moving = c.units.invariant.moving;
       still = λ ne. absurd (ne before);
       whole = λ a e. cc;
-      room = omega (arith, c.units.invariant.room, c.in-Drains.ensures.room);
+      room = omega (arith, c.units.invariant.room, c.in-Drains.ensures.no_overflow_result);
       count = omega (arith, c.units.invariant.count, c.in-Drains.ensures.count);
     }
 
@@ -80,14 +80,14 @@ units-preserved-in-End g c =
           (g.S.Source.held c.args.source.now) (g.S.Source.held c.units.source) (g.S.Source.held c.advance_by_unit.new.source) []
           c.units.invariant.leads c.in-None.ensures.settles c.in-Going.is c.in-End.ensures.advances;
       given = c.units.invariant.given;
-      few = omega (arith, c.units.invariant.few, c.in-None.ensures.fewer, c.in-End.ensures.few);
+      few = omega (arith, c.units.invariant.few, c.in-None.ensures.fewer, c.in-End.ensures.no_more_than_units);
       fits = c.in-End.ensures.fits;
-      most = omega (arith, c.units.invariant.most, c.in-None.ensures.most, c.in-End.ensures.most);
+      most = omega (arith, c.units.invariant.most, c.in-None.ensures.greatest_stays, c.in-End.ensures.greatest_never_falls);
       going = λ e. cc;
       moving = λ e. cc;
       still = λ ne. absurd (ne before);
       whole = λ a e. c.advance_by_unit.ensures.whole c.in-End.is;
-      room = omega (arith, c.units.invariant.room, c.in-End.ensures.room);
+      room = omega (arith, c.units.invariant.room, c.in-End.ensures.no_overflow_result);
       count = omega (arith, c.units.invariant.count, c.in-End.ensures.count);
     }
 
@@ -100,14 +100,14 @@ units-preserved g c =
           (g.S.Source.held c.args.source.now) (g.S.Source.held c.units.source) (g.S.Source.held c.advance_by_unit.new.source) []
           c.units.invariant.leads c.in-None.ensures.settles c.in-Going.is c.in-Fault.ensures.advances;
       given = c.units.invariant.given;
-      few = omega (arith, c.units.invariant.few, c.in-None.ensures.fewer, c.in-Fault.ensures.few);
+      few = omega (arith, c.units.invariant.few, c.in-None.ensures.fewer, c.in-Fault.ensures.no_more_than_units);
       fits = c.in-Fault.ensures.fits;
-      most = omega (arith, c.units.invariant.most, c.in-None.ensures.most, c.in-Fault.ensures.most);
+      most = omega (arith, c.units.invariant.most, c.in-None.ensures.greatest_stays, c.in-Fault.ensures.greatest_never_falls);
       going = λ e. cc;
       moving = λ e. cc;
       still = λ ne. absurd (ne before);
       whole = λ a e. cc;
-      room = omega (arith, c.units.invariant.room, c.in-Fault.ensures.room);
+      room = omega (arith, c.units.invariant.room, c.in-Fault.ensures.no_overflow_result);
       count = omega (arith, c.units.invariant.count, c.in-Fault.ensures.count);
     }
 
@@ -124,11 +124,11 @@ returns-in-Shown g c =
         λ e. absurd (c.units.invariant.moving e),
       );
       repeated = answers_any c.args.self.now.met c.args.self.now.due _ before;
-      still = λ ne. absurd (ne before);
+      repeats_without_reading = λ ne. absurd (ne before);
       whole = λ a e. cc;
       read = λ e. cc;
       count = omega (arith, c.units.invariant.count, c.in-Shown.ensures.count);
-      fits = omega (arith, c.units.invariant.few, c.in-None.ensures.fewer, c.in-Shown.ensures.few, c.in-Shown.ensures.fits);
-      greatest = omega (arith, c.units.invariant.most, c.in-None.ensures.most, c.in-Shown.ensures.most);
-      room = omega (arith, c.units.invariant.room, c.in-Shown.ensures.room);
+      fits = omega (arith, c.units.invariant.few, c.in-None.ensures.fewer, c.in-Shown.ensures.no_more_than_units, c.in-Shown.ensures.fits);
+      greatest = omega (arith, c.units.invariant.most, c.in-None.ensures.greatest_stays, c.in-Shown.ensures.greatest_never_falls);
+      no_overflow = omega (arith, c.units.invariant.room, c.in-Shown.ensures.no_overflow_result);
     }

@@ -10,7 +10,7 @@ invariant_of-self c =
     let one : IsOfOpen c.self.inside.opened c.args.made.picture = subst (λ o. IsOfOpen o c.args.made.picture) (sym opened) c.requires.fits in (
       rw (c.commit.ensures.list, c.requires.reference)
           (open_still c.self.inside.opened c.self.inside.refs c.args.made.coded.header.retire c.args.made.coded.code c.args.made.picture c.self.invariant.0 one),
-      omega (arith, c.max-self-inside.ensures, c.count.ensures.few, c.self.invariant.1),
+      omega (arith, c.max-self-inside.ensures, c.count.ensures.at_most_8_references, c.self.invariant.1),
     )
 
 pub invariant_of-self-2 : goal.invariant_of-self-2
@@ -19,5 +19,5 @@ invariant_of-self-2 c =
     let one : IsOfOpen c.self.inside.opened c.args.made.picture = subst (λ o. IsOfOpen o c.args.made.picture) (sym opened) c.requires.fits in (
       rw (c.commit.ensures.list, c.requires.reference)
           (open_still c.self.inside.opened c.self.inside.refs c.args.made.coded.header.retire c.args.made.coded.code c.args.made.picture c.self.invariant.0 one),
-      omega (arith, c.max-self-inside.ensures, c.count.ensures.few, c.self.invariant.1),
+      omega (arith, c.max-self-inside.ensures, c.count.ensures.at_most_8_references, c.self.invariant.1),
     )
