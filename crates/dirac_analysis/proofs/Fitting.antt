@@ -17,7 +17,7 @@ use Rattle.dirac_bands.specs.DcSum.{IsDcSum}
 use Rattle.dirac_bands.specs.Interleaving.{band_of}
 use Rattle.dirac_bands.specs.Geometry.{padded_size}
 use Rattle.dirac_bands.proofs.Predictions.{DifferencesFrom, differences_bound}
-use Rattle.dirac_coeffs.specs.declared.spot.CodedBand.{CodedBand}
+use Rattle.dirac_coeffs.specs.declared.layout.CodedBand.{CodedBand}
 use Rattle.dirac_coeffs.specs.Written.{is_zero_band}
 use Rattle.dirac_lift.specs.Level.{analysed}
 use Rattle.dirac_analysis.specs.Analysis.{coded, coded_bands, coded_lowest, differences, padded, reduced_values}

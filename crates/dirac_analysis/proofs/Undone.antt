@@ -14,7 +14,7 @@ use Rattle.dirac_bands.specs.Interleaving.{band_of}
 use Rattle.dirac_bands.specs.Geometry.{padded_size}
 use Rattle.dirac_bands.proofs.Predictions.{is_sums, sums_determined}
 use Rattle.dirac_bands.proofs.Undoing.{table_is}
-use Rattle.dirac_coeffs.specs.declared.spot.CodedBand.{CodedBand}
+use Rattle.dirac_coeffs.specs.declared.layout.CodedBand.{CodedBand}
 use Rattle.dirac_coeffs.specs.Written.{is_zero_band}
 use Rattle.dirac_lift.specs.Level.{analysed, level}
 use Rattle.dirac_residual.specs.Residual.{after_levels, cut, restored_among, restored_band, summed}
@@ -43,15 +43,15 @@ values_again : (kind : Kind) (xs : List ℤ) → map (λ v. restored v 0 kind) (
 values_again kind [] = refl
 values_again kind (x ∷ xs) = ap₂ (λ (y : ℤ) (ys : List ℤ). y ∷ ys) (value_again kind x) (values_again kind xs)
 
-nought : (b : Bool) → let index : ℕ = if b then 0 else 0 in index ≡ 0
-nought true = refl
-nought false = refl
+zero_index : (b : Bool) → let index : ℕ = if b then 0 else 0 in index ≡ 0
+zero_index true = refl
+zero_index false = refl
 
 -- a band coded at index 0
 band_again : (kind : Kind) (t : Table) → restored_band kind (coded 0 t) ≡ t
 band_again kind t =
     let told : ℕ → List ℤ → Table = λ index xs. record { width = t.width; height = t.height; values = map (λ v. restored v index kind) xs } in
-    ap (λ index. told index (reduced_values 0 t)) (nought (is_zero_band (reduced_values 0 t)))
+    ap (λ index. told index (reduced_values 0 t)) (zero_index (is_zero_band (reduced_values 0 t)))
     ∙ ap (λ xs. record { width = t.width; height = t.height; values = xs }) (values_again kind t.values)
 
 -- ---- the LL band

@@ -7,7 +7,7 @@ use Rattle.dirac_quant.specs.Quantiser.{reduced}
 use Rattle.dirac_bands.specs.DcSum.{prediction}
 use Rattle.dirac_bands.specs.Geometry.{padded_size}
 use Rattle.dirac_bands.specs.Interleaving.{band_of}
-use Rattle.dirac_coeffs.specs.declared.spot.CodedBand.{CodedBand}
+use Rattle.dirac_coeffs.specs.declared.layout.CodedBand.{CodedBand}
 use Rattle.dirac_coeffs.specs.Written.{is_zero_band}
 use Rattle.dirac_lift.specs.Level.{analysed}
 

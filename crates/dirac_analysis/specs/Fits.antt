@@ -4,7 +4,7 @@ use Rattle.std.specs.List.{All}
 use Rattle.dirac_types.specs.Table.{Table}
 use Rattle.dirac_types.specs.Samples.{clip}
 pub use Rattle.dirac_bands.specs.Geometry.{lowest_size}
-use Rattle.dirac_coeffs.specs.declared.spot.CodedBand.{CodedBand}
+use Rattle.dirac_coeffs.specs.declared.layout.CodedBand.{CodedBand}
 use Rattle.dirac_coeffs.specs.Written.{is_zero_band}
 
 -- samples are from -128 to 127: clipping keeps them

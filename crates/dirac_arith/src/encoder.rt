@@ -36,7 +36,7 @@ impl Model for Encoder {
 
 /// The part of a range that a decision keeps, after its doublings.
 #[derive(Clone, Copy)]
-struct Part {
+struct SubInterval {
     /// What comes to the low end before the doublings.
     lift: u32,
     doublings: u32,
@@ -44,7 +44,7 @@ struct Part {
 }
 
 /// The part that a decision of this truth keeps.
-fn part_after(range: u32, probability: u16, truth: bool) -> Part
+fn sub_interval_after(range: u32, probability: u16, truth: bool) -> SubInterval
     requires wide { 0x4000 < range }
     requires narrow { range ≤ 0xFFFF }
     requires some_probability { 254 ≤ probability }
@@ -61,14 +61,14 @@ fn part_after(range: u32, probability: u16, truth: bool) -> Part
     let split = range * u32::from(probability) / 65536;
     if truth {
         let count = doublings(range - split);
-        return Part {
+        return SubInterval {
             lift: split,
             doublings: count,
             range: (range - split) << count,
         };
     }
     let count = doublings(split);
-    Part {
+    SubInterval {
         lift: 0,
         doublings: count,
         range: split << count,
@@ -104,7 +104,7 @@ impl Encoder {
         self.tail.settle()?;
         let at = ctx as usize;
         let probability = self.contexts[at];
-        let part = part_after(self.range, probability, truth);
+        let part = sub_interval_after(self.range, probability, truth);
         self.tail.advance(part.lift, part.doublings);
         self.range = part.range;
         self.contexts[at] = adapt(probability, truth);

@@ -5,7 +5,7 @@ pub mod Then
 pub mod Spelling
 pub mod Answers
 pub mod Laws
-pub mod Spots
+pub mod BitPlaces
 pub mod Writing
 pub use Rattle.dirac_types.specs.Bits
 pub use Rattle.dirac_types.specs.Numbers

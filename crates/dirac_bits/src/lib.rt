@@ -8,7 +8,7 @@ mod laws;
 mod numbers;
 mod reader;
 mod spelling;
-mod spot;
+mod bit_place;
 mod writer;
 
 pub use laws::{headers_are_read_as_spelled, numbers_end_themselves};

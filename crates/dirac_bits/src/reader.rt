@@ -5,7 +5,7 @@ ghost use Rattle.dirac_bits.specs.Syntax.{between, field, read};
 ghost use Rattle.dirac_bits.specs.Answers.{Reads, Takes};
 
 use crate::numbers::{next_bit, next_block, next_literal, next_number, next_signed};
-use crate::spot::Spot;
+use crate::bit_place::BitPlace;
 use dirac_types::{Cause, Refusal};
 use std::marker::Model;
 
@@ -15,19 +15,19 @@ use std::marker::Model;
 #[derive(Drop)]
 pub struct BitReader<'a> {
     bytes: &'a [u8],
-    spot: Spot,
+    bit_place: BitPlace,
 }
 
 impl<'a> Model for BitReader<'a> {
     ghost use Rattle.std.specs.Prelude.{◌≤◌, ◌*◌, length};
     ghost use Rattle.dirac_bits.specs.Cursor.{Cursor};
-    ghost use Rattle.dirac_bits.specs.Spots.{cursor_at, bit_number};
+    ghost use Rattle.dirac_bits.specs.BitPlaces.{cursor_at, bit_number};
 
     ghost Value = { Cursor };
 
-    ghost view = { λ r. cursor_at r.bytes.now r.spot };
+    ghost view = { λ r. cursor_at r.bytes.now r.bit_place };
 
-    ghost invariant = { λ r. bit_number r.spot ≤ 8 * length r.bytes.now };
+    ghost invariant = { λ r. bit_number r.bit_place ≤ 8 * length r.bytes.now };
 }
 
 impl<'a> BitReader<'a> {
@@ -37,7 +37,7 @@ impl<'a> BitReader<'a> {
     {
         BitReader {
             bytes,
-            spot: Spot { byte: 0, bit: 0 },
+            bit_place: BitPlace { byte: 0, bit: 0 },
         }
     }
 
@@ -47,7 +47,7 @@ impl<'a> BitReader<'a> {
         ensures place_inside { result ≤ length self.now.bytes }
         ensures inside { self.now.at ≤ 8 * length self.now.bytes }
     {
-        self.spot.byte as u64
+        self.bit_place.byte as u64
     }
 
     /// One bit, where 1 is true.
@@ -57,9 +57,9 @@ impl<'a> BitReader<'a> {
         ensures place_inside { IfErr result (λ e. e.at ≤ length self.old.bytes) }
         ensures kept { self.new.bytes ≡ self.old.bytes }
     {
-        match next_bit(self.bytes, self.spot) {
+        match next_bit(self.bytes, self.bit_place) {
             Ok((bit, behind)) => {
-                self.spot = behind;
+                self.bit_place = behind;
                 Ok(bit)
             }
             Err(cause) => Err(self.refusal(cause)),
@@ -74,9 +74,9 @@ impl<'a> BitReader<'a> {
         ensures kept { self.new.bytes ≡ self.old.bytes }
         ensures below_2_39 { IfOk result (λ n. n + 1 < 2 ^ 39) }
     {
-        match next_number(self.bytes, self.spot) {
+        match next_number(self.bytes, self.bit_place) {
             Ok((number, behind)) => {
-                self.spot = behind;
+                self.bit_place = behind;
                 Ok(number)
             }
             Err(cause) => Err(self.refusal(cause)),
@@ -107,9 +107,9 @@ impl<'a> BitReader<'a> {
         ensures kept { self.new.bytes ≡ self.old.bytes }
         ensures below_2_39 { IfOk result (λ z. unsigned_abs z + 1 < 2 ^ 39) }
     {
-        match next_signed(self.bytes, self.spot) {
+        match next_signed(self.bytes, self.bit_place) {
             Ok((number, behind)) => {
-                self.spot = behind;
+                self.bit_place = behind;
                 Ok(number)
             }
             Err(cause) => Err(self.refusal(cause)),
@@ -125,9 +125,9 @@ impl<'a> BitReader<'a> {
         ensures kept { self.new.bytes ≡ self.old.bytes }
         ensures aligned { IsAligned self.new }
     {
-        match next_literal(self.bytes, self.spot) {
+        match next_literal(self.bytes, self.bit_place) {
             Ok((number, behind)) => {
-                self.spot = behind;
+                self.bit_place = behind;
                 Ok(number)
             }
             Err(cause) => Err(self.refusal(cause)),
@@ -139,9 +139,9 @@ impl<'a> BitReader<'a> {
         ensures value { self.new ≡ aligned self.old }
         ensures inside { self.old.at ≤ 8 * length self.old.bytes }
     {
-        if self.spot.bit > 0 {
-            self.spot = Spot {
-                byte: self.spot.byte + 1,
+        if self.bit_place.bit > 0 {
+            self.bit_place = BitPlace {
+                byte: self.bit_place.byte + 1,
                 bit: 0,
             };
         }
@@ -158,9 +158,9 @@ impl<'a> BitReader<'a> {
         ensures kept { self.new.bytes ≡ self.old.bytes }
         ensures aligned { IsAligned self.new }
     {
-        match next_block(self.bytes, self.spot, len) {
+        match next_block(self.bytes, self.bit_place, len) {
             Ok((part, behind)) => {
-                self.spot = behind;
+                self.bit_place = behind;
                 Ok(part)
             }
             Err(cause) => Err(self.refusal(cause)),

@@ -3,9 +3,9 @@ use Rattle.std.proofs.Common.{◌≡◌, ℕ, Bool, true, false, List, [], ◌�
 use Rattle.std.specs.Prelude.{if◌then◌else◌, ◌==◌}
 use Rattle.dirac_bits.specs.Cursor.{Cursor}
 use Rattle.dirac_bits.specs.Syntax.{done, read, ◌>>=◌}
-use Rattle.dirac_blocks.specs.declared.parts.Component.TheVariants as components
-use Rattle.dirac_blocks.specs.declared.parts.Part.{Part}
-use Rattle.dirac_blocks.specs.declared.parts.Part.TheVariants as parts
+use Rattle.dirac_types.specs.declared.formats.Component.TheVariants as components
+use Rattle.dirac_blocks.specs.declared.parts.ListKind.{ListKind}
+use Rattle.dirac_blocks.specs.declared.parts.ListKind.TheVariants as parts
 use Rattle.dirac_blocks.specs.declared.parts.Reference.{Reference}
 use Rattle.dirac_blocks.specs.declared.parts.Reference.TheVariants as references
 use Rattle.dirac_blocks.specs.Grammar.{listed, units_step, vectors_listed, second_listed, dcs_listed, values_listed}
@@ -18,18 +18,18 @@ use Rattle.dirac_block_laws.proofs.Shown.{Known, next, shown, shown_lawful, show
 use Rattle.dirac_block_laws.proofs.Stepping.{list_of, seconds, dcs}
 
 -- these lists are read one after another, from one table and place to another
-abbrev pub Leads : List Part → BlockTable → Cursor → BlockTable → Cursor → Type 0
+abbrev pub Leads : List ListKind → BlockTable → Cursor → BlockTable → Cursor → Type 0
 Leads [] t c u d = (t ≡ u) × (c ≡ d)
 Leads (part ∷ more) t c u d =
     (m : BlockTable) × (e : Cursor) × (m.refs ≡ t.refs) × (read (listed (units_step part) t) c ≡ Ok (m, e)) × Leads more m e u d
 
 -- what lists have told behind these
-abbrev pub after : List Part → Known → Known
+abbrev pub after : List ListKind → Known → Known
 after [] k = k
 after (part ∷ more) k = after more (next part k)
 
 -- blocks that carry lists of a finished table lead through it
-pub leads_from : CarriedIsRead → (lists : List Part) (k : Known) (t : BlockTable) (c d : Cursor) (blocks : List (List ℕ)) → IsBlockTable t
+pub leads_from : CarriedIsRead → (lists : List ListKind) (k : Known) (t : BlockTable) (c d : Cursor) (blocks : List (List ℕ)) → IsBlockTable t
     → read (some_blocks (length blocks)) c ≡ Ok (blocks, d) → EachCarries blocks (map (λ part. list_of t part) lists)
     → Leads lists (by (shown k) t) c (by (shown (after lists k)) t) d
 unfolding some_blocks
@@ -47,7 +47,7 @@ leads_from law (p ∷ ps) k t c d (b ∷ bs) inv stand carry =
     )
 
 -- lists and then others, apart
-pub leads_apart : (ps qs : List Part) (t u : BlockTable) (c d : Cursor) → Leads (ps ++ qs) t c u d
+pub leads_apart : (ps qs : List ListKind) (t u : BlockTable) (c d : Cursor) → Leads (ps ++ qs) t c u d
     → (m : BlockTable) × (e : Cursor) × (m.refs ≡ t.refs) × Leads ps t c m e × Leads qs m e u d
 leads_apart [] qs t u c d g = (t, c, refl, (refl, refl), g)
 leads_apart (p ∷ ps) qs t u c d g =
@@ -59,7 +59,7 @@ ended : (t u : BlockTable) (c d : Cursor) → Leads [] t c u d → read (done t)
 ended t u c d g = ap₂ (λ (x : BlockTable) (e : Cursor). Ok (x, e)) g.0 g.1
 
 -- the last list
-last_read : (part : Part) (t u : BlockTable) (c d : Cursor) → Leads (part ∷ []) t c u d → read (listed (units_step part) t) c ≡ Ok (u, d)
+last_read : (part : ListKind) (t u : BlockTable) (c d : Cursor) → Leads (part ∷ []) t c u d → read (listed (units_step part) t) c ≡ Ok (u, d)
 last_read part t u c d g = g.3 ∙ ended g.0 u g.1 d g.4
 
 vectors_read : (k : Reference) (t u : BlockTable) (c d : Cursor) → Leads (parts.Across k ∷ parts.Down k ∷ []) t c u d → read (vectors_listed k t) c ≡ Ok (u, d)
@@ -87,7 +87,7 @@ dcs_read t u c d g =
     (read_then (listed (units_step v) g.0) (λ n. listed (units_step w) n) g.1 h.1 d h.0 u h.3 (last_read w h.0 u h.1 d h.4))
 
 -- the lists of vectors and DC values
-abbrev pub value_lists : Bool → List Part
+abbrev pub value_lists : Bool → List ListKind
 value_lists two = parts.Across references.First ∷ parts.Down references.First ∷ (seconds two ++ dcs)
 
 pub values_read : (t u : BlockTable) (c d : Cursor) → Leads (value_lists (t.refs == 2)) t c u d → read (values_listed t) c ≡ Ok (u, d)

@@ -9,9 +9,9 @@ use Rattle.dirac_arith.specs.Carried.{Carries}
 use Rattle.dirac_arith.specs.Interval.{Decision}
 use Rattle.dirac_vectors.specs.Neighbours.{IsShort}
 use Rattle.dirac_blocks.specs.declared.block.Block.{Block}
-use Rattle.dirac_blocks.specs.declared.parts.Component.TheVariants as components
-use Rattle.dirac_blocks.specs.declared.parts.Part.{Part}
-use Rattle.dirac_blocks.specs.declared.parts.Part.TheVariants as parts
+use Rattle.dirac_types.specs.declared.formats.Component.TheVariants as components
+use Rattle.dirac_blocks.specs.declared.parts.ListKind.{ListKind}
+use Rattle.dirac_blocks.specs.declared.parts.ListKind.TheVariants as parts
 use Rattle.dirac_blocks.specs.declared.parts.Reference.TheVariants as references
 use Rattle.dirac_blocks.specs.Carried.{with_part, ReadsTo}
 use Rattle.dirac_blocks.specs.Grammar.{empty_table, units_step}
@@ -27,7 +27,7 @@ abbrev pub KeepsLaws : ℕ → (Block → Block) → Type 0
 KeepsLaws refs f = (b : Block) → IsBlock refs b → IsBlock refs (f b)
 
 -- a change of blocks that leaves what the modes and a list tell
-told_by : (part : Part) (f : Block → Block) (t : BlockTable) → ((b : Block) → told part (f b) ≡ told part b) → ToldSame part t (by f t)
+told_by : (part : ListKind) (f : Block → Block) (t : BlockTable) → ((b : Block) → told part (f b) ≡ told part b) → ToldSame part t (by f t)
 told_by part f t same x y =
     let place = y * (4 * t.across) + x in
     elim (cases_lt place (length t.blocks)) [
@@ -38,7 +38,7 @@ told_by part f t same x y =
     ]
 
 -- what a list tells twice it tells once
-absorbs : (part : Part) (b c : Block) → with_part part b (with_part part b c) ≡ with_part part b c
+absorbs : (part : ListKind) (b c : Block) → with_part part b (with_part part b c) ≡ with_part part b c
 absorbs parts.Modes b c = refl
 absorbs (parts.Across references.First) b c = refl
 absorbs (parts.Across references.Second) b c = refl
@@ -49,7 +49,7 @@ absorbs (parts.Dc components.U) b c = refl
 absorbs (parts.Dc components.V) b c = refl
 
 -- a block that carries a list of the finished table leads from the table before it to the one behind it
-pub leads_on : CarriedIsRead → (part : Part) (t : BlockTable) (f g : Block → Block) (block : List ℕ) → IsBlockTable t → KeepsLaws t.refs f → KeepsLaws t.refs g
+pub leads_on : CarriedIsRead → (part : ListKind) (t : BlockTable) (f g : Block → Block) (block : List ℕ) → IsBlockTable t → KeepsLaws t.refs f → KeepsLaws t.refs g
     → ((b : Block) → with_part part (f b) b ≡ g b) → ((b : Block) → told part (g b) ≡ told part b) → Carries block (list_of t part)
     → ReadsTo (units_step part) (by f t) block (by g t)
 leads_on law part t f g block inv before after is same carry =
@@ -81,7 +81,7 @@ abbrev pub no_values : Known
 no_values = record { across1 = false; down1 = false; across2 = false; down2 = false; dc_y = false; dc_u = false; dc_v = false }
 
 -- one list more
-abbrev pub next : Part → Known → Known
+abbrev pub next : ListKind → Known → Known
 next parts.Modes k = no_values
 next (parts.Across references.First) k = record k { across1 = true }
 next (parts.Across references.Second) k = record k { across2 = true }
@@ -135,7 +135,7 @@ shown_lawful k refs b h =
       no_dc = λ e. (said_none k.dc_y b.dc_y (h.no_dc e).0, said_none k.dc_u b.dc_u (h.no_dc e).1, said_none k.dc_v b.dc_v (h.no_dc e).2);
     }
 
-pub shown_next : (part : Part) (k : Known) (b : Block) → with_part part (shown k b) b ≡ shown (next part k) b
+pub shown_next : (part : ListKind) (k : Known) (b : Block) → with_part part (shown k b) b ≡ shown (next part k) b
 shown_next parts.Modes k b = refl
 shown_next (parts.Across references.First) k b = refl
 shown_next (parts.Across references.Second) k b = refl
@@ -145,7 +145,7 @@ shown_next (parts.Dc components.Y) k b = refl
 shown_next (parts.Dc components.U) k b = refl
 shown_next (parts.Dc components.V) k b = refl
 
-pub shown_told : (part : Part) (k : Known) (b : Block) → told part (shown (next part k) b) ≡ told part b
+pub shown_told : (part : ListKind) (k : Known) (b : Block) → told part (shown (next part k) b) ≡ told part b
 shown_told parts.Modes k b = refl
 shown_told (parts.Across references.First) k b = refl
 shown_told (parts.Across references.Second) k b = refl

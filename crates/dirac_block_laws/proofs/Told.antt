@@ -7,10 +7,10 @@ use Rattle.dirac_types.specs.declared.formats.Vector.{Vector}
 use Rattle.dirac_arith.specs.Interval.{Decision}
 use Rattle.dirac_vectors.specs.Predictions.{dc_of, mode_of}
 use Rattle.dirac_blocks.specs.declared.block.Block.{Block}
-use Rattle.dirac_blocks.specs.declared.parts.Component.{Component}
-use Rattle.dirac_blocks.specs.declared.parts.Component.TheVariants as components
-use Rattle.dirac_blocks.specs.declared.parts.Part.{Part}
-use Rattle.dirac_blocks.specs.declared.parts.Part.TheVariants as parts
+use Rattle.dirac_types.specs.declared.formats.Component.{Component}
+use Rattle.dirac_types.specs.declared.formats.Component.TheVariants as components
+use Rattle.dirac_blocks.specs.declared.parts.ListKind.{ListKind}
+use Rattle.dirac_blocks.specs.declared.parts.ListKind.TheVariants as parts
 use Rattle.dirac_blocks.specs.declared.parts.Reference.TheVariants as references
 use Rattle.dirac_blocks.specs.Carried.{with_part, IsWithPart}
 use Rattle.dirac_blocks.specs.Decisions.{UnitPart, predicted, counted, differ, less_prediction, ref1_at, ref2_at, superblock_part, superblock_row, superblock_rows, unit_decisions}
@@ -22,14 +22,14 @@ use Rattle.dirac_blocks.proofs.Stages.{counted_map, components_same}
 use Rattle.dirac_blocks.proofs.Filled.{same_table, place_row}
 
 -- what the modes and one list tell of a block
-abbrev pub told : Part → Block → Block
+abbrev pub told : ListKind → Block → Block
 told part b = with_part part (block_using b.ref1 b.ref2) b
 
 pub places_same : {A : Type 0} (f g : ℕ → ℕ → A) → ((x y : ℕ) → f x y ≡ g x y) → f ≡ g
 places_same f g same = λ i x y. same x y i
 
 -- two tables that the modes and one list tell the same of
-abbrev pub ToldSame : Part → BlockTable → BlockTable → Type 0
+abbrev pub ToldSame : ListKind → BlockTable → BlockTable → Type 0
 ToldSame part t u = (x y : ℕ) → told part (block_at t x y) ≡ told part (block_at u x y)
 
 across1 : (b : Block) → option_map (λ (w : Vector). w.x) (counted b.ref1 b.v1) ≡ counted b.ref1 b.v1.x
@@ -45,7 +45,7 @@ down2 : (b : Block) → option_map (λ (w : Vector). w.y) (counted b.ref2 b.v2) 
 down2 b = counted_map (λ w. w.y) b.ref2 b.v2
 
 -- and that are coded for as many references: a list tells the same of both
-pub part_same : (part : Part) (t u : BlockTable) → t.refs ≡ u.refs → ToldSame part t u → (i j : ℕ) → part_at part t i j ≡ part_at part u i j
+pub part_same : (part : ListKind) (t u : BlockTable) → t.refs ≡ u.refs → ToldSame part t u → (i j : ℕ) → part_at part t i j ≡ part_at part u i j
 part_same parts.Modes t u refs same i j =
     let one : ref1_at t ≡ ref1_at u = places_same (ref1_at t) (ref1_at u) (λ x y. ap (λ (b : Block). let o : Option Bool = Some b.ref1 in o) (same x y)) in
     let two : ref2_at t ≡ ref2_at u = places_same (ref2_at t) (ref2_at u) (λ x y. ap (λ (b : Block). let o : Option Bool = Some b.ref2 in o) (same x y)) in
@@ -82,7 +82,7 @@ abbrev pub with_blocks : BlockTable → List Block → BlockTable
 with_blocks t blocks = record t { blocks = blocks }
 
 -- what a list doesn't tell of a block outside
-nothing_told : (part : Part) → with_part part grey grey ≡ grey
+nothing_told : (part : ListKind) → with_part part grey grey ≡ grey
 nothing_told parts.Modes = refl
 nothing_told (parts.Across references.First) = refl
 nothing_told (parts.Across references.Second) = refl
@@ -93,7 +93,7 @@ nothing_told (parts.Dc components.U) = refl
 nothing_told (parts.Dc components.V) = refl
 
 -- tables that differ in one list are so everywhere, outside too
-everywhere : (part : Part) (t : BlockTable) (ys : List Block) → length t.blocks ≡ 4 * t.down * (4 * t.across) → length ys ≡ length t.blocks
+everywhere : (part : ListKind) (t : BlockTable) (ys : List Block) → length t.blocks ≡ 4 * t.down * (4 * t.across) → length ys ≡ length t.blocks
     → ((x y : ℕ) → x < 4 * t.across → y < 4 * t.down → with_part part (block_at t x y) (block_at (with_blocks t ys) x y) ≡ block_at (with_blocks t ys) x y)
     → (k : ℕ) → with_part part (get_or t.blocks k grey) (get_or ys k grey) ≡ get_or ys k grey
 everywhere part t ys len len' inside k =
@@ -109,7 +109,7 @@ everywhere part t ys len len' inside k =
     ]
 
 -- what a list tells doesn't change what the first one told
-abbrev pub Keeps : Part → Part → Type 0
+abbrev pub Keeps : ListKind → ListKind → Type 0
 Keeps first part = (b c : Block) → told first (with_part part b c) ≡ told first b
 
 -- lists read no blocks but by their parts
@@ -124,13 +124,13 @@ rows_there p t ys zero = refl
 rows_there p t ys (suc n) = ap₂ (λ (ds es : List Decision). ds ++ es) (rows_there p t ys n) (row_there p t ys n t.across)
 
 -- lists are told alike of tables that the modes and they tell the same of
-pub lists_same : (part : Part) (t : BlockTable) (ys : List Block) → ToldSame part t (with_blocks t ys) → unit_decisions t (part_at part t) ≡ unit_decisions (with_blocks t ys) (part_at part (with_blocks t ys))
+pub lists_same : (part : ListKind) (t : BlockTable) (ys : List Block) → ToldSame part t (with_blocks t ys) → unit_decisions t (part_at part t) ≡ unit_decisions (with_blocks t ys) (part_at part (with_blocks t ys))
 lists_same part t ys same =
     let u = with_blocks t ys in
     ap (λ (p : UnitPart). unit_decisions t p) (places_same (part_at part t) (part_at part u) (part_same part t u refl same)) ∙ rows_there (part_at part u) t ys t.down
 
 -- a later list leaves a list's decisions as they are
-kept_there : (first part : Part) (t : BlockTable) (ys : List Block) → length t.blocks ≡ 4 * t.down * (4 * t.across) → length ys ≡ length t.blocks
+kept_there : (first part : ListKind) (t : BlockTable) (ys : List Block) → length t.blocks ≡ 4 * t.down * (4 * t.across) → length ys ≡ length t.blocks
     → ((x y : ℕ) → x < 4 * t.across → y < 4 * t.down → with_part part (block_at t x y) (block_at (with_blocks t ys) x y) ≡ block_at (with_blocks t ys) x y)
     → Keeps first part → unit_decisions t (part_at first t) ≡ unit_decisions (with_blocks t ys) (part_at first (with_blocks t ys))
 kept_there first part t ys len len' inside keeps =
@@ -145,7 +145,7 @@ pub shaped : (t u : BlockTable) → SameShape t u → with_blocks t u.blocks ≡
 shaped t u s = same_table (with_blocks t u.blocks) u (sym s.across) (sym s.down) (sym s.refs) (sym s.splits) refl
 
 -- a later list leaves a list's decisions as they are
-pub kept_decisions : (first part : Part) (t u : BlockTable) → IsBlockTable t → IsBlockTable u → IsWithPart part t u → Keeps first part
+pub kept_decisions : (first part : ListKind) (t u : BlockTable) → IsBlockTable t → IsBlockTable u → IsWithPart part t u → Keeps first part
     → unit_decisions t (part_at first t) ≡ unit_decisions u (part_at first u)
 kept_decisions first part t u inv inv' rest keeps =
     let same = shaped t u rest.shape in

@@ -5,9 +5,9 @@ use Rattle.dirac_arith.specs.Carried.{Carries}
 use Rattle.dirac_arith.specs.Interval.{Decision}
 use Rattle.dirac_bits.specs.Cursor.{Cursor, aligned}
 use Rattle.dirac_bits.specs.Syntax.{read, ◌>>=◌}
-use Rattle.dirac_blocks.specs.declared.parts.Component.TheVariants as components
-use Rattle.dirac_blocks.specs.declared.parts.Part.{Part}
-use Rattle.dirac_blocks.specs.declared.parts.Part.TheVariants as parts
+use Rattle.dirac_types.specs.declared.formats.Component.TheVariants as components
+use Rattle.dirac_blocks.specs.declared.parts.ListKind.{ListKind}
+use Rattle.dirac_blocks.specs.declared.parts.ListKind.TheVariants as parts
 use Rattle.dirac_blocks.specs.declared.parts.Reference.TheVariants as references
 use Rattle.dirac_blocks.specs.Decisions.{Numbers, AreSplitNumbers, split_rows, block_decisions}
 use Rattle.dirac_blocks.specs.Grammar.{empty_table, listed, splits_step, units_step, vectors_listed, second_listed, dcs_listed, values_listed, lists_of, blocks}
@@ -23,7 +23,7 @@ use Rattle.dirac_block_laws.proofs.Stepping.{Went, went_more, went_on, vectors_w
 use Rattle.dirac_block_laws.proofs.Told.{shaped}
 
 -- the lists behind the splits, of two references or one
-abbrev pub lists_behind : Bool → List Part
+abbrev pub lists_behind : Bool → List ListKind
 lists_behind two = parts.Modes ∷ parts.Across references.First ∷ parts.Down references.First ∷ (seconds two ++ dcs)
 
 pub are_later : (two : Bool) → AreLater (lists_behind two)

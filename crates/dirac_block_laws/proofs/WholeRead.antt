@@ -8,7 +8,7 @@ use Rattle.dirac_arith.specs.Interval.{Decision}
 use Rattle.dirac_bits.specs.Cursor.{Cursor, aligned}
 use Rattle.dirac_bits.specs.Syntax.{read, ◌>>=◌}
 use Rattle.dirac_blocks.specs.declared.block.Block.{Block}
-use Rattle.dirac_blocks.specs.declared.parts.Part.TheVariants as parts
+use Rattle.dirac_blocks.specs.declared.parts.ListKind.TheVariants as parts
 use Rattle.dirac_blocks.specs.Carried.{ReadsTo}
 use Rattle.dirac_blocks.specs.Decisions.{Numbers, AreSplitNumbers, split_rows, block_decisions}
 use Rattle.dirac_blocks.specs.Grammar.{empty_table, listed, splits_step, units_step, values_listed, lists_of, blocks}

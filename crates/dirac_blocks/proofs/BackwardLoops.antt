@@ -9,7 +9,7 @@ use Rattle.dirac_arith.proofs.Carrieds.{IsLed}
 use Rattle.dirac_arith.proofs.Led.{led_begin, led_more, reads_nothing, reads_carried}
 use Rattle.dirac_arith.proofs.Spellings.{reads_more}
 use Rattle.dirac_blocks.specs.declared.block.Block.{Block}
-use Rattle.dirac_blocks.specs.declared.parts.Part.{Part}
+use Rattle.dirac_blocks.specs.declared.parts.ListKind.{ListKind}
 use Rattle.dirac_blocks.specs.Carried.{with_part}
 use Rattle.dirac_blocks.specs.Decisions.{unit_row, unit_rows, superblock_part, superblock_row, superblock_rows, unit_decisions}
 use Rattle.dirac_blocks.specs.Grammar.{Progress, Step, repeated, with_unit, unit_read, unit_step, unit_row_step, unit_rows_step, superblock_step}
@@ -26,7 +26,7 @@ use Rattle.dirac_blocks.proofs.Nearby.{Near, SameWithin, near_within}
 use Rattle.dirac_blocks.proofs.Repeating.{shape_join, shape_refl, split_same, unit_same}
 
 -- steps came from one table to another, and read the decisions of a rectangle
-pub record Came (part : Part) (m : BlockTable) (r : Reading) (t : BlockTable) (s : Reading) (left right top bottom : ℕ) (decisions : BlockTable → List Decision) : Type 0 where
+pub record Came (part : ListKind) (m : BlockTable) (r : Reading) (t : BlockTable) (s : Reading) (left right top bottom : ℕ) (decisions : BlockTable → List Decision) : Type 0 where
   pub lawful : IsBlockTable t
   pub shape : SameShape m t
   pub inside : (x y : ℕ) → left ≤ x → x < right → top ≤ y → y < bottom → with_part part (block_at m x y) (block_at t x y) ≡ block_at t x y
@@ -35,7 +35,7 @@ pub record Came (part : Part) (m : BlockTable) (r : Reading) (t : BlockTable) (s
   pub reads : (u : BlockTable) → SameShape t u → SameWithin t u right bottom → Reads r (decisions u) s
 
 -- no step
-nothing_came : (part : Part) (m t : BlockTable) (r s : Reading) (left right top bottom : ℕ) (decisions : BlockTable → List Decision) → IsBlockTable m → IsLed r
+nothing_came : (part : ListKind) (m t : BlockTable) (r s : Reading) (left right top bottom : ℕ) (decisions : BlockTable → List Decision) → IsBlockTable m → IsLed r
     → ((x y : ℕ) → left ≤ x → x < right → top ≤ y → y < bottom → ⊥)
     → ((u : BlockTable) → decisions u ≡ []) → (let p : Result Progress Cause = Ok (progress m r) in p ≡ Ok (progress t s))
     → Came part m r t s left right top bottom decisions
@@ -51,7 +51,7 @@ nothing_came part m t r s left right top bottom decisions inv led empty none e =
     moved_to (λ (x : BlockTable) (y : Reading). Came part m r x y left right top bottom decisions) e here
 
 -- steps whose rectangles lie beside one another
-beside_came : {part : Part} {m q t : BlockTable} {r p s : Reading} {left middle end top bottom : ℕ} {first then' whole : BlockTable → List Decision} (right : ℕ)
+beside_came : {part : ListKind} {m q t : BlockTable} {r p s : Reading} {left middle end top bottom : ℕ} {first then' whole : BlockTable → List Decision} (right : ℕ)
     → left ≤ middle → middle ≤ right → right ≤ 4 * m.across → end ≡ right → ((u : BlockTable) → SameShape t u → whole u ≡ first u ++ then' u)
     → Came part m r q p left middle top bottom first → Came part q p t s middle end top bottom then' → Came part m r t s left right top bottom whole
 beside_came {part = part} {m = m} {q = q} {t = t} {r = r} {p = p} {s = s} {middle = middle} {first = first} {then' = then'} right low high fits is split g h =
@@ -80,7 +80,7 @@ beside_came {part = part} {m = m} {q = q} {t = t} {r = r} {p = p} {s = s} {middl
     }
 
 -- and below one another
-below_came : {part : Part} {m q t : BlockTable} {r p s : Reading} {left right top middle end : ℕ} {first then' whole : BlockTable → List Decision} (bottom : ℕ)
+below_came : {part : ListKind} {m q t : BlockTable} {r p s : Reading} {left right top middle end : ℕ} {first then' whole : BlockTable → List Decision} (bottom : ℕ)
     → top ≤ middle → middle ≤ bottom → right ≤ 4 * m.across → end ≡ bottom → ((u : BlockTable) → SameShape t u → whole u ≡ first u ++ then' u)
     → Came part m r q p left right top middle first → Came part q p t s left right middle end then' → Came part m r t s left right top bottom whole
 below_came {part = part} {m = m} {q = q} {t = t} {r = r} {p = p} {s = s} {middle = middle} {first = first} {then' = then'} bottom low high fits is split g h =
@@ -109,7 +109,7 @@ below_came {part = part} {m = m} {q = q} {t = t} {r = r} {p = p} {s = s} {middle
     }
 
 -- a unit
-unit_step_came : (part : Part) (m t : BlockTable) (size i j : ℕ) (r s : Reading) → IsBlockTable m → IsUnit m size i j → IsLed r
+unit_step_came : (part : ListKind) (m t : BlockTable) (size i j : ℕ) (r s : Reading) → IsBlockTable m → IsUnit m size i j → IsLed r
     → unit_step part size i j (progress m r) ≡ Ok (progress t s)
     → Came part m r t s i (i + size) j (j + size) (λ u. part_at part u i j)
 unfolding unit_step
@@ -142,7 +142,7 @@ unit_step_came part m t size i j r s inv unit led e =
     moved_to (λ (x : BlockTable) (y : Reading). Came part m r x y i (i + size) j (j + size) (λ u. part_at part u i j)) q.next here
 
 -- n units of a row
-pub row_came : (part : Part) (m t : BlockTable) (size i j n : ℕ) (r s : Reading) → IsBlockTable m → ((k : ℕ) → k < n → IsUnit m size (i + k * size) j) → IsLed r
+pub row_came : (part : ListKind) (m t : BlockTable) (size i j n : ℕ) (r s : Reading) → IsBlockTable m → ((k : ℕ) → k < n → IsUnit m size (i + k * size) j) → IsLed r
     → i + n * size ≤ 4 * m.across
     → unit_row_step part size i j n (progress m r) ≡ Ok (progress t s)
     → Came part m r t s i (i + n * size) j (j + size) (λ u. unit_row (part_at part u) size i j n)
@@ -159,7 +159,7 @@ row_came part m t size i j (suc n) r s inv units led fits e =
     beside_came (i + suc n * size) (omega arith) (omega arith) (omega arith) (omega arith) (λ u k. refl) g h
 
 -- n rows of units
-pub rows_came : (part : Part) (m t : BlockTable) (size across i j n : ℕ) (r s : Reading) → IsBlockTable m
+pub rows_came : (part : ListKind) (m t : BlockTable) (size across i j n : ℕ) (r s : Reading) → IsBlockTable m
     → ((k l : ℕ) → k < across → l < n → IsUnit m size (i + k * size) (j + l * size)) → IsLed r → i + across * size ≤ 4 * m.across
     → unit_rows_step part size across i j n (progress m r) ≡ Ok (progress t s)
     → Came part m r t s i (i + across * size) j (j + n * size) (λ u. unit_rows (part_at part u) size across i j n)
@@ -177,7 +177,7 @@ rows_came part m t size across i j (suc n) r s inv units led fits e =
     below_came (j + suc n * size) (omega arith) (omega arith) fits (omega arith) (λ u k. refl) g h
 
 -- a superblock
-pub superblock_came : (part : Part) (m t : BlockTable) (sx sy : ℕ) (r s : Reading) → IsBlockTable m → sx < m.across → sy < m.down → IsLed r
+pub superblock_came : (part : ListKind) (m t : BlockTable) (sx sy : ℕ) (r s : Reading) → IsBlockTable m → sx < m.across → sy < m.down → IsLed r
     → superblock_step part sy sx (progress m r) ≡ Ok (progress t s)
     → Came part m r t s (4 * sx) (4 * sx + 4) (4 * sy) (4 * sy + 4) (λ u. superblock_part (part_at part u) m sx sy)
 unfolding superblock_step
@@ -190,12 +190,12 @@ superblock_came part m t sx sy r s inv hx hy led e =
     let P : ℕ → Type 0 = λ n. Came part m r t s (4 * sx) (4 * sx + n) (4 * sy) (4 * sy + n) (λ u. superblock_part (part_at part u) m sx sy) in
     subst P fill g
 
-superblock_shape : (part : Part) (m u v : BlockTable) (sx sy : ℕ) → SameShape m u → superblock_part (part_at part v) m sx sy ≡ superblock_part (part_at part v) u sx sy
+superblock_shape : (part : ListKind) (m u v : BlockTable) (sx sy : ℕ) → SameShape m u → superblock_part (part_at part v) m sx sy ≡ superblock_part (part_at part v) u sx sy
 superblock_shape part m u v sx sy s =
     ap (λ (k : ℕ). unit_rows (part_at part v) (unit_size k) (2 ^ k) (4 * sx) (4 * sy) (2 ^ k)) (sym (split_same m u sx sy s))
 
 -- n superblocks of a row
-pub superblocks_came : (part : Part) (m t : BlockTable) (sy n : ℕ) (r s : Reading) → IsBlockTable m → n ≤ m.across → sy < m.down → IsLed r
+pub superblocks_came : (part : ListKind) (m t : BlockTable) (sy n : ℕ) (r s : Reading) → IsBlockTable m → n ≤ m.across → sy < m.down → IsLed r
     → repeated (superblock_step part sy) n (progress m r) ≡ Ok (progress t s)
     → Came part m r t s 0 (4 * n) (4 * sy) (4 * sy + 4) (λ u. superblock_row (part_at part u) u sy n)
 unfolding superblock_row repeated
@@ -211,7 +211,7 @@ superblocks_came part m t sy (suc n) r s inv few hy led e =
     (λ u k. ap (λ (ds : List Decision). superblock_row (part_at part u) u sy n ++ ds) (sym (superblock_shape part q.value.table u u n sy (shape_join q.value.table t u h.shape k)))) g h
 
 -- n rows of superblocks
-pub superblock_rows_came : (part : Part) (m t : BlockTable) (across n : ℕ) (r s : Reading) → IsBlockTable m → across ≡ m.across → n ≤ m.down → IsLed r
+pub superblock_rows_came : (part : ListKind) (m t : BlockTable) (across n : ℕ) (r s : Reading) → IsBlockTable m → across ≡ m.across → n ≤ m.down → IsLed r
     → repeated (λ sy. repeated (superblock_step part sy) across) n (progress m r) ≡ Ok (progress t s)
     → Came part m r t s 0 (4 * across) 0 (4 * n) (λ u. superblock_rows (part_at part u) u n)
 unfolding superblock_rows repeated

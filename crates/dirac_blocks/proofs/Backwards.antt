@@ -15,14 +15,14 @@ use Rattle.dirac_arith.proofs.Spellings.{reads_more}
 use Rattle.dirac_vectors.specs.Neighbours.{IsShort}
 use Rattle.dirac_vectors.specs.Predictions.{mode_of}
 use Rattle.dirac_blocks.specs.declared.block.Block.{Block}
-use Rattle.dirac_blocks.specs.declared.parts.Part.{Part}
-use Rattle.dirac_blocks.specs.declared.parts.Part.TheVariants as parts
+use Rattle.dirac_blocks.specs.declared.parts.ListKind.{ListKind}
+use Rattle.dirac_blocks.specs.declared.parts.ListKind.TheVariants as parts
 use Rattle.dirac_blocks.specs.Carried.{with_part}
 use Rattle.dirac_blocks.specs.Decisions.{counted, differ, predicted, ref1_at, ref2_at}
 use Rattle.dirac_blocks.specs.Grammar.{Progress, block_using, mode_read, second_use_read, is_short, value_from, read_into, unit_read}
 use Rattle.dirac_blocks.specs.Parts.{part_at}
 use Rattle.dirac_blocks.specs.Reached.{progress}
-use Rattle.dirac_blocks.specs.Refused.{Told}
+use Rattle.dirac_blocks.specs.Refused.{ByDifference}
 use Rattle.dirac_blocks.specs.Tables.{BlockTable, IsBlock, IsBlockTable, block_at}
 use Rattle.dirac_blocks.proofs.Nearby.{Near, ref1_near, ref2_near, block_lawful, using_lawful}
 use Rattle.dirac_blocks.proofs.Valued.{Tells, told_read, telling, has_same, across_tells, down_tells, dc_tells}
@@ -71,11 +71,11 @@ difference : (n p : ℤ) → (n +ℤ p) -ℤ p ≡ n
 difference n p = omega (arith, ints)
 
 -- a value that is read: its difference was carried, and it has 16 bits
-pub record ValueCame (t : Told) (v : ℤ) (r s : Reading) : Type 0 where
+pub record ValueCame (t : ByDifference) (v : ℤ) (r s : Reading) : Type 0 where
   pub short : IsShort v
   pub reads : Reads r (signed_spelling t.follow t.bits t.sign (v -ℤ t.prediction)) s
 
-value_came : (t : Told) (v : ℤ) (r s : Reading) → IsLed r → told_read t r ≡ Ok (v, s) → ValueCame t v r s
+value_came : (t : ByDifference) (v : ℤ) (r s : Reading) → IsLed r → told_read t r ≡ Ok (v, s) → ValueCame t v r s
 value_came t v r s led e =
     let p = t.prediction in
     let q = passed (signed_read t.follow t.bits t.sign r) (value_from t.range p) (v, s) e in
@@ -101,13 +101,13 @@ value_came t v r s led e =
     bad c x e = cc
 
 -- a block with a value that is read into it, where it has one
-pub record IntoCame (has : Bool) (refs : ℕ) (bm b : Block) (put : Block → ℤ → Block) (t : Told) (r s : Reading) : Type 0 where
+pub record IntoCame (has : Bool) (refs : ℕ) (bm b : Block) (put : Block → ℤ → Block) (t : ByDifference) (r s : Reading) : Type 0 where
   pub value : ℤ
   pub is : b ≡ put bm value
   pub lawful : IsBlock refs b
   pub reads : Reads r (telling t (counted has value)) s
 
-into_came : (has : Bool) (refs : ℕ) (bm b : Block) (put : Block → ℤ → Block) (w : ℤ) (t : Told) (r s : Reading) → IsBlock refs bm → put bm w ≡ bm
+into_came : (has : Bool) (refs : ℕ) (bm b : Block) (put : Block → ℤ → Block) (w : ℤ) (t : ByDifference) (r s : Reading) → IsBlock refs bm → put bm w ≡ bm
     → ((v : ℤ) → has ≡ true → IsShort v → IsBlock refs (put bm v)) → IsLed r → read_into has bm put (told_read t) r ≡ Ok (b, s) → IntoCame has refs bm b put t r s
 into_came true refs bm b put w t r s old own lawful led e =
     let q = passed (told_read t r) (λ v. let x : Result (Block × Reading) Cause = Ok (put bm v.0, v.1) in x) (b, s) e in
@@ -130,7 +130,7 @@ into_came false refs bm b put w t r s old own lawful led e =
     }
 
 -- the block of a unit that is read
-pub record UnitCame (part : Part) (m : BlockTable) (i j : ℕ) (b : Block) (r s : Reading) : Type 0 where
+pub record UnitCame (part : ListKind) (m : BlockTable) (i j : ℕ) (b : Block) (r s : Reading) : Type 0 where
   pub lawful : IsBlock m.refs b
   pub is : with_part part (block_at m i j) b ≡ b
   pub reads : (u : BlockTable) → u.refs ≡ m.refs → Near m u i j → block_at u i j ≡ b → Reads r (part_at part u i j) s
@@ -195,7 +195,7 @@ modes_came m i j b r s led e =
     }
 
 -- a value of a unit
-told_came : (part : Part) (k : Tells part) (m : BlockTable) (i j : ℕ) (b : Block) (r s : Reading) → IsBlockTable m → IsLed r → unit_read part m i j r ≡ Ok (b, s) → UnitCame part m i j b r s
+told_came : (part : ListKind) (k : Tells part) (m : BlockTable) (i j : ℕ) (b : Block) (r s : Reading) → IsBlockTable m → IsLed r → unit_read part m i j r ≡ Ok (b, s) → UnitCame part m i j b r s
 told_came part k m i j b r s inv led e =
     let bm = block_at m i j in
     let old = block_lawful m i j inv in
@@ -211,7 +211,7 @@ told_came part k m i j b r s inv led e =
     }
 
 -- what is read of a unit is carried
-pub unit_came : (part : Part) (m : BlockTable) (i j : ℕ) (b : Block) (r s : Reading) → IsBlockTable m → IsLed r → unit_read part m i j r ≡ Ok (b, s) → UnitCame part m i j b r s
+pub unit_came : (part : ListKind) (m : BlockTable) (i j : ℕ) (b : Block) (r s : Reading) → IsBlockTable m → IsLed r → unit_read part m i j r ≡ Ok (b, s) → UnitCame part m i j b r s
 unit_came parts.Modes m i j b r s inv led e = modes_came m i j b r s led e
 unit_came (parts.Across k) m i j b r s inv led e = told_came (parts.Across k) (across_tells k) m i j b r s inv led e
 unit_came (parts.Down k) m i j b r s inv led e = told_came (parts.Down k) (down_tells k) m i j b r s inv led e

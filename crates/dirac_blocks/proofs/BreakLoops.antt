@@ -12,15 +12,15 @@ use Rattle.dirac_arith.proofs.Carrieds.{IsLed, no_answer}
 use Rattle.dirac_arith.proofs.Led.{led_begin, reads_carried, reads_nothing}
 use Rattle.dirac_arith.proofs.Spellings.{reads_more}
 use Rattle.dirac_blocks.specs.declared.block.Block.{Block}
-use Rattle.dirac_blocks.specs.declared.parts.Part.{Part}
-use Rattle.dirac_blocks.specs.declared.parts.Part.TheVariants as parts
+use Rattle.dirac_blocks.specs.declared.parts.ListKind.{ListKind}
+use Rattle.dirac_blocks.specs.declared.parts.ListKind.TheVariants as parts
 use Rattle.dirac_blocks.specs.Carried.{with_part}
 use Rattle.dirac_blocks.specs.Decisions.{unit_row, unit_rows, superblock_row, superblock_rows}
 use Rattle.dirac_blocks.specs.Grammar.{Progress, Step, repeated, with_unit, unit_read, unit_step, unit_row_step, unit_rows_step, superblock_step}
 use Rattle.dirac_blocks.specs.Laws.{RefusedIsBroken}
 use Rattle.dirac_blocks.specs.Parts.{part_at}
 use Rattle.dirac_blocks.specs.Reached.{SameShape, IsUnit, progress}
-use Rattle.dirac_blocks.specs.Refused.{Told, value_told, broken_part, CarriesBreak}
+use Rattle.dirac_blocks.specs.Refused.{ByDifference, value_told, broken_part, CarriesBreak}
 use Rattle.dirac_blocks.specs.Tables.{BlockTable, IsBlockTable, block_at, split_at, unit_size}
 use Rattle.dirac_blocks.proofs.BackwardLoops.{Came, row_came, rows_came, superblocks_came, superblock_rows_came}
 use Rattle.dirac_blocks.proofs.Breaks.{UnitBreaks, stopped, unit_breaks}
@@ -50,21 +50,21 @@ repeated_breaks step (suc n) x e is =
     ]
 
 -- parts that are told one after another
-with_twice : (part : Part) (a b c : Block) → with_part part a b ≡ b → with_part part b c ≡ c → with_part part a c ≡ c
+with_twice : (part : ListKind) (a b c : Block) → with_part part a b ≡ b → with_part part b c ≡ c → with_part part a c ≡ c
 with_twice part a b c p q = sym (part_again part a b c) ∙ ap (λ (x : Block). with_part part x c) p ∙ q
 
 -- a list that tells values tells nothing of a block that stays
-stays : (part : Part) (t : BlockTable) (i j : ℕ) (v : Told) → value_told part t i j ≡ Some v → (b : Block) → with_part part b b ≡ b
+stays : (part : ListKind) (t : BlockTable) (i j : ℕ) (v : ByDifference) → value_told part t i j ≡ Some v → (b : Block) → with_part part b b ≡ b
 stays parts.Modes t i j v is b = absurd (none is)
   where
-    none : {v : Told} → (let o : Option Told = None in o ≡ Some v) → ⊥
+    none : {v : ByDifference} → (let o : Option ByDifference = None in o ≡ Some v) → ⊥
     none e = cc
 stays (parts.Across k) t i j v is b = let own = across_value k in own.with_is b b ∙ own.own b
 stays (parts.Down k) t i j v is b = let own = down_value k in own.with_is b b ∙ own.own b
 stays (parts.Dc c) t i j v is b = let own = dc_value c in own.with_is b b ∙ own.own b
 
 -- what came of a table differs from it in this part alone
-rest_of : (part : Part) (m t : BlockTable) (r s : Reading) (left right top bottom : ℕ) (decisions : BlockTable → List Decision) → Came part m r t s left right top bottom decisions
+rest_of : (part : ListKind) (m t : BlockTable) (r s : Reading) (left right top bottom : ℕ) (decisions : BlockTable → List Decision) → Came part m r t s left right top bottom decisions
     → ((b : Block) → with_part part b b ≡ b) → (x y : ℕ) → x < 4 * m.across → with_part part (block_at m x y) (block_at t x y) ≡ block_at t x y
 rest_of part m t r s left right top bottom decisions g whole x y p =
     elim (cases_lt x left) [
@@ -85,7 +85,7 @@ rest_of part m t r s left right top bottom decisions g whole x y p =
     same o = subst (λ (b : Block). with_part part (block_at m x y) b ≡ b) (sym (g.outside x y p o)) (whole (block_at m x y))
 
 -- a list broke off at the unit whose first block is block i of row j, in a table that nothing left of `left` or above `top` was changed in
-record BrokenAt (part : Part) (m : BlockTable) (r : Reading) (e : Cause) (left top : ℕ) (decisions : BlockTable → List Decision) (i j : ℕ) : Type 0 where
+record BrokenAt (part : ListKind) (m : BlockTable) (r : Reading) (e : Cause) (left top : ℕ) (decisions : BlockTable → List Decision) (i j : ℕ) : Type 0 where
   table : BlockTable
   at : Reading
   lawful : IsBlockTable table
@@ -96,7 +96,7 @@ record BrokenAt (part : Part) (m : BlockTable) (r : Reading) (e : Cause) (left t
   unit : UnitBreaks part table i j at e
 
 -- steps, and behind them what broke off
-combined : {part : Part} {m t : BlockTable} {r s : Reading} {e : Cause} {l ri to bo left' top' left top i j : ℕ} {first then' whole : BlockTable → List Decision}
+combined : {part : ListKind} {m t : BlockTable} {r s : Reading} {e : Cause} {l ri to bo left' top' left top i j : ℕ} {first then' whole : BlockTable → List Decision}
     → ri ≤ 4 * m.across → ((u : BlockTable) → whole u ≡ first u ++ then' u)
     → ((x y : ℕ) → x < ri → y < bo → (x < left') ⊎ (y < top')) → ((x y : ℕ) → (x < left) ⊎ (y < top) → IsOutside l ri to bo x y × ((x < left') ⊎ (y < top')))
     → Came part m r t s l ri to bo first → BrokenAt part t s e left' top' then' i j → BrokenAt part m r e left top whole i j
@@ -115,7 +115,7 @@ combined {part = part} {m = m} {t = t} {r = r} {s = s} {l = l} {ri = ri} {to = t
     }
 
 -- a unit
-unit_broken : (part : Part) (m : BlockTable) (r : Reading) (e : Cause) (size i j : ℕ) → IsBlockTable m → IsLed r → front r.block 16 ≢ 65535
+unit_broken : (part : ListKind) (m : BlockTable) (r : Reading) (e : Cause) (size i j : ℕ) → IsBlockTable m → IsLed r → front r.block 16 ≢ 65535
     → unit_step part size i j (progress m r) ≡ Err e → BrokenAt part m r e i j (λ t. []) i j
 unfolding unit_step
 unit_broken part m r e size i j inv led some is =
@@ -136,14 +136,14 @@ unit_broken part m r e size i j inv led some is =
     }
 
 -- a reading goes on in its block
-same_block : (part : Part) (m t : BlockTable) (r s : Reading) (l ri to bo : ℕ) (d : BlockTable → List Decision) → Came part m r t s l ri to bo d → front r.block 16 ≢ 65535 → front s.block 16 ≢ 65535
+same_block : (part : ListKind) (m t : BlockTable) (r s : Reading) (l ri to bo : ℕ) (d : BlockTable → List Decision) → Came part m r t s l ri to bo d → front r.block 16 ≢ 65535 → front s.block 16 ≢ 65535
 same_block part m t r s l ri to bo d g some =
     let reads = g.reads t (shape_refl t) (record { each = λ x y p q. refl }) in
     let same : s.block ≡ r.block = ap (λ (x : Reading). x.block) reads.moved in
     λ ones. some (ap (λ (b : List ℕ). front b 16) (sym same) ∙ ones)
 
 -- a row of units
-row_broken : (part : Part) (m : BlockTable) (r : Reading) (e : Cause) (size i j n : ℕ) → IsBlockTable m → ((k : ℕ) → k < n → IsUnit m size (i + k * size) j) → IsLed r
+row_broken : (part : ListKind) (m : BlockTable) (r : Reading) (e : Cause) (size i j n : ℕ) → IsBlockTable m → ((k : ℕ) → k < n → IsUnit m size (i + k * size) j) → IsLed r
     → front r.block 16 ≢ 65535 → i + n * size ≤ 4 * m.across → unit_row_step part size i j n (progress m r) ≡ Err e
     → (u : ℕ) × (u < n) × BrokenAt part m r e i j (λ t. unit_row (part_at part t) size i j u) (i + u * size) j
 row_broken part m r e size i j n inv units led some fits is =
@@ -161,7 +161,7 @@ row_broken part m r e size i j n inv units led some fits is =
     beside i a j size x y (inr l) = (inr (inl l), inr l)
 
 -- rows of units
-rows_broken : (part : Part) (m : BlockTable) (r : Reading) (e : Cause) (size across i j n : ℕ) → IsBlockTable m
+rows_broken : (part : ListKind) (m : BlockTable) (r : Reading) (e : Cause) (size across i j n : ℕ) → IsBlockTable m
     → ((k l : ℕ) → k < across → l < n → IsUnit m size (i + k * size) (j + l * size)) → IsLed r → front r.block 16 ≢ 65535 → i + across * size ≤ 4 * m.across
     → unit_rows_step part size across i j n (progress m r) ≡ Err e
     → (v : ℕ) × (v < n) × ((u : ℕ) × (u < across)
@@ -183,11 +183,11 @@ rows_broken part m r e size across i j n inv units led some fits is =
     beside i a j c x y (inr l) = (inr (inl l), inr (omega arith))
 
 -- superblock sx of row sy, of split s, up to unit u of row v of its units
-abbrev units_until : Part → BlockTable → ℕ → ℕ → ℕ → ℕ → ℕ → List Decision
+abbrev units_until : ListKind → BlockTable → ℕ → ℕ → ℕ → ℕ → ℕ → List Decision
 units_until part t sx sy s v u = unit_rows (part_at part t) (unit_size s) (2 ^ s) (4 * sx) (4 * sy) v ++ unit_row (part_at part t) (unit_size s) (4 * sx) (4 * sy + v * unit_size s) u
 
 -- one superblock
-one_broken : (part : Part) (m : BlockTable) (r : Reading) (e : Cause) (sx sy s : ℕ) → IsBlockTable m → split_at m sx sy ≡ s → sx < m.across → sy < m.down → IsLed r → front r.block 16 ≢ 65535
+one_broken : (part : ListKind) (m : BlockTable) (r : Reading) (e : Cause) (sx sy s : ℕ) → IsBlockTable m → split_at m sx sy ≡ s → sx < m.across → sy < m.down → IsLed r → front r.block 16 ≢ 65535
     → superblock_step part sy sx (progress m r) ≡ Err e
     → (v : ℕ) × (v < 2 ^ s) × ((u : ℕ) × (u < 2 ^ s)
     × BrokenAt part m r e (4 * sx) (4 * sy) (λ t. units_until part t sx sy s v u) (4 * sx + u * unit_size s) (4 * sy + v * unit_size s))
@@ -202,7 +202,7 @@ one_broken part m r e sx sy s inv split hx hy led some is =
     rows_broken part m r e (unit_size s) (2 ^ s) (4 * sx) (4 * sy) (2 ^ s) inv unit led some (omega arith) (subst P split is)
 
 -- one of the first n superblocks of row sy broke off, behind these decisions
-record SuperblockBroken (part : Part) (m : BlockTable) (r : Reading) (e : Cause) (top sy n : ℕ) (behind : BlockTable → ℕ → List Decision → List Decision) : Type 0 where
+record SuperblockBroken (part : ListKind) (m : BlockTable) (r : Reading) (e : Cause) (top sy n : ℕ) (behind : BlockTable → ℕ → List Decision → List Decision) : Type 0 where
   sx : ℕ
   column : sx < n
   s : ℕ
@@ -214,7 +214,7 @@ record SuperblockBroken (part : Part) (m : BlockTable) (r : Reading) (e : Cause)
   at : BrokenAt part m r e 0 top (λ t. behind t sx (units_until part t sx sy s v u)) (4 * sx + u * unit_size s) (4 * sy + v * unit_size s)
 
 -- superblocks of a row
-superblocks_broken : (part : Part) (m : BlockTable) (r : Reading) (e : Cause) (sy n : ℕ) → IsBlockTable m → n ≤ m.across → sy < m.down → IsLed r → front r.block 16 ≢ 65535
+superblocks_broken : (part : ListKind) (m : BlockTable) (r : Reading) (e : Cause) (sy n : ℕ) → IsBlockTable m → n ≤ m.across → sy < m.down → IsLed r → front r.block 16 ≢ 65535
     → repeated (superblock_step part sy) n (progress m r) ≡ Err e → SuperblockBroken part m r e (4 * sy) sy n (λ t sx ds. superblock_row (part_at part t) t sy sx ++ ds)
 superblocks_broken part m r e sy n inv fits hy led some is =
     let b = repeated_breaks (superblock_step part sy) n (progress m r) e is in
@@ -243,11 +243,11 @@ superblocks_broken part m r e sy n inv fits hy led some is =
     beside sx sy x y (inr l) = (inr (inl l), inr l)
 
 -- a whole list, behind the rows of superblocks before
-abbrev ListBroken : Part → BlockTable → Reading → Cause → ℕ → Type 0
+abbrev ListBroken : ListKind → BlockTable → Reading → Cause → ℕ → Type 0
 ListBroken part m r e sy =
     SuperblockBroken part m r e 0 sy m.across (λ t sx ds. superblock_rows (part_at part t) t sy ++ (superblock_row (part_at part t) t sy sx ++ ds))
 
-list_broken : (part : Part) (m : BlockTable) (r : Reading) (e : Cause) → IsBlockTable m → IsLed r → front r.block 16 ≢ 65535
+list_broken : (part : ListKind) (m : BlockTable) (r : Reading) (e : Cause) → IsBlockTable m → IsLed r → front r.block 16 ≢ 65535
     → repeated (λ sy. repeated (superblock_step part sy) m.across) m.down (progress m r) ≡ Err e → (sy : ℕ) × (sy < m.down) × ListBroken part m r e sy
 list_broken part m r e inv led some is =
     let a = m.across in
@@ -277,7 +277,7 @@ list_broken part m r e inv led some is =
     never x y (inr l) = absurd (omega arith)
 
 -- what broke off, with the table's own split
-with_own_split : (part : Part) (former : BlockTable) (block : List ℕ) (e : Cause) (sy : ℕ) → sy < former.down → ListBroken part former (begin block) e sy → CarriesBreak part former block e
+with_own_split : (part : ListKind) (former : BlockTable) (block : List ℕ) (e : Cause) (sy : ℕ) → sy < former.down → ListBroken part former (begin block) e sy → CarriesBreak part former block e
 with_own_split part former block e sy hy h =
     let b = h.at in
     let t = b.table in

@@ -13,11 +13,11 @@ use Rattle.dirac_arith.proofs.Carrieds.{IsLed, some_signed, reads_of, no_answer}
 use Rattle.dirac_arith.proofs.Decidings.{decided_open, signed_is_read, signed_is_long}
 use Rattle.dirac_vectors.specs.Predictions.{mode_of}
 use Rattle.dirac_blocks.specs.declared.block.Block.{Block}
-use Rattle.dirac_blocks.specs.declared.parts.Part.{Part}
-use Rattle.dirac_blocks.specs.declared.parts.Part.TheVariants as parts
+use Rattle.dirac_blocks.specs.declared.parts.ListKind.{ListKind}
+use Rattle.dirac_blocks.specs.declared.parts.ListKind.TheVariants as parts
 use Rattle.dirac_blocks.specs.Decisions.{predicted, differ, ref1_at, ref2_at}
 use Rattle.dirac_blocks.specs.Grammar.{block_using, mode_read, second_use_read, is_short, value_from, read_into, unit_read}
-use Rattle.dirac_blocks.specs.Refused.{Told, value_told, Break, long, beyond, IsBreak, broken_part, cause_of}
+use Rattle.dirac_blocks.specs.Refused.{ByDifference, value_told, Break, long, beyond, IsBreak, broken_part, cause_of}
 use Rattle.dirac_blocks.specs.Tables.{BlockTable, block_at}
 use Rattle.dirac_blocks.proofs.Valued.{Tells, told_read, across_tells, down_tells, dc_tells}
 
@@ -30,21 +30,21 @@ stopped (Ok v) g e is = inr (v, refl, is)
 stopped (Err c) g e is = let same : c ≡ e = cc in inl (ap Err same)
 
 -- a unit that breaks off
-pub record UnitBreaks (part : Part) (m : BlockTable) (i j : ℕ) (r : Reading) (e : Cause) : Type 0 where
-  pub told : Told
+pub record UnitBreaks (part : ListKind) (m : BlockTable) (i j : ℕ) (r : Reading) (e : Cause) : Type 0 where
+  pub told : ByDifference
   pub is : value_told part m i j ≡ Some told
   pub breaks : Break
   pub breaks_so : IsBreak told breaks
   pub cause_is : e ≡ cause_of told breaks
   pub reads : (s : Reading) × Reads r (broken_part told breaks) s
 
-record ValueBreaks (v : Told) (r : Reading) (e : Cause) : Type 0 where
+record ValueBreaks (v : ByDifference) (r : Reading) (e : Cause) : Type 0 where
   breaks : Break
   breaks_so : IsBreak v breaks
   cause_is : e ≡ cause_of v breaks
   reads : (s : Reading) × Reads r (broken_part v breaks) s
 
-value_breaks : (v : Told) (r : Reading) (e : Cause) → IsLed r → front r.block 16 ≢ 0xFFFF → told_read v r ≡ Err e → ValueBreaks v r e
+value_breaks : (v : ByDifference) (r : Reading) (e : Cause) → IsLed r → front r.block 16 ≢ 0xFFFF → told_read v r ≡ Err e → ValueBreaks v r e
 value_breaks v r e led some is =
     elim (some_signed r.block r.at v.follow v.bits v.sign (led.lies some)) [
       | inl found ↦
@@ -83,7 +83,7 @@ value_breaks v r e led some is =
     ]
 
 -- a unit that has the value breaks off in it
-into_breaks : (part : Part) (m : BlockTable) (i j : ℕ) (has : Bool) (bm : Block) (put : Block → ℤ → Block) (v : Told) (r : Reading) (e : Cause) → IsLed r → front r.block 16 ≢ 0xFFFF
+into_breaks : (part : ListKind) (m : BlockTable) (i j : ℕ) (has : Bool) (bm : Block) (put : Block → ℤ → Block) (v : ByDifference) (r : Reading) (e : Cause) → IsLed r → front r.block 16 ≢ 0xFFFF
     → (has ≡ true → value_told part m i j ≡ Some v) → read_into has bm put (told_read v) r ≡ Err e → UnitBreaks part m i j r e
 into_breaks part m i j true bm put v r e led some told is =
     elim (stopped (told_read v r) (λ w. let x : Result (Block × Reading) Cause = Ok (put bm w.0, w.1) in x) e is) [
@@ -121,18 +121,18 @@ modes_never m i j r e some is =
         ]
 
 -- a value that a unit has is told
-told_where : (has : Bool) (v : Told) → has ≡ true → (if has then Some v else None) ≡ Some v
+told_where : (has : Bool) (v : ByDifference) → has ≡ true → (if has then Some v else None) ≡ Some v
 told_where true v e = refl
 told_where false v e = absurd (both_ways false refl e)
 
 -- a unit whose value is refused
-told_breaks : (part : Part) (t : Tells part) (m : BlockTable) (i j : ℕ) (r : Reading) (e : Cause) → IsLed r → front r.block 16 ≢ 0xFFFF → unit_read part m i j r ≡ Err e → UnitBreaks part m i j r e
+told_breaks : (part : ListKind) (t : Tells part) (m : BlockTable) (i j : ℕ) (r : Reading) (e : Cause) → IsLed r → front r.block 16 ≢ 0xFFFF → unit_read part m i j r ≡ Err e → UnitBreaks part m i j r e
 told_breaks part t m i j r e led some is =
     let b = block_at m i j in
     into_breaks part m i j (t.has b) b t.put (t.told m i j) r e led some (λ has. t.where_told m i j ∙ told_where (t.has b) (t.told m i j) has) (sym (t.read m i j r) ∙ is)
 
 -- a unit that is refused breaks off
-pub unit_breaks : (part : Part) (m : BlockTable) (i j : ℕ) (r : Reading) (e : Cause) → IsLed r → front r.block 16 ≢ 0xFFFF → unit_read part m i j r ≡ Err e → UnitBreaks part m i j r e
+pub unit_breaks : (part : ListKind) (m : BlockTable) (i j : ℕ) (r : Reading) (e : Cause) → IsLed r → front r.block 16 ≢ 0xFFFF → unit_read part m i j r ≡ Err e → UnitBreaks part m i j r e
 unit_breaks parts.Modes m i j r e led some is = absurd (modes_never m i j r e some is)
 unit_breaks (parts.Across k) m i j r e led some is = told_breaks (parts.Across k) (across_tells k) m i j r e led some is
 unit_breaks (parts.Down k) m i j r e led some is = told_breaks (parts.Down k) (down_tells k) m i j r e led some is

@@ -11,15 +11,15 @@ use Rattle.dirac_arith.specs.Reading.{Reading, Reads}
 use Rattle.dirac_arith.proofs.Carrieds.{IsLed}
 use Rattle.dirac_arith.proofs.Led.{led_begin, led_more, reads_parted, carried_reads, signed_led, signed_long_led}
 use Rattle.dirac_blocks.specs.declared.block.Block.{Block}
-use Rattle.dirac_blocks.specs.declared.parts.Part.{Part}
-use Rattle.dirac_blocks.specs.declared.parts.Part.TheVariants as parts
+use Rattle.dirac_blocks.specs.declared.parts.ListKind.{ListKind}
+use Rattle.dirac_blocks.specs.declared.parts.ListKind.TheVariants as parts
 use Rattle.dirac_blocks.specs.Carried.{with_part}
 use Rattle.dirac_blocks.specs.Decisions.{unit_row, unit_rows, superblock_row, superblock_rows}
 use Rattle.dirac_blocks.specs.Grammar.{Progress, repeated, with_unit, value_from, read_into, unit_read, unit_step, unit_row_step, unit_rows_step, superblock_step}
 use Rattle.dirac_blocks.specs.Laws.{BrokenIsRefused}
 use Rattle.dirac_blocks.specs.Parts.{part_at}
 use Rattle.dirac_blocks.specs.Reached.{IsUnit, progress}
-use Rattle.dirac_blocks.specs.Refused.{Told, value_told, Break, long, beyond, IsBreak, broken_part, cause_of, list_until}
+use Rattle.dirac_blocks.specs.Refused.{ByDifference, value_told, Break, long, beyond, IsBreak, broken_part, cause_of, list_until}
 use Rattle.dirac_blocks.specs.Tables.{BlockTable, IsBlockTable, block_at, split_at, unit_size}
 use Rattle.dirac_blocks.proofs.Fills.{split_few}
 use Rattle.dirac_blocks.proofs.ForwardLoops.{Toward, row_goes, rows_go, superblocks_go, superblock_rows_go, shape_back, unit_of_superblock, units_fill}
@@ -30,7 +30,7 @@ use Rattle.dirac_blocks.proofs.Units.{size_some}
 use Rattle.dirac_blocks.proofs.Valued.{Tells, told_read, has_same, across_tells, down_tells, dc_tells}
 
 -- a value whose decisions break off is refused
-value_refused : (v : Told) (k : Break) (r s : Reading) → IsLed r → IsBreak v k → Reads r (broken_part v k) s → told_read v r ≡ Err (cause_of v k)
+value_refused : (v : ByDifference) (k : Break) (r s : Reading) → IsLed r → IsBreak v k → Reads r (broken_part v k) s → told_read v r ≡ Err (cause_of v k)
 value_refused v (long digits) r s led so reads =
     ap (λ (x : Result (ℤ × Reading) Cause). x >>= value_from v.range v.prediction) (signed_long_led r s v.follow v.bits v.sign digits led so reads)
 value_refused v (beyond z) r s led so reads =
@@ -38,45 +38,45 @@ value_refused v (beyond z) r s led so reads =
     ap (λ (x : Result (ℤ × Reading) Cause). x >>= value_from v.range v.prediction) (signed_led r s v.follow v.bits v.sign z led so.0 reads)
     ∙ subst P (sym so.1) refl
 
-into_refused : (has : Bool) (bm : Block) (put : Block → ℤ → Block) (v : Told) (k : Break) (r s : Reading) → has ≡ true → IsLed r → IsBreak v k → Reads r (broken_part v k) s
+into_refused : (has : Bool) (bm : Block) (put : Block → ℤ → Block) (v : ByDifference) (k : Break) (r s : Reading) → has ≡ true → IsLed r → IsBreak v k → Reads r (broken_part v k) s
     → read_into has bm put (told_read v) r ≡ Err (cause_of v k)
 into_refused true bm put v k r s t led so reads =
     ap (λ (x : Result (ℤ × Reading) Cause). x >>= (λ w. let y : Result (Block × Reading) Cause = Ok (put bm w.0, w.1) in y)) (value_refused v k r s led so reads)
 into_refused false bm put v k r s t led so reads = absurd (both_ways false refl t)
 
 -- what is told where a unit has the value
-told_is : (has : Bool) (v w : Told) → (if has then Some v else None) ≡ Some w → (has ≡ true) × (v ≡ w)
+told_is : (has : Bool) (v w : ByDifference) → (if has then Some v else None) ≡ Some w → (has ≡ true) × (v ≡ w)
 told_is true v w e = (refl, one e)
   where
-    one : {v w : Told} → (let o : Option Told = Some v in o ≡ Some w) → v ≡ w
+    one : {v w : ByDifference} → (let o : Option ByDifference = Some v in o ≡ Some w) → v ≡ w
     one e = cc
 told_is false v w e = absurd (none e)
   where
-    none : {w : Told} → (let o : Option Told = None in o ≡ Some w) → ⊥
+    none : {w : ByDifference} → (let o : Option ByDifference = None in o ≡ Some w) → ⊥
     none e = cc
 
 -- a unit whose value breaks off
-told_refused : (part : Part) (t : Tells part) (u m : BlockTable) (i j : ℕ) (r s : Reading) (v : Told) (k : Break) → with_part part (block_at m i j) (block_at u i j) ≡ block_at u i j → Near m u i j
+told_refused : (part : ListKind) (t : Tells part) (u m : BlockTable) (i j : ℕ) (r s : Reading) (v : ByDifference) (k : Break) → with_part part (block_at m i j) (block_at u i j) ≡ block_at u i j → Near m u i j
     → value_told part u i j ≡ Some v → IsLed r → IsBreak v k → Reads r (broken_part v k) s → unit_read part m i j r ≡ Err (cause_of v k)
 told_refused part t u m i j r s v k rest near is led so reads =
     let bm = block_at m i j in
     let bu = block_at u i j in
     let told = told_is (t.has bu) (t.told u i j) v (sym (t.where_told u i j) ∙ is) in
-    t.read m i j r ∙ ap (λ (w : Told). read_into (t.has bm) bm t.put (told_read w) r) (t.near m u i j near ∙ told.1)
+    t.read m i j r ∙ ap (λ (w : ByDifference). read_into (t.has bm) bm t.put (told_read w) r) (t.near m u i j near ∙ told.1)
     ∙ into_refused (t.has bm) bm t.put v k r s (has_same part t bm bu rest ∙ told.0) led so reads
 
 -- a unit whose decisions break off
-unit_refused : (part : Part) (u m : BlockTable) (i j : ℕ) (r s : Reading) (v : Told) (k : Break) → with_part part (block_at m i j) (block_at u i j) ≡ block_at u i j → Near m u i j
+unit_refused : (part : ListKind) (u m : BlockTable) (i j : ℕ) (r s : Reading) (v : ByDifference) (k : Break) → with_part part (block_at m i j) (block_at u i j) ≡ block_at u i j → Near m u i j
     → value_told part u i j ≡ Some v → IsLed r → IsBreak v k → Reads r (broken_part v k) s → unit_read part m i j r ≡ Err (cause_of v k)
 unit_refused parts.Modes u m i j r s v k rest near is led so reads = absurd (none is)
   where
-    none : {w : Told} → (let o : Option Told = None in o ≡ Some w) → ⊥
+    none : {w : ByDifference} → (let o : Option ByDifference = None in o ≡ Some w) → ⊥
     none e = cc
 unit_refused (parts.Across c) u m i j r s v k rest near is led so reads = told_refused (parts.Across c) (across_tells c) u m i j r s v k rest near is led so reads
 unit_refused (parts.Down c) u m i j r s v k rest near is led so reads = told_refused (parts.Down c) (down_tells c) u m i j r s v k rest near is led so reads
 unit_refused (parts.Dc c) u m i j r s v k rest near is led so reads = told_refused (parts.Dc c) (dc_tells c) u m i j r s v k rest near is led so reads
 
-unit_step_refused : (part : Part) (u m : BlockTable) (size i j : ℕ) (r s : Reading) (v : Told) (k : Break) → with_part part (block_at m i j) (block_at u i j) ≡ block_at u i j → Near m u i j
+unit_step_refused : (part : ListKind) (u m : BlockTable) (size i j : ℕ) (r s : Reading) (v : ByDifference) (k : Break) → with_part part (block_at m i j) (block_at u i j) ≡ block_at u i j → Near m u i j
     → value_told part u i j ≡ Some v → IsLed r → IsBreak v k → Reads r (broken_part v k) s → unit_step part size i j (progress m r) ≡ Err (cause_of v k)
 unfolding unit_step
 unit_step_refused part u m size i j r s v k rest near is led so reads =
@@ -84,7 +84,7 @@ unit_step_refused part u m size i j r s v k rest near is led so reads =
     (unit_refused part u m i j r s v k rest near is led so reads)
 
 -- a row of units
-row_refused : (part : Part) (u m : BlockTable) (size i j count n : ℕ) (r s : Reading) (v : Told) (k : Break) → IsBlockTable u → Toward part m u
+row_refused : (part : ListKind) (u m : BlockTable) (size i j count n : ℕ) (r s : Reading) (v : ByDifference) (k : Break) → IsBlockTable u → Toward part m u
     → ((k : ℕ) → k < count → IsUnit u size (i + k * size) j) → i + count * size ≤ 4 * u.across → 1 ≤ size → n < count → j < 4 * u.down
     → SameWithin m u i (j + size) → SameWithin m u (i + count * size) j → value_told part u (i + n * size) j ≡ Some v → IsLed r → IsBreak v k
     → Reads r (unit_row (part_at part u) size i j n ++ broken_part v k) s → unit_row_step part size i j count (progress m r) ≡ Err (cause_of v k)
@@ -100,7 +100,7 @@ row_refused part u m size i j count n r s v k inv toward units fits some few hy 
     repeated_stops (λ a. unit_step part size (i + a * size) j) n count (progress m r) (progress g.table parted.mid) (cause_of v k) few g.is refused
 
 -- rows of units
-rows_refused : (part : Part) (u m : BlockTable) (size across i j count n a : ℕ) (r s : Reading) (v : Told) (k : Break) → IsBlockTable u → Toward part m u
+rows_refused : (part : ListKind) (u m : BlockTable) (size across i j count n a : ℕ) (r s : Reading) (v : ByDifference) (k : Break) → IsBlockTable u → Toward part m u
     → ((k l : ℕ) → k < across → l < count → IsUnit u size (i + k * size) (j + l * size)) → i + across * size ≤ 4 * u.across → 1 ≤ size → n < count → a < across
     → j + count * size ≤ 4 * u.down
     → SameWithin m u i (j + count * size) → SameWithin m u (i + across * size) j → value_told part u (i + a * size) (j + n * size) ≡ Some v → IsLed r → IsBreak v k
@@ -120,7 +120,7 @@ rows_refused part u m size across i j count n a r s v k inv toward units fits so
     repeated_stops (λ b. unit_row_step part size i (j + b * size) across) n count (progress m r) (progress g.table parted.mid) (cause_of v k) few g.is refused
 
 -- a superblock
-superblock_refused : (part : Part) (u m : BlockTable) (sx sy n a : ℕ) (r s : Reading) (v : Told) (k : Break) → IsBlockTable u → Toward part m u → sx < u.across → sy < u.down
+superblock_refused : (part : ListKind) (u m : BlockTable) (sx sy n a : ℕ) (r s : Reading) (v : ByDifference) (k : Break) → IsBlockTable u → Toward part m u → sx < u.across → sy < u.down
     → n < 2 ^ split_at u sx sy → a < 2 ^ split_at u sx sy
     → SameWithin m u (4 * sx) (4 * sy + 4) → SameWithin m u (4 * sx + 4) (4 * sy)
     → (let size = unit_size (split_at u sx sy) in value_told part u (4 * sx + a * size) (4 * sy + n * size) ≡ Some v) → IsLed r → IsBreak v k
@@ -141,7 +141,7 @@ superblock_refused part u m sx sy n a r s v k inv toward hx hy few some before o
     subst (λ (w : ℕ). unit_rows_step part (unit_size w) (2 ^ w) (4 * sx) (4 * sy) (2 ^ w) (progress m r) ≡ Err (cause_of v k)) (sym split) e
 
 -- superblocks of a row
-superblocks_refused : (part : Part) (u m : BlockTable) (sx sy n a : ℕ) (r s : Reading) (v : Told) (k : Break) → IsBlockTable u → Toward part m u → sx < u.across → sy < u.down
+superblocks_refused : (part : ListKind) (u m : BlockTable) (sx sy n a : ℕ) (r s : Reading) (v : ByDifference) (k : Break) → IsBlockTable u → Toward part m u → sx < u.across → sy < u.down
     → n < 2 ^ split_at u sx sy → a < 2 ^ split_at u sx sy → SameWithin m u (4 * u.across) (4 * sy)
     → (let size = unit_size (split_at u sx sy) in value_told part u (4 * sx + a * size) (4 * sy + n * size) ≡ Some v) → IsLed r → IsBreak v k
     → (let z = split_at u sx sy in
@@ -161,7 +161,7 @@ superblocks_refused part u m sx sy n a r s v k inv toward hx hy few some over is
     repeated_stops (superblock_step part sy) sx u.across (progress m r) (progress g.table parted.mid) (cause_of v k) hx g.is refused
 
 -- a whole list
-list_refused : (part : Part) (u m : BlockTable) (sx sy n a : ℕ) (r s : Reading) (v : Told) (k : Break) → IsBlockTable u → Toward part m u → sx < u.across → sy < u.down
+list_refused : (part : ListKind) (u m : BlockTable) (sx sy n a : ℕ) (r s : Reading) (v : ByDifference) (k : Break) → IsBlockTable u → Toward part m u → sx < u.across → sy < u.down
     → n < 2 ^ split_at u sx sy → a < 2 ^ split_at u sx sy
     → (let size = unit_size (split_at u sx sy) in value_told part u (4 * sx + a * size) (4 * sy + n * size) ≡ Some v) → IsLed r → IsBreak v k
     → Reads r (list_until part u sx sy a n ++ broken_part v k) s

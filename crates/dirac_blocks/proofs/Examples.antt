@@ -30,8 +30,8 @@ unfolding split_row split_rows unit_row unit_rows superblock_row superblock_rows
 two_are_coded = refl
 
 -- a split of 0 behind one of 2 is spelt by the number 1
-number_of_nought : least_numbers (record two { splits = 2 ∷ 0 ∷ [] }) 0 1 ≡ 1
-number_of_nought = refl
+number_of_zero : least_numbers (record two { splits = 2 ∷ 0 ∷ [] }) 0 1 ≡ 1
+number_of_zero = refl
 
 -- column 3 of row 2 is in the last of four units, whose first column is 2
 unit_of_a_half : unit_of 1 3 2 ≡ 3

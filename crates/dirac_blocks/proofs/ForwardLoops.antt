@@ -6,7 +6,7 @@ use Rattle.dirac_arith.specs.Reading.{Reading, Reads}
 use Rattle.dirac_arith.proofs.Carrieds.{IsLed}
 use Rattle.dirac_arith.proofs.Led.{led_begin, led_more, reads_parted, carried_reads}
 use Rattle.dirac_blocks.specs.declared.block.Block.{Block}
-use Rattle.dirac_blocks.specs.declared.parts.Part.{Part}
+use Rattle.dirac_blocks.specs.declared.parts.ListKind.{ListKind}
 use Rattle.dirac_blocks.specs.Carried.{with_part}
 use Rattle.dirac_blocks.specs.Decisions.{unit_row, unit_rows, superblock_part, superblock_row, superblock_rows, unit_decisions}
 use Rattle.dirac_blocks.specs.Grammar.{Step, repeated, with_unit, unit_step, unit_row_step, unit_rows_step, superblock_step, units_step}
@@ -24,21 +24,21 @@ use Rattle.dirac_blocks.proofs.Units.{of_splits, size_some}
 use Rattle.dirac_blocks.proofs.Valued.{part_again}
 
 -- a table on its way to a finished one: what it lacks is in this part
-pub record Toward (part : Part) (m u : BlockTable) : Type 0 where
+pub record Toward (part : ListKind) (m u : BlockTable) : Type 0 where
   pub lawful : IsBlockTable m
   pub shape : SameShape u m
   pub rest : (x y : ℕ) → x < 4 * u.across → y < 4 * u.down → with_part part (block_at m x y) (block_at u x y) ≡ block_at u x y
 
 -- a step leads toward the finished table, and fills a rectangle of its blocks
-abbrev pub UnitsGo : Part → BlockTable → Step → BlockTable → Reading → Reading → ℕ → ℕ → ℕ → ℕ → Type 0
+abbrev pub UnitsGo : ListKind → BlockTable → Step → BlockTable → Reading → Reading → ℕ → ℕ → ℕ → ℕ → Type 0
 UnitsGo part u step m r s left right top bottom = Goes (λ t. Toward part t u) block_at (4 * u.across) u step m r s left right top bottom
 
 -- a part that is told again is the same
-part_twice : (part : Part) (a b : Block) → with_part part a b ≡ b → with_part part b b ≡ b
+part_twice : (part : ListKind) (a b : Block) → with_part part a b ≡ b → with_part part b b ≡ b
 part_twice part a b is = subst (λ (x : Block). with_part part x b ≡ b) is (part_again part a b b ∙ is)
 
 -- a unit
-unit_goes : (part : Part) (u m : BlockTable) (size i j : ℕ) (r s : Reading) → IsBlockTable u → Toward part m u → IsUnit u size i j
+unit_goes : (part : ListKind) (u m : BlockTable) (size i j : ℕ) (r s : Reading) → IsBlockTable u → Toward part m u → IsUnit u size i j
     → SameWithin m u i (j + 1) → SameWithin m u (i + 1) j → IsLed r → Reads r (part_at part u i j) s
     → UnitsGo part u (unit_step part size i j) m r s i (i + size) j (j + size)
 unfolding unit_step
@@ -85,7 +85,7 @@ unit_goes part u m size i j r s inv toward unit before over led reads =
     }
 
 -- n units of a row
-pub row_goes : (part : Part) (u m : BlockTable) (size i j count n : ℕ) (r s : Reading) → IsBlockTable u → Toward part m u
+pub row_goes : (part : ListKind) (u m : BlockTable) (size i j count n : ℕ) (r s : Reading) → IsBlockTable u → Toward part m u
     → ((k : ℕ) → k < count → IsUnit u size (i + k * size) j) → i + count * size ≤ 4 * u.across → 1 ≤ size → n ≤ count
     → SameWithin m u i (j + size) → SameWithin m u (i + count * size) j → IsLed r → Reads r (unit_row (part_at part u) size i j n) s
     → UnitsGo part u (unit_row_step part size i j n) m r s i (i + n * size) j (j + size)
@@ -104,7 +104,7 @@ row_goes part u m size i j count (suc n) r s inv toward units fits some few befo
     beside_goes (i + suc n * size) (omega arith) (omega arith) g h
 
 -- n rows of units
-pub rows_go : (part : Part) (u m : BlockTable) (size across i j count n : ℕ) (r s : Reading) → IsBlockTable u → Toward part m u
+pub rows_go : (part : ListKind) (u m : BlockTable) (size across i j count n : ℕ) (r s : Reading) → IsBlockTable u → Toward part m u
     → ((k l : ℕ) → k < across → l < count → IsUnit u size (i + k * size) (j + l * size)) → i + across * size ≤ 4 * u.across → 1 ≤ size → n ≤ count
     → SameWithin m u i (j + count * size) → SameWithin m u (i + across * size) j → IsLed r → Reads r (unit_rows (part_at part u) size across i j n) s
     → UnitsGo part u (unit_rows_step part size across i j n) m r s i (i + across * size) j (j + n * size)
@@ -131,7 +131,7 @@ pub unit_of_superblock : (u : BlockTable) (sx sy k l : ℕ) → sx < u.across �
 unit_of_superblock u sx sy k l hx hy hk hl =
     record { sx = sx; sy = sy; u = k; v = l; across = hx; down = hy; is = refl; some = hk; few = hl; column = refl; row = refl }
 
-superblock_goes : (part : Part) (u m : BlockTable) (sx sy : ℕ) (r s : Reading) → IsBlockTable u → Toward part m u → sx < u.across → sy < u.down
+superblock_goes : (part : ListKind) (u m : BlockTable) (sx sy : ℕ) (r s : Reading) → IsBlockTable u → Toward part m u → sx < u.across → sy < u.down
     → SameWithin m u (4 * sx) (4 * sy + 4) → SameWithin m u (4 * sx + 4) (4 * sy) → IsLed r → Reads r (superblock_part (part_at part u) u sx sy) s
     → UnitsGo part u (superblock_step part sy sx) m r s (4 * sx) (4 * sx + 4) (4 * sy) (4 * sy + 4)
 unfolding superblock_step
@@ -154,7 +154,7 @@ superblock_goes part u m sx sy r s inv toward hx hy before over led reads =
     }
 
 -- n superblocks of a row
-pub superblocks_go : (part : Part) (u m : BlockTable) (sy n : ℕ) (r s : Reading) → IsBlockTable u → Toward part m u → n ≤ u.across → sy < u.down
+pub superblocks_go : (part : ListKind) (u m : BlockTable) (sy n : ℕ) (r s : Reading) → IsBlockTable u → Toward part m u → n ≤ u.across → sy < u.down
     → SameWithin m u (4 * u.across) (4 * sy) → IsLed r → Reads r (superblock_row (part_at part u) u sy n) s
     → UnitsGo part u (λ x. repeated (superblock_step part sy) n x) m r s 0 (4 * n) (4 * sy) (4 * sy + 4)
 unfolding superblock_row repeated
@@ -170,7 +170,7 @@ superblocks_go part u m sy (suc n) r s inv toward few hy over led reads =
     beside_goes (4 * suc n) (omega arith) (omega arith) g h
 
 -- n rows of superblocks
-pub superblock_rows_go : (part : Part) (u m : BlockTable) (n : ℕ) (r s : Reading) → IsBlockTable u → Toward part m u → n ≤ u.down
+pub superblock_rows_go : (part : ListKind) (u m : BlockTable) (n : ℕ) (r s : Reading) → IsBlockTable u → Toward part m u → n ≤ u.down
     → IsLed r → Reads r (superblock_rows (part_at part u) u n) s
     → UnitsGo part u (λ x. repeated (λ sy. repeated (superblock_step part sy) u.across) n x) m r s 0 (4 * u.across) 0 (4 * n)
 unfolding superblock_rows repeated

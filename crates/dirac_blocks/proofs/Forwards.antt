@@ -12,15 +12,15 @@ use Rattle.dirac_arith.proofs.Led.{led_more, reads_parted, decision_led, signed_
 use Rattle.dirac_vectors.specs.Neighbours.{IsShort}
 use Rattle.dirac_vectors.specs.Predictions.{mode_of}
 use Rattle.dirac_blocks.specs.declared.block.Block.{Block}
-use Rattle.dirac_blocks.specs.declared.parts.Part.{Part}
-use Rattle.dirac_blocks.specs.declared.parts.Part.TheVariants as parts
+use Rattle.dirac_blocks.specs.declared.parts.ListKind.{ListKind}
+use Rattle.dirac_blocks.specs.declared.parts.ListKind.TheVariants as parts
 use Rattle.dirac_blocks.specs.Carried.{with_part}
 use Rattle.dirac_blocks.specs.Decisions.{counted, differ, predicted, ref1_at, ref2_at, mode_part}
 use Rattle.dirac_blocks.specs.Grammar.{block_using, mode_read, second_use_read, is_short, read_into, unit_read}
 use Rattle.dirac_blocks.specs.Parts.{part_at}
 use Rattle.dirac_blocks.specs.Tables.{BlockTable, IsBlock, IsBlockTable, block_at}
 use Rattle.dirac_blocks.proofs.Nearby.{Near, ref1_near, ref2_near, block_lawful}
-use Rattle.dirac_blocks.specs.Refused.{Told}
+use Rattle.dirac_blocks.specs.Refused.{ByDifference}
 use Rattle.dirac_blocks.proofs.UnitValues.{value_found}
 use Rattle.dirac_blocks.proofs.Valued.{Tells, told_read, telling, has_same, put_none, across_tells, down_tells, dc_tells}
 
@@ -42,7 +42,7 @@ differ_twice false true = refl
 differ_twice false false = refl
 
 -- a value whose difference is carried is read
-value_forward : (t : Told) (v : ℤ) (r s : Reading) → IsLed r → IsShort t.prediction → IsShort v → Reads r (signed_spelling t.follow t.bits t.sign (v -ℤ t.prediction)) s
+value_forward : (t : ByDifference) (v : ℤ) (r s : Reading) → IsLed r → IsShort t.prediction → IsShort v → Reads r (signed_spelling t.follow t.bits t.sign (v -ℤ t.prediction)) s
     → told_read t r ≡ Ok (v, s)
 value_forward t v r s led short_p short_v reads =
     let p = t.prediction in
@@ -51,7 +51,7 @@ value_forward t v r s led short_p short_v reads =
     value_found t.range t.follow t.bits t.sign p (v -ℤ p) v r s read (back v p) fits
 
 -- a value that a unit has is read, and nothing is where it has none
-into_forward : (has : Bool) (bm bu : Block) (put : Block → ℤ → Block) (v : ℤ) (t : Told) (r s : Reading) → IsLed r → IsShort t.prediction → IsShort v
+into_forward : (has : Bool) (bm bu : Block) (put : Block → ℤ → Block) (v : ℤ) (t : ByDifference) (r s : Reading) → IsLed r → IsShort t.prediction → IsShort v
     → put bm v ≡ bu → (has ≡ false → bm ≡ bu) → Reads r (telling t (counted has v)) s → read_into has bm put (told_read t) r ≡ Ok (bu, s)
 into_forward true bm bu put v t r s led short_p short_v is none reads =
     rw (value_forward t v r s led short_p short_v reads) (ap (λ (b : Block). let x : Result (Block × Reading) Cause = Ok (b, s) in x) is)
@@ -92,7 +92,7 @@ modes_forward m u i j r s inv same near led reads =
     (ap (λ (t : Bool). let x : Result (Block × Reading) Cause = Ok (block_using t (block_at u i j).ref2, s) in x) bit)
 
 -- what is known of a place: both blocks, the second being the first with this part of it
-pub record Meets (part : Part) (m u : BlockTable) (i j : ℕ) : Type 0 where
+pub record Meets (part : ListKind) (m u : BlockTable) (i j : ℕ) : Type 0 where
   pub former : IsBlockTable m
   pub lawful : IsBlockTable u
   pub refs : m.refs ≡ u.refs
@@ -100,7 +100,7 @@ pub record Meets (part : Part) (m u : BlockTable) (i j : ℕ) : Type 0 where
   pub is : with_part part (block_at m i j) (block_at u i j) ≡ block_at u i j
 
 -- a value
-told_forward : (part : Part) (k : Tells part) (m u : BlockTable) (i j : ℕ) (r s : Reading) → Meets part m u i j → IsLed r → Reads r (part_at part u i j) s
+told_forward : (part : ListKind) (k : Tells part) (m u : BlockTable) (i j : ℕ) (r s : Reading) → Meets part m u i j → IsLed r → Reads r (part_at part u i j) s
     → unit_read part m i j r ≡ Ok (block_at u i j, s)
 told_forward part k m u i j r s meets led reads =
     let bm = block_at m i j in
@@ -111,11 +111,11 @@ told_forward part k m u i j r s meets led reads =
     let none : k.has bm ≡ false → bm ≡ bu = λ no. put_none part k u.refs bm bu old new has no ∙ meets.is in
     let told : Reads r (telling (k.told u i j) (counted (k.has bm) (k.value bu))) s =
     subst (λ (ds : List Decision). Reads r ds s) (k.carried u i j ∙ ap (λ (b : Bool). telling (k.told u i j) (counted b (k.value bu))) (sym has)) reads in
-    k.read m i j r ∙ ap (λ (t : Told). read_into (k.has bm) bm k.put (told_read t) r) (k.near m u i j meets.near)
+    k.read m i j r ∙ ap (λ (t : ByDifference). read_into (k.has bm) bm k.put (told_read t) r) (k.near m u i j meets.near)
     ∙ into_forward (k.has bm) bm bu k.put (k.value bu) (k.told u i j) r s led (k.short u i j meets.lawful) (k.is.short u.refs bu new) (sym (k.is.with_is bm bu) ∙ meets.is) none told
 
 -- what a block carries of a unit is read
-pub unit_forward : (part : Part) (m u : BlockTable) (i j : ℕ) (r s : Reading) → Meets part m u i j → IsLed r → Reads r (part_at part u i j) s
+pub unit_forward : (part : ListKind) (m u : BlockTable) (i j : ℕ) (r s : Reading) → Meets part m u i j → IsLed r → Reads r (part_at part u i j) s
     → unit_read part m i j r ≡ Ok (block_at u i j, s)
 unit_forward parts.Modes m u i j r s k led reads =
     modes_forward m u i j r s k.lawful k.refs k.near led reads ∙ ap (λ (b : Block). let x : Result (Block × Reading) Cause = Ok (b, s) in x) k.is

@@ -3,8 +3,8 @@ use Rattle.std.proofs.Common.{◌≡◌, ◌-ℤ◌, ℕ, zero, suc, ℤ, ◌<�
 use Rattle.dirac_arith.specs.Interval.{Decision, InContexts}
 use Rattle.dirac_arith.specs.Spelling.{follow_at, spelling}
 use Rattle.dirac_arith.proofs.InContexts.{AreBelow, in_append, in_signed, in_spelling}
-use Rattle.dirac_blocks.specs.declared.parts.Part.{Part}
-use Rattle.dirac_blocks.specs.declared.parts.Part.TheVariants as part
+use Rattle.dirac_blocks.specs.declared.parts.ListKind.{ListKind}
+use Rattle.dirac_blocks.specs.declared.parts.ListKind.TheVariants as part
 use Rattle.dirac_blocks.specs.Tables.{BlockTable}
 use Rattle.dirac_blocks.specs.Decisions.{Numbers, less_prediction, split_row, split_rows, superblock_rows}
 use Rattle.dirac_blocks.specs.Parts.{part_at}
@@ -34,13 +34,13 @@ in_either : (b : Bool) (d : Decision) → d.0 < 38 → InContexts (if b then d �
 in_either true d h = (h, tt)
 in_either false d h = tt
 
-in_part : (p : Part) (t : BlockTable) (i j : ℕ) → InContexts (part_at p t i j)
+in_part : (p : ListKind) (t : BlockTable) (i j : ℕ) → InContexts (part_at p t i j)
 in_part part.Modes t i j = (lit< tt, in_either (t.refs == 2) _ (lit< tt))
 in_part (part.Across r) t i j = in_less (27 ∷ 28 ∷ 29 ∷ 30 ∷ 31 ∷ []) 32 33 _ _ (record { each = vector_below }) (lit< tt) (lit< tt)
 in_part (part.Down r) t i j = in_less (27 ∷ 28 ∷ 29 ∷ 30 ∷ 31 ∷ []) 32 33 _ _ (record { each = vector_below }) (lit< tt) (lit< tt)
 in_part (part.Dc c) t i j = in_less (34 ∷ 35 ∷ []) 36 37 _ _ (record { each = λ n. two_below 34 35 n (lit< tt) (lit< tt) }) (lit< tt) (lit< tt)
 
-pub in_parts : (p : Part) (t : BlockTable) (n : ℕ) → InContexts (superblock_rows (part_at p t) t n)
+pub in_parts : (p : ListKind) (t : BlockTable) (n : ℕ) → InContexts (superblock_rows (part_at p t) t n)
 in_parts p t n =
     superblock_rows_joins (λ a b. InContexts a) (record { none = tt; both = λ a b c d x y. in_append a b x y }) (part_at p t) (part_at p t) t t.blocks n (in_part p t)
 

@@ -13,15 +13,15 @@ use Rattle.dirac_arith.proofs.Decidings.{decided_shut, number_is_shut, signed_is
 use Rattle.dirac_arith.proofs.Led.{led_begin}
 use Rattle.dirac_vectors.specs.Predictions.{mode_of}
 use Rattle.dirac_blocks.specs.declared.block.Block.{Block}
-use Rattle.dirac_blocks.specs.declared.parts.Part.{Part}
-use Rattle.dirac_blocks.specs.declared.parts.Part.TheVariants as parts
+use Rattle.dirac_blocks.specs.declared.parts.ListKind.{ListKind}
+use Rattle.dirac_blocks.specs.declared.parts.ListKind.TheVariants as parts
 use Rattle.dirac_blocks.specs.Carried.{ReadsTo}
 use Rattle.dirac_blocks.specs.Decisions.{differ, predicted, predicted_split, ref1_at, unit_decisions}
 use Rattle.dirac_blocks.specs.Grammar.{Progress, Step, repeated, with_unit, with_split, block_using, second_use_read, value_from, read_into, unit_read, unit_step, unit_row_step, superblock_step, units_step, split_step}
 use Rattle.dirac_blocks.specs.Laws.{OnesAreRefused, OnesRefuseSplits}
 use Rattle.dirac_blocks.specs.Parts.{part_at}
 use Rattle.dirac_blocks.specs.Reached.{progress}
-use Rattle.dirac_blocks.specs.Refused.{Told}
+use Rattle.dirac_blocks.specs.Refused.{ByDifference}
 use Rattle.dirac_blocks.specs.Tables.{BlockTable, block_at, split_at, unit_size}
 use Rattle.dirac_blocks.proofs.BackwardLoops.{read_is_carried}
 use Rattle.dirac_blocks.proofs.Repeating.{repeated_none, repeated_stops}
@@ -31,7 +31,7 @@ use Rattle.dirac_blocks.proofs.Valued.{Tells, told_read, across_tells, down_tell
 record Shut (step : Step) : Type 0 where
   each : (m : BlockTable) (r : Reading) → front r.block 16 ≡ 65535 → (step (progress m r) ≡ Err cause.CodeWord) ⊎ ((t : BlockTable) × (step (progress m r) ≡ Ok (progress t r)))
 
-into_shut : (has : Bool) (b : Block) (put : Block → ℤ → Block) (v : Told) (r : Reading) → front r.block 16 ≡ 65535
+into_shut : (has : Bool) (b : Block) (put : Block → ℤ → Block) (v : ByDifference) (r : Reading) → front r.block 16 ≡ 65535
     → (read_into has b put (told_read v) r ≡ Err cause.CodeWord) ⊎ (read_into has b put (told_read v) r ≡ Ok (b, r))
 into_shut true b put v r ones =
     let read : told_read v r ≡ Err cause.CodeWord =
@@ -39,13 +39,13 @@ into_shut true b put v r ones =
     inl (ap (λ (x : Result (ℤ × Reading) Cause). x >>= (λ w. let y : Result (Block × Reading) Cause = Ok (put b w.0, w.1) in y)) read)
 into_shut false b put v r ones = inr refl
 
-told_shut : (part : Part) (t : Tells part) (m : BlockTable) (i j : ℕ) (r : Reading) → front r.block 16 ≡ 65535
+told_shut : (part : ListKind) (t : Tells part) (m : BlockTable) (i j : ℕ) (r : Reading) → front r.block 16 ≡ 65535
     → (unit_read part m i j r ≡ Err cause.CodeWord) ⊎ ((b : Block) × (unit_read part m i j r ≡ Ok (b, r)))
 told_shut part t m i j r ones =
     let b = block_at m i j in
     elim (into_shut (t.has b) b t.put (t.told m i j) r ones) [ inl e ↦ inl (t.read m i j r ∙ e) | inr e ↦ inr (b, t.read m i j r ∙ e) ]
 
-unit_shut : (part : Part) (m : BlockTable) (i j : ℕ) (r : Reading) → front r.block 16 ≡ 65535
+unit_shut : (part : ListKind) (m : BlockTable) (i j : ℕ) (r : Reading) → front r.block 16 ≡ 65535
     → (unit_read part m i j r ≡ Err cause.CodeWord) ⊎ ((b : Block) × (unit_read part m i j r ≡ Ok (b, r)))
 unit_shut parts.Modes m i j r ones =
     inl (ap (λ (x : Result (Bool × Reading) Cause). x >>= (λ first. second_use_read m i j first.1 >>= (λ second. let y : Result (Block × Reading) Cause = Ok (block_using (differ first.0 (predicted mode_of (ref1_at m) i j)) second.0, second.1) in y)))
@@ -54,7 +54,7 @@ unit_shut (parts.Across k) m i j r ones = told_shut (parts.Across k) (across_tel
 unit_shut (parts.Down k) m i j r ones = told_shut (parts.Down k) (down_tells k) m i j r ones
 unit_shut (parts.Dc c) m i j r ones = told_shut (parts.Dc c) (dc_tells c) m i j r ones
 
-unit_step_shut : (part : Part) (size i j : ℕ) → Shut (unit_step part size i j)
+unit_step_shut : (part : ListKind) (size i j : ℕ) → Shut (unit_step part size i j)
 unfolding unit_step
 unit_step_shut part size i j = record {
   each = λ m r ones.
@@ -81,7 +81,7 @@ repeated_shut step (suc n) all = record {
       ];
 }
 
-superblock_shut : (part : Part) (sy sx : ℕ) → Shut (superblock_step part sy sx)
+superblock_shut : (part : ListKind) (sy sx : ℕ) → Shut (superblock_step part sy sx)
 unfolding superblock_step
 superblock_shut part sy sx = record {
   each = λ m r ones.

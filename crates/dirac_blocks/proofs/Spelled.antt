@@ -20,9 +20,9 @@ use Rattle.dirac_bits.specs.Writing.{gap, IsWhole}
 use Rattle.dirac_bits.proofs.Fields.{behind_then, gap_length-at}
 use Rattle.dirac_vectors.specs.Predictions.{split_of}
 use Rattle.dirac_blocks.specs.declared.block.Block.{Block}
-use Rattle.dirac_blocks.specs.declared.parts.Component.TheVariants as components
-use Rattle.dirac_blocks.specs.declared.parts.Part.{Part}
-use Rattle.dirac_blocks.specs.declared.parts.Part.TheVariants as parts
+use Rattle.dirac_types.specs.declared.formats.Component.TheVariants as components
+use Rattle.dirac_blocks.specs.declared.parts.ListKind.{ListKind}
+use Rattle.dirac_blocks.specs.declared.parts.ListKind.TheVariants as parts
 use Rattle.dirac_blocks.specs.declared.parts.Reference.{Reference}
 use Rattle.dirac_blocks.specs.declared.parts.Reference.TheVariants as references
 use Rattle.dirac_blocks.specs.Carried.{ReadsTo}
@@ -148,14 +148,14 @@ abbrev stage5 : Block → Block
 stage5 b = next_stage (parts.Down references.Second) stage4 b
 
 -- a list behind the modes
-next_read : (part : Part) (t : BlockTable) (f : Block → Block) → IsBlockTable t → IsStage t f → ReadsTo (units_step part) (by f t) (flush (unit_decisions t (part_at part t))) (by (next_stage part f) t)
+next_read : (part : ListKind) (t : BlockTable) (f : Block → Block) → IsBlockTable t → IsStage t f → ReadsTo (units_step part) (by f t) (flush (unit_decisions t (part_at part t))) (by (next_stage part f) t)
 next_read part t f inv s = stage_reads part t f inv s.lawful (stage_next part t f s).lawful (part_same part t f s)
 
 first_stage : (t : BlockTable) → IsStage t stage1
 first_stage t = stage_modes t nothing_yet (λ b h. grey_lawful t.refs)
 
 -- the block of a list
-abbrev block_of : BlockTable → Part → List Decision
+abbrev block_of : BlockTable → ListKind → List Decision
 block_of t part = unit_decisions t (part_at part t)
 
 -- the vectors of both references

@@ -12,9 +12,9 @@ use Rattle.dirac_arith.specs.Written.{flush}
 use Rattle.dirac_arith.proofs.Encodings.{flushed_is_carried}
 use Rattle.dirac_vectors.specs.Predictions.{component_of, dc_of, mode_of}
 use Rattle.dirac_blocks.specs.declared.block.Block.{Block}
-use Rattle.dirac_blocks.specs.declared.parts.Component.TheVariants as components
-use Rattle.dirac_blocks.specs.declared.parts.Part.{Part}
-use Rattle.dirac_blocks.specs.declared.parts.Part.TheVariants as parts
+use Rattle.dirac_types.specs.declared.formats.Component.TheVariants as components
+use Rattle.dirac_blocks.specs.declared.parts.ListKind.{ListKind}
+use Rattle.dirac_blocks.specs.declared.parts.ListKind.TheVariants as parts
 use Rattle.dirac_blocks.specs.declared.parts.Reference.TheVariants as references
 use Rattle.dirac_blocks.specs.Carried.{with_part, ReadsTo}
 use Rattle.dirac_blocks.specs.Decisions.{left_of, above_of, corner_of, predicted, counted, differ, less_prediction, ref1_at, ref2_at, unit_decisions}
@@ -76,21 +76,21 @@ pub record IsStage (t : BlockTable) (f : Block → Block) : Type 0 where
   pub lawful : (b : Block) → IsBlock t.refs b → IsBlock t.refs (f b)
 
 -- a lawful block, with a value of another that uses the same references
-told_lawful : (part : Part) (k : Tells part) (refs : ℕ) (b c : Block) → IsBlock refs b → IsBlock refs c → b.ref1 ≡ c.ref1 → b.ref2 ≡ c.ref2 → IsBlock refs (with_part part b c)
+told_lawful : (part : ListKind) (k : Tells part) (refs : ℕ) (b c : Block) → IsBlock refs b → IsBlock refs c → b.ref1 ≡ c.ref1 → b.ref2 ≡ c.ref2 → IsBlock refs (with_part part b c)
 told_lawful part k refs b c h g p q =
     elim (cases_Bool (k.has b)) [
       | inl has ↦ subst (IsBlock refs) (sym (k.is.with_is b c)) (k.is.lawful refs b (k.value c) h has (k.is.short refs c g))
       | inr lacks ↦ subst (IsBlock refs) (put_none part k refs b c h g (k.is.alike b c p q) lacks) h
     ]
 
-part_lawful : (part : Part) (refs : ℕ) (b c : Block) → IsBlock refs b → IsBlock refs c → b.ref1 ≡ c.ref1 → b.ref2 ≡ c.ref2 → IsBlock refs (with_part part b c)
+part_lawful : (part : ListKind) (refs : ℕ) (b c : Block) → IsBlock refs b → IsBlock refs c → b.ref1 ≡ c.ref1 → b.ref2 ≡ c.ref2 → IsBlock refs (with_part part b c)
 part_lawful parts.Modes refs b c h g p q = using_lawful refs c.ref1 c.ref2 g.second
 part_lawful (parts.Across k) refs b c h g p q = told_lawful (parts.Across k) (across_tells k) refs b c h g p q
 part_lawful (parts.Down k) refs b c h g p q = told_lawful (parts.Down k) (down_tells k) refs b c h g p q
 part_lawful (parts.Dc k) refs b c h g p q = told_lawful (parts.Dc k) (dc_tells k) refs b c h g p q
 
 -- where both use the same references the block with a part of the other does so
-refs_stay : (part : Part) (b c : Block) → b.ref1 ≡ c.ref1 → b.ref2 ≡ c.ref2 → ((with_part part b c).ref1 ≡ c.ref1) × ((with_part part b c).ref2 ≡ c.ref2)
+refs_stay : (part : ListKind) (b c : Block) → b.ref1 ≡ c.ref1 → b.ref2 ≡ c.ref2 → ((with_part part b c).ref1 ≡ c.ref1) × ((with_part part b c).ref2 ≡ c.ref2)
 refs_stay parts.Modes b c p q = (refl, refl)
 refs_stay (parts.Across references.First) b c p q = (p, q)
 refs_stay (parts.Across references.Second) b c p q = (p, q)
@@ -101,10 +101,10 @@ refs_stay (parts.Dc components.U) b c p q = (p, q)
 refs_stay (parts.Dc components.V) b c p q = (p, q)
 
 -- the next stage
-abbrev pub next_stage : Part → (Block → Block) → Block → Block
+abbrev pub next_stage : ListKind → (Block → Block) → Block → Block
 next_stage part f b = with_part part (f b) b
 
-pub stage_next : (part : Part) (t : BlockTable) (f : Block → Block) → IsStage t f → IsStage t (next_stage part f)
+pub stage_next : (part : ListKind) (t : BlockTable) (f : Block → Block) → IsStage t f → IsStage t (next_stage part f)
 stage_next part t f s =
     record {
       ref1 = λ b. (refs_stay part (f b) b (s.ref1 b) (s.ref2 b)).0;
@@ -155,7 +155,7 @@ modes_same t f i j =
     ap₂ (λ (a b : Bool). let d : Decision = (25, a) in let e : Decision = (26, b) in d ∷ (if t.refs == 2 then e ∷ [] else [])) first second
 
 -- the values of a stage are those of the finished table
-values_same : (part : Part) (k : Tells part) (t : BlockTable) (f : Block → Block) → IsStage t f → (x y : ℕ)
+values_same : (part : ListKind) (k : Tells part) (t : BlockTable) (f : Block → Block) → IsStage t f → (x y : ℕ)
     → (let u = by (next_stage part f) t in counted (k.has (block_at u x y)) (k.value (block_at u x y)) ≡ counted (k.has (block_at t x y)) (k.value (block_at t x y)))
 values_same part k t f s x y =
     by_view (λ b. counted (k.has b) (k.value b)) (next_stage part f) t
@@ -164,7 +164,7 @@ values_same part k t f s x y =
     (ap k.value (k.is.with_is (f b) b) ∙ k.is.value_put (f b) (k.value b))) x y
 
 -- a list tells the same of the stage behind it as of the finished table
-pub part_same : (part : Part) (t : BlockTable) (f : Block → Block) → IsStage t f → (i j : ℕ) → part_at part (by (next_stage part f) t) i j ≡ part_at part t i j
+pub part_same : (part : ListKind) (t : BlockTable) (f : Block → Block) → IsStage t f → (i j : ℕ) → part_at part (by (next_stage part f) t) i j ≡ part_at part t i j
 part_same parts.Modes t f s i j = modes_same t f i j
 part_same (parts.Across k) t f s i j =
     let u = by (next_stage (parts.Across k) f) t in
@@ -179,7 +179,7 @@ part_same (parts.Dc c) t f s i j =
     dcs_same (dc_at c u) (dc_at c t) (λ p q. dc_is_at c u p q ∙ values_same (parts.Dc c) (dc_tells c) t f s p q ∙ sym (dc_is_at c t p q)) i j
 
 -- the block that is written for a list leads from one stage to the next
-pub stage_reads : (part : Part) (t : BlockTable) (f : Block → Block) → IsBlockTable t → ((b : Block) → IsBlock t.refs b → IsBlock t.refs (f b))
+pub stage_reads : (part : ListKind) (t : BlockTable) (f : Block → Block) → IsBlockTable t → ((b : Block) → IsBlock t.refs b → IsBlock t.refs (f b))
     → ((b : Block) → IsBlock t.refs b → IsBlock t.refs (next_stage part f b)) → ((i j : ℕ) → part_at part (by (next_stage part f) t) i j ≡ part_at part t i j)
     → ReadsTo (units_step part) (by f t) (flush (unit_decisions t (part_at part t))) (by (next_stage part f) t)
 stage_reads part t f inv lawful lawful' each =
@@ -199,7 +199,7 @@ stage_reads part t f inv lawful lawful' each =
       carried = subst (λ (es : List Decision). Carries (flush ds) es) (sym same) (flushed_is_carried ds (in_parts part t t.down));
     })
   where
-    told : (part : Part) (b c : Block) → with_part part b (with_part part b c) ≡ with_part part b c
+    told : (part : ListKind) (b c : Block) → with_part part b (with_part part b c) ≡ with_part part b c
     told parts.Modes b c = refl
     told (parts.Across references.First) b c = refl
     told (parts.Across references.Second) b c = refl

@@ -6,8 +6,8 @@ use Rattle.dirac_arith.specs.Deciding.{signed_read}
 use Rattle.dirac_arith.specs.Reading.{Reading}
 use Rattle.dirac_vectors.specs.Neighbours.{IsShort}
 use Rattle.dirac_blocks.specs.declared.block.Block.{Block}
-use Rattle.dirac_blocks.specs.declared.parts.Component.{Component}
-use Rattle.dirac_blocks.specs.declared.parts.Component.TheVariants as components
+use Rattle.dirac_types.specs.declared.formats.Component.{Component}
+use Rattle.dirac_types.specs.declared.formats.Component.TheVariants as components
 use Rattle.dirac_blocks.specs.declared.parts.Reference.{Reference}
 use Rattle.dirac_blocks.specs.declared.parts.Reference.TheVariants as references
 use Rattle.dirac_blocks.specs.Grammar.{is_dc, is_short, read_into, uses, value_read, with_across, with_dc, with_down}

@@ -9,30 +9,30 @@ use Rattle.dirac_arith.specs.Reading.{Reading}
 use Rattle.dirac_vectors.specs.Neighbours.{IsShort}
 use Rattle.dirac_vectors.specs.Predictions.{vector_of, dc_of}
 use Rattle.dirac_blocks.specs.declared.block.Block.{Block}
-use Rattle.dirac_blocks.specs.declared.parts.Component.{Component}
-use Rattle.dirac_blocks.specs.declared.parts.Component.TheVariants as components
-use Rattle.dirac_blocks.specs.declared.parts.Part.{Part}
-use Rattle.dirac_blocks.specs.declared.parts.Part.TheVariants as parts
+use Rattle.dirac_types.specs.declared.formats.Component.{Component}
+use Rattle.dirac_types.specs.declared.formats.Component.TheVariants as components
+use Rattle.dirac_blocks.specs.declared.parts.ListKind.{ListKind}
+use Rattle.dirac_blocks.specs.declared.parts.ListKind.TheVariants as parts
 use Rattle.dirac_blocks.specs.declared.parts.Reference.{Reference}
 use Rattle.dirac_blocks.specs.declared.parts.Reference.TheVariants as references
 use Rattle.dirac_blocks.specs.Carried.{with_part}
 use Rattle.dirac_blocks.specs.Decisions.{counted, less_prediction, predicted}
 use Rattle.dirac_blocks.specs.Grammar.{value_read, read_into, unit_read, uses, is_dc, with_across, with_down, with_dc}
 use Rattle.dirac_blocks.specs.Parts.{vector_at, dc_at, part_at}
-use Rattle.dirac_blocks.specs.Refused.{Told, component_told, dc_told, value_told}
+use Rattle.dirac_blocks.specs.Refused.{ByDifference, component_told, dc_told, value_told}
 use Rattle.dirac_blocks.specs.Tables.{BlockTable, IsBlock, IsBlockTable, block_at}
 use Rattle.dirac_blocks.proofs.Nearby.{Near, vector_near, dc_near, vector_short, dc_short}
 
 -- a value that is told is read
-abbrev pub told_read : Told → Reading → Result (ℤ × Reading) Cause
+abbrev pub told_read : ByDifference → Reading → Result (ℤ × Reading) Cause
 told_read v r = value_read v.range v.follow v.bits v.sign v.prediction r
 
 -- the decisions that tell a value, where there is one
-abbrev pub telling : Told → Option ℤ → List Decision
+abbrev pub telling : ByDifference → Option ℤ → List Decision
 telling v o = less_prediction v.follow v.bits v.sign v.prediction o
 
 -- what a block has as a value: whether it has it, which it is, and the block with another one
-pub record IsValue (part : Part) (has : Block → Bool) (value : Block → ℤ) (put : Block → ℤ → Block) : Type 0 where
+pub record IsValue (part : ListKind) (has : Block → Bool) (value : Block → ℤ) (put : Block → ℤ → Block) : Type 0 where
   pub has_put : (b : Block) (v : ℤ) → has (put b v) ≡ has b
   pub value_put : (b : Block) (v : ℤ) → value (put b v) ≡ v
   pub own : (b : Block) → put b (value b) ≡ b
@@ -43,11 +43,11 @@ pub record IsValue (part : Part) (has : Block → Bool) (value : Block → ℤ) 
   pub lawful : (refs : ℕ) (b : Block) (v : ℤ) → IsBlock refs b → has b ≡ true → IsShort v → IsBlock refs (put b v)
 
 -- a list that tells a value of each unit
-pub record Tells (part : Part) : Type 0 where
+pub record Tells (part : ListKind) : Type 0 where
   pub has : Block → Bool
   pub value : Block → ℤ
   pub put : Block → ℤ → Block
-  pub told : BlockTable → ℕ → ℕ → Told
+  pub told : BlockTable → ℕ → ℕ → ByDifference
   pub is : IsValue part has value put
   pub read : (m : BlockTable) (i j : ℕ) (r : Reading) → unit_read part m i j r ≡ read_into (has (block_at m i j)) (block_at m i j) put (told_read (told m i j)) r
   pub carried : (u : BlockTable) (i j : ℕ) → part_at part u i j ≡ telling (told u i j) (counted (has (block_at u i j)) (value (block_at u i j)))
@@ -56,11 +56,11 @@ pub record Tells (part : Part) : Type 0 where
   pub short : (u : BlockTable) (i j : ℕ) → IsBlockTable u → IsShort (told u i j).prediction
 
 -- blocks that differ in the value alone have it or don't alike
-pub has_same : (part : Part) (k : Tells part) (b c : Block) → with_part part b c ≡ c → k.has b ≡ k.has c
+pub has_same : (part : ListKind) (k : Tells part) (b c : Block) → with_part part b c ≡ c → k.has b ≡ k.has c
 has_same part k b c is = sym (k.is.has_put b (k.value c)) ∙ ap k.has (sym (k.is.with_is b c) ∙ is)
 
 -- a block that hasn't the value is as another with the other's value
-pub put_none : (part : Part) (k : Tells part) (refs : ℕ) (b c : Block) → IsBlock refs b → IsBlock refs c → k.has b ≡ k.has c → k.has b ≡ false → b ≡ with_part part b c
+pub put_none : (part : ListKind) (k : Tells part) (refs : ℕ) (b c : Block) → IsBlock refs b → IsBlock refs c → k.has b ≡ k.has c → k.has b ≡ false → b ≡ with_part part b c
 put_none part k refs b c h g has lacks =
     sym (k.is.own b) ∙ ap (λ (v : ℤ). k.put b v) (k.is.none refs b h lacks ∙ sym (k.is.none refs c g (sym has ∙ lacks))) ∙ sym (k.is.with_is b c)
 
@@ -104,7 +104,7 @@ dc_is_at components.V t i j = refl
 
 abbrev pub across_tells : (k : Reference) → Tells (parts.Across k)
 across_tells k =
-    let told : BlockTable → ℕ → ℕ → Told = λ t i j. component_told (predicted vector_of (vector_at k t) i j).x in
+    let told : BlockTable → ℕ → ℕ → ByDifference = λ t i j. component_told (predicted vector_of (vector_at k t) i j).x in
     record {
       has = uses k;
       value = λ b. (vector_in k b).x;
@@ -120,7 +120,7 @@ across_tells k =
 
 abbrev pub down_tells : (k : Reference) → Tells (parts.Down k)
 down_tells k =
-    let told : BlockTable → ℕ → ℕ → Told = λ t i j. component_told (predicted vector_of (vector_at k t) i j).y in
+    let told : BlockTable → ℕ → ℕ → ByDifference = λ t i j. component_told (predicted vector_of (vector_at k t) i j).y in
     record {
       has = uses k;
       value = λ b. (vector_in k b).y;
@@ -136,7 +136,7 @@ down_tells k =
 
 abbrev pub dc_tells : (c : Component) → Tells (parts.Dc c)
 dc_tells c =
-    let told : BlockTable → ℕ → ℕ → Told = λ t i j. dc_told (predicted dc_of (dc_at c t) i j) in
+    let told : BlockTable → ℕ → ℕ → ByDifference = λ t i j. dc_told (predicted dc_of (dc_at c t) i j) in
     record {
       has = is_dc;
       value = dc_in c;
@@ -151,7 +151,7 @@ dc_tells c =
     }
 
 -- a part that is told twice is as told last
-pub part_again : (part : Part) (a b c : Block) → with_part part (with_part part a b) c ≡ with_part part a c
+pub part_again : (part : ListKind) (a b c : Block) → with_part part (with_part part a b) c ≡ with_part part a c
 part_again parts.Modes a b c = refl
 part_again (parts.Across references.First) a b c = refl
 part_again (parts.Across references.Second) a b c = refl

@@ -5,9 +5,9 @@ use Rattle.dirac_arith.specs.Carried.{Carries}
 use Rattle.dirac_arith.specs.Deciding.{begin}
 use Rattle.dirac_arith.specs.Reading.{Reading}
 use Rattle.dirac_blocks.specs.declared.block.Block.{Block}
-use Rattle.dirac_blocks.specs.declared.parts.Component.TheVariants as components
-use Rattle.dirac_blocks.specs.declared.parts.Part.{Part}
-use Rattle.dirac_blocks.specs.declared.parts.Part.TheVariants as parts
+use Rattle.dirac_types.specs.declared.formats.Component.TheVariants as components
+use Rattle.dirac_blocks.specs.declared.parts.ListKind.{ListKind}
+use Rattle.dirac_blocks.specs.declared.parts.ListKind.TheVariants as parts
 use Rattle.dirac_blocks.specs.declared.parts.Reference.TheVariants as references
 use Rattle.dirac_blocks.specs.Decisions.{Numbers, AreSplitNumbers, split_rows, unit_decisions}
 use Rattle.dirac_blocks.specs.Grammar.{Step, block_using, with_across, with_down, with_dc}
@@ -16,7 +16,7 @@ use Rattle.dirac_blocks.specs.Reached.{SameBlocks, SameShape, progress}
 use Rattle.dirac_blocks.specs.Tables.{BlockTable, IsBlockTable, block_at}
 
 -- the first block, with what a list tells of the second
-abbrev pub with_part : Part → Block → Block → Block
+abbrev pub with_part : ListKind → Block → Block → Block
 with_part parts.Modes b c = block_using c.ref1 c.ref2
 with_part (parts.Across references.First) b c = with_across references.First b c.v1.x
 with_part (parts.Across references.Second) b c = with_across references.Second b c.v2.x
@@ -27,12 +27,12 @@ with_part (parts.Dc components.U) b c = with_dc components.U b c.dc_u
 with_part (parts.Dc components.V) b c = with_dc components.V b c.dc_v
 
 -- the second table is the first one but for what this list tells
-pub record IsWithPart (part : Part) (t u : BlockTable) : Type 0 where
+pub record IsWithPart (part : ListKind) (t u : BlockTable) : Type 0 where
   pub shape : SameShape t u
   pub blocks : (i j : ℕ) → i < 4 * t.across → j < 4 * t.down → with_part part (block_at t i j) (block_at u i j) ≡ block_at u i j
 
 -- the block carries what this list tells of a lawful table, which but for that is the former one
-pub record CarriesPart (part : Part) (former : BlockTable) (block : List ℕ) (t : BlockTable) : Type 0 where
+pub record CarriesPart (part : ListKind) (former : BlockTable) (block : List ℕ) (t : BlockTable) : Type 0 where
   pub lawful : IsBlockTable t
   pub rest : IsWithPart part former t
   pub carried : Carries block (unit_decisions t (part_at part t))

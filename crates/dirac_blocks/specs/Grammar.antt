@@ -11,10 +11,10 @@ use Rattle.dirac_vectors.specs.Predictions.{mode_of, vector_of, dc_of}
 use Rattle.dirac_blocks.specs.declared.block.Block.{Block}
 use Rattle.dirac_blocks.specs.declared.parts.Reference.{Reference}
 use Rattle.dirac_blocks.specs.declared.parts.Reference.TheVariants as references
-use Rattle.dirac_blocks.specs.declared.parts.Component.{Component}
-use Rattle.dirac_blocks.specs.declared.parts.Component.TheVariants as components
-use Rattle.dirac_blocks.specs.declared.parts.Part.{Part}
-use Rattle.dirac_blocks.specs.declared.parts.Part.TheVariants as parts
+use Rattle.dirac_types.specs.declared.formats.Component.{Component}
+use Rattle.dirac_types.specs.declared.formats.Component.TheVariants as components
+use Rattle.dirac_blocks.specs.declared.parts.ListKind.{ListKind}
+use Rattle.dirac_blocks.specs.declared.parts.ListKind.TheVariants as parts
 use Rattle.dirac_blocks.specs.Tables.{BlockTable, grey, split_at, block_at, unit_size}
 use Rattle.dirac_blocks.specs.Decisions.{predicted, predicted_split, differ, ref1_at, ref2_at}
 use Rattle.dirac_blocks.specs.Parts.{vector_at, dc_at}
@@ -130,7 +130,7 @@ read_into true b put value r = value r >> λ v. Ok (put b v.0, v.1)
 read_into false b put value r = Ok (b, r)
 
 -- the block of a unit, with what this list tells of it; block i of row j is its first
-abbrev pub unit_read : Part → BlockTable → ℕ → ℕ → Reading → Result (Block × Reading) Cause
+abbrev pub unit_read : ListKind → BlockTable → ℕ → ℕ → Reading → Result (Block × Reading) Cause
 unit_read parts.Modes t i j r = mode_read t i j r
 unit_read (parts.Across k) t i j r =
     read_into (uses k (block_at t i j)) (block_at t i j) (with_across k) (component_read (predicted vector_of (vector_at k t) i j).x) r
@@ -140,26 +140,26 @@ unit_read (parts.Dc c) t i j r =
     read_into (is_dc (block_at t i j)) (block_at t i j) (with_dc c) (value_read DcRange (34 ∷ 35 ∷ []) 36 37 (predicted dc_of (dc_at c t) i j)) r
 
 -- a unit
-unfoldable pub unit_step : Part → ℕ → ℕ → ℕ → Step
+unfoldable pub unit_step : ListKind → ℕ → ℕ → ℕ → Step
 unit_step part size i j x =
     unit_read part x.table i j x.reading
     >> λ b. Ok (record { table = with_unit x.table size i j b.0; reading = b.1 })
 
 -- n units of a row, from block i of row j on
-abbrev pub unit_row_step : Part → ℕ → ℕ → ℕ → ℕ → Step
+abbrev pub unit_row_step : ListKind → ℕ → ℕ → ℕ → ℕ → Step
 unit_row_step part size i j n x = repeated (λ u. unit_step part size (i + u * size) j) n x
 
 -- n rows of so many units each
-abbrev pub unit_rows_step : Part → ℕ → ℕ → ℕ → ℕ → ℕ → Step
+abbrev pub unit_rows_step : ListKind → ℕ → ℕ → ℕ → ℕ → ℕ → Step
 unit_rows_step part size across i j n x = repeated (λ v. unit_row_step part size i (j + v * size) across) n x
 
 -- superblock sx of row sy
-unfoldable pub superblock_step : Part → ℕ → ℕ → Step
+unfoldable pub superblock_step : ListKind → ℕ → ℕ → Step
 superblock_step part sy sx x =
     let s = split_at x.table sx sy in unit_rows_step part (unit_size s) (2 ^ s) (4 * sx) (4 * sy) (2 ^ s) x
 
 -- all superblocks
-abbrev pub units_step : Part → Step
+abbrev pub units_step : ListKind → Step
 units_step part x = repeated (λ sy. repeated (superblock_step part sy) x.table.across) x.table.down x
 
 -- the table that a block reads to, or the refusal of the block

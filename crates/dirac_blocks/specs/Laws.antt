@@ -3,7 +3,7 @@ use Rattle.std.specs.Prelude.{◌≡◌, ◌≢◌, ◌⊎◌, ℕ, List, []}
 use Rattle.dirac_types.specs.declared.faults.Cause.{Cause}
 use Rattle.dirac_types.specs.declared.faults.Cause.TheVariants.{CodeWord, NumberTooLong}
 use Rattle.dirac_arith.specs.Front.{front}
-use Rattle.dirac_blocks.specs.declared.parts.Part.{Part}
+use Rattle.dirac_blocks.specs.declared.parts.ListKind.{ListKind}
 use Rattle.dirac_blocks.specs.Carried.{CarriesPart, CarriesSplits, ReadsTo, IsRefused}
 use Rattle.dirac_blocks.specs.Decisions.{unit_decisions}
 use Rattle.dirac_blocks.specs.Grammar.{splits_step, units_step}
@@ -15,7 +15,7 @@ use Rattle.dirac_blocks.specs.Tables.{BlockTable, IsBlockTable}
 -- what a list tells of each unit is read from the block that carries it
 abbrev pub CarriedIsRead : Type 0
 CarriedIsRead =
-    (part : Part) (former t : BlockTable) (block : List ℕ) →
+    (part : ListKind) (former t : BlockTable) (block : List ℕ) →
     IsBlockTable former →
     CarriesPart part former block t →
     ReadsTo (units_step part) former block t
@@ -23,7 +23,7 @@ CarriedIsRead =
 -- and what is read is carried
 abbrev pub ReadIsCarried : Type 0
 ReadIsCarried =
-    (part : Part) (former t : BlockTable) (block : List ℕ) →
+    (part : ListKind) (former t : BlockTable) (block : List ℕ) →
     IsBlockTable former →
     ReadsTo (units_step part) former block t →
     CarriesPart part former block t
@@ -48,7 +48,7 @@ ReadSplitsAreCarried =
 -- a list is refused, but for a block that begins with sixteen ones, as the block breaks off
 abbrev pub RefusedIsBroken : Type 0
 RefusedIsBroken =
-    (part : Part) (former : BlockTable) (block : List ℕ) (cause : Cause) →
+    (part : ListKind) (former : BlockTable) (block : List ℕ) (cause : Cause) →
     IsBlockTable former →
     front block 16 ≢ 65535 →
     IsRefused (units_step part) former block cause →
@@ -57,7 +57,7 @@ RefusedIsBroken =
 -- and where a block breaks off its list is refused
 abbrev pub BrokenIsRefused : Type 0
 BrokenIsRefused =
-    (part : Part) (former : BlockTable) (block : List ℕ) (cause : Cause) →
+    (part : ListKind) (former : BlockTable) (block : List ℕ) (cause : Cause) →
     IsBlockTable former →
     CarriesBreak part former block cause →
     IsRefused (units_step part) former block cause
@@ -65,7 +65,7 @@ BrokenIsRefused =
 -- a block that begins with sixteen ones is refused for them exactly where its list needs a decision
 abbrev pub OnesAreRefused : Type 0
 OnesAreRefused =
-    (part : Part) (former : BlockTable) (block : List ℕ) →
+    (part : ListKind) (former : BlockTable) (block : List ℕ) →
     IsBlockTable former →
     front block 16 ≡ 65535 →
     IsRefused (units_step part) former block CodeWord

@@ -4,10 +4,10 @@ use Rattle.dirac_types.specs.declared.formats.Vector.{Vector}
 use Rattle.dirac_arith.specs.Interval.{Decision}
 use Rattle.dirac_blocks.specs.declared.parts.Reference.{Reference}
 use Rattle.dirac_blocks.specs.declared.parts.Reference.TheVariants as reference
-use Rattle.dirac_blocks.specs.declared.parts.Component.{Component}
-use Rattle.dirac_blocks.specs.declared.parts.Component.TheVariants as component
-use Rattle.dirac_blocks.specs.declared.parts.Part.{Part}
-use Rattle.dirac_blocks.specs.declared.parts.Part.TheVariants as part
+use Rattle.dirac_types.specs.declared.formats.Component.{Component}
+use Rattle.dirac_types.specs.declared.formats.Component.TheVariants as component
+use Rattle.dirac_blocks.specs.declared.parts.ListKind.{ListKind}
+use Rattle.dirac_blocks.specs.declared.parts.ListKind.TheVariants as part
 use Rattle.dirac_blocks.specs.Tables.{BlockTable}
 use Rattle.dirac_blocks.specs.Decisions.{ref1_at, ref2_at, v1_at, v2_at, dc_y_at, dc_u_at, dc_v_at, mode_part, vector_part, dc_part}
 
@@ -28,7 +28,7 @@ dc_at component.U t i j = dc_u_at t i j
 dc_at component.V t i j = dc_v_at t i j
 
 -- what a part tells of a unit
-abbrev pub part_at : Part → BlockTable → ℕ → ℕ → List Decision
+abbrev pub part_at : ListKind → BlockTable → ℕ → ℕ → List Decision
 part_at part.Modes t i j = mode_part t i j
 part_at (part.Across r) t i j = vector_part (vector_at r t) (λ v. v.x) i j
 part_at (part.Down r) t i j = vector_part (vector_at r t) (λ v. v.y) i j

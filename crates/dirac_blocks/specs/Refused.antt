@@ -6,8 +6,8 @@ use Rattle.dirac_arith.specs.Carried.{Carries}
 use Rattle.dirac_arith.specs.Interval.{Decision}
 use Rattle.dirac_arith.specs.Spelling.{spelt, signed_spelling}
 use Rattle.dirac_vectors.specs.Predictions.{vector_of, dc_of}
-use Rattle.dirac_blocks.specs.declared.parts.Part.{Part}
-use Rattle.dirac_blocks.specs.declared.parts.Part.TheVariants as parts
+use Rattle.dirac_blocks.specs.declared.parts.ListKind.{ListKind}
+use Rattle.dirac_blocks.specs.declared.parts.ListKind.TheVariants as parts
 use Rattle.dirac_blocks.specs.Carried.{IsWithPart}
 use Rattle.dirac_blocks.specs.Decisions.{Numbers, predicted, predicted_split, split_row, split_rows, unit_row, unit_rows, superblock_row, superblock_rows}
 use Rattle.dirac_blocks.specs.Grammar.{is_dc, is_short, uses}
@@ -16,7 +16,7 @@ use Rattle.dirac_blocks.specs.Reached.{SameBlocks}
 use Rattle.dirac_blocks.specs.Tables.{BlockTable, IsBlockTable, block_at, split_at, unit_size}
 
 -- a value that is told by its difference: the contexts of that, the prediction, and the cause where the sum hasn't 16 bits
-pub record Told : Type 0 where
+pub record ByDifference : Type 0 where
   pub follow : List ℕ
   pub bits : ℕ
   pub sign : ℕ
@@ -24,15 +24,15 @@ pub record Told : Type 0 where
   pub range : Cause
 
 -- a component of a vector
-abbrev pub component_told : ℤ → Told
+abbrev pub component_told : ℤ → ByDifference
 component_told p = record { follow = 27 ∷ 28 ∷ 29 ∷ 30 ∷ 31 ∷ []; bits = 32; sign = 33; prediction = p; range = VectorRange }
 
 -- a DC value
-abbrev pub dc_told : ℤ → Told
+abbrev pub dc_told : ℤ → ByDifference
 dc_told p = record { follow = 34 ∷ 35 ∷ []; bits = 36; sign = 37; prediction = p; range = DcRange }
 
 -- the value that a list tells of a unit, where the unit has it
-abbrev pub value_told : Part → BlockTable → ℕ → ℕ → Option Told
+abbrev pub value_told : ListKind → BlockTable → ℕ → ℕ → Option ByDifference
 value_told parts.Modes t i j = None
 value_told (parts.Across k) t i j = if uses k (block_at t i j) then Some (component_told (predicted vector_of (vector_at k t) i j).x) else None
 value_told (parts.Down k) t i j = if uses k (block_at t i j) then Some (component_told (predicted vector_of (vector_at k t) i j).y) else None
@@ -44,22 +44,22 @@ pub data Break : Type 0 where
   beyond : ℤ → Break
 
 -- as many digits as no number has, or a number that can be spelt and is out of range
-abbrev pub IsBreak : Told → Break → Type 0
+abbrev pub IsBreak : ByDifference → Break → Type 0
 IsBreak v (long digits) = length digits ≡ 38
 IsBreak v (beyond z) = (nat_abs z < 2 ^ 39 - 1) × (is_short (z +ℤ v.prediction) ≡ false)
 
 -- its decisions
-abbrev pub broken_part : Told → Break → List Decision
+abbrev pub broken_part : ByDifference → Break → List Decision
 broken_part v (long digits) = spelt v.follow v.bits digits false
 broken_part v (beyond z) = signed_spelling v.follow v.bits v.sign z
 
 -- its cause
-abbrev pub cause_of : Told → Break → Cause
+abbrev pub cause_of : ByDifference → Break → Cause
 cause_of v (long digits) = NumberTooLong
 cause_of v (beyond z) = v.range
 
 -- a list up to a unit: superblock sx of row sy, and in it unit u of row v of its units
-abbrev pub list_until : Part → BlockTable → ℕ → ℕ → ℕ → ℕ → List Decision
+abbrev pub list_until : ListKind → BlockTable → ℕ → ℕ → ℕ → ℕ → List Decision
 list_until part t sx sy u v =
     let p = part_at part t in
     let s = split_at t sx sy in
@@ -67,7 +67,7 @@ list_until part t sx sy u v =
     superblock_rows p t sy ++ (superblock_row p t sy sx ++ (unit_rows p size (2 ^ s) (4 * sx) (4 * sy) v ++ unit_row p size (4 * sx) (4 * sy + v * size) u))
 
 -- the block carries the list of a table up to some unit, and then breaks off for this cause
-pub record CarriesBreak (part : Part) (former : BlockTable) (block : List ℕ) (cause : Cause) : Type 0 where
+pub record CarriesBreak (part : ListKind) (former : BlockTable) (block : List ℕ) (cause : Cause) : Type 0 where
   pub table : BlockTable
   pub lawful : IsBlockTable table
   pub rest : IsWithPart part former table
@@ -79,7 +79,7 @@ pub record CarriesBreak (part : Part) (former : BlockTable) (block : List ℕ) (
   pub row : sy < table.down
   pub some : u < 2 ^ split_at table sx sy
   pub few : v < 2 ^ split_at table sx sy
-  pub told : Told
+  pub told : ByDifference
   pub is : (let size = unit_size (split_at table sx sy) in value_told part table (4 * sx + u * size) (4 * sy + v * size) ≡ Some told)
   pub breaks : Break
   pub breaks_so : IsBreak told breaks

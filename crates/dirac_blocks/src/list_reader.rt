@@ -3,13 +3,13 @@ ghost use Rattle.dirac_bits.specs.Syntax.{read};
 ghost use Rattle.dirac_blocks.specs.Grammar.{dcs_listed, listed, lists_of, second_listed, splits_step, units_step, values_listed, vectors_listed};
 ghost use Rattle.dirac_blocks.specs.Reached.{AllGrey, Lists, SameBlocks, SameShape, SameSize};
 
-use crate::parts::{Component, Part, Reference};
+use crate::parts::{ListKind, Reference};
+use dirac_types::{Component, Refusal};
 use crate::split_reader::read_splits;
 use crate::table::BlockData;
 use crate::unit_reading::read_units;
 use dirac_arith::Decoder;
 use dirac_bits::BitReader;
-use dirac_types::Refusal;
 
 /// Reads the block of the splits.
 #[tactic(auto, unfolding(crate::specs::Grammar::listed))]
@@ -33,7 +33,7 @@ fn read_split_list(r: &mut BitReader<'_>, table: &mut BlockData) -> Result<(), R
 
 /// Reads the block of what a list tells of each unit.
 #[tactic(auto, unfolding(crate::specs::Grammar::listed))]
-fn read_list(r: &mut BitReader<'_>, table: &mut BlockData, part: Part) -> Result<(), Refusal>
+fn read_list(r: &mut BitReader<'_>, table: &mut BlockData, part: ListKind) -> Result<(), Refusal>
     ensures value { Lists result table.new r.new (read (listed (units_step part) table.old) r.old) }
     ensures shape { SameShape table.old table.new }
     ensures place_inside { IfErr result (λ e. e.at ≤ length r.old.bytes) }
@@ -62,8 +62,8 @@ fn read_vectors(
     ensures place_inside { IfErr result (λ e. e.at ≤ length r.old.bytes) }
     ensures kept { r.new.bytes ≡ r.old.bytes }
 {
-    match read_list(r, table, Part::Across(reference)) {
-        Ok(()) => read_list(r, table, Part::Down(reference)),
+    match read_list(r, table, ListKind::Across(reference)) {
+        Ok(()) => read_list(r, table, ListKind::Down(reference)),
         Err(e) => Err(e),
     }
 }
@@ -90,9 +90,9 @@ fn read_dcs(r: &mut BitReader<'_>, table: &mut BlockData) -> Result<(), Refusal>
     ensures place_inside { IfErr result (λ e. e.at ≤ length r.old.bytes) }
     ensures kept { r.new.bytes ≡ r.old.bytes }
 {
-    match read_list(r, table, Part::Dc(Component::Y)) {
-        Ok(()) => match read_list(r, table, Part::Dc(Component::U)) {
-            Ok(()) => read_list(r, table, Part::Dc(Component::V)),
+    match read_list(r, table, ListKind::Dc(Component::Y)) {
+        Ok(()) => match read_list(r, table, ListKind::Dc(Component::U)) {
+            Ok(()) => read_list(r, table, ListKind::Dc(Component::V)),
             Err(e) => Err(e),
         },
         Err(e) => Err(e),
@@ -126,7 +126,7 @@ pub fn read_lists(r: &mut BitReader<'_>, table: &mut BlockData) -> Result<(), Re
     ensures kept { r.new.bytes ≡ r.old.bytes }
 {
     match read_split_list(r, table) {
-        Ok(()) => match read_list(r, table, Part::Modes) {
+        Ok(()) => match read_list(r, table, ListKind::Modes) {
             Ok(()) => read_values(r, table),
             Err(e) => Err(e),
         },

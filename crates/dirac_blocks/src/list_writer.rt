@@ -3,7 +3,7 @@ ghost use Rattle.dirac_arith.specs.Written.{flush};
 ghost use Rattle.dirac_blocks.specs.Decisions.{least_numbers, split_rows, unit_decisions};
 ghost use Rattle.dirac_blocks.specs.Parts.{part_at};
 
-use crate::parts::Part;
+use crate::parts::ListKind;
 use crate::split_writer::write_split_rows;
 use crate::table::BlockData;
 use crate::unit_loops::write_superblock_rows;
@@ -23,7 +23,7 @@ pub fn split_block(alloc: Global, table: &BlockData) -> Result<Vec<u8>, NoMemory
 }
 
 /// The arithmetic block of what a list tells of each unit.
-pub fn part_block(alloc: Global, table: &BlockData, part: Part) -> Result<Vec<u8>, NoMemory>
+pub fn part_block(alloc: Global, table: &BlockData, part: ListKind) -> Result<Vec<u8>, NoMemory>
     ensures { IfOk result (λ block. block.items ≡ flush (unit_decisions table.now (part_at part table.now))) }
 {
     let mut encoder = Encoder::new(alloc);

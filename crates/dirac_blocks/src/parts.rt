@@ -1,3 +1,5 @@
+use dirac_types::Component;
+
 /// The first or the second reference of a picture.
 #[derive(Clone, Copy, Debug, PartialEq, Eq)]
 pub enum Reference {
@@ -5,17 +7,9 @@ pub enum Reference {
     Second,
 }
 
-/// A colour component.
-#[derive(Clone, Copy, Debug, PartialEq, Eq)]
-pub enum Component {
-    Y,
-    U,
-    V,
-}
-
 /// What one of a table's lists tells of each unit.
 #[derive(Clone, Copy, Debug, PartialEq, Eq)]
-pub enum Part {
+pub enum ListKind {
     Modes,
     Across(Reference),
     Down(Reference),

@@ -3,7 +3,7 @@ ghost use Rattle.dirac_arith.specs.Interval.{narrowed_by};
 ghost use Rattle.dirac_blocks.specs.Decisions.{unit_row, unit_rows, superblock_part, superblock_row, superblock_rows};
 ghost use Rattle.dirac_blocks.specs.Parts.{part_at};
 
-use crate::parts::Part;
+use crate::parts::ListKind;
 use crate::superblock::{unit_blocks, units_across};
 use crate::table::BlockData;
 use crate::unit_writer::write_unit;
@@ -14,7 +14,7 @@ use dirac_types::NoMemory;
 fn write_unit_row(
     encoder: &mut Encoder,
     table: &BlockData,
-    part: Part,
+    part: ListKind,
     size: u32,
     i: u32,
     j: u32,
@@ -39,7 +39,7 @@ fn write_unit_row(
 fn write_unit_rows(
     encoder: &mut Encoder,
     table: &BlockData,
-    part: Part,
+    part: ListKind,
     size: u32,
     across: u32,
     i: u32,
@@ -66,7 +66,7 @@ fn write_unit_rows(
 fn write_superblock(
     encoder: &mut Encoder,
     table: &BlockData,
-    part: Part,
+    part: ListKind,
     sx: u32,
     sy: u32,
 ) -> Result<(), NoMemory>
@@ -86,7 +86,7 @@ fn write_superblock(
 fn write_superblock_row(
     encoder: &mut Encoder,
     table: &BlockData,
-    part: Part,
+    part: ListKind,
     sy: u32,
     count: u32,
 ) -> Result<(), NoMemory>
@@ -109,7 +109,7 @@ fn write_superblock_row(
 pub fn write_superblock_rows(
     encoder: &mut Encoder,
     table: &BlockData,
-    part: Part,
+    part: ListKind,
     across: u32,
     count: u32,
 ) -> Result<(), NoMemory>

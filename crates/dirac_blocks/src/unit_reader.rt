@@ -7,11 +7,11 @@ ghost use Rattle.dirac_blocks.specs.Tables.{IsBlock};
 
 use crate::block::Block;
 use crate::neighbours::{predicted_dc, predicted_use_bit, predicted_vector};
-use crate::parts::{Component, Part, Reference};
+use crate::parts::{ListKind, Reference};
+use dirac_types::{Cause, Component, Vector};
 use crate::table::BlockData;
 use crate::unit_writer::{DC_FOLLOW, VECTOR_FOLLOW, differs};
 use dirac_arith::Decoder;
-use dirac_types::{Cause, Vector};
 
 /// Whether a value has 16 bits.
 fn fits(value: i64) -> bool
@@ -190,7 +190,7 @@ fn read_across(
     requires column { i < 4 * table.now.across }
     requires row { j < 4 * table.now.down }
     requires no_overflow { decoder.old.at.doublings < 2 ^ 61 }
-    ensures value { Gives result decoder.new (unit_read (Part.Across reference) table.now i j decoder.old) }
+    ensures value { Gives result decoder.new (unit_read (ListKind.Across reference) table.now i j decoder.old) }
     ensures block { IfOk result (IsBlock table.now.refs) }
     ensures few_doublings { decoder.new.at.doublings ≤ decoder.old.at.doublings + 702 }
 {
@@ -216,7 +216,7 @@ fn read_down(
     requires column { i < 4 * table.now.across }
     requires row { j < 4 * table.now.down }
     requires no_overflow { decoder.old.at.doublings < 2 ^ 61 }
-    ensures value { Gives result decoder.new (unit_read (Part.Down reference) table.now i j decoder.old) }
+    ensures value { Gives result decoder.new (unit_read (ListKind.Down reference) table.now i j decoder.old) }
     ensures block { IfOk result (IsBlock table.now.refs) }
     ensures few_doublings { decoder.new.at.doublings ≤ decoder.old.at.doublings + 702 }
 {
@@ -242,7 +242,7 @@ fn read_dc(
     requires column { i < 4 * table.now.across }
     requires row { j < 4 * table.now.down }
     requires no_overflow { decoder.old.at.doublings < 2 ^ 61 }
-    ensures value { Gives result decoder.new (unit_read (Part.Dc component) table.now i j decoder.old) }
+    ensures value { Gives result decoder.new (unit_read (ListKind.Dc component) table.now i j decoder.old) }
     ensures block { IfOk result (IsBlock table.now.refs) }
     ensures few_doublings { decoder.new.at.doublings ≤ decoder.old.at.doublings + 702 }
 {
@@ -261,7 +261,7 @@ fn read_dc(
 pub fn read_unit_block(
     decoder: &mut Decoder<'_>,
     table: &BlockData,
-    part: Part,
+    part: ListKind,
     i: u32,
     j: u32,
 ) -> Result<Block, Cause>
@@ -273,9 +273,9 @@ pub fn read_unit_block(
     ensures few_doublings { decoder.new.at.doublings ≤ decoder.old.at.doublings + 702 }
 {
     match part {
-        Part::Modes => read_mode(decoder, table, i, j),
-        Part::Across(reference) => read_across(decoder, table, reference, i, j),
-        Part::Down(reference) => read_down(decoder, table, reference, i, j),
-        Part::Dc(component) => read_dc(decoder, table, component, i, j),
+        ListKind::Modes => read_mode(decoder, table, i, j),
+        ListKind::Across(reference) => read_across(decoder, table, reference, i, j),
+        ListKind::Down(reference) => read_down(decoder, table, reference, i, j),
+        ListKind::Dc(component) => read_dc(decoder, table, component, i, j),
     }
 }

@@ -2,7 +2,7 @@ ghost use Rattle.std.specs.Prelude.{◌≡◌, ℕ, ◌+◌, ◌*◌, ◌^◌, �
 ghost use Rattle.dirac_blocks.specs.Grammar.{repeated, superblock_step, unit_row_step, unit_rows_step, unit_step, units_step};
 ghost use Rattle.dirac_blocks.specs.Reached.{IsUnit, Moves, SameShape, progress};
 
-use crate::parts::Part;
+use crate::parts::ListKind;
 use crate::superblock::{unit_blocks, units_across};
 use crate::table::BlockData;
 use crate::unit_reader::read_unit_block;
@@ -14,7 +14,7 @@ use dirac_types::Cause;
 fn read_unit(
     decoder: &mut Decoder<'_>,
     table: &mut BlockData,
-    part: Part,
+    part: ListKind,
     size: u32,
     i: u32,
     j: u32,
@@ -40,7 +40,7 @@ fn read_unit(
 fn read_unit_row(
     decoder: &mut Decoder<'_>,
     table: &mut BlockData,
-    part: Part,
+    part: ListKind,
     size: u32,
     i: u32,
     j: u32,
@@ -70,7 +70,7 @@ fn read_unit_row(
 fn read_unit_rows(
     decoder: &mut Decoder<'_>,
     table: &mut BlockData,
-    part: Part,
+    part: ListKind,
     size: u32,
     across: u32,
     i: u32,
@@ -104,7 +104,7 @@ fn read_unit_rows(
 fn read_superblock(
     decoder: &mut Decoder<'_>,
     table: &mut BlockData,
-    part: Part,
+    part: ListKind,
     sx: u32,
     sy: u32,
 ) -> Result<(), Cause>
@@ -127,7 +127,7 @@ fn read_superblock(
 fn read_superblock_row(
     decoder: &mut Decoder<'_>,
     table: &mut BlockData,
-    part: Part,
+    part: ListKind,
     sy: u32,
     count: u32,
 ) -> Result<(), Cause>
@@ -153,7 +153,7 @@ fn read_superblock_row(
 fn read_superblock_rows(
     decoder: &mut Decoder<'_>,
     table: &mut BlockData,
-    part: Part,
+    part: ListKind,
     across: u32,
     count: u32,
 ) -> Result<(), Cause>
@@ -175,7 +175,7 @@ fn read_superblock_rows(
 }
 
 /// Reads what this list tells of all units.
-pub fn read_units(decoder: &mut Decoder<'_>, table: &mut BlockData, part: Part) -> Result<(), Cause>
+pub fn read_units(decoder: &mut Decoder<'_>, table: &mut BlockData, part: ListKind) -> Result<(), Cause>
     requires at_the_start { decoder.old.at.doublings ≡ 0 }
     ensures value { Moves result table.new decoder.new (units_step part (progress table.old decoder.old)) }
     ensures shape { SameShape table.old table.new }

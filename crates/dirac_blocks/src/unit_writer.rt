@@ -8,10 +8,10 @@ ghost use Rattle.dirac_blocks.specs.Decisions.{differ, less_prediction, mode_par
 ghost use Rattle.dirac_blocks.specs.Parts.{part_at};
 
 use crate::neighbours::{dc, predicted_dc, predicted_use_bit, predicted_vector, vector};
-use crate::parts::{Component, Part, Reference};
+use crate::parts::{ListKind, Reference};
+use dirac_types::{Component, NoMemory, Vector};
 use crate::table::BlockData;
 use dirac_arith::Encoder;
-use dirac_types::{NoMemory, Vector};
 
 /// The contexts of follow decisions of a vector's component.
 pub const VECTOR_FOLLOW: [u8; 5] = [27, 28, 29, 30, 31];
@@ -122,7 +122,7 @@ fn write_across(
 ) -> Result<(), NoMemory>
     requires column { i < 4 * table.now.across }
     requires row { j < 4 * table.now.down }
-    ensures { OnOk result (encoder.new ≡ narrowed_by encoder.old (part_at (Part.Across reference) table.now i j)) }
+    ensures { OnOk result (encoder.new ≡ narrowed_by encoder.old (part_at (ListKind.Across reference) table.now i j)) }
 {
     let prediction = predicted_vector(table, reference, i, j);
     let value = x_of(vector(table, reference, i, j));
@@ -139,7 +139,7 @@ fn write_down(
 ) -> Result<(), NoMemory>
     requires column { i < 4 * table.now.across }
     requires row { j < 4 * table.now.down }
-    ensures { OnOk result (encoder.new ≡ narrowed_by encoder.old (part_at (Part.Down reference) table.now i j)) }
+    ensures { OnOk result (encoder.new ≡ narrowed_by encoder.old (part_at (ListKind.Down reference) table.now i j)) }
 {
     let prediction = predicted_vector(table, reference, i, j);
     let value = y_of(vector(table, reference, i, j));
@@ -156,7 +156,7 @@ fn write_dc(
 ) -> Result<(), NoMemory>
     requires column { i < 4 * table.now.across }
     requires row { j < 4 * table.now.down }
-    ensures { OnOk result (encoder.new ≡ narrowed_by encoder.old (part_at (Part.Dc component) table.now i j)) }
+    ensures { OnOk result (encoder.new ≡ narrowed_by encoder.old (part_at (ListKind.Dc component) table.now i j)) }
 {
     let prediction = predicted_dc(table, component, i, j);
     let value = dc(table, component, i, j);
@@ -167,7 +167,7 @@ fn write_dc(
 pub fn write_unit(
     encoder: &mut Encoder,
     table: &BlockData,
-    part: Part,
+    part: ListKind,
     i: u32,
     j: u32,
 ) -> Result<(), NoMemory>
@@ -176,9 +176,9 @@ pub fn write_unit(
     ensures { OnOk result (encoder.new ≡ narrowed_by encoder.old (part_at part table.now i j)) }
 {
     match part {
-        Part::Modes => write_modes(encoder, table, i, j),
-        Part::Across(reference) => write_across(encoder, table, reference, i, j),
-        Part::Down(reference) => write_down(encoder, table, reference, i, j),
-        Part::Dc(component) => write_dc(encoder, table, component, i, j),
+        ListKind::Modes => write_modes(encoder, table, i, j),
+        ListKind::Across(reference) => write_across(encoder, table, reference, i, j),
+        ListKind::Down(reference) => write_down(encoder, table, reference, i, j),
+        ListKind::Dc(component) => write_dc(encoder, table, component, i, j),
     }
 }

@@ -9,10 +9,10 @@ ghost use Rattle.dirac_blocks.specs.Tables.{IsBlockTable};
 ghost use Rattle.dirac_blocks.specs.Written.{AreShort, with_block, with_lists};
 
 use crate::list_writer::{part_block, split_block};
-use crate::parts::{Component, Part, Reference};
+use crate::parts::{ListKind, Reference};
+use dirac_types::{Component, NoMemory};
 use crate::table::BlockData;
 use dirac_bits::BitWriter;
-use dirac_types::NoMemory;
 use std::alloc::Global;
 
 /// No block is as long as this in bytes: its length couldn't be spelt.
@@ -46,7 +46,7 @@ fn write_part(
     alloc: Global,
     w: &mut BitWriter,
     table: &BlockData,
-    part: Part,
+    part: ListKind,
 ) -> Result<(), NoMemory>
     ensures exact { OnOk result (w.new ≡ with_block (flush (unit_decisions table.now (part_at part table.now))) w.old) }
     ensures short { OnOk result (length (flush (unit_decisions table.now (part_at part table.now))) + 1 < 2 ^ 39) }
@@ -62,11 +62,11 @@ fn write_vectors(
     table: &BlockData,
     reference: Reference,
 ) -> Result<(), NoMemory>
-    ensures exact { OnOk result (w.new ≡ with_lists (unit_decisions table.now (part_at (Part.Across reference) table.now) ∷ unit_decisions table.now (part_at (Part.Down reference) table.now) ∷ []) w.old) }
-    ensures short { OnOk result (AreShort (unit_decisions table.now (part_at (Part.Across reference) table.now) ∷ unit_decisions table.now (part_at (Part.Down reference) table.now) ∷ [])) }
+    ensures exact { OnOk result (w.new ≡ with_lists (unit_decisions table.now (part_at (ListKind.Across reference) table.now) ∷ unit_decisions table.now (part_at (ListKind.Down reference) table.now) ∷ []) w.old) }
+    ensures short { OnOk result (AreShort (unit_decisions table.now (part_at (ListKind.Across reference) table.now) ∷ unit_decisions table.now (part_at (ListKind.Down reference) table.now) ∷ [])) }
 {
-    write_part(alloc, w, table, Part::Across(reference))?;
-    write_part(alloc, w, table, Part::Down(reference))
+    write_part(alloc, w, table, ListKind::Across(reference))?;
+    write_part(alloc, w, table, ListKind::Down(reference))
 }
 
 /// Writes the blocks of the second reference, where there is one.
@@ -83,12 +83,12 @@ fn write_second(alloc: Global, w: &mut BitWriter, table: &BlockData) -> Result<(
 
 /// Writes the blocks of the DC values.
 fn write_dcs(alloc: Global, w: &mut BitWriter, table: &BlockData) -> Result<(), NoMemory>
-    ensures exact { OnOk result (w.new ≡ with_lists (unit_decisions table.now (part_at (Part.Dc Component.Y) table.now) ∷ unit_decisions table.now (part_at (Part.Dc Component.U) table.now) ∷ unit_decisions table.now (part_at (Part.Dc Component.V) table.now) ∷ []) w.old) }
-    ensures short { OnOk result (AreShort (unit_decisions table.now (part_at (Part.Dc Component.Y) table.now) ∷ unit_decisions table.now (part_at (Part.Dc Component.U) table.now) ∷ unit_decisions table.now (part_at (Part.Dc Component.V) table.now) ∷ [])) }
+    ensures exact { OnOk result (w.new ≡ with_lists (unit_decisions table.now (part_at (ListKind.Dc Component.Y) table.now) ∷ unit_decisions table.now (part_at (ListKind.Dc Component.U) table.now) ∷ unit_decisions table.now (part_at (ListKind.Dc Component.V) table.now) ∷ []) w.old) }
+    ensures short { OnOk result (AreShort (unit_decisions table.now (part_at (ListKind.Dc Component.Y) table.now) ∷ unit_decisions table.now (part_at (ListKind.Dc Component.U) table.now) ∷ unit_decisions table.now (part_at (ListKind.Dc Component.V) table.now) ∷ [])) }
 {
-    write_part(alloc, w, table, Part::Dc(Component::Y))?;
-    write_part(alloc, w, table, Part::Dc(Component::U))?;
-    write_part(alloc, w, table, Part::Dc(Component::V))
+    write_part(alloc, w, table, ListKind::Dc(Component::Y))?;
+    write_part(alloc, w, table, ListKind::Dc(Component::U))?;
+    write_part(alloc, w, table, ListKind::Dc(Component::V))
 }
 
 /// Writes a block table (block data, Dirac specification): for each of its lists a length and an arithmetic block.
@@ -100,7 +100,7 @@ pub fn write_blocks(alloc: Global, w: &mut BitWriter, blocks: &BlockData) -> Res
     ensures spelled { OnOk result (SpelledBehind (blocks_grammar blocks.now.across blocks.now.down blocks.now.refs) blocks.now w.old w.new) }
 {
     write_splits(alloc, w, blocks)?;
-    write_part(alloc, w, blocks, Part::Modes)?;
+    write_part(alloc, w, blocks, ListKind::Modes)?;
     write_vectors(alloc, w, blocks, Reference::First)?;
     write_second(alloc, w, blocks)?;
     write_dcs(alloc, w, blocks)

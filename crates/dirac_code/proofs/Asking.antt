@@ -10,8 +10,8 @@ use Rattle.dirac_sequence.specs.Lawful.{IsSequence}
 use Rattle.dirac_sequence.specs.Written.{sequence_of}
 use Rattle.dirac_header.specs.declared.header.PictureHeader.{PictureHeader}
 use Rattle.dirac_blocks.specs.Tables.{BlockTable}
-use Rattle.dirac_types.specs.declared.formats.Part.{Part}
-use Rattle.dirac_types.specs.declared.formats.Part.TheVariants as part
+use Rattle.dirac_types.specs.declared.formats.Component.{Component}
+use Rattle.dirac_types.specs.declared.formats.Component.TheVariants as component
 use Rattle.dirac_picture.specs.declared.coded.CodedMotion.{CodedMotion}
 use Rattle.dirac_picture.specs.Fits.{IsMotion}
 use Rattle.dirac_analysis.specs.Fits.{AreDifferences}
@@ -41,7 +41,7 @@ ask_refs t s refs q p head is es eh =
     (subst (λ (x : Sequence). AreReferences x refs (header_of q)) (sym es) (record { listed = is.found; first = one q.ref1; second = one q.ref2 }))
 
 -- the planes of a source can be coded
-plane_codable : (t : Settings) (p : Picture) (o : Part) → IsAccepted t → IsSource t p → IsCodablePlane (plane_of p o)
+plane_codable : (t : Settings) (p : Picture) (o : Component) → IsAccepted t → IsSource t p → IsCodablePlane (plane_of p o)
 plane_codable t p o accepted source =
     let is = source_plane t p o source in
     let size = part_size (sequence_of t) o (predicting t accepted).lawful in
@@ -49,9 +49,9 @@ plane_codable t p o accepted source =
 
 pub source_codable : (t : Settings) (p : Picture) → IsAccepted t → IsSource t p → IsCodableSource p
 source_codable t p accepted source = record {
-  y = plane_codable t p part.Y accepted source;
-  u = plane_codable t p part.U accepted source;
-  v = plane_codable t p part.V accepted source;
+  y = plane_codable t p component.Y accepted source;
+  u = plane_codable t p component.U accepted source;
+  v = plane_codable t p component.V accepted source;
 }
 
 -- what is left of such a plane is no larger than the difference of two samples

@@ -1,7 +1,7 @@
 -- The references that are lent for a planned picture are those that it names.
 use Rattle.std.proofs.Common.{◌≡◌, ◌∙◌, false, List, Option, Some, sym, ap, ap₂, subst}
 use Rattle.std.specs.Option.{ForSome}
-use Rattle.dirac_types.specs.declared.formats.Part.TheVariants as part
+use Rattle.dirac_types.specs.declared.formats.Component.TheVariants as component
 use Rattle.dirac_types.specs.declared.picture.Picture.{Picture}
 use Rattle.dirac_types.specs.declared.settings.Settings.{Settings}
 use Rattle.dirac_sequence.specs.declared.sequence.Sequence.{Sequence}
@@ -60,7 +60,7 @@ lent_picture s r one x lent there e =
     let same : one.picture.now ≡ x = cc in
     subst (IsPicture s) same (lent.second one there).picture
 
-pub lent_luma : (s : Sequence) (r : References) (one : Reference) (u : Up) → AreLent s r → r.second ≡ Some one → Some one.luma.now ≡ Some u → IsUpOfPart s part.Y u
+pub lent_luma : (s : Sequence) (r : References) (one : Reference) (u : Up) → AreLent s r → r.second ≡ Some one → Some one.luma.now ≡ Some u → IsUpOfPart s component.Y u
 lent_luma s r one u lent there e =
     let is = lent.second one there in
-    lent_size s one.picture.now part.Y one.luma.now u is.picture is.luma e
+    lent_size s one.picture.now component.Y one.luma.now u is.picture is.luma e

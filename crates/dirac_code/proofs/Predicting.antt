@@ -11,8 +11,8 @@ use Rattle.dirac_sequence.specs.Written.{sequence_of}
 use Rattle.dirac_header.specs.declared.header.PictureHeader.{PictureHeader}
 use Rattle.dirac_blocks.specs.Tables.{BlockTable}
 use Rattle.dirac_upconvert.specs.HalfSamples.{IsSample}
-use Rattle.dirac_types.specs.declared.formats.Part.{Part}
-use Rattle.dirac_types.specs.declared.formats.Part.TheVariants as part
+use Rattle.dirac_types.specs.declared.formats.Component.{Component}
+use Rattle.dirac_types.specs.declared.formats.Component.TheVariants as component
 use Rattle.dirac_picture.specs.declared.coded.CodedMotion.{CodedMotion}
 use Rattle.dirac_picture.specs.declared.coded.CodedPicture.{CodedPicture}
 use Rattle.dirac_picture.specs.declared.coded.CodedResidual.{CodedResidual}
@@ -51,19 +51,19 @@ second_lent t refs q p m b r is em chose lent two =
     (some_of (named refs q.ref2) (second_found refs q is.planned is.found (sym chose.refs ∙ ap (λ (x : CodedMotion). x.blocks.refs) (sym em) ∙ two)))
 
 -- what is predicted, by the definitions
-same_among : (t : Settings) (s : Sequence) (refs : List Picture) (q : Planned) (head : PictureHeader) (m : CodedMotion) (b : BlockTable) (o : Part) (values : List ℤ) → s ≡ sequence_of t → head ≡ header_of q → m ≡ motion_with t b
+same_among : (t : Settings) (s : Sequence) (refs : List Picture) (q : Planned) (head : PictureHeader) (m : CodedMotion) (b : BlockTable) (o : Component) (values : List ℤ) → s ≡ sequence_of t → head ≡ header_of q → m ≡ motion_with t b
     → IsPrediction s (named refs head.ref1) (named refs head.ref2) m o values → values ≡ predicted_among (sequence_of t) (motion_with t b) (named refs q.ref1) (named refs q.ref2) o
 same_among t s refs q head m b o values es eh em is =
     is.same ∙ ap₂ (λ (x : Sequence) (y : CodedMotion). predicted_among x y (named refs head.ref1) (named refs head.ref2) o) es em
     ∙ ap (λ (h : PictureHeader). predicted_among (sequence_of t) (motion_with t b) (named refs h.ref1) (named refs h.ref2) o) eh
 
-whole_plane : (p : Picture) (o : Part) → IsWhole p → length (plane_of p o).values ≡ (plane_of p o).width * (plane_of p o).height
-whole_plane p part.Y is = is.y
-whole_plane p part.U is = is.u
-whole_plane p part.V is = is.v
+whole_plane : (p : Picture) (o : Component) → IsWhole p → length (plane_of p o).values ≡ (plane_of p o).width * (plane_of p o).height
+whole_plane p component.Y is = is.y
+whole_plane p component.U is = is.u
+whole_plane p component.V is = is.v
 
 -- it can be taken away from a plane of the source
-plane_asked : (t : Settings) (s : Sequence) (refs : List Picture) (q : Planned) (p : Picture) (head : PictureHeader) (m : CodedMotion) (b : BlockTable) (o : Part) (values : List ℤ) → IsAsked t refs q p → IsWhole p → s ≡ sequence_of t → head ≡ header_of q
+plane_asked : (t : Settings) (s : Sequence) (refs : List Picture) (q : Planned) (p : Picture) (head : PictureHeader) (m : CodedMotion) (b : BlockTable) (o : Component) (values : List ℤ) → IsAsked t refs q p → IsWhole p → s ≡ sequence_of t → head ≡ header_of q
     → m ≡ motion_with t b → IsChosen t q.code b → IsPrediction s (named refs head.ref1) (named refs head.ref2) m o values → IsPredictedBy (plane_of p o) values
 plane_asked t s refs q p head m b o values is whole es eh em chose predicted =
     let one : (x : Option ℕ) → ForSome (named refs x) (IsSource t) = λ x. named_is (IsSource t) refs x is.listed in
@@ -77,9 +77,9 @@ plane_asked t s refs q p head m b o values is whole es eh em chose predicted =
 pub picture_asked : (t : Settings) (s : Sequence) (refs : List Picture) (q : Planned) (p : Picture) (head : PictureHeader) (m : CodedMotion) (b : BlockTable) (ps : Predictions) → IsAsked t refs q p → IsWhole p → s ≡ sequence_of t → head ≡ header_of q
     → m ≡ motion_with t b → IsChosen t q.code b → ArePredictions s (named refs head.ref1) (named refs head.ref2) m ps → IsPicturePredictedBy p ps
 picture_asked t s refs q p head m b ps is whole es eh em chose predicted = record {
-  y = plane_asked t s refs q p head m b part.Y ps.y.values is whole es eh em chose predicted.y;
-  u = plane_asked t s refs q p head m b part.U ps.u.values is whole es eh em chose predicted.u;
-  v = plane_asked t s refs q p head m b part.V ps.v.values is whole es eh em chose predicted.v;
+  y = plane_asked t s refs q p head m b component.Y ps.y.values is whole es eh em chose predicted.y;
+  u = plane_asked t s refs q p head m b component.U ps.u.values is whole es eh em chose predicted.u;
+  v = plane_asked t s refs q p head m b component.V ps.v.values is whole es eh em chose predicted.v;
 }
 
 -- the coded residual is the one of the definitions
@@ -87,7 +87,7 @@ residual_same : (t : Settings) (s : Sequence) (refs : List Picture) (q : Planned
     → ArePredictions s (named refs head.ref1) (named refs head.ref2) m ps → residual_less t p ps ≡ residual_of t refs (header_of q) (Some (motion_with t b)) p
 residual_same t s refs q p head m b ps es eh em is =
     made _ _ _ _ _ _
-    (same_among t s refs q head m b part.Y ps.y.values es eh em is.y) (same_among t s refs q head m b part.U ps.u.values es eh em is.u) (same_among t s refs q head m b part.V ps.v.values es eh em is.v)
+    (same_among t s refs q head m b component.Y ps.y.values es eh em is.y) (same_among t s refs q head m b component.U ps.u.values es eh em is.u) (same_among t s refs q head m b component.V ps.v.values es eh em is.v)
   where
     of : List ℤ → List ℤ → List ℤ → CodedResidual
     of ys us vs = record {
@@ -121,7 +121,7 @@ intra_same t refs q p head r eh er =
 pub shown_same : (s : Sequence) (refs : List Picture) (head : PictureHeader) (m : CodedMotion) (ps : Predictions) (code : ℕ) (o : Option CodedResidual) → ArePredictions s (named refs head.ref1) (named refs head.ref2) m ps
     → let c : CodedPicture = record { code = code; header = head; motion = Some m; residual = o } in picture_from s c ps ≡ rebuilt s refs c
 shown_same s refs head m ps code o is =
-    let from : Part → List ℤ → Table = λ x values. clipped (with_prediction (residual_among s Inter x o) values) in
+    let from : Component → List ℤ → Table = λ x values. clipped (with_prediction (residual_among s Inter x o) values) in
     let of : Table → Table → Table → Picture = λ a b c. record { number = head.number; y = a; u = b; v = c } in
-    ap₂ (λ (a b : Table). of a b (from part.V ps.v.values)) (ap (from part.Y) is.y.same) (ap (from part.U) is.u.same)
-    ∙ ap (of _ _) (ap (from part.V) is.v.same)
+    ap₂ (λ (a b : Table). of a b (from component.V ps.v.values)) (ap (from component.Y) is.y.same) (ap (from component.U) is.u.same)
+    ∙ ap (of _ _) (ap (from component.V) is.v.same)

@@ -7,8 +7,8 @@ use Rattle.dirac_types.specs.declared.settings.Settings.{Settings}
 use Rattle.dirac_types.specs.Table.{Table}
 use Rattle.dirac_sequence.specs.declared.sequence.Sequence.{Sequence}
 use Rattle.dirac_upconvert.specs.HalfSamples.{IsSample}
-use Rattle.dirac_types.specs.declared.formats.Part.{Part}
-use Rattle.dirac_types.specs.declared.formats.Part.TheVariants as part
+use Rattle.dirac_types.specs.declared.formats.Component.{Component}
+use Rattle.dirac_types.specs.declared.formats.Component.TheVariants as component
 use Rattle.dirac_picture.specs.declared.coded.CodedMotion.{CodedMotion}
 use Rattle.dirac_picture.specs.declared.coded.CodedPicture.{CodedPicture}
 use Rattle.dirac_picture.specs.declared.coded.CodedResidual.{CodedResidual}
@@ -19,17 +19,17 @@ use Rattle.dirac_stream.specs.Coded.{bands_of, less_prediction, transform_of}
 use Rattle.dirac_code.specs.declared.predictions.Predictions.{Predictions}
 
 -- what is predicted for a plane of a picture from these references, by rows: a value for each sample
-pub record IsPrediction (s : Sequence) (first second : Option Picture) (m : CodedMotion) (part : Part)
+pub record IsPrediction (s : Sequence) (first second : Option Picture) (m : CodedMotion) (component : Component)
     (values : List ℤ) : Type 0 where
-  pub same : values ≡ predicted_among s m first second part
-  pub len : length values ≡ width_of s part * height_of s part
+  pub same : values ≡ predicted_among s m first second component
+  pub len : length values ≡ width_of s component * height_of s component
 
 -- what is predicted for its planes
 pub record ArePredictions (s : Sequence) (first second : Option Picture) (m : CodedMotion)
     (ps : Predictions) : Type 0 where
-  pub y : IsPrediction s first second m part.Y ps.y.values
-  pub u : IsPrediction s first second m part.U ps.u.values
-  pub v : IsPrediction s first second m part.V ps.v.values
+  pub y : IsPrediction s first second m component.Y ps.y.values
+  pub u : IsPrediction s first second m component.U ps.u.values
+  pub v : IsPrediction s first second m component.V ps.v.values
 
 -- a plane of samples, of a size that can be analysed
 pub record IsCodablePlane (plane : Table) : Type 0 where
@@ -73,14 +73,14 @@ residual_less t p ps = record {
 }
 
 -- a plane of a coded picture with these predictions: its residual and they, clipped
-abbrev pub plane_from : Sequence → CodedPicture → Part → List ℤ → Table
-plane_from s coded part values = clipped (with_prediction (residual_among s Inter part coded.residual) values)
+abbrev pub plane_from : Sequence → CodedPicture → Component → List ℤ → Table
+plane_from s coded component values = clipped (with_prediction (residual_among s Inter component coded.residual) values)
 
 -- the picture that a coded picture stands for, with these predictions
 abbrev pub picture_from : Sequence → CodedPicture → Predictions → Picture
 picture_from s coded ps = record {
   number = coded.header.number;
-  y = plane_from s coded part.Y ps.y.values;
-  u = plane_from s coded part.U ps.u.values;
-  v = plane_from s coded part.V ps.v.values;
+  y = plane_from s coded component.Y ps.y.values;
+  u = plane_from s coded component.U ps.u.values;
+  v = plane_from s coded component.V ps.v.values;
 }

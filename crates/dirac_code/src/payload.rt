@@ -16,7 +16,7 @@ use dirac_blocks::{BlockData, write_blocks};
 use dirac_header::{write_header, write_prediction, write_transform};
 use dirac_picture::{CodedMotion, CodedPicture, CodedResidual, is_intra};
 use dirac_sequence::Sequence;
-use dirac_types::{NoMemory, Part, Settings};
+use dirac_types::{NoMemory, Component, Settings};
 use std::alloc::Global;
 
 /// Writes the bands of Y, U and V.
@@ -33,8 +33,8 @@ fn write_planes(
     let transform = &residual.transform;
     let (width, height) = (sequence.width, sequence.picture_height());
     write_plane(alloc, w, transform, width, height, &residual.y)?;
-    let width = sequence.plane_width(Part::U);
-    let height = sequence.plane_height(Part::U);
+    let width = sequence.plane_width(Component::U);
+    let height = sequence.plane_height(Component::U);
     write_plane(alloc, w, transform, width, height, &residual.u)?;
     write_plane(alloc, w, transform, width, height, &residual.v)?;
     Ok(())

@@ -2,14 +2,14 @@
 
 ghost use Rattle.std.specs.Prelude.{◌≡◌, Some, IfOk, IsSome};
 ghost use Rattle.dirac_sequence.specs.Lawful.{IsSequence};
-ghost use Rattle.dirac_types.specs.declared.formats.Part.TheVariants as part;
+ghost use Rattle.dirac_types.specs.declared.formats.Component.TheVariants as component;
 ghost use Rattle.dirac_picture.specs.Fits.{IsMotion};
 ghost use Rattle.dirac_choose.specs.Lent.{AreLent, first_of, second_of};
 ghost use Rattle.dirac_code.specs.Predictions.{ArePredictions, IsPrediction};
 
 use dirac_choose::References;
 use dirac_decode::{predict_from, predict_with};
-use dirac_obmc::{Part, Predicted};
+use dirac_obmc::{Component, Predicted};
 use dirac_picture::CodedMotion;
 use dirac_sequence::Sequence;
 use dirac_types::NoMemory;
@@ -37,14 +37,14 @@ fn predict_luma(
     requires lent { AreLent sequence.now references.now }
     requires two { motion.now.blocks.refs ≡ 2 → IsSome (second_of references.now) }
     ensures { IfOk result (λ t. IsPrediction sequence.now (Some (first_of references.now)) (second_of references.now)
-        motion.now part.Y t.values) }
+        motion.now component.Y t.values) }
 {
     let first = references.first.luma;
     match references.second {
-        None => predict_with(alloc, code, sequence, motion, first, None, Part::Y),
+        None => predict_with(alloc, code, sequence, motion, first, None, Component::Y),
         Some(second) => {
             let second = Some(second.luma);
-            predict_with(alloc, code, sequence, motion, first, second, Part::Y)
+            predict_with(alloc, code, sequence, motion, first, second, Component::Y)
         }
     }
 }
@@ -56,21 +56,21 @@ fn predict_chroma(
     sequence: &Sequence,
     references: &References<'_>,
     motion: &CodedMotion,
-    part: Part,
+    component: Component,
 ) -> Result<Predicted, NoMemory>
     requires sequence { IsSequence sequence.now }
     requires motion { IsMotion code sequence.now motion.now }
     requires lent { AreLent sequence.now references.now }
     requires two { motion.now.blocks.refs ≡ 2 → IsSome (second_of references.now) }
     ensures { IfOk result (λ t. IsPrediction sequence.now (Some (first_of references.now)) (second_of references.now)
-        motion.now part t.values) }
+        motion.now component t.values) }
 {
     let first = references.first.picture;
     match references.second {
-        None => predict_from(alloc, code, sequence, motion, first, None, part),
+        None => predict_from(alloc, code, sequence, motion, first, None, component),
         Some(second) => {
             let second = Some(second.picture);
-            predict_from(alloc, code, sequence, motion, first, second, part)
+            predict_from(alloc, code, sequence, motion, first, second, component)
         }
     }
 }
@@ -91,7 +91,7 @@ pub(crate) fn predict_planes(
         motion.now) }
 {
     let y = predict_luma(alloc, code, sequence, references, motion)?;
-    let u = predict_chroma(alloc, code, sequence, references, motion, Part::U)?;
-    let v = predict_chroma(alloc, code, sequence, references, motion, Part::V)?;
+    let u = predict_chroma(alloc, code, sequence, references, motion, Component::U)?;
+    let v = predict_chroma(alloc, code, sequence, references, motion, Component::V)?;
     Ok(Predictions { y, u, v })
 }

@@ -7,13 +7,13 @@ use Rattle.dirac_arith.specs.Spelling.{opening, follow_at}
 use Rattle.dirac_arith.proofs.Carrieds.{signed_more}
 use Rattle.dirac_arith.proofs.Spellings.{carries_one_truth}
 use Rattle.dirac_bands.specs.Geometry.{edge_of}
-use Rattle.dirac_coeffs.specs.declared.spot.BandSpot.{BandSpot}
+use Rattle.dirac_coeffs.specs.declared.layout.BandLayout.{BandLayout}
 use Rattle.dirac_coeffs.specs.Carried.{AreSmall, SkippedIsZero, LongAt, long_part, row_until, rows_until, block_until, blocks_until, band_until}
 use Rattle.dirac_coeffs.specs.Contexts.{value_at, bits_context}
 use Rattle.dirac_coeffs.specs.Decisions.{Frame, Mark, Marks, frame_of, follow_here, sign_here, value_part, row_part, rows_part, flagged_part, block_part, blocks_part, bands_part, band_decisions}
 use Rattle.dirac_coeffs.specs.Laws.{NoBandBesideLong, OnesCarryNothing}
 use Rattle.dirac_coeffs.proofs.Places.{SameWithin}
-use Rattle.dirac_coeffs.specs.Spots.{IsSpot, span_of, is_flagged}
+use Rattle.dirac_coeffs.specs.Layouts.{IsBandLayout, span_of, is_flagged}
 use Rattle.dirac_coeffs.proofs.Agreement.{row_same, row_next, rows_same, rows_next, value_contexts}
 use Rattle.dirac_coeffs.proofs.AgreementOfBlocks.{blocks_next, bands_next}
 use Rattle.dirac_coeffs.proofs.Coding.{rest_of, parts_apart, value_apart, ones_apart}
@@ -57,49 +57,49 @@ flagged_apart f block common xs ys x count y j n i digits true false small small
     rows_apart f block (common ++ flag ∷ []) xs ys x count y j n i digits small small' h inside column long s t
     (rest_of block common (flag ∷ []) (rows_until f xs x count y j i digits) p) (rest_of block common (flag ∷ []) (rows_part f ys x count y n) q)
 
-block_apart : (spot : BandSpot) (parent : List ℤ) (block : List ℕ) (common : List Decision) (xs ys : List ℤ) (cy cx row column : ℕ) (digits : List Bool) (mark : Mark) → IsSpot spot → cx < spot.across
-    → AreSmall xs → AreSmall ys → row < span_of spot.height spot.down cy → column < span_of spot.width spot.across cx → length digits ≡ 38
-    → SameWithin spot.width xs ys (edge_of spot.width spot.across cx) (edge_of spot.height spot.down (cy + 1))
-    → SameWithin spot.width xs ys (edge_of spot.width spot.across (cx + 1)) (edge_of spot.height spot.down cy)
-    → Carries block (common ++ block_until spot parent xs cy cx row column digits) → Carries block (common ++ block_part spot parent ys cy cx mark) → ⊥
-block_apart spot parent block common xs ys cy cx row column digits mark is inside small small' in_rows in_row long s t p q =
-    let w = spot.width in
-    let left = edge_of w spot.across cx in
-    let columns = span_of w spot.across cx in
-    let top = edge_of spot.height spot.down cy in
-    let rows = span_of spot.height spot.down cy in
-    let right : left + columns ≡ edge_of w spot.across (cx + 1) = span_end w spot.across cx (omega (arith, is.across)) in
-    let bottom : top + rows ≡ edge_of spot.height spot.down (cy + 1) = span_end spot.height spot.down cy (omega (arith, is.down)) in
-    flagged_apart (frame_of spot parent) block common xs ys left columns top row rows column digits (is_flagged spot) mark.skipped small small' (span_inside spot.width spot.across cx inside) in_rows in_row long
+block_apart : (layout : BandLayout) (parent : List ℤ) (block : List ℕ) (common : List Decision) (xs ys : List ℤ) (cy cx row column : ℕ) (digits : List Bool) (mark : Mark) → IsBandLayout layout → cx < layout.across
+    → AreSmall xs → AreSmall ys → row < span_of layout.height layout.down cy → column < span_of layout.width layout.across cx → length digits ≡ 38
+    → SameWithin layout.width xs ys (edge_of layout.width layout.across cx) (edge_of layout.height layout.down (cy + 1))
+    → SameWithin layout.width xs ys (edge_of layout.width layout.across (cx + 1)) (edge_of layout.height layout.down cy)
+    → Carries block (common ++ block_until layout parent xs cy cx row column digits) → Carries block (common ++ block_part layout parent ys cy cx mark) → ⊥
+block_apart layout parent block common xs ys cy cx row column digits mark is inside small small' in_rows in_row long s t p q =
+    let w = layout.width in
+    let left = edge_of w layout.across cx in
+    let columns = span_of w layout.across cx in
+    let top = edge_of layout.height layout.down cy in
+    let rows = span_of layout.height layout.down cy in
+    let right : left + columns ≡ edge_of w layout.across (cx + 1) = span_end w layout.across cx (omega (arith, is.across)) in
+    let bottom : top + rows ≡ edge_of layout.height layout.down (cy + 1) = span_end layout.height layout.down cy (omega (arith, is.down)) in
+    flagged_apart (frame_of layout parent) block common xs ys left columns top row rows column digits (is_flagged layout) mark.skipped small small' (span_inside layout.width layout.across cx inside) in_rows in_row long
     (same_less (omega arith) (omega arith) s)
     (same_less (omega arith) (omega arith) t) p q
 
-blocks_apart : (spot : BandSpot) (parent : List ℤ) (block : List ℕ) (common : List Decision) (xs ys : List ℤ) (ms ms' : ℕ → Mark) (cy cx row column : ℕ) (digits : List Bool) → IsSpot spot → cx < spot.across
-    → AreSmall xs → AreSmall ys → row < span_of spot.height spot.down cy → column < span_of spot.width spot.across cx → length digits ≡ 38
-    → SameWithin spot.width xs ys spot.width (edge_of spot.height spot.down cy)
-    → ((c : ℕ) → c < cx → SkippedIsZero spot xs cy c (ms c)) → ((c : ℕ) → c < spot.across → SkippedIsZero spot ys cy c (ms' c))
-    → Carries block (common ++ blocks_until spot parent xs ms cy cx row column digits) → Carries block (common ++ blocks_part spot parent ys ms' cy spot.across) → ⊥
-blocks_apart spot parent block common xs ys ms ms' cy cx row column digits is inside small small' in_rows in_row long above z z' =
-    let w = spot.width in
-    let mine = blocks_part spot parent xs ms cy cx in
-    let most : edge_of w spot.across (cx + 1) ≤ w = edge_most w spot.across (cx + 1) (omega arith) (omega arith) in
-    parts_apart block common mine (block_until spot parent xs cy cx row column digits) (λ k. blocks_part spot parent ys ms' cy k) (λ k. block_part spot parent ys cy k (ms' k))
-    (SameBlock w xs ys (edge_of w spot.across cx) (edge_of spot.height spot.down (cy + 1)) mine (blocks_part spot parent ys ms' cy cx)) cx spot.across inside (blocks_next spot parent ys ms' cy)
-    (blocks_one spot parent block common xs ys ms ms' cy cx is (omega arith) small small' above z (λ c l. z' c (omega arith))) (λ before. before.decisions)
-    (λ before p q. block_apart spot parent block (common ++ mine) xs ys cy cx row column digits (ms' cx) is inside small small' in_rows in_row long before.within (same_less most (omega arith) above) p q)
+blocks_apart : (layout : BandLayout) (parent : List ℤ) (block : List ℕ) (common : List Decision) (xs ys : List ℤ) (ms ms' : ℕ → Mark) (cy cx row column : ℕ) (digits : List Bool) → IsBandLayout layout → cx < layout.across
+    → AreSmall xs → AreSmall ys → row < span_of layout.height layout.down cy → column < span_of layout.width layout.across cx → length digits ≡ 38
+    → SameWithin layout.width xs ys layout.width (edge_of layout.height layout.down cy)
+    → ((c : ℕ) → c < cx → SkippedIsZero layout xs cy c (ms c)) → ((c : ℕ) → c < layout.across → SkippedIsZero layout ys cy c (ms' c))
+    → Carries block (common ++ blocks_until layout parent xs ms cy cx row column digits) → Carries block (common ++ blocks_part layout parent ys ms' cy layout.across) → ⊥
+blocks_apart layout parent block common xs ys ms ms' cy cx row column digits is inside small small' in_rows in_row long above z z' =
+    let w = layout.width in
+    let mine = blocks_part layout parent xs ms cy cx in
+    let most : edge_of w layout.across (cx + 1) ≤ w = edge_most w layout.across (cx + 1) (omega arith) (omega arith) in
+    parts_apart block common mine (block_until layout parent xs cy cx row column digits) (λ k. blocks_part layout parent ys ms' cy k) (λ k. block_part layout parent ys cy k (ms' k))
+    (SameBlock w xs ys (edge_of w layout.across cx) (edge_of layout.height layout.down (cy + 1)) mine (blocks_part layout parent ys ms' cy cx)) cx layout.across inside (blocks_next layout parent ys ms' cy)
+    (blocks_one layout parent block common xs ys ms ms' cy cx is (omega arith) small small' above z (λ c l. z' c (omega arith))) (λ before. before.decisions)
+    (λ before p q. block_apart layout parent block (common ++ mine) xs ys cy cx row column digits (ms' cx) is inside small small' in_rows in_row long before.within (same_less most (omega arith) above) p q)
 
 pub no_band_beside_long : NoBandBesideLong
-no_band_beside_long spot parent block ys ms' is a b =
+no_band_beside_long layout parent block ys ms' is a b =
     let at = b.at in
     let xs = b.values in
     let ms = b.marks in
     let n = at.down in
-    let mine = bands_part spot parent xs ms n in
-    parts_apart block [] mine (blocks_until spot parent xs (ms n) n at.across at.row at.column at.digits) (λ k. bands_part spot parent ys ms' k) (λ k. blocks_part spot parent ys (ms' k) k spot.across)
-    (SameBlock spot.width xs ys spot.width (edge_of spot.height spot.down n) mine (bands_part spot parent ys ms' n)) n spot.down b.inside.down (bands_next spot parent ys ms')
-    (bands_one spot parent block [] xs ys ms ms' n is (omega (arith, b.inside.down)) b.small a.small b.zeros_above (λ cy cx l m. a.zeros cy cx (omega (arith, b.inside.down)) m)) (λ before. before.decisions)
+    let mine = bands_part layout parent xs ms n in
+    parts_apart block [] mine (blocks_until layout parent xs (ms n) n at.across at.row at.column at.digits) (λ k. bands_part layout parent ys ms' k) (λ k. blocks_part layout parent ys (ms' k) k layout.across)
+    (SameBlock layout.width xs ys layout.width (edge_of layout.height layout.down n) mine (bands_part layout parent ys ms' n)) n layout.down b.inside.down (bands_next layout parent ys ms')
+    (bands_one layout parent block [] xs ys ms ms' n is (omega (arith, b.inside.down)) b.small a.small b.zeros_above (λ cy cx l m. a.zeros cy cx (omega (arith, b.inside.down)) m)) (λ before. before.decisions)
     (λ before p q.
-    blocks_apart spot parent block mine xs ys (ms n) (ms' n) n at.across at.row at.column at.digits is b.inside.across b.small a.small b.inside.row b.inside.column b.inside.digits
+    blocks_apart layout parent block mine xs ys (ms n) (ms' n) n at.across at.row at.column at.digits is b.inside.across b.small a.small b.inside.row b.inside.column b.inside.digits
     before.within b.zeros_before (λ c l. a.zeros n c b.inside.down l) p q)
     b.carried a.carried
 
@@ -140,47 +140,47 @@ one_span size count c one h =
     let whole : span_of size 1 0 ≡ size = omega (arith, edge_first size 1, edge_last size 1 (omega arith)) in
     rw (one, first) whole
 
-block_needs : (spot : BandSpot) (parent xs : List ℤ) (cy cx : ℕ) (mark : Mark) → IsSpot spot → cy < spot.down → cx < spot.across → 0 < length (block_part spot parent xs cy cx mark)
-block_needs spot parent xs cy cx mark is h h' =
-    flagged_needs (is_flagged spot) mark.skipped
-    (rows_part (frame_of spot parent) xs (edge_of spot.width spot.across cx) (span_of spot.width spot.across cx) (edge_of spot.height spot.down cy) (span_of spot.height spot.down cy))
+block_needs : (layout : BandLayout) (parent xs : List ℤ) (cy cx : ℕ) (mark : Mark) → IsBandLayout layout → cy < layout.down → cx < layout.across → 0 < length (block_part layout parent xs cy cx mark)
+block_needs layout parent xs cy cx mark is h h' =
+    flagged_needs (is_flagged layout) mark.skipped
+    (rows_part (frame_of layout parent) xs (edge_of layout.width layout.across cx) (span_of layout.width layout.across cx) (edge_of layout.height layout.down cy) (span_of layout.height layout.down cy))
     (λ plain.
-    let one = one_codeblock spot.across spot.down plain in
-    rows_need (frame_of spot parent) xs (edge_of spot.width spot.across cx) (span_of spot.width spot.across cx) (edge_of spot.height spot.down cy) (span_of spot.height spot.down cy)
-    (omega (arith, one_span spot.width spot.across cx one.0 h', is.width)) (omega (arith, one_span spot.height spot.down cy one.1 h, is.height)))
+    let one = one_codeblock layout.across layout.down plain in
+    rows_need (frame_of layout parent) xs (edge_of layout.width layout.across cx) (span_of layout.width layout.across cx) (edge_of layout.height layout.down cy) (span_of layout.height layout.down cy)
+    (omega (arith, one_span layout.width layout.across cx one.0 h', is.width)) (omega (arith, one_span layout.height layout.down cy one.1 h, is.height)))
 
-blocks_need : (spot : BandSpot) (parent xs : List ℤ) (marks : ℕ → Mark) (cy n : ℕ) → IsSpot spot → cy < spot.down → n ≤ spot.across → 0 < n → 0 < length (blocks_part spot parent xs marks cy n)
+blocks_need : (layout : BandLayout) (parent xs : List ℤ) (marks : ℕ → Mark) (cy n : ℕ) → IsBandLayout layout → cy < layout.down → n ≤ layout.across → 0 < n → 0 < length (blocks_part layout parent xs marks cy n)
 unfolding blocks_part
-blocks_need spot parent xs marks cy zero is h inside some = absurd (omega arith)
-blocks_need spot parent xs marks cy (suc n) is h inside some =
-    last_needs (blocks_part spot parent xs marks cy n) (block_part spot parent xs cy n (marks n)) (block_needs spot parent xs cy n (marks n) is h (omega arith))
+blocks_need layout parent xs marks cy zero is h inside some = absurd (omega arith)
+blocks_need layout parent xs marks cy (suc n) is h inside some =
+    last_needs (blocks_part layout parent xs marks cy n) (block_part layout parent xs cy n (marks n)) (block_needs layout parent xs cy n (marks n) is h (omega arith))
 
-bands_need : (spot : BandSpot) (parent xs : List ℤ) (marks : Marks) (n : ℕ) → IsSpot spot → n ≤ spot.down → 0 < n → 0 < length (bands_part spot parent xs marks n)
+bands_need : (layout : BandLayout) (parent xs : List ℤ) (marks : Marks) (n : ℕ) → IsBandLayout layout → n ≤ layout.down → 0 < n → 0 < length (bands_part layout parent xs marks n)
 unfolding bands_part
-bands_need spot parent xs marks zero is inside some = absurd (omega arith)
-bands_need spot parent xs marks (suc n) is inside some =
-    last_needs (bands_part spot parent xs marks n) (blocks_part spot parent xs (marks n) n spot.across) (blocks_need spot parent xs (marks n) n spot.across is (omega arith) (omega arith) (omega (arith, is.across)))
+bands_need layout parent xs marks zero is inside some = absurd (omega arith)
+bands_need layout parent xs marks (suc n) is inside some =
+    last_needs (bands_part layout parent xs marks n) (blocks_part layout parent xs (marks n) n layout.across) (blocks_need layout parent xs (marks n) n layout.across is (omega arith) (omega arith) (omega (arith, is.across)))
 
 -- so does all that ends in a number that is too long
-until_needs : (spot : BandSpot) (parent xs : List ℤ) (marks : Marks) (at : LongAt) → 0 < length (band_until spot parent xs marks at)
-until_needs spot parent xs marks at =
-    let f = frame_of spot parent in
-    let left = edge_of spot.width spot.across at.across in
-    let top = edge_of spot.height spot.down at.down in
-    let columns = span_of spot.width spot.across at.across in
+until_needs : (layout : BandLayout) (parent xs : List ℤ) (marks : Marks) (at : LongAt) → 0 < length (band_until layout parent xs marks at)
+until_needs layout parent xs marks at =
+    let f = frame_of layout parent in
+    let left = edge_of layout.width layout.across at.across in
+    let top = edge_of layout.height layout.down at.down in
+    let columns = span_of layout.width layout.across at.across in
     let follow = follow_here f xs (left + at.column) (top + at.row) in
     let last : Decision = (follow_at follow (length at.digits), false) in
     let row = row_until f xs (top + at.row) left at.column at.digits in
     let rows = rows_until f xs left columns top at.row at.column at.digits in
-    last_needs (bands_part spot parent xs marks at.down) (blocks_until spot parent xs (marks at.down) at.down at.across at.row at.column at.digits)
-    (last_needs (blocks_part spot parent xs (marks at.down) at.down at.across) (flagged_part (is_flagged spot) false rows)
-    (flagged_needs (is_flagged spot) false rows (λ plain.
+    last_needs (bands_part layout parent xs marks at.down) (blocks_until layout parent xs (marks at.down) at.down at.across at.row at.column at.digits)
+    (last_needs (blocks_part layout parent xs (marks at.down) at.down at.across) (flagged_part (is_flagged layout) false rows)
+    (flagged_needs (is_flagged layout) false rows (λ plain.
     last_needs (rows_part f xs left columns top at.row) row
     (last_needs (row_part f xs (top + at.row) left at.column) (long_part f xs (left + at.column) (top + at.row) at.digits)
     (last_needs (opening follow bits_context 0 at.digits) (last ∷ []) (omega arith))))))
 
 pub ones_carry_nothing : OnesCarryNothing
-ones_carry_nothing spot parent block is ones = (
-  λ xs ms a. ones_apart block (band_decisions spot parent xs ms) ones (bands_need spot parent xs ms spot.down is (omega arith) (omega (arith, is.down))) a.carried,
-  λ b. ones_apart block (band_until spot parent b.values b.marks b.at) ones (until_needs spot parent b.values b.marks b.at) b.carried,
+ones_carry_nothing layout parent block is ones = (
+  λ xs ms a. ones_apart block (band_decisions layout parent xs ms) ones (bands_need layout parent xs ms layout.down is (omega arith) (omega (arith, is.down))) a.carried,
+  λ b. ones_apart block (band_until layout parent b.values b.marks b.at) ones (until_needs layout parent b.values b.marks b.at) b.carried,
 )

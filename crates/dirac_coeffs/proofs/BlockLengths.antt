@@ -10,11 +10,11 @@ use Rattle.dirac_arith.specs.Spelling.{follow_at, opening, spelling, signed_spel
 use Rattle.dirac_arith.specs.Written.{block_length, flushed, flush}
 use Rattle.dirac_arith.proofs.Bytes.{length-bytes_of}
 use Rattle.dirac_bands.specs.Geometry.{edge_of}
-use Rattle.dirac_coeffs.specs.declared.spot.BandSpot.{BandSpot}
+use Rattle.dirac_coeffs.specs.declared.layout.BandLayout.{BandLayout}
 use Rattle.dirac_coeffs.specs.Contexts.{value_at, bits_context}
 use Rattle.dirac_coeffs.specs.Decisions.{Frame, Mark, Marks, frame_of, value_part, row_part, rows_part, flagged_part, block_part, blocks_part, bands_part, band_decisions, follow_here, sign_here}
 use Rattle.dirac_coeffs.specs.Laws.{BlocksAreShort}
-use Rattle.dirac_coeffs.specs.Spots.{span_of, is_flagged}
+use Rattle.dirac_coeffs.specs.Layouts.{span_of, is_flagged}
 use Rattle.dirac_coeffs.specs.Written.{marks_of}
 use Rattle.dirac_coeffs.proofs.Edges.{edge_last, span_end}
 
@@ -92,66 +92,66 @@ flagged_most true true ds = omega arith
 flagged_most true false ds = omega arith
 
 -- a codeblock: its flag, and the values of its columns and rows
-block_most : (spot : BandSpot) (parent xs : List ℤ) (cy cx : ℕ) (mark : Mark)
-    → length (block_part spot parent xs cy cx mark) ≤ 1 + 78 * (span_of spot.width spot.across cx * span_of spot.height spot.down cy)
-block_most spot parent xs cy cx mark =
-    let f = frame_of spot parent in
-    let left = edge_of spot.width spot.across cx in
-    let columns = span_of spot.width spot.across cx in
-    let top = edge_of spot.height spot.down cy in
-    let rows = span_of spot.height spot.down cy in
-    omega (arith, flagged_most (is_flagged spot) mark.skipped (rows_part f xs left columns top rows), rows_most f xs left columns top rows)
+block_most : (layout : BandLayout) (parent xs : List ℤ) (cy cx : ℕ) (mark : Mark)
+    → length (block_part layout parent xs cy cx mark) ≤ 1 + 78 * (span_of layout.width layout.across cx * span_of layout.height layout.down cy)
+block_most layout parent xs cy cx mark =
+    let f = frame_of layout parent in
+    let left = edge_of layout.width layout.across cx in
+    let columns = span_of layout.width layout.across cx in
+    let top = edge_of layout.height layout.down cy in
+    let rows = span_of layout.height layout.down cy in
+    omega (arith, flagged_most (is_flagged layout) mark.skipped (rows_part f xs left columns top rows), rows_most f xs left columns top rows)
 
 -- parts that have each their flags and lines from an edge to the next, and of one size across these
 grown : (all more n flags size left span right : ℕ) → all ≤ n * flags + 78 * (left * size) → more ≤ flags + 78 * (span * size) → left + span ≡ right → all + more ≤ suc n * flags + 78 * (right * size)
 grown all more n flags size left span right before here sum = rw (sym sum) (omega (arith, before, here))
 
 -- codeblocks of one row have the columns up to an edge
-blocks_most : (spot : BandSpot) (parent xs : List ℤ) (marks : ℕ → Mark) (cy n : ℕ) → 0 < spot.across
-    → length (blocks_part spot parent xs marks cy n) ≤ n + 78 * (edge_of spot.width spot.across n * span_of spot.height spot.down cy)
+blocks_most : (layout : BandLayout) (parent xs : List ℤ) (marks : ℕ → Mark) (cy n : ℕ) → 0 < layout.across
+    → length (blocks_part layout parent xs marks cy n) ≤ n + 78 * (edge_of layout.width layout.across n * span_of layout.height layout.down cy)
 unfolding blocks_part
-blocks_most spot parent xs marks cy zero some = omega arith
-blocks_most spot parent xs marks cy (suc n) some =
-    let w = spot.width in
+blocks_most layout parent xs marks cy zero some = omega arith
+blocks_most layout parent xs marks cy (suc n) some =
+    let w = layout.width in
     let next : n + 1 ≡ suc n = omega arith in
-    let sum : edge_of w spot.across n + span_of w spot.across n ≡ edge_of w spot.across (suc n) = span_end w spot.across n some ∙ ap (λ c. edge_of w spot.across c) next in
-    let both = grown (length (blocks_part spot parent xs marks cy n)) (length (block_part spot parent xs cy n (marks n))) n 1 (span_of spot.height spot.down cy)
-    (edge_of w spot.across n) (span_of w spot.across n) (edge_of w spot.across (suc n)) (omega (arith, blocks_most spot parent xs marks cy n some)) (block_most spot parent xs cy n (marks n)) sum in
-    rw (length-append (blocks_part spot parent xs marks cy n) (block_part spot parent xs cy n (marks n))) (omega (arith, both))
+    let sum : edge_of w layout.across n + span_of w layout.across n ≡ edge_of w layout.across (suc n) = span_end w layout.across n some ∙ ap (λ c. edge_of w layout.across c) next in
+    let both = grown (length (blocks_part layout parent xs marks cy n)) (length (block_part layout parent xs cy n (marks n))) n 1 (span_of layout.height layout.down cy)
+    (edge_of w layout.across n) (span_of w layout.across n) (edge_of w layout.across (suc n)) (omega (arith, blocks_most layout parent xs marks cy n some)) (block_most layout parent xs cy n (marks n)) sum in
+    rw (length-append (blocks_part layout parent xs marks cy n) (block_part layout parent xs cy n (marks n))) (omega (arith, both))
 
 -- a row of codeblocks has the band's columns
-row_of_blocks_most : (spot : BandSpot) (parent xs : List ℤ) (marks : ℕ → Mark) (cy : ℕ) → 0 < spot.across
-    → length (blocks_part spot parent xs marks cy spot.across) ≤ spot.across + 78 * (span_of spot.height spot.down cy * spot.width)
-row_of_blocks_most spot parent xs marks cy some =
-    let last : edge_of spot.width spot.across spot.across ≡ spot.width = edge_last spot.width spot.across some in
-    let most = blocks_most spot parent xs marks cy spot.across some in
+row_of_blocks_most : (layout : BandLayout) (parent xs : List ℤ) (marks : ℕ → Mark) (cy : ℕ) → 0 < layout.across
+    → length (blocks_part layout parent xs marks cy layout.across) ≤ layout.across + 78 * (span_of layout.height layout.down cy * layout.width)
+row_of_blocks_most layout parent xs marks cy some =
+    let last : edge_of layout.width layout.across layout.across ≡ layout.width = edge_last layout.width layout.across some in
+    let most = blocks_most layout parent xs marks cy layout.across some in
     omega (arith, rw last at most)
 
 -- rows of codeblocks have the rows up to an edge
-bands_most : (spot : BandSpot) (parent xs : List ℤ) (marks : Marks) (n : ℕ) → 0 < spot.across → 0 < spot.down
-    → length (bands_part spot parent xs marks n) ≤ n * spot.across + 78 * (edge_of spot.height spot.down n * spot.width)
+bands_most : (layout : BandLayout) (parent xs : List ℤ) (marks : Marks) (n : ℕ) → 0 < layout.across → 0 < layout.down
+    → length (bands_part layout parent xs marks n) ≤ n * layout.across + 78 * (edge_of layout.height layout.down n * layout.width)
 unfolding bands_part
-bands_most spot parent xs marks zero some rows = omega arith
-bands_most spot parent xs marks (suc n) some rows =
-    let h = spot.height in
+bands_most layout parent xs marks zero some rows = omega arith
+bands_most layout parent xs marks (suc n) some rows =
+    let h = layout.height in
     let next : n + 1 ≡ suc n = omega arith in
-    let sum : edge_of h spot.down n + span_of h spot.down n ≡ edge_of h spot.down (suc n) = span_end h spot.down n rows ∙ ap (λ c. edge_of h spot.down c) next in
-    rw (length-append (bands_part spot parent xs marks n) (blocks_part spot parent xs (marks n) n spot.across))
-    (grown (length (bands_part spot parent xs marks n)) (length (blocks_part spot parent xs (marks n) n spot.across)) n spot.across spot.width
-    (edge_of h spot.down n) (span_of h spot.down n) (edge_of h spot.down (suc n)) (bands_most spot parent xs marks n some rows) (row_of_blocks_most spot parent xs (marks n) n some) sum)
+    let sum : edge_of h layout.down n + span_of h layout.down n ≡ edge_of h layout.down (suc n) = span_end h layout.down n rows ∙ ap (λ c. edge_of h layout.down c) next in
+    rw (length-append (bands_part layout parent xs marks n) (blocks_part layout parent xs (marks n) n layout.across))
+    (grown (length (bands_part layout parent xs marks n)) (length (blocks_part layout parent xs (marks n) n layout.across)) n layout.across layout.width
+    (edge_of h layout.down n) (span_of h layout.down n) (edge_of h layout.down (suc n)) (bands_most layout parent xs marks n some rows) (row_of_blocks_most layout parent xs (marks n) n some) sum)
 
 -- a band: a flag for each codeblock, and its values
-decisions_most : (spot : BandSpot) (parent xs : List ℤ) (marks : Marks) → 0 < spot.across → 0 < spot.down
-    → length (band_decisions spot parent xs marks) ≤ spot.down * spot.across + 78 * (spot.width * spot.height)
-decisions_most spot parent xs marks some rows =
-    let last : edge_of spot.height spot.down spot.down ≡ spot.height = edge_last spot.height spot.down rows in
-    let most = bands_most spot parent xs marks spot.down some rows in
+decisions_most : (layout : BandLayout) (parent xs : List ℤ) (marks : Marks) → 0 < layout.across → 0 < layout.down
+    → length (band_decisions layout parent xs marks) ≤ layout.down * layout.across + 78 * (layout.width * layout.height)
+decisions_most layout parent xs marks some rows =
+    let last : edge_of layout.height layout.down layout.down ≡ layout.height = edge_last layout.height layout.down rows in
+    let most = bands_most layout parent xs marks layout.down some rows in
     omega (arith, rw last at most)
 
 -- the block of a subband is short: its length can be spelt
 pub block_short : BlocksAreShort
-block_short spot parent xs is =
-    let ds = band_decisions spot parent xs (marks_of spot xs) in
-    let flags = mul-le spot.down spot.across 8192 8192 is.down.1 is.across.1 in
-    let values = mul-le spot.width spot.height 8192 8192 is.width.1 is.height.1 in
-    omega (arith, flush_most ds, decisions_most spot parent xs (marks_of spot xs) (omega (arith, is.across)) (omega (arith, is.down)), flags, values)
+block_short layout parent xs is =
+    let ds = band_decisions layout parent xs (marks_of layout xs) in
+    let flags = mul-le layout.down layout.across 8192 8192 is.down.1 is.across.1 in
+    let values = mul-le layout.width layout.height 8192 8192 is.width.1 is.height.1 in
+    omega (arith, flush_most ds, decisions_most layout parent xs (marks_of layout xs) (omega (arith, is.across)) (omega (arith, is.down)), flags, values)

@@ -4,7 +4,7 @@ use Rattle.std.proofs.Math.Nat.{mul-div_cancel, zero-div, mul-zero}
 use Rattle.std.proofs.lemmas.Nat.{mul-le}
 use Rattle.dirac_bands.specs.Geometry.{edge_of}
 use Rattle.dirac_bands.proofs.Sizes.{div_mono}
-use Rattle.dirac_coeffs.specs.Spots.{span_of}
+use Rattle.dirac_coeffs.specs.Layouts.{span_of}
 
 pub edge_rises : (size count c d : ℕ) → 0 < count → c ≤ d → edge_of size count c ≤ edge_of size count d
 edge_rises size count c d h l = div_mono (size * c) (size * d) count h (mul-le size c size d (omega arith) l)

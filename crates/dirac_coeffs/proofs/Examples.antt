@@ -9,13 +9,13 @@ use Rattle.dirac_arith.specs.Interval.{Decision, doublings_for}
 use Rattle.dirac_arith.specs.Spelling.{spelling, signed_spelling}
 use Rattle.dirac_arith.specs.StepTable.{step_of, step_table}
 use Rattle.dirac_arith.specs.Written.{bytes_of, flushed}
-use Rattle.dirac_coeffs.specs.declared.spot.BandSpot.{BandSpot}
+use Rattle.dirac_coeffs.specs.declared.layout.BandLayout.{BandLayout}
 use Rattle.dirac_coeffs.specs.BandRead.{repeated, value_step, block_step, band_read}
 use Rattle.dirac_coeffs.specs.Decisions.{row_part, rows_part, blocks_part, bands_part, band_decisions}
 use Rattle.dirac_coeffs.specs.Written.{all_below, marks_of, block_of}
 
 -- an LL band of one value
-abbrev one_value : BandSpot
+abbrev one_value : BandLayout
 one_value = record { band = bands.LL; width = 1; height = 1; across = 1; down = 1 }
 
 -- its value 1 is spelt by four decisions: a digit 0 behind a false follow decision, a true one, and the sign
@@ -48,7 +48,7 @@ unfolding band_read repeated value_step block_step decided number_read number_fr
 long_refused = refl
 
 -- an HL band of two columns of one value, of which the first is zero and skipped; the second goes by the value above, which isn't there
-abbrev two_codeblocks : BandSpot
+abbrev two_codeblocks : BandLayout
 two_codeblocks = record { band = bands.HL; width = 2; height = 1; across = 2; down = 1 }
 
 two_decisions : band_decisions two_codeblocks [] (pos 0 ∷ negsuc 0 ∷ []) (marks_of two_codeblocks (pos 0 ∷ negsuc 0 ∷ []))

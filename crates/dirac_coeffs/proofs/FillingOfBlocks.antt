@@ -5,12 +5,12 @@ use Rattle.dirac_arith.specs.Interval.{Decision}
 use Rattle.dirac_arith.specs.Reading.{Reading, Reads}
 use Rattle.dirac_arith.proofs.Spellings.{reads_more}
 use Rattle.dirac_bands.specs.Geometry.{edge_of}
-use Rattle.dirac_coeffs.specs.declared.spot.BandSpot.{BandSpot}
+use Rattle.dirac_coeffs.specs.declared.layout.BandLayout.{BandLayout}
 use Rattle.dirac_coeffs.specs.Carried.{SkippedIsZero, blocks_until}
 use Rattle.dirac_coeffs.specs.Decisions.{Mark, Marks, frame_of, flagged_part, block_part, blocks_part, bands_part}
 use Rattle.dirac_coeffs.proofs.Places.{KeptOutside, SameWithin}
 use Rattle.dirac_coeffs.proofs.Reached.{BlocksRead, BandRead, RowsBroken, BlockBroken, BlocksBroken, BandBroken}
-use Rattle.dirac_coeffs.specs.Spots.{IsSpot, span_of, is_flagged}
+use Rattle.dirac_coeffs.specs.Layouts.{IsBandLayout, span_of, is_flagged}
 use Rattle.dirac_coeffs.proofs.AgreementOfBlocks.{blocks_same, blocks_next, bands_same, bands_next, zeros_same}
 use Rattle.dirac_coeffs.proofs.Edges.{edge_rises, edge_most}
 use Rattle.dirac_coeffs.proofs.Readings.{reads_behind}
@@ -27,12 +27,12 @@ put_before : {A : Type 0} (former : ℕ → A) (n : ℕ) (a : A) (c : ℕ) → c
 put_before former n a c h = let other : c ≡ n → ⊥ = λ e. omega arith in rw (ne_eqb c n other) refl
 
 -- what the zero flags left of codeblock n of row cy say, they still say where the values there are as they were
-zeros_before_block : (spot : BandSpot) (xs ys : List ℤ) (cy n : ℕ) (marks : ℕ → Mark) → IsSpot spot → n ≤ spot.across
-    → SameWithin spot.width xs ys (edge_of spot.width spot.across n) (edge_of spot.height spot.down (cy + 1))
-    → ((cx : ℕ) → cx < n → SkippedIsZero spot xs cy cx (marks cx)) → (cx : ℕ) → cx < n → SkippedIsZero spot ys cy cx (marks cx)
-zeros_before_block spot xs ys cy n marks is h s z cx l =
-    let rises : edge_of spot.width spot.across (cx + 1) ≤ edge_of spot.width spot.across n = edge_rises spot.width spot.across (cx + 1) n (omega (arith, is.across)) (omega arith) in
-    zeros_same spot xs ys cy cx (marks cx) is (omega arith) (same_less rises (omega arith) s) (z cx l)
+zeros_before_block : (layout : BandLayout) (xs ys : List ℤ) (cy n : ℕ) (marks : ℕ → Mark) → IsBandLayout layout → n ≤ layout.across
+    → SameWithin layout.width xs ys (edge_of layout.width layout.across n) (edge_of layout.height layout.down (cy + 1))
+    → ((cx : ℕ) → cx < n → SkippedIsZero layout xs cy cx (marks cx)) → (cx : ℕ) → cx < n → SkippedIsZero layout ys cy cx (marks cx)
+zeros_before_block layout xs ys cy n marks is h s z cx l =
+    let rises : edge_of layout.width layout.across (cx + 1) ≤ edge_of layout.width layout.across n = edge_rises layout.width layout.across (cx + 1) n (omega (arith, is.across)) (omega arith) in
+    zeros_same layout xs ys cy cx (marks cx) is (omega arith) (same_less rises (omega arith) s) (z cx l)
 
 -- a choice that is made for each place up to here
 chosen : {A : Type 0} (P : ℕ → A → Type 0) (former : ℕ → A) (n : ℕ) (a : A) → ((c : ℕ) → c < n → P c (former c)) → P n a → (c : ℕ) → c < n + 1 → P c (put_at former n a c)
@@ -42,25 +42,25 @@ chosen P former n a before here c l =
       | inr b ↦ let same : n ≡ c = omega arith in subst (λ k. P k (put_at former n a k)) same (subst (λ m. P n m) (sym (put_here former n a)) here)
     ]
 
-pub blocks_more : {old mid new : Reading} {xs ys : List ℤ} (spot : BandSpot) (parent : List ℤ) (cy n : ℕ) (mark : Mark) → IsSpot spot → n < spot.across
-    → KeptOutside spot.width (edge_of spot.width spot.across n) (edge_of spot.width spot.across (n + 1)) (edge_of spot.height spot.down cy) (edge_of spot.height spot.down (cy + 1)) xs ys
-    → BlocksRead spot parent old xs cy n mid → Reads mid (block_part spot parent ys cy n mark) new → SkippedIsZero spot ys cy n mark
-    → BlocksRead spot parent old ys cy (n + 1) new
-blocks_more {xs = xs} {ys = ys} spot parent cy n mark is h k p q z =
+pub blocks_more : {old mid new : Reading} {xs ys : List ℤ} (layout : BandLayout) (parent : List ℤ) (cy n : ℕ) (mark : Mark) → IsBandLayout layout → n < layout.across
+    → KeptOutside layout.width (edge_of layout.width layout.across n) (edge_of layout.width layout.across (n + 1)) (edge_of layout.height layout.down cy) (edge_of layout.height layout.down (cy + 1)) xs ys
+    → BlocksRead layout parent old xs cy n mid → Reads mid (block_part layout parent ys cy n mark) new → SkippedIsZero layout ys cy n mark
+    → BlocksRead layout parent old ys cy (n + 1) new
+blocks_more {xs = xs} {ys = ys} layout parent cy n mark is h k p q z =
     let marks = put_at p.marks n mark in
-    let same : SameWithin spot.width xs ys (edge_of spot.width spot.across n) (edge_of spot.height spot.down (cy + 1)) = kept_left (omega arith) k in
-    let here : block_part spot parent ys cy n mark ≡ block_part spot parent ys cy n (marks n) = ap (λ m. block_part spot parent ys cy n m) (sym (put_here p.marks n mark)) in
+    let same : SameWithin layout.width xs ys (edge_of layout.width layout.across n) (edge_of layout.height layout.down (cy + 1)) = kept_left (omega arith) k in
+    let here : block_part layout parent ys cy n mark ≡ block_part layout parent ys cy n (marks n) = ap (λ m. block_part layout parent ys cy n m) (sym (put_here p.marks n mark)) in
     record {
       marks = marks;
-      zeros = chosen (λ c m. SkippedIsZero spot ys cy c m) p.marks n mark (zeros_before_block spot xs ys cy n p.marks is (omega arith) same p.zeros) z;
-      reads = rw (blocks_next spot parent ys marks cy n, sym here) (reads_behind (blocks_same spot parent xs ys p.marks marks cy n is (omega arith) (put_before p.marks n mark) same) p.reads q);
+      zeros = chosen (λ c m. SkippedIsZero layout ys cy c m) p.marks n mark (zeros_before_block layout xs ys cy n p.marks is (omega arith) same p.zeros) z;
+      reads = rw (blocks_next layout parent ys marks cy n, sym here) (reads_behind (blocks_same layout parent xs ys p.marks marks cy n is (omega arith) (put_before p.marks n mark) same) p.reads q);
     }
 
-pub blocks_break : {old mid new : Reading} {xs ys : List ℤ} (spot : BandSpot) (parent : List ℤ) (cy n : ℕ) → IsSpot spot → n < spot.across
-    → KeptOutside spot.width (edge_of spot.width spot.across n) (edge_of spot.width spot.across (n + 1)) (edge_of spot.height spot.down cy) (edge_of spot.height spot.down (cy + 1)) xs ys
-    → BlocksRead spot parent old xs cy n mid → BlockBroken spot parent mid ys cy n new → BlocksBroken spot parent old ys cy new
-blocks_break {xs = xs} {ys = ys} spot parent cy n is h k p b =
-    let same : SameWithin spot.width xs ys (edge_of spot.width spot.across n) (edge_of spot.height spot.down (cy + 1)) = kept_left (omega arith) k in
+pub blocks_break : {old mid new : Reading} {xs ys : List ℤ} (layout : BandLayout) (parent : List ℤ) (cy n : ℕ) → IsBandLayout layout → n < layout.across
+    → KeptOutside layout.width (edge_of layout.width layout.across n) (edge_of layout.width layout.across (n + 1)) (edge_of layout.height layout.down cy) (edge_of layout.height layout.down (cy + 1)) xs ys
+    → BlocksRead layout parent old xs cy n mid → BlockBroken layout parent mid ys cy n new → BlocksBroken layout parent old ys cy new
+blocks_break {xs = xs} {ys = ys} layout parent cy n is h k p b =
+    let same : SameWithin layout.width xs ys (edge_of layout.width layout.across n) (edge_of layout.height layout.down (cy + 1)) = kept_left (omega arith) k in
     record {
       marks = p.marks;
       across = n;
@@ -71,50 +71,50 @@ blocks_break {xs = xs} {ys = ys} spot parent cy n is h k p b =
       in_rows = b.in_rows;
       inside = b.inside;
       long = b.long;
-      zeros = zeros_before_block spot xs ys cy n p.marks is (omega arith) same p.zeros;
-      reads = reads_behind (blocks_same spot parent xs ys p.marks p.marks cy n is (omega arith) (λ c l. refl) same) p.reads b.reads;
+      zeros = zeros_before_block layout xs ys cy n p.marks is (omega arith) same p.zeros;
+      reads = reads_behind (blocks_same layout parent xs ys p.marks p.marks cy n is (omega arith) (λ c l. refl) same) p.reads b.reads;
     }
 
 -- the same of the rows of codeblocks above row n
-zeros_above_row : (spot : BandSpot) (xs ys : List ℤ) (n : ℕ) (marks : Marks) → IsSpot spot → n ≤ spot.down
-    → SameWithin spot.width xs ys spot.width (edge_of spot.height spot.down n)
-    → ((cy cx : ℕ) → cy < n → cx < spot.across → SkippedIsZero spot xs cy cx (marks cy cx)) → (cy cx : ℕ) → cy < n → cx < spot.across → SkippedIsZero spot ys cy cx (marks cy cx)
-zeros_above_row spot xs ys n marks is h s z cy cx l m =
-    let rises : edge_of spot.height spot.down (cy + 1) ≤ edge_of spot.height spot.down n = edge_rises spot.height spot.down (cy + 1) n (omega (arith, is.down)) (omega arith) in
-    let inside : edge_of spot.width spot.across (cx + 1) ≤ spot.width = edge_most spot.width spot.across (cx + 1) (omega (arith, is.across)) (omega arith) in
-    zeros_same spot xs ys cy cx (marks cy cx) is m (same_less inside rises s) (z cy cx l m)
+zeros_above_row : (layout : BandLayout) (xs ys : List ℤ) (n : ℕ) (marks : Marks) → IsBandLayout layout → n ≤ layout.down
+    → SameWithin layout.width xs ys layout.width (edge_of layout.height layout.down n)
+    → ((cy cx : ℕ) → cy < n → cx < layout.across → SkippedIsZero layout xs cy cx (marks cy cx)) → (cy cx : ℕ) → cy < n → cx < layout.across → SkippedIsZero layout ys cy cx (marks cy cx)
+zeros_above_row layout xs ys n marks is h s z cy cx l m =
+    let rises : edge_of layout.height layout.down (cy + 1) ≤ edge_of layout.height layout.down n = edge_rises layout.height layout.down (cy + 1) n (omega (arith, is.down)) (omega arith) in
+    let inside : edge_of layout.width layout.across (cx + 1) ≤ layout.width = edge_most layout.width layout.across (cx + 1) (omega (arith, is.across)) (omega arith) in
+    zeros_same layout xs ys cy cx (marks cy cx) is m (same_less inside rises s) (z cy cx l m)
 
-pub bands_more : {old mid new : Reading} {xs ys : List ℤ} (spot : BandSpot) (parent : List ℤ) (n : ℕ) → IsSpot spot → n < spot.down
-    → KeptOutside spot.width 0 spot.width (edge_of spot.height spot.down n) (edge_of spot.height spot.down (n + 1)) xs ys
-    → BandRead spot parent old xs n mid → BlocksRead spot parent mid ys n spot.across new → BandRead spot parent old ys (n + 1) new
-bands_more {xs = xs} {ys = ys} spot parent n is h k p q =
+pub bands_more : {old mid new : Reading} {xs ys : List ℤ} (layout : BandLayout) (parent : List ℤ) (n : ℕ) → IsBandLayout layout → n < layout.down
+    → KeptOutside layout.width 0 layout.width (edge_of layout.height layout.down n) (edge_of layout.height layout.down (n + 1)) xs ys
+    → BandRead layout parent old xs n mid → BlocksRead layout parent mid ys n layout.across new → BandRead layout parent old ys (n + 1) new
+bands_more {xs = xs} {ys = ys} layout parent n is h k p q =
     let marks = put_at p.marks n q.marks in
-    let same : SameWithin spot.width xs ys spot.width (edge_of spot.height spot.down n) = kept_above (omega arith) k in
-    let before : bands_part spot parent xs p.marks n ≡ bands_part spot parent ys marks n = bands_same spot parent xs ys p.marks marks n is (omega arith) (λ r c l m. ap (λ row. row c) (put_before p.marks n q.marks r l)) same in
-    let here : blocks_part spot parent ys q.marks n spot.across ≡ blocks_part spot parent ys (marks n) n spot.across = ap (λ row. blocks_part spot parent ys row n spot.across) (sym (put_here p.marks n q.marks)) in
-    let P : ℕ → (ℕ → Mark) → Type 0 = λ cy row. (cx : ℕ) → cx < spot.across → SkippedIsZero spot ys cy cx (row cx) in
-    let all = chosen P p.marks n q.marks (λ cy l cx m. zeros_above_row spot xs ys n p.marks is (omega arith) same p.zeros cy cx l m) q.zeros in
+    let same : SameWithin layout.width xs ys layout.width (edge_of layout.height layout.down n) = kept_above (omega arith) k in
+    let before : bands_part layout parent xs p.marks n ≡ bands_part layout parent ys marks n = bands_same layout parent xs ys p.marks marks n is (omega arith) (λ r c l m. ap (λ row. row c) (put_before p.marks n q.marks r l)) same in
+    let here : blocks_part layout parent ys q.marks n layout.across ≡ blocks_part layout parent ys (marks n) n layout.across = ap (λ row. blocks_part layout parent ys row n layout.across) (sym (put_here p.marks n q.marks)) in
+    let P : ℕ → (ℕ → Mark) → Type 0 = λ cy row. (cx : ℕ) → cx < layout.across → SkippedIsZero layout ys cy cx (row cx) in
+    let all = chosen P p.marks n q.marks (λ cy l cx m. zeros_above_row layout xs ys n p.marks is (omega arith) same p.zeros cy cx l m) q.zeros in
     record {
       marks = marks;
       zeros = λ cy cx l m. all cy l cx m;
-      reads = rw (bands_next spot parent ys marks n, sym here) (reads_behind before p.reads q.reads);
+      reads = rw (bands_next layout parent ys marks n, sym here) (reads_behind before p.reads q.reads);
     }
 
-pub bands_break : {old mid new : Reading} {xs ys : List ℤ} (spot : BandSpot) (parent : List ℤ) (n : ℕ) → IsSpot spot → n < spot.down
-    → KeptOutside spot.width 0 spot.width (edge_of spot.height spot.down n) (edge_of spot.height spot.down (n + 1)) xs ys
-    → BandRead spot parent old xs n mid → BlocksBroken spot parent mid ys n new → BandBroken spot parent old ys new
-bands_break {xs = xs} {ys = ys} spot parent n is h k p b =
+pub bands_break : {old mid new : Reading} {xs ys : List ℤ} (layout : BandLayout) (parent : List ℤ) (n : ℕ) → IsBandLayout layout → n < layout.down
+    → KeptOutside layout.width 0 layout.width (edge_of layout.height layout.down n) (edge_of layout.height layout.down (n + 1)) xs ys
+    → BandRead layout parent old xs n mid → BlocksBroken layout parent mid ys n new → BandBroken layout parent old ys new
+bands_break {xs = xs} {ys = ys} layout parent n is h k p b =
     let marks = put_at p.marks n b.marks in
-    let same : SameWithin spot.width xs ys spot.width (edge_of spot.height spot.down n) = kept_above (omega arith) k in
-    let before : bands_part spot parent xs p.marks n ≡ bands_part spot parent ys marks n = bands_same spot parent xs ys p.marks marks n is (omega arith) (λ r c l m. ap (λ row. row c) (put_before p.marks n b.marks r l)) same in
+    let same : SameWithin layout.width xs ys layout.width (edge_of layout.height layout.down n) = kept_above (omega arith) k in
+    let before : bands_part layout parent xs p.marks n ≡ bands_part layout parent ys marks n = bands_same layout parent xs ys p.marks marks n is (omega arith) (λ r c l m. ap (λ row. row c) (put_before p.marks n b.marks r l)) same in
     let here : b.marks ≡ marks n = sym (put_here p.marks n b.marks) in
-    let until : blocks_until spot parent ys b.marks n b.across b.row b.column b.digits ≡ blocks_until spot parent ys (marks n) n b.across b.row b.column b.digits = ap (λ row. blocks_until spot parent ys row n b.across b.row b.column b.digits) here in
+    let until : blocks_until layout parent ys b.marks n b.across b.row b.column b.digits ≡ blocks_until layout parent ys (marks n) n b.across b.row b.column b.digits = ap (λ row. blocks_until layout parent ys row n b.across b.row b.column b.digits) here in
     record {
       marks = marks;
       at = record { down = n; across = b.across; row = b.row; column = b.column; digits = b.digits };
       inside = record { down = h; across = b.in_blocks; row = b.in_rows; column = b.inside; digits = b.long };
-      zeros_above = λ cy cx l m. subst (λ row. SkippedIsZero spot ys cy cx (row cx)) (put_before p.marks n b.marks cy l) (zeros_above_row spot xs ys n p.marks is (omega arith) same p.zeros cy cx l m);
-      zeros_before = λ cx l. subst (λ row. SkippedIsZero spot ys n cx (row cx)) here (b.zeros cx l);
+      zeros_above = λ cy cx l m. subst (λ row. SkippedIsZero layout ys cy cx (row cx)) (put_before p.marks n b.marks cy l) (zeros_above_row layout xs ys n p.marks is (omega arith) same p.zeros cy cx l m);
+      zeros_before = λ cx l. subst (λ row. SkippedIsZero layout ys n cx (row cx)) here (b.zeros cx l);
       reads = rw (sym until) (reads_behind before p.reads b.reads);
     }
 
@@ -129,10 +129,10 @@ pub behind_flag : (flagged : Bool) (old mid : Reading) → flagged ≡ true → 
 behind_flag flagged old mid has flag ds new read = rw has (let d : Decision = (18, false) in reads_more old mid new (d ∷ []) ds flag read)
 
 -- a codeblock breaks off where its rows do
-pub block_breaks : {new : Reading} {xs : List ℤ} (spot : BandSpot) (parent : List ℤ) (old mid : Reading) (cy cx : ℕ) → IsBehindFlag (is_flagged spot) old mid
-    → RowsBroken (frame_of spot parent) mid xs (edge_of spot.width spot.across cx) (span_of spot.width spot.across cx) (edge_of spot.height spot.down cy) (span_of spot.height spot.down cy) new
-    → BlockBroken spot parent old xs cy cx new
-block_breaks {new = new} spot parent old mid cy cx behind b =
+pub block_breaks : {new : Reading} {xs : List ℤ} (layout : BandLayout) (parent : List ℤ) (old mid : Reading) (cy cx : ℕ) → IsBehindFlag (is_flagged layout) old mid
+    → RowsBroken (frame_of layout parent) mid xs (edge_of layout.width layout.across cx) (span_of layout.width layout.across cx) (edge_of layout.height layout.down cy) (span_of layout.height layout.down cy) new
+    → BlockBroken layout parent old xs cy cx new
+block_breaks {new = new} layout parent old mid cy cx behind b =
     record {
       row = b.row;
       column = b.column;

@@ -16,12 +16,12 @@ use Rattle.dirac_arith.proofs.Carrieds.{IsLed, some_signed, reads_of}
 use Rattle.dirac_arith.proofs.Decidings.{some_truth, decided_open, decided_shut, signed_is_read, signed_is_long, signed_is_shut}
 use Rattle.dirac_arith.proofs.Led.{led_begin, led_more}
 use Rattle.dirac_bands.specs.Geometry.{edge_of}
-use Rattle.dirac_coeffs.specs.declared.spot.BandSpot.{BandSpot}
+use Rattle.dirac_coeffs.specs.declared.layout.BandLayout.{BandLayout}
 use Rattle.dirac_coeffs.specs.BandRead.{Progress, Step, progress, repeated, value_step, row_step, rows_step, filled_step, unless, flagged_step, block_step, blocks_step, block_rows_step, unread}
 use Rattle.dirac_coeffs.specs.Carried.{AreSmall, SkippedIsZero, long_part}
 use Rattle.dirac_coeffs.specs.Contexts.{bits_context}
 use Rattle.dirac_coeffs.specs.Decisions.{Frame, Mark, frame_of, follow_here, sign_here, value_part, row_part, rows_part, flagged_part, block_part, blocks_part, bands_part}
-use Rattle.dirac_coeffs.specs.Spots.{IsSpot, span_of, is_flagged}
+use Rattle.dirac_coeffs.specs.Layouts.{IsBandLayout, span_of, is_flagged}
 use Rattle.dirac_coeffs.proofs.Agreement.{value_here}
 use Rattle.dirac_coeffs.proofs.Edges.{edge_rises, edge_last, span_end, span_inside, rows_inside}
 use Rattle.dirac_coeffs.proofs.Filling.{row_more, row_breaks, rows_more, rows_break, value_stored}
@@ -194,129 +194,129 @@ rows_go f block p x count y rows h (suc n) wide low len few at =
     (row_goes f block q x count (y + n) h count wide (omega arith) (k.len ∙ len) (omega arith) here))
 
 -- a codeblock, read behind the zero flag that it may have
-abbrev BlockDone : BandSpot → List ℤ → Reading → ℕ → ℕ → List ℤ → Reading → Type 0
-BlockDone spot parent old cy cx ys new = (mark : Mark) × Reads old (block_part spot parent ys cy cx mark) new × SkippedIsZero spot ys cy cx mark
+abbrev BlockDone : BandLayout → List ℤ → Reading → ℕ → ℕ → List ℤ → Reading → Type 0
+BlockDone layout parent old cy cx ys new = (mark : Mark) × Reads old (block_part layout parent ys cy cx mark) new × SkippedIsZero layout ys cy cx mark
 
 -- what steps come to within a codeblock
-abbrev WithinBlock : BandSpot → List ℕ → List ℤ → ℕ → ℕ → (List ℤ → Reading → Type 0) → (List ℤ → Reading → Type 0) → Result Progress Cause → Type 0
-WithinBlock spot block xs cy cx Done Broken r =
-    Came spot.width (edge_of spot.width spot.across cx) (edge_of spot.width spot.across (cx + 1)) (edge_of spot.height spot.down cy) (edge_of spot.height spot.down (cy + 1)) block xs Done Broken r
+abbrev WithinBlock : BandLayout → List ℕ → List ℤ → ℕ → ℕ → (List ℤ → Reading → Type 0) → (List ℤ → Reading → Type 0) → Result Progress Cause → Type 0
+WithinBlock layout block xs cy cx Done Broken r =
+    Came layout.width (edge_of layout.width layout.across cx) (edge_of layout.width layout.across (cx + 1)) (edge_of layout.height layout.down cy) (edge_of layout.height layout.down (cy + 1)) block xs Done Broken r
 
 -- its values
-values_go : (spot : BandSpot) (parent : List ℤ) (block : List ℕ) (p : Progress) (cy cx : ℕ) → IsSpot spot → cy < spot.down → cx < spot.across → length p.values ≡ spot.width * spot.height → Stands block p.reading
-    → WithinBlock spot block p.values cy cx
-    (λ ys new. Reads p.reading (rows_part (frame_of spot parent) ys (edge_of spot.width spot.across cx) (span_of spot.width spot.across cx) (edge_of spot.height spot.down cy) (span_of spot.height spot.down cy)) new)
-    (λ ys new. RowsBroken (frame_of spot parent) p.reading ys (edge_of spot.width spot.across cx) (span_of spot.width spot.across cx) (edge_of spot.height spot.down cy) (span_of spot.height spot.down cy) new)
-    (filled_step spot parent cy cx p)
-values_go spot parent block p cy cx is low left len at =
-    let x = edge_of spot.width spot.across cx in
-    let y = edge_of spot.height spot.down cy in
-    let columns = span_of spot.width spot.across cx in
-    let rows = span_of spot.height spot.down cy in
-    let right : x + columns ≡ edge_of spot.width spot.across (cx + 1) = span_end spot.width spot.across cx (omega (arith, is.across)) in
-    let bottom : y + rows ≡ edge_of spot.height spot.down (cy + 1) = span_end spot.height spot.down cy (omega (arith, is.down)) in
+values_go : (layout : BandLayout) (parent : List ℤ) (block : List ℕ) (p : Progress) (cy cx : ℕ) → IsBandLayout layout → cy < layout.down → cx < layout.across → length p.values ≡ layout.width * layout.height → Stands block p.reading
+    → WithinBlock layout block p.values cy cx
+    (λ ys new. Reads p.reading (rows_part (frame_of layout parent) ys (edge_of layout.width layout.across cx) (span_of layout.width layout.across cx) (edge_of layout.height layout.down cy) (span_of layout.height layout.down cy)) new)
+    (λ ys new. RowsBroken (frame_of layout parent) p.reading ys (edge_of layout.width layout.across cx) (span_of layout.width layout.across cx) (edge_of layout.height layout.down cy) (span_of layout.height layout.down cy) new)
+    (filled_step layout parent cy cx p)
+values_go layout parent block p cy cx is low left len at =
+    let x = edge_of layout.width layout.across cx in
+    let y = edge_of layout.height layout.down cy in
+    let columns = span_of layout.width layout.across cx in
+    let rows = span_of layout.height layout.down cy in
+    let right : x + columns ≡ edge_of layout.width layout.across (cx + 1) = span_end layout.width layout.across cx (omega (arith, is.across)) in
+    let bottom : y + rows ≡ edge_of layout.height layout.down (cy + 1) = span_end layout.height layout.down cy (omega (arith, is.down)) in
     let P : ℕ → ℕ → Type 0 = λ r b.
-    Came spot.width x r y b block p.values (λ ys new. Reads p.reading (rows_part (frame_of spot parent) ys x columns y rows) new) (λ ys new. RowsBroken (frame_of spot parent) p.reading ys x columns y rows new) (filled_step spot parent cy cx p) in
-    let came : P (x + columns) (y + rows) = rows_go (frame_of spot parent) block p x columns y rows spot.height rows (span_inside spot.width spot.across cx left) (span_inside spot.height spot.down cy low) len (omega arith) at in
-    subst (λ r. P r (edge_of spot.height spot.down (cy + 1))) right (subst (λ b. P (x + columns) b) bottom came)
+    Came layout.width x r y b block p.values (λ ys new. Reads p.reading (rows_part (frame_of layout parent) ys x columns y rows) new) (λ ys new. RowsBroken (frame_of layout parent) p.reading ys x columns y rows new) (filled_step layout parent cy cx p) in
+    let came : P (x + columns) (y + rows) = rows_go (frame_of layout parent) block p x columns y rows layout.height rows (span_inside layout.width layout.across cx left) (span_inside layout.height layout.down cy low) len (omega arith) at in
+    subst (λ r. P r (edge_of layout.height layout.down (cy + 1))) right (subst (λ b. P (x + columns) b) bottom came)
 
 -- its values behind a false flag, or without one
-unskipped_goes : (spot : BandSpot) (parent : List ℤ) (block : List ℕ) (old : Reading) (p : Progress) (cy cx : ℕ) → IsSpot spot → cy < spot.down → cx < spot.across → length p.values ≡ spot.width * spot.height
-    → Stands block p.reading → IsBehindFlag (is_flagged spot) old p.reading
-    → WithinBlock spot block p.values cy cx (BlockDone spot parent old cy cx) (λ ys new. BlockBroken spot parent old ys cy cx new) (filled_step spot parent cy cx p)
-unskipped_goes spot parent block old p cy cx is low left len at behind =
+unskipped_goes : (layout : BandLayout) (parent : List ℤ) (block : List ℕ) (old : Reading) (p : Progress) (cy cx : ℕ) → IsBandLayout layout → cy < layout.down → cx < layout.across → length p.values ≡ layout.width * layout.height
+    → Stands block p.reading → IsBehindFlag (is_flagged layout) old p.reading
+    → WithinBlock layout block p.values cy cx (BlockDone layout parent old cy cx) (λ ys new. BlockBroken layout parent old ys cy cx new) (filled_step layout parent cy cx p)
+unskipped_goes layout parent block old p cy cx is low left len at behind =
     let mark : Mark = record { skipped = false } in
     came_as
     (λ ys new k read. (mark, behind _ new read, λ flagged skipped i j p q. absurd cc))
-    (λ ys new k broken. block_breaks spot parent old p.reading cy cx behind broken)
-    (values_go spot parent block p cy cx is low left len at)
+    (λ ys new k broken. block_breaks layout parent old p.reading cy cx behind broken)
+    (values_go layout parent block p cy cx is low left len at)
 
 -- the zeros that a true flag leaves
-skipped_done : (spot : BandSpot) (parent : List ℤ) (p : Progress) (new : Reading) (cy cx : ℕ) → IsSpot spot → cx < spot.across → ZeroFrom spot.width (edge_of spot.width spot.across cx) (edge_of spot.height spot.down cy) p.values
-    → is_flagged spot ≡ true → (let flag : Decision = (18, true) in Reads p.reading (flag ∷ []) new) → BlockDone spot parent p.reading cy cx p.values new
-skipped_done spot parent p new cy cx is left zeros has flag =
+skipped_done : (layout : BandLayout) (parent : List ℤ) (p : Progress) (new : Reading) (cy cx : ℕ) → IsBandLayout layout → cx < layout.across → ZeroFrom layout.width (edge_of layout.width layout.across cx) (edge_of layout.height layout.down cy) p.values
+    → is_flagged layout ≡ true → (let flag : Decision = (18, true) in Reads p.reading (flag ∷ []) new) → BlockDone layout parent p.reading cy cx p.values new
+skipped_done layout parent p new cy cx is left zeros has flag =
     let mark : Mark = record { skipped = true } in
-    let x = edge_of spot.width spot.across cx in
-    let y = edge_of spot.height spot.down cy in
-    let rows : List Decision = rows_part (frame_of spot parent) p.values x (span_of spot.width spot.across cx) y (span_of spot.height spot.down cy) in
-    let inside = span_inside spot.width spot.across cx left in
+    let x = edge_of layout.width layout.across cx in
+    let y = edge_of layout.height layout.down cy in
+    let rows : List Decision = rows_part (frame_of layout parent) p.values x (span_of layout.width layout.across cx) y (span_of layout.height layout.down cy) in
+    let inside = span_inside layout.width layout.across cx left in
     (mark, subst (λ flagged. Reads p.reading (flagged_part flagged true rows) new) (sym has) flag, λ flagged skipped i j p q. zeros.each (x + i) (y + j) (omega arith) (omega arith) (omega arith))
 
-block_goes : (spot : BandSpot) (parent : List ℤ) (block : List ℕ) (p : Progress) (cy cx : ℕ) → IsSpot spot → cy < spot.down → cx < spot.across → length p.values ≡ spot.width * spot.height
-    → ZeroFrom spot.width (edge_of spot.width spot.across cx) (edge_of spot.height spot.down cy) p.values → Stands block p.reading
-    → WithinBlock spot block p.values cy cx (BlockDone spot parent p.reading cy cx) (λ ys new. BlockBroken spot parent p.reading ys cy cx new) (block_step spot parent cy cx p)
+block_goes : (layout : BandLayout) (parent : List ℤ) (block : List ℕ) (p : Progress) (cy cx : ℕ) → IsBandLayout layout → cy < layout.down → cx < layout.across → length p.values ≡ layout.width * layout.height
+    → ZeroFrom layout.width (edge_of layout.width layout.across cx) (edge_of layout.height layout.down cy) p.values → Stands block p.reading
+    → WithinBlock layout block p.values cy cx (BlockDone layout parent p.reading cy cx) (λ ys new. BlockBroken layout parent p.reading ys cy cx new) (block_step layout parent cy cx p)
 unfolding block_step
-block_goes spot parent block p cy cx is low left len zeros at =
-    let flagged = is_flagged spot in
-    flagged_comes block flagged (filled_step spot parent cy cx) p at
-    (λ plain. unskipped_goes spot parent block p.reading p cy cx is low left len at (behind_none flagged p.reading plain))
-    (λ s has flag. let d : Decision = (18, true) in (went_none (progress p.values s) (skipped_done spot parent p s cy cx is left zeros has flag), stands_on p.reading (d ∷ []) at flag))
-    (λ s has flag. let d : Decision = (18, false) in unskipped_goes spot parent block p.reading (progress p.values s) cy cx is low left len (stands_on p.reading (d ∷ []) at flag) (behind_flag flagged p.reading s has flag))
+block_goes layout parent block p cy cx is low left len zeros at =
+    let flagged = is_flagged layout in
+    flagged_comes block flagged (filled_step layout parent cy cx) p at
+    (λ plain. unskipped_goes layout parent block p.reading p cy cx is low left len at (behind_none flagged p.reading plain))
+    (λ s has flag. let d : Decision = (18, true) in (went_none (progress p.values s) (skipped_done layout parent p s cy cx is left zeros has flag), stands_on p.reading (d ∷ []) at flag))
+    (λ s has flag. let d : Decision = (18, false) in unskipped_goes layout parent block p.reading (progress p.values s) cy cx is low left len (stands_on p.reading (d ∷ []) at flag) (behind_flag flagged p.reading s has flag))
 
 -- the first n codeblocks of a row
-blocks_go : (spot : BandSpot) (parent : List ℤ) (block : List ℕ) (p : Progress) (cy n : ℕ) → IsSpot spot → cy < spot.down → n ≤ spot.across → length p.values ≡ spot.width * spot.height
-    → ZeroFrom spot.width 0 (edge_of spot.height spot.down cy) p.values → Stands block p.reading
-    → Came spot.width 0 (edge_of spot.width spot.across n) (edge_of spot.height spot.down cy) (edge_of spot.height spot.down (cy + 1)) block p.values
-    (λ ys new. BlocksRead spot parent p.reading ys cy n new) (λ ys new. BlocksBroken spot parent p.reading ys cy new) (blocks_step spot parent cy n p)
+blocks_go : (layout : BandLayout) (parent : List ℤ) (block : List ℕ) (p : Progress) (cy n : ℕ) → IsBandLayout layout → cy < layout.down → n ≤ layout.across → length p.values ≡ layout.width * layout.height
+    → ZeroFrom layout.width 0 (edge_of layout.height layout.down cy) p.values → Stands block p.reading
+    → Came layout.width 0 (edge_of layout.width layout.across n) (edge_of layout.height layout.down cy) (edge_of layout.height layout.down (cy + 1)) block p.values
+    (λ ys new. BlocksRead layout parent p.reading ys cy n new) (λ ys new. BlocksBroken layout parent p.reading ys cy new) (blocks_step layout parent cy n p)
 unfolding blocks_part repeated
-blocks_go spot parent block p cy zero is low few len zeros at =
+blocks_go layout parent block p cy zero is low few len zeros at =
     ended p (went_none p (record { marks = λ cx. record { skipped = false }; zeros = λ cx l. absurd (omega arith); reads = reads_none p.reading }), at)
-blocks_go spot parent block p cy (suc n) is low few len zeros at =
-    let w = spot.width in
-    let top = edge_of spot.height spot.down cy in
-    let bottom = edge_of spot.height spot.down (cy + 1) in
-    let left = edge_of w spot.across n in
+blocks_go layout parent block p cy (suc n) is low few len zeros at =
+    let w = layout.width in
+    let top = edge_of layout.height layout.down cy in
+    let bottom = edge_of layout.height layout.down (cy + 1) in
+    let left = edge_of w layout.across n in
     let next : n + 1 ≡ suc n = omega arith in
-    let rises : left ≤ edge_of w spot.across (n + 1) = edge_rises w spot.across n (n + 1) (omega (arith, is.across)) (omega arith) in
-    let P : ℕ → Type 0 = λ m. Came w 0 (edge_of w spot.across m) top bottom block p.values (λ ys new. BlocksRead spot parent p.reading ys cy m new) (λ ys new. BlocksBroken spot parent p.reading ys cy new) (blocks_step spot parent cy (suc n) p) in
+    let rises : left ≤ edge_of w layout.across (n + 1) = edge_rises w layout.across n (n + 1) (omega (arith, is.across)) (omega arith) in
+    let P : ℕ → Type 0 = λ m. Came w 0 (edge_of w layout.across m) top bottom block p.values (λ ys new. BlocksRead layout parent p.reading ys cy m new) (λ ys new. BlocksBroken layout parent p.reading ys cy new) (blocks_step layout parent cy (suc n) p) in
     let came : P (n + 1) =
-    came_on (block_step spot parent cy n) (omega arith, rises, omega arith, omega arith) (omega arith, omega arith, omega arith, omega arith)
-    (blocks_go spot parent block p cy n is low (omega arith) len zeros at)
+    came_on (block_step layout parent cy n) (omega arith, rises, omega arith, omega arith) (omega arith, omega arith, omega arith, omega arith)
+    (blocks_go layout parent block p cy n is low (omega arith) len zeros at)
     (λ q k read here.
     came_as
-    (λ zs new k' more. blocks_more spot parent cy n more.0 is (omega arith) k' read more.1 more.2)
-    (λ zs new k' broken. blocks_break spot parent cy n is (omega arith) k' read broken)
-    (block_goes spot parent block q cy n is low (omega arith) (k.len ∙ len) (zero_right (omega arith) k zeros) here)) in
+    (λ zs new k' more. blocks_more layout parent cy n more.0 is (omega arith) k' read more.1 more.2)
+    (λ zs new k' broken. blocks_break layout parent cy n is (omega arith) k' read broken)
+    (block_goes layout parent block q cy n is low (omega arith) (k.len ∙ len) (zero_right (omega arith) k zeros) here)) in
     subst P next came
 
 -- the first n rows of codeblocks
-rows_of_blocks_go : (spot : BandSpot) (parent : List ℤ) (block : List ℕ) (p : Progress) (n : ℕ) → IsSpot spot → n ≤ spot.down → length p.values ≡ spot.width * spot.height
-    → ZeroFrom spot.width 0 0 p.values → Stands block p.reading
-    → Came spot.width 0 spot.width 0 (edge_of spot.height spot.down n) block p.values
-    (λ ys new. BandRead spot parent p.reading ys n new) (λ ys new. BandBroken spot parent p.reading ys new) (block_rows_step spot parent n p)
+rows_of_blocks_go : (layout : BandLayout) (parent : List ℤ) (block : List ℕ) (p : Progress) (n : ℕ) → IsBandLayout layout → n ≤ layout.down → length p.values ≡ layout.width * layout.height
+    → ZeroFrom layout.width 0 0 p.values → Stands block p.reading
+    → Came layout.width 0 layout.width 0 (edge_of layout.height layout.down n) block p.values
+    (λ ys new. BandRead layout parent p.reading ys n new) (λ ys new. BandBroken layout parent p.reading ys new) (block_rows_step layout parent n p)
 unfolding bands_part repeated
-rows_of_blocks_go spot parent block p zero is few len zeros at =
+rows_of_blocks_go layout parent block p zero is few len zeros at =
     ended p (went_none p (record { marks = λ cy cx. record { skipped = false }; zeros = λ cy cx l m. absurd (omega arith); reads = reads_none p.reading }), at)
-rows_of_blocks_go spot parent block p (suc n) is few len zeros at =
-    let w = spot.width in
-    let top = edge_of spot.height spot.down n in
-    let bottom = edge_of spot.height spot.down (n + 1) in
+rows_of_blocks_go layout parent block p (suc n) is few len zeros at =
+    let w = layout.width in
+    let top = edge_of layout.height layout.down n in
+    let bottom = edge_of layout.height layout.down (n + 1) in
     let next : n + 1 ≡ suc n = omega arith in
-    let rises : top ≤ bottom = edge_rises spot.height spot.down n (n + 1) (omega (arith, is.down)) (omega arith) in
-    let last : edge_of w spot.across spot.across ≡ w = edge_last w spot.across (omega (arith, is.across)) in
-    let changed : (ys zs : List ℤ) → KeptOutside w 0 (edge_of w spot.across spot.across) top bottom ys zs → KeptOutside w 0 w top bottom ys zs = λ ys zs k. subst (λ r. KeptOutside w 0 r top bottom ys zs) last k in
-    let P : ℕ → Type 0 = λ m. Came w 0 w 0 (edge_of spot.height spot.down m) block p.values (λ ys new. BandRead spot parent p.reading ys m new) (λ ys new. BandBroken spot parent p.reading ys new) (block_rows_step spot parent (suc n) p) in
+    let rises : top ≤ bottom = edge_rises layout.height layout.down n (n + 1) (omega (arith, is.down)) (omega arith) in
+    let last : edge_of w layout.across layout.across ≡ w = edge_last w layout.across (omega (arith, is.across)) in
+    let changed : (ys zs : List ℤ) → KeptOutside w 0 (edge_of w layout.across layout.across) top bottom ys zs → KeptOutside w 0 w top bottom ys zs = λ ys zs k. subst (λ r. KeptOutside w 0 r top bottom ys zs) last k in
+    let P : ℕ → Type 0 = λ m. Came w 0 w 0 (edge_of layout.height layout.down m) block p.values (λ ys new. BandRead layout parent p.reading ys m new) (λ ys new. BandBroken layout parent p.reading ys new) (block_rows_step layout parent (suc n) p) in
     let came : P (n + 1) =
-    came_on (blocks_step spot parent n spot.across) (omega arith, omega arith, omega arith, rises) (omega arith, omega arith, omega arith, omega arith)
-    (rows_of_blocks_go spot parent block p n is (omega arith) len zeros at)
+    came_on (blocks_step layout parent n layout.across) (omega arith, omega arith, omega arith, rises) (omega arith, omega arith, omega arith, omega arith)
+    (rows_of_blocks_go layout parent block p n is (omega arith) len zeros at)
     (λ q k read here.
     came_as
-    (λ zs new k' more. bands_more spot parent n is (omega arith) (changed q.values zs k') read more)
-    (λ zs new k' broken. bands_break spot parent n is (omega arith) (changed q.values zs k') read broken)
-    (blocks_go spot parent block q n spot.across is (omega arith) (omega arith) (k.len ∙ len) (zero_below (omega arith) k zeros) here)) in
+    (λ zs new k' more. bands_more layout parent n is (omega arith) (changed q.values zs k') read more)
+    (λ zs new k' broken. bands_break layout parent n is (omega arith) (changed q.values zs k') read broken)
+    (blocks_go layout parent block q n layout.across is (omega arith) (omega arith) (k.len ∙ len) (zero_below (omega arith) k zeros) here)) in
     subst P next came
 
 -- all steps of a band
-pub band_goes : (spot : BandSpot) (parent : List ℤ) (block : List ℕ) (xs : List ℤ) → IsSpot spot → length xs ≡ spot.width * spot.height → AreSmall xs → ZeroFrom spot.width 0 0 xs
-    → Comes block (λ p. (length p.values ≡ spot.width * spot.height) × AreSmall p.values × BandRead spot parent (begin block) p.values spot.down p.reading)
-    ((p : Progress) × (length p.values ≡ spot.width * spot.height) × AreSmall p.values × BandBroken spot parent (begin block) p.values p.reading)
-    (block_rows_step spot parent spot.down (progress xs (begin block)))
-band_goes spot parent block xs is len small zeros =
+pub band_goes : (layout : BandLayout) (parent : List ℤ) (block : List ℕ) (xs : List ℤ) → IsBandLayout layout → length xs ≡ layout.width * layout.height → AreSmall xs → ZeroFrom layout.width 0 0 xs
+    → Comes block (λ p. (length p.values ≡ layout.width * layout.height) × AreSmall p.values × BandRead layout parent (begin block) p.values layout.down p.reading)
+    ((p : Progress) × (length p.values ≡ layout.width * layout.height) × AreSmall p.values × BandBroken layout parent (begin block) p.values p.reading)
+    (block_rows_step layout parent layout.down (progress xs (begin block)))
+band_goes layout parent block xs is len small zeros =
     let p = progress xs (begin block) in
     comes_as
     (λ q c. (c.0.kept.len ∙ len, c.0.small small, c.0.so))
     (λ b. (b.0, b.1.kept.len ∙ len, b.1.small small, b.1.so))
-    (rows_of_blocks_go spot parent block p spot.down is (omega arith) len zeros (stands_first block))
+    (rows_of_blocks_go layout parent block p layout.down is (omega arith) len zeros (stands_first block))
 
 -- whatever is read, it is refused for ones only where there are any
 abbrev pub Tells : List ℕ → Result Progress Cause → Type 0
@@ -327,29 +327,29 @@ unfolding repeated
 all_tell block step each zero p at = ended p at
 all_tell block step each (suc n) p at = comes_on (step n) (all_tell block step each n p at) (λ q s. each n q s)
 
-filled_tells : (spot : BandSpot) (parent : List ℤ) (block : List ℕ) (cy cx : ℕ) (p : Progress) → Stands block p.reading → Tells block (filled_step spot parent cy cx p)
+filled_tells : (layout : BandLayout) (parent : List ℤ) (block : List ℕ) (cy cx : ℕ) (p : Progress) → Stands block p.reading → Tells block (filled_step layout parent cy cx p)
 unfolding value_step
-filled_tells spot parent block cy cx p at =
-    let f = frame_of spot parent in
-    let x = edge_of spot.width spot.across cx in
-    let y = edge_of spot.height spot.down cy in
-    all_tell block (λ j. row_step f (y + j) x (span_of spot.width spot.across cx))
+filled_tells layout parent block cy cx p at =
+    let f = frame_of layout parent in
+    let x = edge_of layout.width layout.across cx in
+    let y = edge_of layout.height layout.down cy in
+    all_tell block (λ j. row_step f (y + j) x (span_of layout.width layout.across cx))
     (λ j. all_tell block (λ i. value_step f (x + i) (y + j))
     (λ i q s.
     signed_comes block q.reading (follow_here f q.values (x + i) (y + j)) bits_context (sign_here f q.values (x + i) (y + j)) (λ v. set q.values ((y + j) * f.width + (x + i)) v) s
-    (λ v r small reads. stands_on q.reading (value_here f q.values (x + i) (y + j) v) s reads) (λ digits r long reads. tt)) (span_of spot.width spot.across cx))
-    (span_of spot.height spot.down cy) p at
+    (λ v r small reads. stands_on q.reading (value_here f q.values (x + i) (y + j) v) s reads) (λ digits r long reads. tt)) (span_of layout.width layout.across cx))
+    (span_of layout.height layout.down cy) p at
 
-pub band_tells : (spot : BandSpot) (parent : List ℤ) (block : List ℕ) → Tells block (block_rows_step spot parent spot.down (unread spot block))
+pub band_tells : (layout : BandLayout) (parent : List ℤ) (block : List ℕ) → Tells block (block_rows_step layout parent layout.down (unread layout block))
 unfolding block_step
-band_tells spot parent block =
-    all_tell block (λ cy. blocks_step spot parent cy spot.across)
-    (λ cy. all_tell block (block_step spot parent cy)
+band_tells layout parent block =
+    all_tell block (λ cy. blocks_step layout parent cy layout.across)
+    (λ cy. all_tell block (block_step layout parent cy)
     (λ cx p at.
-    let flagged = is_flagged spot in
+    let flagged = is_flagged layout in
     let flag : Bool → Decision = λ b. (18, b) in
-    flagged_comes block flagged (filled_step spot parent cy cx) p at
-    (λ plain. filled_tells spot parent block cy cx p at)
+    flagged_comes block flagged (filled_step layout parent cy cx) p at
+    (λ plain. filled_tells layout parent block cy cx p at)
     (λ s has reads. stands_on p.reading (flag true ∷ []) at reads)
-    (λ s has reads. filled_tells spot parent block cy cx (progress p.values s) (stands_on p.reading (flag false ∷ []) at reads))) spot.across)
-    spot.down (unread spot block) (stands_first block)
+    (λ s has reads. filled_tells layout parent block cy cx (progress p.values s) (stands_on p.reading (flag false ∷ []) at reads))) layout.across)
+    layout.down (unread layout block) (stands_first block)

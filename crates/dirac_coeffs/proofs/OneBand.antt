@@ -6,13 +6,13 @@ use Rattle.dirac_arith.specs.Carried.{Carries}
 use Rattle.dirac_arith.specs.Interval.{Decision}
 use Rattle.dirac_arith.proofs.Spellings.{carries_one_truth}
 use Rattle.dirac_bands.specs.Geometry.{edge_of}
-use Rattle.dirac_coeffs.specs.declared.spot.BandSpot.{BandSpot}
+use Rattle.dirac_coeffs.specs.declared.layout.BandLayout.{BandLayout}
 use Rattle.dirac_coeffs.specs.Carried.{AreSmall, SkippedIsZero}
 use Rattle.dirac_coeffs.specs.Contexts.{value_at, bits_context}
 use Rattle.dirac_coeffs.specs.Decisions.{Frame, Mark, Marks, frame_of, follow_here, sign_here, value_part, row_part, rows_part, flagged_part, block_part, blocks_part, bands_part}
 use Rattle.dirac_coeffs.specs.Laws.{OneBandIsCarried}
 use Rattle.dirac_coeffs.proofs.Places.{SameWithin}
-use Rattle.dirac_coeffs.specs.Spots.{IsSpot, span_of, is_flagged}
+use Rattle.dirac_coeffs.specs.Layouts.{IsBandLayout, span_of, is_flagged}
 use Rattle.dirac_coeffs.proofs.Agreement.{row_same, row_next, rows_same, rows_next, value_contexts}
 use Rattle.dirac_coeffs.proofs.AgreementOfBlocks.{blocks_next, bands_next}
 use Rattle.dirac_coeffs.proofs.Coding.{rest_of, parts_one, one_value}
@@ -105,23 +105,23 @@ flagged_one f block common xs ys left columns top rows true false false small sm
     record { within = all; decisions = ap (λ (l : List Decision). flag ∷ l) (rows_same f xs ys left columns top rows h all) }
 
 -- codeblock cx of row cy
-block_one : (spot : BandSpot) (parent : List ℤ) (block : List ℕ) (common : List Decision) (xs ys : List ℤ) (cy cx : ℕ) (mark mark' : Mark) → IsSpot spot → cx < spot.across
+block_one : (layout : BandLayout) (parent : List ℤ) (block : List ℕ) (common : List Decision) (xs ys : List ℤ) (cy cx : ℕ) (mark mark' : Mark) → IsBandLayout layout → cx < layout.across
     → AreSmall xs → AreSmall ys
-    → SameWithin spot.width xs ys (edge_of spot.width spot.across cx) (edge_of spot.height spot.down (cy + 1))
-    → SameWithin spot.width xs ys (edge_of spot.width spot.across (cx + 1)) (edge_of spot.height spot.down cy)
-    → SkippedIsZero spot xs cy cx mark → SkippedIsZero spot ys cy cx mark'
-    → Carries block (common ++ block_part spot parent xs cy cx mark) → Carries block (common ++ block_part spot parent ys cy cx mark')
-    → SameBlock spot.width xs ys (edge_of spot.width spot.across (cx + 1)) (edge_of spot.height spot.down (cy + 1)) (block_part spot parent xs cy cx mark) (block_part spot parent ys cy cx mark')
-block_one spot parent block common xs ys cy cx mark mark' is inside small small' s t z z' p q =
-    let w = spot.width in
-    let left = edge_of w spot.across cx in
-    let columns = span_of w spot.across cx in
-    let top = edge_of spot.height spot.down cy in
-    let rows = span_of spot.height spot.down cy in
-    let right : left + columns ≡ edge_of w spot.across (cx + 1) = span_end w spot.across cx (omega (arith, is.across)) in
-    let bottom : top + rows ≡ edge_of spot.height spot.down (cy + 1) = span_end spot.height spot.down cy (omega (arith, is.down)) in
+    → SameWithin layout.width xs ys (edge_of layout.width layout.across cx) (edge_of layout.height layout.down (cy + 1))
+    → SameWithin layout.width xs ys (edge_of layout.width layout.across (cx + 1)) (edge_of layout.height layout.down cy)
+    → SkippedIsZero layout xs cy cx mark → SkippedIsZero layout ys cy cx mark'
+    → Carries block (common ++ block_part layout parent xs cy cx mark) → Carries block (common ++ block_part layout parent ys cy cx mark')
+    → SameBlock layout.width xs ys (edge_of layout.width layout.across (cx + 1)) (edge_of layout.height layout.down (cy + 1)) (block_part layout parent xs cy cx mark) (block_part layout parent ys cy cx mark')
+block_one layout parent block common xs ys cy cx mark mark' is inside small small' s t z z' p q =
+    let w = layout.width in
+    let left = edge_of w layout.across cx in
+    let columns = span_of w layout.across cx in
+    let top = edge_of layout.height layout.down cy in
+    let rows = span_of layout.height layout.down cy in
+    let right : left + columns ≡ edge_of w layout.across (cx + 1) = span_end w layout.across cx (omega (arith, is.across)) in
+    let bottom : top + rows ≡ edge_of layout.height layout.down (cy + 1) = span_end layout.height layout.down cy (omega (arith, is.down)) in
     let same =
-    flagged_one (frame_of spot parent) block common xs ys left columns top rows (is_flagged spot) mark.skipped mark'.skipped small small' (span_inside spot.width spot.across cx inside)
+    flagged_one (frame_of layout parent) block common xs ys left columns top rows (is_flagged layout) mark.skipped mark'.skipped small small' (span_inside layout.width layout.across cx inside)
     (same_less (omega arith) (omega arith) s)
     (same_less (omega arith) (omega arith) t) z z' p q in
     record {
@@ -130,50 +130,50 @@ block_one spot parent block common xs ys cy cx mark mark' is inside small small'
     }
 
 -- the first n codeblocks of row cy, where all rows above are the same
-pub blocks_one : (spot : BandSpot) (parent : List ℤ) (block : List ℕ) (common : List Decision) (xs ys : List ℤ) (ms ms' : ℕ → Mark) (cy n : ℕ) → IsSpot spot → n ≤ spot.across
+pub blocks_one : (layout : BandLayout) (parent : List ℤ) (block : List ℕ) (common : List Decision) (xs ys : List ℤ) (ms ms' : ℕ → Mark) (cy n : ℕ) → IsBandLayout layout → n ≤ layout.across
     → AreSmall xs → AreSmall ys
-    → SameWithin spot.width xs ys spot.width (edge_of spot.height spot.down cy)
-    → ((cx : ℕ) → cx < n → SkippedIsZero spot xs cy cx (ms cx)) → ((cx : ℕ) → cx < n → SkippedIsZero spot ys cy cx (ms' cx))
-    → Carries block (common ++ blocks_part spot parent xs ms cy n) → Carries block (common ++ blocks_part spot parent ys ms' cy n)
-    → SameBlock spot.width xs ys (edge_of spot.width spot.across n) (edge_of spot.height spot.down (cy + 1)) (blocks_part spot parent xs ms cy n) (blocks_part spot parent ys ms' cy n)
+    → SameWithin layout.width xs ys layout.width (edge_of layout.height layout.down cy)
+    → ((cx : ℕ) → cx < n → SkippedIsZero layout xs cy cx (ms cx)) → ((cx : ℕ) → cx < n → SkippedIsZero layout ys cy cx (ms' cx))
+    → Carries block (common ++ blocks_part layout parent xs ms cy n) → Carries block (common ++ blocks_part layout parent ys ms' cy n)
+    → SameBlock layout.width xs ys (edge_of layout.width layout.across n) (edge_of layout.height layout.down (cy + 1)) (blocks_part layout parent xs ms cy n) (blocks_part layout parent ys ms' cy n)
 unfolding blocks_part
-blocks_one spot parent block common xs ys ms ms' cy n is inside small small' above z z' =
-    let w = spot.width in
-    let mine : ℕ → List Decision = λ k. blocks_part spot parent xs ms cy k in
-    let theirs : ℕ → List Decision = λ k. blocks_part spot parent ys ms' cy k in
-    parts_one block common mine (λ k. block_part spot parent xs cy k (ms k)) theirs (λ k. block_part spot parent ys cy k (ms' k))
-    (λ k. SameBlock w xs ys (edge_of w spot.across k) (edge_of spot.height spot.down (cy + 1)) (mine k) (theirs k)) n
-    (blocks_next spot parent xs ms cy) (blocks_next spot parent ys ms' cy) (λ k l before. before.decisions)
-    (record { within = record { each = λ x y a b c. absurd (omega (arith, edge_first w spot.across)) }; decisions = refl })
+blocks_one layout parent block common xs ys ms ms' cy n is inside small small' above z z' =
+    let w = layout.width in
+    let mine : ℕ → List Decision = λ k. blocks_part layout parent xs ms cy k in
+    let theirs : ℕ → List Decision = λ k. blocks_part layout parent ys ms' cy k in
+    parts_one block common mine (λ k. block_part layout parent xs cy k (ms k)) theirs (λ k. block_part layout parent ys cy k (ms' k))
+    (λ k. SameBlock w xs ys (edge_of w layout.across k) (edge_of layout.height layout.down (cy + 1)) (mine k) (theirs k)) n
+    (blocks_next layout parent xs ms cy) (blocks_next layout parent ys ms' cy) (λ k l before. before.decisions)
+    (record { within = record { each = λ x y a b c. absurd (omega (arith, edge_first w layout.across)) }; decisions = refl })
     (λ k l before p q.
-    let most : edge_of w spot.across (k + 1) ≤ w = edge_most w spot.across (k + 1) (omega arith) (omega arith) in
-    let here = block_one spot parent block (common ++ mine k) xs ys cy k (ms k) (ms' k) is (omega arith) small small' before.within (same_less most (omega arith) above) (z k l) (z' k l) p q in
+    let most : edge_of w layout.across (k + 1) ≤ w = edge_most w layout.across (k + 1) (omega arith) (omega arith) in
+    let here = block_one layout parent block (common ++ mine k) xs ys cy k (ms k) (ms' k) is (omega arith) small small' before.within (same_less most (omega arith) above) (z k l) (z' k l) p q in
     record {
       within = here.within;
-      decisions = blocks_next spot parent xs ms cy k ∙ ap₂ (λ (a b : List Decision). a ++ b) before.decisions here.decisions ∙ sym (blocks_next spot parent ys ms' cy k);
+      decisions = blocks_next layout parent xs ms cy k ∙ ap₂ (λ (a b : List Decision). a ++ b) before.decisions here.decisions ∙ sym (blocks_next layout parent ys ms' cy k);
     })
 
 -- the first n rows of codeblocks
-pub bands_one : (spot : BandSpot) (parent : List ℤ) (block : List ℕ) (common : List Decision) (xs ys : List ℤ) (ms ms' : Marks) (n : ℕ) → IsSpot spot → n ≤ spot.down
+pub bands_one : (layout : BandLayout) (parent : List ℤ) (block : List ℕ) (common : List Decision) (xs ys : List ℤ) (ms ms' : Marks) (n : ℕ) → IsBandLayout layout → n ≤ layout.down
     → AreSmall xs → AreSmall ys
-    → ((cy cx : ℕ) → cy < n → cx < spot.across → SkippedIsZero spot xs cy cx (ms cy cx)) → ((cy cx : ℕ) → cy < n → cx < spot.across → SkippedIsZero spot ys cy cx (ms' cy cx))
-    → Carries block (common ++ bands_part spot parent xs ms n) → Carries block (common ++ bands_part spot parent ys ms' n)
-    → SameBlock spot.width xs ys spot.width (edge_of spot.height spot.down n) (bands_part spot parent xs ms n) (bands_part spot parent ys ms' n)
+    → ((cy cx : ℕ) → cy < n → cx < layout.across → SkippedIsZero layout xs cy cx (ms cy cx)) → ((cy cx : ℕ) → cy < n → cx < layout.across → SkippedIsZero layout ys cy cx (ms' cy cx))
+    → Carries block (common ++ bands_part layout parent xs ms n) → Carries block (common ++ bands_part layout parent ys ms' n)
+    → SameBlock layout.width xs ys layout.width (edge_of layout.height layout.down n) (bands_part layout parent xs ms n) (bands_part layout parent ys ms' n)
 unfolding bands_part
-bands_one spot parent block common xs ys ms ms' n is inside small small' z z' =
-    let w = spot.width in
-    let mine : ℕ → List Decision = λ k. bands_part spot parent xs ms k in
-    let theirs : ℕ → List Decision = λ k. bands_part spot parent ys ms' k in
-    parts_one block common mine (λ k. blocks_part spot parent xs (ms k) k spot.across) theirs (λ k. blocks_part spot parent ys (ms' k) k spot.across)
-    (λ k. SameBlock w xs ys w (edge_of spot.height spot.down k) (mine k) (theirs k)) n
-    (bands_next spot parent xs ms) (bands_next spot parent ys ms') (λ k l before. before.decisions)
-    (record { within = record { each = λ x y a b c. absurd (omega (arith, edge_first spot.height spot.down)) }; decisions = refl })
+bands_one layout parent block common xs ys ms ms' n is inside small small' z z' =
+    let w = layout.width in
+    let mine : ℕ → List Decision = λ k. bands_part layout parent xs ms k in
+    let theirs : ℕ → List Decision = λ k. bands_part layout parent ys ms' k in
+    parts_one block common mine (λ k. blocks_part layout parent xs (ms k) k layout.across) theirs (λ k. blocks_part layout parent ys (ms' k) k layout.across)
+    (λ k. SameBlock w xs ys w (edge_of layout.height layout.down k) (mine k) (theirs k)) n
+    (bands_next layout parent xs ms) (bands_next layout parent ys ms') (λ k l before. before.decisions)
+    (record { within = record { each = λ x y a b c. absurd (omega (arith, edge_first layout.height layout.down)) }; decisions = refl })
     (λ k l before p q.
-    let last : edge_of w spot.across spot.across ≡ w = edge_last w spot.across (omega (arith, is.across)) in
-    let here = blocks_one spot parent block (common ++ mine k) xs ys (ms k) (ms' k) k spot.across is (omega arith) small small' before.within (λ cx m. z k cx l m) (λ cx m. z' k cx l m) p q in
+    let last : edge_of w layout.across layout.across ≡ w = edge_last w layout.across (omega (arith, is.across)) in
+    let here = blocks_one layout parent block (common ++ mine k) xs ys (ms k) (ms' k) k layout.across is (omega arith) small small' before.within (λ cx m. z k cx l m) (λ cx m. z' k cx l m) p q in
     record {
       within = same_less (omega (arith, last)) (omega arith) here.within;
-      decisions = bands_next spot parent xs ms k ∙ ap₂ (λ (a b : List Decision). a ++ b) before.decisions here.decisions ∙ sym (bands_next spot parent ys ms' k);
+      decisions = bands_next layout parent xs ms k ∙ ap₂ (λ (a b : List Decision). a ++ b) before.decisions here.decisions ∙ sym (bands_next layout parent ys ms' k);
     })
 
 -- lists of one size that are the same at every place are one
@@ -186,8 +186,8 @@ same_lists w h xs ys some len len' s =
     subst (λ i. get_or xs i (pos 0) ≡ get_or ys i (pos 0)) place (s.each (k % w) (k / w) column column row))
 
 pub one_band : OneBandIsCarried
-one_band spot parent block xs ys ms ms' is a b =
-    let w = spot.width in
-    let same = bands_one spot parent block [] xs ys ms ms' spot.down is (omega arith) a.small b.small a.zeros b.zeros a.carried b.carried in
-    let last : edge_of spot.height spot.down spot.down ≡ spot.height = edge_last spot.height spot.down (omega (arith, is.down)) in
-    same_lists w spot.height xs ys (omega (arith, is.width)) a.len b.len (same_less (omega arith) (omega arith) same.within)
+one_band layout parent block xs ys ms ms' is a b =
+    let w = layout.width in
+    let same = bands_one layout parent block [] xs ys ms ms' layout.down is (omega arith) a.small b.small a.zeros b.zeros a.carried b.carried in
+    let last : edge_of layout.height layout.down layout.down ≡ layout.height = edge_last layout.height layout.down (omega (arith, is.down)) in
+    same_lists w layout.height xs ys (omega (arith, is.width)) a.len b.len (same_less (omega arith) (omega arith) same.within)

@@ -10,13 +10,13 @@ use Rattle.dirac_types.specs.declared.faults.Cause.TheVariants.{CodeWord, Number
 use Rattle.dirac_arith.specs.Deciding.{begin}
 use Rattle.dirac_arith.specs.Front.{front}
 use Rattle.dirac_arith.specs.Reading.{Reading}
-use Rattle.dirac_coeffs.specs.declared.spot.BandSpot.{BandSpot}
+use Rattle.dirac_coeffs.specs.declared.layout.BandLayout.{BandLayout}
 use Rattle.dirac_coeffs.specs.BandRead.{Progress, progress, block_rows_step, unread, band_read}
 use Rattle.dirac_coeffs.specs.Carried.{AreSmall, CarriesBand, CarriesLong, band_until}
 use Rattle.dirac_coeffs.specs.Decisions.{Marks, band_decisions}
 use Rattle.dirac_coeffs.specs.Grammar.{band_table}
 use Rattle.dirac_coeffs.specs.Laws.{BandIsRead, LongIsRefused, OnesAreRefused}
-use Rattle.dirac_coeffs.specs.Spots.{IsSpot}
+use Rattle.dirac_coeffs.specs.Layouts.{IsBandLayout}
 use Rattle.dirac_coeffs.proofs.Apart.{no_band_beside_long, ones_carry_nothing}
 use Rattle.dirac_coeffs.proofs.Coding.{reads_carry}
 use Rattle.dirac_coeffs.proofs.Going.{Comes, ended, shut, broken, comes_as, band_goes, Tells, band_tells}
@@ -38,14 +38,14 @@ zeros_first w n =
 zeros_small : (n : ℕ) → AreSmall (replicate n (pos 0))
 zeros_small n = All-replicate (λ v. unsigned_abs v < 2 ^ 39 - 1) n (pos 0) (lit< tt)
 
-read_is_carried : (spot : BandSpot) (parent : List ℤ) (block : List ℕ) (xs : List ℤ) (new : Reading) → length xs ≡ spot.width * spot.height → AreSmall xs
-    → (b : BandRead spot parent (begin block) xs spot.down new) → CarriesBand spot parent block xs b.marks
-read_is_carried spot parent block xs new len small b =
-    record { len = len; small = small; zeros = b.zeros; carried = reads_carry block (band_decisions spot parent xs b.marks) new b.reads }
+read_is_carried : (layout : BandLayout) (parent : List ℤ) (block : List ℕ) (xs : List ℤ) (new : Reading) → length xs ≡ layout.width * layout.height → AreSmall xs
+    → (b : BandRead layout parent (begin block) xs layout.down new) → CarriesBand layout parent block xs b.marks
+read_is_carried layout parent block xs new len small b =
+    record { len = len; small = small; zeros = b.zeros; carried = reads_carry block (band_decisions layout parent xs b.marks) new b.reads }
 
-broken_is_long : (spot : BandSpot) (parent : List ℤ) (block : List ℕ) (xs : List ℤ) (new : Reading) → length xs ≡ spot.width * spot.height → AreSmall xs
-    → BandBroken spot parent (begin block) xs new → CarriesLong spot parent block
-broken_is_long spot parent block xs new len small b =
+broken_is_long : (layout : BandLayout) (parent : List ℤ) (block : List ℕ) (xs : List ℤ) (new : Reading) → length xs ≡ layout.width * layout.height → AreSmall xs
+    → BandBroken layout parent (begin block) xs new → CarriesLong layout parent block
+broken_is_long layout parent block xs new len small b =
     record {
       values = xs;
       marks = b.marks;
@@ -55,80 +55,80 @@ broken_is_long spot parent block xs new len small b =
       inside = b.inside;
       zeros_above = b.zeros_above;
       zeros_before = b.zeros_before;
-      carried = reads_carry block (band_until spot parent xs b.marks b.at) new b.reads;
+      carried = reads_carry block (band_until layout parent xs b.marks b.at) new b.reads;
     }
 
 -- the steps of a block end in the band that it carries, or it is refused as it begins with ones or carries too long a number
-abbrev Ends : BandSpot → List ℤ → List ℕ → Result Progress Cause → Type 0
-Ends spot parent block r = Comes block (λ p. (ms : Marks) × CarriesBand spot parent block p.values ms) (CarriesLong spot parent block) r
+abbrev Ends : BandLayout → List ℤ → List ℕ → Result Progress Cause → Type 0
+Ends layout parent block r = Comes block (λ p. (ms : Marks) × CarriesBand layout parent block p.values ms) (CarriesLong layout parent block) r
 
-band_ends : (spot : BandSpot) (parent : List ℤ) (block : List ℕ) → IsSpot spot → Ends spot parent block (block_rows_step spot parent spot.down (unread spot block))
-band_ends spot parent block is =
-    let size = spot.width * spot.height in
+band_ends : (layout : BandLayout) (parent : List ℤ) (block : List ℕ) → IsBandLayout layout → Ends layout parent block (block_rows_step layout parent layout.down (unread layout block))
+band_ends layout parent block is =
+    let size = layout.width * layout.height in
     comes_as
-    (λ p c. (c.2.marks, read_is_carried spot parent block p.values p.reading c.0 c.1 c.2))
-    (λ b. broken_is_long spot parent block b.0.values b.0.reading b.1 b.2 b.3)
-    (band_goes spot parent block (replicate size (pos 0)) is (length-replicate {A = ℤ} size (pos 0)) (zeros_small size) (zeros_first spot.width size))
+    (λ p c. (c.2.marks, read_is_carried layout parent block p.values p.reading c.0 c.1 c.2))
+    (λ b. broken_is_long layout parent block b.0.values b.0.reading b.1 b.2 b.3)
+    (band_goes layout parent block (replicate size (pos 0)) is (length-replicate {A = ℤ} size (pos 0)) (zeros_small size) (zeros_first layout.width size))
 
 -- the values that steps come to
 abbrev values_of : Result Progress Cause → Result (List ℤ) Cause
 values_of r = r >>= (λ p. let x : Result (List ℤ) Cause = Ok p.values in x)
 
 -- a block of ones reads to none
-pub ones_read : (spot : BandSpot) (parent : List ℤ) (block : List ℕ) → front block 16 ≡ 65535 → band_read spot parent block ≡ Err CodeWord
+pub ones_read : (layout : BandLayout) (parent : List ℤ) (block : List ℕ) → front block 16 ≡ 65535 → band_read layout parent block ≡ Err CodeWord
 unfolding band_read
-ones_read spot parent block ones = rw (eq-eqb (front block 16) 65535 ones) refl
+ones_read layout parent block ones = rw (eq-eqb (front block 16) 65535 ones) refl
 
 -- and another to what its steps come to
-other_read : (spot : BandSpot) (parent : List ℤ) (block : List ℕ) → front block 16 ≢ 65535 → band_read spot parent block ≡ values_of (block_rows_step spot parent spot.down (unread spot block))
+other_read : (layout : BandLayout) (parent : List ℤ) (block : List ℕ) → front block 16 ≢ 65535 → band_read layout parent block ≡ values_of (block_rows_step layout parent layout.down (unread layout block))
 unfolding band_read
-other_read spot parent block other = rw (ne_eqb (front block 16) 65535 other) refl
+other_read layout parent block other = rw (ne_eqb (front block 16) 65535 other) refl
 
 -- where a block begins with ones its steps are refused for them
-ones_end : {spot : BandSpot} {parent : List ℤ} {block : List ℕ} {r : Result Progress Cause} → IsSpot spot → front block 16 ≡ 65535 → Ends spot parent block r → values_of r ≡ Err CodeWord
-ones_end {spot = spot} {parent = parent} {block = block} is ones (ended p c) = absurd ((ones_carry_nothing spot parent block is ones).0 p.values c.0 c.1)
+ones_end : {layout : BandLayout} {parent : List ℤ} {block : List ℕ} {r : Result Progress Cause} → IsBandLayout layout → front block 16 ≡ 65535 → Ends layout parent block r → values_of r ≡ Err CodeWord
+ones_end {layout = layout} {parent = parent} {block = block} is ones (ended p c) = absurd ((ones_carry_nothing layout parent block is ones).0 p.values c.0 c.1)
 ones_end is ones (shut _) = refl
-ones_end {spot = spot} {parent = parent} {block = block} is ones (broken b) = absurd ((ones_carry_nothing spot parent block is ones).1 b)
+ones_end {layout = layout} {parent = parent} {block = block} is ones (broken b) = absurd ((ones_carry_nothing layout parent block is ones).1 b)
 
 -- so every block of a spot reads to what its steps come to
-steps_read : (spot : BandSpot) (parent : List ℤ) (block : List ℕ) → IsSpot spot → band_read spot parent block ≡ values_of (block_rows_step spot parent spot.down (unread spot block))
-steps_read spot parent block is =
+steps_read : (layout : BandLayout) (parent : List ℤ) (block : List ℕ) → IsBandLayout layout → band_read layout parent block ≡ values_of (block_rows_step layout parent layout.down (unread layout block))
+steps_read layout parent block is =
     elim (cases_eq (front block 16) 65535) [
-      | inl ones ↦ ones_read spot parent block ones ∙ sym (ones_end is ones (band_ends spot parent block is))
-      | inr other ↦ other_read spot parent block other
+      | inl ones ↦ ones_read layout parent block ones ∙ sym (ones_end is ones (band_ends layout parent block is))
+      | inr other ↦ other_read layout parent block other
     ]
 
 -- a band that is carried is what the steps come to
-found : {spot : BandSpot} {parent : List ℤ} {block : List ℕ} {r : Result Progress Cause} (xs : List ℤ) (ms : Marks) → IsSpot spot → Ends spot parent block r → CarriesBand spot parent block xs ms → values_of r ≡ Ok xs
-found {spot = spot} {parent = parent} {block = block} xs ms is (ended p c) a = ap (λ (l : List ℤ). let x : Result (List ℤ) Cause = Ok l in x) (one_band spot parent block p.values xs c.0 ms is c.1 a)
-found {spot = spot} {parent = parent} {block = block} xs ms is (shut ones) a = absurd ((ones_carry_nothing spot parent block is ones).0 xs ms a)
-found {spot = spot} {parent = parent} {block = block} xs ms is (broken b) a = absurd (no_band_beside_long spot parent block xs ms is a b)
+found : {layout : BandLayout} {parent : List ℤ} {block : List ℕ} {r : Result Progress Cause} (xs : List ℤ) (ms : Marks) → IsBandLayout layout → Ends layout parent block r → CarriesBand layout parent block xs ms → values_of r ≡ Ok xs
+found {layout = layout} {parent = parent} {block = block} xs ms is (ended p c) a = ap (λ (l : List ℤ). let x : Result (List ℤ) Cause = Ok l in x) (one_band layout parent block p.values xs c.0 ms is c.1 a)
+found {layout = layout} {parent = parent} {block = block} xs ms is (shut ones) a = absurd ((ones_carry_nothing layout parent block is ones).0 xs ms a)
+found {layout = layout} {parent = parent} {block = block} xs ms is (broken b) a = absurd (no_band_beside_long layout parent block xs ms is a b)
 
-pub band_found : (spot : BandSpot) (parent : List ℤ) (block : List ℕ) (xs : List ℤ) (ms : Marks) → IsSpot spot → CarriesBand spot parent block xs ms → band_read spot parent block ≡ Ok xs
-band_found spot parent block xs ms is a = steps_read spot parent block is ∙ found xs ms is (band_ends spot parent block is) a
+pub band_found : (layout : BandLayout) (parent : List ℤ) (block : List ℕ) (xs : List ℤ) (ms : Marks) → IsBandLayout layout → CarriesBand layout parent block xs ms → band_read layout parent block ≡ Ok xs
+band_found layout parent block xs ms is a = steps_read layout parent block is ∙ found xs ms is (band_ends layout parent block is) a
 
 -- what the steps come to is carried
-carried : {spot : BandSpot} {parent : List ℤ} {block : List ℕ} {r : Result Progress Cause} (xs : List ℤ) → Ends spot parent block r → values_of r ≡ Ok xs → (ms : Marks) × CarriesBand spot parent block xs ms
-carried {spot = spot} {parent = parent} {block = block} xs (ended p c) e = let same : p.values ≡ xs = cc in (c.0, subst (λ zs. CarriesBand spot parent block zs c.0) same c.1)
+carried : {layout : BandLayout} {parent : List ℤ} {block : List ℕ} {r : Result Progress Cause} (xs : List ℤ) → Ends layout parent block r → values_of r ≡ Ok xs → (ms : Marks) × CarriesBand layout parent block xs ms
+carried {layout = layout} {parent = parent} {block = block} xs (ended p c) e = let same : p.values ≡ xs = cc in (c.0, subst (λ zs. CarriesBand layout parent block zs c.0) same c.1)
 carried xs (shut ones) e = absurd cc
 carried xs (broken b) e = absurd cc
 
-pub band_carried : (spot : BandSpot) (parent : List ℤ) (block : List ℕ) (xs : List ℤ) → IsSpot spot → band_read spot parent block ≡ Ok xs → (ms : Marks) × CarriesBand spot parent block xs ms
-band_carried spot parent block xs is e = carried xs (band_ends spot parent block is) (sym (steps_read spot parent block is) ∙ e)
+pub band_carried : (layout : BandLayout) (parent : List ℤ) (block : List ℕ) (xs : List ℤ) → IsBandLayout layout → band_read layout parent block ≡ Ok xs → (ms : Marks) × CarriesBand layout parent block xs ms
+band_carried layout parent block xs is e = carried xs (band_ends layout parent block is) (sym (steps_read layout parent block is) ∙ e)
 
 -- a number that is too long, where the block carries one, is what the steps break off in
-refused : {spot : BandSpot} {parent : List ℤ} {block : List ℕ} {r : Result Progress Cause} → IsSpot spot → Ends spot parent block r → CarriesLong spot parent block → values_of r ≡ Err NumberTooLong
-refused {spot = spot} {parent = parent} {block = block} is (ended p c) b = absurd (no_band_beside_long spot parent block p.values c.0 is c.1 b)
-refused {spot = spot} {parent = parent} {block = block} is (shut ones) b = absurd ((ones_carry_nothing spot parent block is ones).1 b)
+refused : {layout : BandLayout} {parent : List ℤ} {block : List ℕ} {r : Result Progress Cause} → IsBandLayout layout → Ends layout parent block r → CarriesLong layout parent block → values_of r ≡ Err NumberTooLong
+refused {layout = layout} {parent = parent} {block = block} is (ended p c) b = absurd (no_band_beside_long layout parent block p.values c.0 is c.1 b)
+refused {layout = layout} {parent = parent} {block = block} is (shut ones) b = absurd ((ones_carry_nothing layout parent block is ones).1 b)
 refused is (broken _) b = refl
 
-long : {spot : BandSpot} {parent : List ℤ} {block : List ℕ} {r : Result Progress Cause} → Ends spot parent block r → values_of r ≡ Err NumberTooLong → CarriesLong spot parent block
+long : {layout : BandLayout} {parent : List ℤ} {block : List ℕ} {r : Result Progress Cause} → Ends layout parent block r → values_of r ≡ Err NumberTooLong → CarriesLong layout parent block
 long (ended p c) e = absurd cc
 long (shut ones) e = absurd cc
 long (broken b) e = b
 
-pub refused_is_long : (spot : BandSpot) (parent : List ℤ) (block : List ℕ) → IsSpot spot → band_read spot parent block ≡ Err NumberTooLong → CarriesLong spot parent block
-refused_is_long spot parent block is e = long (band_ends spot parent block is) (sym (steps_read spot parent block is) ∙ e)
+pub refused_is_long : (layout : BandLayout) (parent : List ℤ) (block : List ℕ) → IsBandLayout layout → band_read layout parent block ≡ Err NumberTooLong → CarriesLong layout parent block
+refused_is_long layout parent block is e = long (band_ends layout parent block is) (sym (steps_read layout parent block is) ∙ e)
 
 -- steps that are refused for ones have them
 told_ones : {block : List ℕ} {r : Result Progress Cause} → Tells block r → values_of r ≡ Err CodeWord → front block 16 ≡ 65535
@@ -136,32 +136,32 @@ told_ones (ended p t) e = absurd cc
 told_ones (shut ones) e = ones
 told_ones (broken t) e = absurd cc
 
-read_ones : (spot : BandSpot) (parent : List ℤ) (block : List ℕ) → band_read spot parent block ≡ Err CodeWord → front block 16 ≡ 65535
-read_ones spot parent block e =
+read_ones : (layout : BandLayout) (parent : List ℤ) (block : List ℕ) → band_read layout parent block ≡ Err CodeWord → front block 16 ≡ 65535
+read_ones layout parent block e =
     elim (cases_eq (front block 16) 65535) [
       | inl ones ↦ ones
-      | inr other ↦ told_ones (band_tells spot parent block) (sym (other_read spot parent block other) ∙ e)
+      | inr other ↦ told_ones (band_tells layout parent block) (sym (other_read layout parent block other) ∙ e)
     ]
 
 pub band_is_read : BandIsRead
-band_is_read spot parent block xs is = (λ e. band_carried spot parent block xs is e, λ a. band_found spot parent block xs a.0 is a.1)
+band_is_read layout parent block xs is = (λ e. band_carried layout parent block xs is e, λ a. band_found layout parent block xs a.0 is a.1)
 
 pub long_is_refused : LongIsRefused
-long_is_refused spot parent block is = (
-  refused_is_long spot parent block is,
-  λ b. steps_read spot parent block is ∙ refused is (band_ends spot parent block is) b,
+long_is_refused layout parent block is = (
+  refused_is_long layout parent block is,
+  λ b. steps_read layout parent block is ∙ refused is (band_ends layout parent block is) b,
 )
 
 pub ones_are_refused : OnesAreRefused
-ones_are_refused spot parent block = (λ e. read_ones spot parent block e, λ ones. ones_read spot parent block ones)
+ones_are_refused layout parent block = (λ e. read_ones layout parent block e, λ ones. ones_read layout parent block ones)
 
 -- what the steps of a block come to, from a table of zeros on, the block reads to
-pub steps_answer : (spot : BandSpot) (parent : List ℤ) (block : List ℕ) (t : Table) (vs : List ℤ) (old : Reading) (r : Result Progress Cause) → IsSpot spot
-    → t ≡ band_table spot (replicate (spot.width * spot.height) (pos 0)) → vs ≡ t.values → old ≡ begin block → block_rows_step spot parent spot.down (progress vs old) ≡ r
-    → band_read spot parent block ≡ values_of r
-steps_answer spot parent block t vs old r is made same first e =
-    let start : unread spot block ≡ progress vs old = ap₂ (λ (xs : List ℤ) (q : Reading). progress xs q) (sym (same ∙ ap (λ (u : Table). u.values) made)) (sym first) in
-    steps_read spot parent block is ∙ ap values_of (ap (block_rows_step spot parent spot.down) start ∙ e)
+pub steps_answer : (layout : BandLayout) (parent : List ℤ) (block : List ℕ) (t : Table) (vs : List ℤ) (old : Reading) (r : Result Progress Cause) → IsBandLayout layout
+    → t ≡ band_table layout (replicate (layout.width * layout.height) (pos 0)) → vs ≡ t.values → old ≡ begin block → block_rows_step layout parent layout.down (progress vs old) ≡ r
+    → band_read layout parent block ≡ values_of r
+steps_answer layout parent block t vs old r is made same first e =
+    let start : unread layout block ≡ progress vs old = ap₂ (λ (xs : List ℤ) (q : Reading). progress xs q) (sym (same ∙ ap (λ (u : Table). u.values) made)) (sym first) in
+    steps_read layout parent block is ∙ ap values_of (ap (block_rows_step layout parent layout.down) start ∙ e)
 
 -- all values written over
 pub written_over : (xs ys : List ℤ) → length ys ≡ length xs → take (length xs) (ys ++ drop (length ys) xs) ≡ ys
@@ -170,7 +170,7 @@ written_over xs ys len =
     ap (λ l. take (length xs) (ys ++ l)) none ∙ ap (λ l. take (length xs) l) (append-nil ys) ∙ ap (λ n. take n ys) (sym len) ∙ take_all (length ys) ys (omega arith)
 
 -- a band's table whose values are written over
-pub table_written : (spot : BandSpot) (t : Table) (zs ws : List ℤ) → t ≡ band_table spot zs → with_values t ws ≡ band_table spot (take (length t.values) (ws ++ drop (length ws) t.values))
-table_written spot t zs ws e =
+pub table_written : (layout : BandLayout) (t : Table) (zs ws : List ℤ) → t ≡ band_table layout zs → with_values t ws ≡ band_table layout (take (length t.values) (ws ++ drop (length ws) t.values))
+table_written layout t zs ws e =
     let all = take (length t.values) (ws ++ drop (length ws) t.values) in
     ap (λ (u : Table). let r : Table = record { width = u.width; height = u.height; values = all } in r) e

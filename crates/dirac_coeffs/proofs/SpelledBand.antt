@@ -11,12 +11,12 @@ use Rattle.dirac_bits.specs.Syntax.{Syntax, done, refuse, block_then, align, her
 use Rattle.dirac_bits.specs.Writing.{gap, up_to_byte}
 use Rattle.dirac_bits.proofs.Fields.{gap_length-at}
 use Rattle.dirac_arith.proofs.Encodings.{flush_bytes}
-use Rattle.dirac_coeffs.specs.declared.spot.BandSpot.{BandSpot}
-use Rattle.dirac_coeffs.specs.declared.spot.CodedBand.{CodedBand}
+use Rattle.dirac_coeffs.specs.declared.layout.BandLayout.{BandLayout}
+use Rattle.dirac_coeffs.specs.declared.layout.CodedBand.{CodedBand}
 use Rattle.dirac_coeffs.specs.BandRead.{band_read}
 use Rattle.dirac_coeffs.specs.Decisions.{band_decisions}
 use Rattle.dirac_coeffs.specs.Grammar.{band, coded_band, band_from, band_table, zero_band, IsCodedBand}
-use Rattle.dirac_coeffs.specs.Spots.{IsSpot}
+use Rattle.dirac_coeffs.specs.Layouts.{IsBandLayout}
 use Rattle.dirac_coeffs.specs.Written.{marks_of, block_of, is_zero_band, with_block, with_band}
 use Rattle.dirac_coeffs.proofs.BlockLengths.{block_short}
 use Rattle.dirac_coeffs.proofs.Read.{ones_read}
@@ -32,38 +32,38 @@ unfolding front first_bits
 empty_ones [] e = refl
 empty_ones (b ∷ bs) e = absurd (omega arith)
 
-block_some : (spot : BandSpot) (parent xs : List ℤ) (block : List ℕ) → band_read spot parent block ≡ Ok xs → length block ≢ 0
-block_some spot parent xs block read e =
-    let refused : band_read spot parent block ≡ Err CodeWord = ones_read spot parent block (empty_ones block e) in
+block_some : (layout : BandLayout) (parent xs : List ℤ) (block : List ℕ) → band_read layout parent block ≡ Ok xs → length block ≢ 0
+block_some layout parent xs block read e =
+    let refused : band_read layout parent block ≡ Err CodeWord = ones_read layout parent block (empty_ones block e) in
     let bad : Err CodeWord ≡ Ok xs = sym refused ∙ read in
     cc
 
 -- a coded band is its index and its values
-coded_is : (spot : BandSpot) (b : CodedBand) → IsCodedBand spot b → (let same : CodedBand = record { index = b.index; table = band_table spot b.table.values } in b ≡ same)
-coded_is spot b is =
+coded_is : (layout : BandLayout) (b : CodedBand) → IsCodedBand layout b → (let same : CodedBand = record { index = b.index; table = band_table layout b.table.values } in b ≡ same)
+coded_is layout b is =
     ap₂ (λ (w h : ℕ). let r : CodedBand = record { index = b.index; table = record { width = w; height = h; values = b.table.values } } in r) is.width is.height
 
-zero_is : (spot : BandSpot) (b : CodedBand) → IsCodedBand spot b → b.index ≡ 0 → is_zero_band b.table.values ≡ true → b ≡ zero_band spot
-zero_is spot b is index zeros =
-    let values : b.table.values ≡ replicate (spot.width * spot.height) (pos 0) = all_zeros b.table.values zeros ∙ ap (λ n. replicate n (pos 0)) is.len in
-    coded_is spot b is
-    ∙ ap (λ i. let r : CodedBand = record { index = i; table = band_table spot b.table.values } in r) index
-    ∙ ap (λ (xs : List ℤ). let r : CodedBand = record { index = 0; table = band_table spot xs } in r) values
+zero_is : (layout : BandLayout) (b : CodedBand) → IsCodedBand layout b → b.index ≡ 0 → is_zero_band b.table.values ≡ true → b ≡ zero_band layout
+zero_is layout b is index zeros =
+    let values : b.table.values ≡ replicate (layout.width * layout.height) (pos 0) = all_zeros b.table.values zeros ∙ ap (λ n. replicate n (pos 0)) is.len in
+    coded_is layout b is
+    ∙ ap (λ i. let r : CodedBand = record { index = i; table = band_table layout b.table.values } in r) index
+    ∙ ap (λ (xs : List ℤ). let r : CodedBand = record { index = 0; table = band_table layout xs } in r) values
 
 -- the index and the block
-coded_spelled : (spot : BandSpot) (parent : List ℤ) (b : CodedBand) (block : List ℕ) (k : ℕ) (before : List Bool) → IsCodedBand spot b
-    → length before ≡ k + length (uint b.index) → AllByRecursion (λ c. c < 2 ^ 8) block → band_read spot parent block ≡ Ok b.table.values
-    → Spells (coded_band spot parent (length block)) b k (uint b.index ++ (gap before ++ bits_of block))
+coded_spelled : (layout : BandLayout) (parent : List ℤ) (b : CodedBand) (block : List ℕ) (k : ℕ) (before : List Bool) → IsCodedBand layout b
+    → length before ≡ k + length (uint b.index) → AllByRecursion (λ c. c < 2 ^ 8) block → band_read layout parent block ≡ Ok b.table.values
+    → Spells (coded_band layout parent (length block)) b k (uint b.index ++ (gap before ++ bits_of block))
 unfolding coded_band
-coded_spelled spot parent b block k before is len bytes read =
+coded_spelled layout parent b block k before is len bytes read =
     let at = k / 8 in
     let k1 = k + length (uint b.index) in
     let k2 = k1 + length (gap before) in
     let k3 = k2 + length (bits_of block) in
-    let rest : ℕ → Syntax CodedBand = λ index. align >>= λ g. (here >>= λ place. block_then (length block) (λ bytes. band_from spot index place (band_read spot parent bytes))) in
+    let rest : ℕ → Syntax CodedBand = λ index. align >>= λ g. (here >>= λ place. block_then (length block) (λ bytes. band_from layout index place (band_read layout parent bytes))) in
     let allowed : between 0 99 b.index ≡ true = and_from (nat_le 0 b.index) (nat_le b.index 99) (le-leb 0 b.index (omega arith)) (le-leb b.index 99 is.index) in
-    let last : Spells (band_from spot b.index (k2 / 8) (band_read spot parent block)) b k3 [] =
-    subst (λ r. Spells (band_from spot b.index (k2 / 8) r) b k3 []) (sym read) (sym (coded_is spot b is), refl) in
+    let last : Spells (band_from layout b.index (k2 / 8) (band_read layout parent block)) b k3 [] =
+    subst (λ r. Spells (band_from layout b.index (k2 / 8) r) b k3 []) (sym read) (sym (coded_is layout b is), refl) in
     let tail : Spells (rest b.index) b k1 (gap before ++ bits_of block) =
     (gap before, bits_of block, gap_length-at before k1 len, refl, (block, [], (refl, bytes), sym (append-nil (bits_of block)), last)) in
     let small : b.index + 1 < 2 ^ 39 = omega (arith, is.index) in (
@@ -75,9 +75,9 @@ coded_spelled spot parent b block k before is len bytes read =
     )
 
 -- a band of zeros
-zeros_spelled : (spot : BandSpot) (parent : List ℤ) (b : CodedBand) (bits : List Bool) → b ≡ zero_band spot → SpelledBehind (band spot parent) b bits (up_to_byte bits ++ uint 0)
+zeros_spelled : (layout : BandLayout) (parent : List ℤ) (b : CodedBand) (bits : List Bool) → b ≡ zero_band layout → SpelledBehind (band layout parent) b bits (up_to_byte bits ++ uint 0)
 unfolding band
-zeros_spelled spot parent b bits e =
+zeros_spelled layout parent b bits e =
     record {
       bits = gap bits ++ uint 0;
       is = append_assoc bits (gap bits) (uint 0);
@@ -85,14 +85,14 @@ zeros_spelled spot parent b bits e =
     }
 
 -- a band with a block
-block_spelled : (spot : BandSpot) (parent : List ℤ) (b : CodedBand) (bits : List Bool) → IsSpot spot → IsCodedBand spot b → length (block_of spot parent b.table.values) + 1 < 2 ^ 39
-    → SpelledBehind (band spot parent) b bits (with_block b.index (block_of spot parent b.table.values) (up_to_byte bits))
+block_spelled : (layout : BandLayout) (parent : List ℤ) (b : CodedBand) (bits : List Bool) → IsBandLayout layout → IsCodedBand layout b → length (block_of layout parent b.table.values) + 1 < 2 ^ 39
+    → SpelledBehind (band layout parent) b bits (with_block b.index (block_of layout parent b.table.values) (up_to_byte bits))
 unfolding band
-block_spelled spot parent b bits spot_is is short =
+block_spelled layout parent b bits spot_is is short =
     let xs = b.table.values in
-    let block = block_of spot parent xs in
+    let block = block_of layout parent xs in
     let len = length block in
-    let read : band_read spot parent block ≡ Ok xs = written_read spot parent xs spot_is is.len is.small in
+    let read : band_read layout parent block ≡ Ok xs = written_read layout parent xs spot_is is.len is.small in
     let before = (up_to_byte bits ++ uint len) ++ uint b.index in
     let k = length bits in
     let k1 = k + length (gap bits) in
@@ -100,10 +100,10 @@ block_spelled spot parent b bits spot_is is short =
     let behind : length before ≡ k2 + length (uint b.index) =
     omega (arith, length-append {A = Bool} (up_to_byte bits ++ uint len) (uint b.index), length-append {A = Bool} (up_to_byte bits) (uint len), length-append {A = Bool} bits (gap bits)) in
     let rest = uint b.index ++ (gap before ++ bits_of block) in
-    let coded = coded_spelled spot parent b block k2 before is behind (flush_bytes (band_decisions spot parent xs (marks_of spot xs))) read in
-    let some : (len == 0) ≡ false = ne_eqb len 0 (block_some spot parent xs block read) in
-    let chosen : Spells (if len == 0 then done (zero_band spot) else coded_band spot parent len) b k2 rest =
-    subst (λ t. Spells (if t then done (zero_band spot) else coded_band spot parent len) b k2 rest) (sym some) coded in
+    let coded = coded_spelled layout parent b block k2 before is behind (flush_bytes (band_decisions layout parent xs (marks_of layout xs))) read in
+    let some : (len == 0) ≡ false = ne_eqb len 0 (block_some layout parent xs block read) in
+    let chosen : Spells (if len == 0 then done (zero_band layout) else coded_band layout parent len) b k2 rest =
+    subst (λ t. Spells (if t then done (zero_band layout) else coded_band layout parent len) b k2 rest) (sym some) coded in
     record {
       bits = gap bits ++ (uint len ++ rest);
       is = six_parts bits (gap bits) (uint len) (uint b.index) (gap before) (bits_of block);
@@ -111,10 +111,10 @@ block_spelled spot parent b bits spot_is is short =
     }
 
 -- a band that is written is spelled: its block is short
-pub band_spells : (spot : BandSpot) (parent : List ℤ) (b : CodedBand) (bits : List Bool) → IsSpot spot → IsCodedBand spot b
-    → (is_zero_band b.table.values ≡ true → b.index ≡ 0) → SpelledBehind (band spot parent) b bits (with_band spot parent b bits)
-band_spells spot parent b bits spot_is is index =
+pub band_spells : (layout : BandLayout) (parent : List ℤ) (b : CodedBand) (bits : List Bool) → IsBandLayout layout → IsCodedBand layout b
+    → (is_zero_band b.table.values ≡ true → b.index ≡ 0) → SpelledBehind (band layout parent) b bits (with_band layout parent b bits)
+band_spells layout parent b bits spot_is is index =
     elim (cases_Bool (is_zero_band b.table.values)) [
-      | inl zeros ↦ rw zeros (zeros_spelled spot parent b bits (zero_is spot b is (index zeros) zeros))
-      | inr others ↦ rw others (block_spelled spot parent b bits spot_is is (block_short spot parent b.table.values spot_is))
+      | inl zeros ↦ rw zeros (zeros_spelled layout parent b bits (zero_is layout b is (index zeros) zeros))
+      | inr others ↦ rw others (block_spelled layout parent b bits spot_is is (block_short layout parent b.table.values spot_is))
     ]

@@ -6,12 +6,12 @@ use Rattle.dirac_arith.specs.Interval.{Decision, InContexts}
 use Rattle.dirac_arith.proofs.Encodings.{flushed_is_carried}
 use Rattle.dirac_arith.proofs.InContexts.{AreBelow, in_append, in_signed}
 use Rattle.dirac_bands.specs.Geometry.{edge_of}
-use Rattle.dirac_coeffs.specs.declared.spot.BandSpot.{BandSpot}
+use Rattle.dirac_coeffs.specs.declared.layout.BandLayout.{BandLayout}
 use Rattle.dirac_coeffs.specs.BandRead.{band_read}
 use Rattle.dirac_coeffs.specs.Carried.{AreSmall, CarriesBand}
 use Rattle.dirac_coeffs.specs.Contexts.{value_at, left_of, above_of, corner_of, parent_of, is_zero, follow_of, sign_of, sign_neighbour, bits_context}
 use Rattle.dirac_coeffs.specs.Decisions.{Frame, Mark, Marks, frame_of, follow_here, sign_here, value_part, row_part, rows_part, flagged_part, block_part, blocks_part, bands_part, band_decisions}
-use Rattle.dirac_coeffs.specs.Spots.{IsSpot, span_of, is_flagged}
+use Rattle.dirac_coeffs.specs.Layouts.{IsBandLayout, span_of, is_flagged}
 use Rattle.dirac_coeffs.specs.Written.{marks_of, block_of}
 use Rattle.dirac_coeffs.proofs.Read.{band_found}
 use Rattle.dirac_coeffs.proofs.ZeroTests.{zero_block_decides}
@@ -52,31 +52,31 @@ in_flagged false skipped ds h = h
 in_flagged true true ds h = (lit< tt, tt)
 in_flagged true false ds h = (lit< tt, h)
 
-in_blocks : (spot : BandSpot) (parent xs : List ℤ) (marks : ℕ → Mark) (cy n : ℕ) → InContexts (blocks_part spot parent xs marks cy n)
+in_blocks : (layout : BandLayout) (parent xs : List ℤ) (marks : ℕ → Mark) (cy n : ℕ) → InContexts (blocks_part layout parent xs marks cy n)
 unfolding blocks_part
-in_blocks spot parent xs marks cy zero = tt
-in_blocks spot parent xs marks cy (suc n) =
-    in_append (blocks_part spot parent xs marks cy n) (block_part spot parent xs cy n (marks n)) (in_blocks spot parent xs marks cy n)
-    (in_flagged (is_flagged spot) (marks n).skipped
-    (rows_part (frame_of spot parent) xs (edge_of spot.width spot.across n) (span_of spot.width spot.across n) (edge_of spot.height spot.down cy) (span_of spot.height spot.down cy))
-    (in_rows (frame_of spot parent) xs (edge_of spot.width spot.across n) (span_of spot.width spot.across n) (edge_of spot.height spot.down cy) (span_of spot.height spot.down cy)))
+in_blocks layout parent xs marks cy zero = tt
+in_blocks layout parent xs marks cy (suc n) =
+    in_append (blocks_part layout parent xs marks cy n) (block_part layout parent xs cy n (marks n)) (in_blocks layout parent xs marks cy n)
+    (in_flagged (is_flagged layout) (marks n).skipped
+    (rows_part (frame_of layout parent) xs (edge_of layout.width layout.across n) (span_of layout.width layout.across n) (edge_of layout.height layout.down cy) (span_of layout.height layout.down cy))
+    (in_rows (frame_of layout parent) xs (edge_of layout.width layout.across n) (span_of layout.width layout.across n) (edge_of layout.height layout.down cy) (span_of layout.height layout.down cy)))
 
-pub in_bands : (spot : BandSpot) (parent xs : List ℤ) (marks : Marks) (n : ℕ) → InContexts (bands_part spot parent xs marks n)
+pub in_bands : (layout : BandLayout) (parent xs : List ℤ) (marks : Marks) (n : ℕ) → InContexts (bands_part layout parent xs marks n)
 unfolding bands_part
-in_bands spot parent xs marks zero = tt
-in_bands spot parent xs marks (suc n) =
-    in_append (bands_part spot parent xs marks n) (blocks_part spot parent xs (marks n) n spot.across) (in_bands spot parent xs marks n) (in_blocks spot parent xs (marks n) n spot.across)
+in_bands layout parent xs marks zero = tt
+in_bands layout parent xs marks (suc n) =
+    in_append (bands_part layout parent xs marks n) (blocks_part layout parent xs (marks n) n layout.across) (in_bands layout parent xs marks n) (in_blocks layout parent xs (marks n) n layout.across)
 
 -- the block that is written carries the band
-written_carried : (spot : BandSpot) (parent xs : List ℤ) → length xs ≡ spot.width * spot.height → AreSmall xs → CarriesBand spot parent (block_of spot parent xs) xs (marks_of spot xs)
-written_carried spot parent xs len small =
+written_carried : (layout : BandLayout) (parent xs : List ℤ) → length xs ≡ layout.width * layout.height → AreSmall xs → CarriesBand layout parent (block_of layout parent xs) xs (marks_of layout xs)
+written_carried layout parent xs len small =
     record {
       len = len;
       small = small;
-      zeros = λ cy cx l k flagged skipped. (zero_block_decides spot xs cy cx).0 skipped;
-      carried = flushed_is_carried (band_decisions spot parent xs (marks_of spot xs)) (in_bands spot parent xs (marks_of spot xs) spot.down);
+      zeros = λ cy cx l k flagged skipped. (zero_block_decides layout xs cy cx).0 skipped;
+      carried = flushed_is_carried (band_decisions layout parent xs (marks_of layout xs)) (in_bands layout parent xs (marks_of layout xs) layout.down);
     }
 
 -- so it reads to the band
-pub written_read : (spot : BandSpot) (parent xs : List ℤ) → IsSpot spot → length xs ≡ spot.width * spot.height → AreSmall xs → band_read spot parent (block_of spot parent xs) ≡ Ok xs
-written_read spot parent xs is len small = band_found spot parent (block_of spot parent xs) xs (marks_of spot xs) is (written_carried spot parent xs len small)
+pub written_read : (layout : BandLayout) (parent xs : List ℤ) → IsBandLayout layout → length xs ≡ layout.width * layout.height → AreSmall xs → band_read layout parent (block_of layout parent xs) ≡ Ok xs
+written_read layout parent xs is len small = band_found layout parent (block_of layout parent xs) xs (marks_of layout xs) is (written_carried layout parent xs len small)

@@ -4,10 +4,10 @@ use Rattle.std.specs.List.{list_all}
 use Rattle.std.proofs.lemmas.Bool.{cases_Bool, and_parts, false≢true}
 use Rattle.std.proofs.lemmas.Bool.Decides.{Decides-below_and, same_from_decides}
 use Rattle.dirac_bands.specs.Geometry.{edge_of}
-use Rattle.dirac_coeffs.specs.declared.spot.BandSpot.{BandSpot}
+use Rattle.dirac_coeffs.specs.declared.layout.BandLayout.{BandLayout}
 use Rattle.dirac_coeffs.specs.Carried.{IsZeroBlock}
 use Rattle.dirac_coeffs.specs.Contexts.{value_at, is_zero}
-use Rattle.dirac_coeffs.specs.Spots.{span_of}
+use Rattle.dirac_coeffs.specs.Layouts.{span_of}
 use Rattle.dirac_coeffs.specs.Written.{all_below, is_zero_block}
 
 -- what the tests decide
@@ -20,29 +20,29 @@ zero_decides (pos zero) = (λ e. refl, λ e. refl)
 zero_decides (pos (suc n)) = (λ e. absurd (false≢true e), λ e. let none : suc n ≡ zero = cc in absurd (omega arith))
 zero_decides (negsuc n) = (λ e. absurd (false≢true e), λ e. absurd (cc))
 
-pub zero_block_decides : (spot : BandSpot) (xs : List ℤ) (cy cx : ℕ) → Decides (is_zero_block spot xs cy cx) (IsZeroBlock spot xs cy cx)
-zero_block_decides spot xs cy cx =
-    let left = edge_of spot.width spot.across cx in
-    let top = edge_of spot.height spot.down cy in
-    let at : ℕ → ℕ → ℤ = λ i j. value_at spot.width xs (left + i) (top + j) in
-    let columns = span_of spot.width spot.across cx in
-    let rows = span_of spot.height spot.down cy in
+pub zero_block_decides : (layout : BandLayout) (xs : List ℤ) (cy cx : ℕ) → Decides (is_zero_block layout xs cy cx) (IsZeroBlock layout xs cy cx)
+zero_block_decides layout xs cy cx =
+    let left = edge_of layout.width layout.across cx in
+    let top = edge_of layout.height layout.down cy in
+    let at : ℕ → ℕ → ℤ = λ i j. value_at layout.width xs (left + i) (top + j) in
+    let columns = span_of layout.width layout.across cx in
+    let rows = span_of layout.height layout.down cy in
     let d =
     all_decides (λ i. all_below (λ j. is_zero (at i j)) rows) (λ i. (j : ℕ) → j < rows → at i j ≡ pos 0)
     (λ i. all_decides (λ j. is_zero (at i j)) (λ j. at i j ≡ pos 0) (λ j. zero_decides (at i j)) rows) columns in
     (λ e i j p q. d.0 e i p j q, λ z. d.1 (λ i p j q. z i j p q))
 
 -- a test of a rectangle whose edges are the codeblock's
-pub tests_block : (b : Bool) (spot : BandSpot) (xs : List ℤ) (cy cx left columns top rows : ℕ)
-    → left ≡ edge_of spot.width spot.across cx → columns ≡ span_of spot.width spot.across cx → top ≡ edge_of spot.height spot.down cy → rows ≡ span_of spot.height spot.down cy
-    → (b ≡ true → (i j : ℕ) → i < columns → j < rows → value_at spot.width xs (left + i) (top + j) ≡ pos 0)
-    → (b ≡ false → ((i j : ℕ) → i < columns → j < rows → value_at spot.width xs (left + i) (top + j) ≡ pos 0) → ⊥)
-    → b ≡ is_zero_block spot xs cy cx
-tests_block b spot xs cy cx left columns top rows el ec et er zeros others =
-    let Z = IsZeroBlock spot xs cy cx in
+pub tests_block : (b : Bool) (layout : BandLayout) (xs : List ℤ) (cy cx left columns top rows : ℕ)
+    → left ≡ edge_of layout.width layout.across cx → columns ≡ span_of layout.width layout.across cx → top ≡ edge_of layout.height layout.down cy → rows ≡ span_of layout.height layout.down cy
+    → (b ≡ true → (i j : ℕ) → i < columns → j < rows → value_at layout.width xs (left + i) (top + j) ≡ pos 0)
+    → (b ≡ false → ((i j : ℕ) → i < columns → j < rows → value_at layout.width xs (left + i) (top + j) ≡ pos 0) → ⊥)
+    → b ≡ is_zero_block layout xs cy cx
+tests_block b layout xs cy cx left columns top rows el ec et er zeros others =
+    let Z = IsZeroBlock layout xs cy cx in
     let zeros' : b ≡ true → Z = rw (sym ec, sym er, sym el, sym et) zeros in
     let others' : b ≡ false → Z → ⊥ = rw (sym ec, sym er, sym el, sym et) others in
-    same_from_decides b (is_zero_block spot xs cy cx) (zeros', λ z. elim (cases_Bool b) [ inl holds ↦ holds | inr fails ↦ absurd (others' fails z) ]) (zero_block_decides spot xs cy cx)
+    same_from_decides b (is_zero_block layout xs cy cx) (zeros', λ z. elim (cases_Bool b) [ inl holds ↦ holds | inr fails ↦ absurd (others' fails z) ]) (zero_block_decides layout xs cy cx)
 
 -- a list of zeros
 pub all_zeros : (xs : List ℤ) → list_all is_zero xs ≡ true → xs ≡ replicate (length xs) (pos 0)

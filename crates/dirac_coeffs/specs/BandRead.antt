@@ -7,10 +7,10 @@ use Rattle.dirac_arith.specs.Deciding.{begin, decided, signed_read}
 use Rattle.dirac_arith.specs.Front.{front}
 use Rattle.dirac_arith.specs.Reading.{Reading}
 use Rattle.dirac_bands.specs.Geometry.{edge_of}
-use Rattle.dirac_coeffs.specs.declared.spot.BandSpot.{BandSpot}
+use Rattle.dirac_coeffs.specs.declared.layout.BandLayout.{BandLayout}
 use Rattle.dirac_coeffs.specs.Contexts.{bits_context}
 use Rattle.dirac_coeffs.specs.Decisions.{Frame, frame_of, follow_here, sign_here}
-use Rattle.dirac_coeffs.specs.Spots.{span_of, is_flagged}
+use Rattle.dirac_coeffs.specs.Layouts.{span_of, is_flagged}
 
 -- the values so far, and the reading of the block
 pub record Progress : Type 0 where
@@ -45,14 +45,14 @@ abbrev pub rows_step : Frame → ℕ → ℕ → ℕ → ℕ → Step
 rows_step f x count y n p = repeated (λ j. row_step f (y + j) x count) n p
 
 -- the values of codeblock cx of row cy
-abbrev pub filled_step : BandSpot → List ℤ → ℕ → ℕ → Step
-filled_step spot parent cy cx p =
+abbrev pub filled_step : BandLayout → List ℤ → ℕ → ℕ → Step
+filled_step layout parent cy cx p =
     rows_step
-    (frame_of spot parent)
-    (edge_of spot.width spot.across cx)
-    (span_of spot.width spot.across cx)
-    (edge_of spot.height spot.down cy)
-    (span_of spot.height spot.down cy)
+    (frame_of layout parent)
+    (edge_of layout.width layout.across cx)
+    (span_of layout.width layout.across cx)
+    (edge_of layout.height layout.down cy)
+    (span_of layout.height layout.down cy)
     p
 
 -- a step that a true flag skips
@@ -66,23 +66,23 @@ flagged_step false step p = step p
 flagged_step true step p = decided 18 p.reading >> λ flag. unless flag.0 step (record p { reading = flag.1 })
 
 -- codeblock cx of row cy; a skipped one keeps the zeros that stand there
-unfoldable pub block_step : BandSpot → List ℤ → ℕ → ℕ → Step
-block_step spot parent cy cx p = flagged_step (is_flagged spot) (filled_step spot parent cy cx) p
+unfoldable pub block_step : BandLayout → List ℤ → ℕ → ℕ → Step
+block_step layout parent cy cx p = flagged_step (is_flagged layout) (filled_step layout parent cy cx) p
 
 -- the first n codeblocks of row cy of codeblocks
-abbrev pub blocks_step : BandSpot → List ℤ → ℕ → ℕ → Step
-blocks_step spot parent cy n p = repeated (block_step spot parent cy) n p
+abbrev pub blocks_step : BandLayout → List ℤ → ℕ → ℕ → Step
+blocks_step layout parent cy n p = repeated (block_step layout parent cy) n p
 
 -- the first n rows of codeblocks
-abbrev pub block_rows_step : BandSpot → List ℤ → ℕ → Step
-block_rows_step spot parent n p = repeated (λ cy. blocks_step spot parent cy spot.across) n p
+abbrev pub block_rows_step : BandLayout → List ℤ → ℕ → Step
+block_rows_step layout parent n p = repeated (λ cy. blocks_step layout parent cy layout.across) n p
 
 -- before anything is read all values are zeros
-abbrev pub unread : BandSpot → List ℕ → Progress
-unread spot block = progress (replicate (spot.width * spot.height) (pos 0)) (begin block)
+abbrev pub unread : BandLayout → List ℕ → Progress
+unread layout block = progress (replicate (layout.width * layout.height) (pos 0)) (begin block)
 
 -- the values that a block reads to; one that begins with sixteen ones holds no decision
-unfoldable pub band_read : BandSpot → List ℤ → List ℕ → Result (List ℤ) Cause
-band_read spot parent block =
+unfoldable pub band_read : BandLayout → List ℤ → List ℕ → Result (List ℤ) Cause
+band_read layout parent block =
     if front block 16 == 0xFFFF then Err CodeWord
-    else block_rows_step spot parent spot.down (unread spot block) >> λ p. Ok p.values
+    else block_rows_step layout parent layout.down (unread layout block) >> λ p. Ok p.values

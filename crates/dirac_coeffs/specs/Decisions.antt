@@ -4,9 +4,9 @@ use Rattle.std.specs.Prelude.{ℕ, zero, suc, ℤ, ◌+◌, Bool, true, false, L
 use Rattle.dirac_types.specs.declared.formats.Band.{Band}
 use Rattle.dirac_arith.specs.Interval.{Decision}
 use Rattle.dirac_bands.specs.Geometry.{edge_of}
-use Rattle.dirac_coeffs.specs.declared.spot.BandSpot.{BandSpot}
+use Rattle.dirac_coeffs.specs.declared.layout.BandLayout.{BandLayout}
 use Rattle.dirac_coeffs.specs.Contexts.{value_at, left_of, above_of, corner_of, parent_of, follow_among, sign_of, sign_neighbour, value_spelling}
-use Rattle.dirac_coeffs.specs.Spots.{span_of, is_flagged}
+use Rattle.dirac_coeffs.specs.Layouts.{span_of, is_flagged}
 
 -- what the contexts of a band's values depend on besides the values
 pub record Frame : Type 0 where
@@ -23,8 +23,8 @@ abbrev pub Marks : Type 0
 Marks = ℕ → ℕ → Mark
 
 -- those of a band with this parent
-abbrev pub frame_of : BandSpot → List ℤ → Frame
-frame_of spot parent = record { band = spot.band; width = spot.width; parent = parent }
+abbrev pub frame_of : BandLayout → List ℤ → Frame
+frame_of layout parent = record { band = layout.band; width = layout.width; parent = parent }
 
 -- the follow contexts of the value in column x of row y
 abbrev pub follow_here : Frame → List ℤ → ℕ → ℕ → List ℕ
@@ -67,29 +67,29 @@ flagged_part true true ds = (18, true) ∷ []
 flagged_part true false ds = (18, false) ∷ ds
 
 -- codeblock cx of row cy of codeblocks
-abbrev pub block_part : BandSpot → List ℤ → List ℤ → ℕ → ℕ → Mark → List Decision
-block_part spot parent xs cy cx mark =
+abbrev pub block_part : BandLayout → List ℤ → List ℤ → ℕ → ℕ → Mark → List Decision
+block_part layout parent xs cy cx mark =
     flagged_part
-    (is_flagged spot)
+    (is_flagged layout)
     mark.skipped
     (rows_part
-    (frame_of spot parent)
+    (frame_of layout parent)
     xs
-    (edge_of spot.width spot.across cx)
-    (span_of spot.width spot.across cx)
-    (edge_of spot.height spot.down cy)
-    (span_of spot.height spot.down cy))
+    (edge_of layout.width layout.across cx)
+    (span_of layout.width layout.across cx)
+    (edge_of layout.height layout.down cy)
+    (span_of layout.height layout.down cy))
 
 -- the first n codeblocks of row cy of codeblocks
-unfoldable pub blocks_part : BandSpot → List ℤ → List ℤ → (ℕ → Mark) → ℕ → ℕ → List Decision
-blocks_part spot parent xs marks cy zero = []
-blocks_part spot parent xs marks cy (suc n) = blocks_part spot parent xs marks cy n ++ block_part spot parent xs cy n (marks n)
+unfoldable pub blocks_part : BandLayout → List ℤ → List ℤ → (ℕ → Mark) → ℕ → ℕ → List Decision
+blocks_part layout parent xs marks cy zero = []
+blocks_part layout parent xs marks cy (suc n) = blocks_part layout parent xs marks cy n ++ block_part layout parent xs cy n (marks n)
 
 -- the first n rows of codeblocks
-unfoldable pub bands_part : BandSpot → List ℤ → List ℤ → Marks → ℕ → List Decision
-bands_part spot parent xs marks zero = []
-bands_part spot parent xs marks (suc n) = bands_part spot parent xs marks n ++ blocks_part spot parent xs (marks n) n spot.across
+unfoldable pub bands_part : BandLayout → List ℤ → List ℤ → Marks → ℕ → List Decision
+bands_part layout parent xs marks zero = []
+bands_part layout parent xs marks (suc n) = bands_part layout parent xs marks n ++ blocks_part layout parent xs (marks n) n layout.across
 
 -- the whole band
-abbrev pub band_decisions : BandSpot → List ℤ → List ℤ → Marks → List Decision
-band_decisions spot parent xs marks = bands_part spot parent xs marks spot.down
+abbrev pub band_decisions : BandLayout → List ℤ → List ℤ → Marks → List Decision
+band_decisions layout parent xs marks = bands_part layout parent xs marks layout.down

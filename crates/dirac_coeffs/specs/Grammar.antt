@@ -5,38 +5,38 @@ use Rattle.dirac_types.specs.declared.faults.Cause.{Cause}
 use Rattle.dirac_types.specs.declared.faults.Cause.TheVariants.{QuantIndex}
 use Rattle.dirac_types.specs.Table.{Table}
 use Rattle.dirac_bits.specs.Syntax.{Syntax, done, refuse, block_then, uint, align, here, field, between, ◌>>=◌}
-use Rattle.dirac_coeffs.specs.declared.spot.BandSpot.{BandSpot}
-use Rattle.dirac_coeffs.specs.declared.spot.CodedBand.{CodedBand}
+use Rattle.dirac_coeffs.specs.declared.layout.BandLayout.{BandLayout}
+use Rattle.dirac_coeffs.specs.declared.layout.CodedBand.{CodedBand}
 use Rattle.dirac_coeffs.specs.BandRead.{band_read}
 use Rattle.dirac_coeffs.specs.Carried.{AreSmall}
 
 -- the band's table with these values
-abbrev pub band_table : BandSpot → List ℤ → Table
-band_table spot xs = record { width = spot.width; height = spot.height; values = xs }
+abbrev pub band_table : BandLayout → List ℤ → Table
+band_table layout xs = record { width = layout.width; height = layout.height; values = xs }
 
 -- the band of which nothing is coded
-abbrev pub zero_band : BandSpot → CodedBand
-zero_band spot = record { index = 0; table = band_table spot (replicate (spot.width * spot.height) (pos 0)) }
+abbrev pub zero_band : BandLayout → CodedBand
+zero_band layout = record { index = 0; table = band_table layout (replicate (layout.width * layout.height) (pos 0)) }
 
 -- the band that a block reads to, or the refusal of its block
-abbrev pub band_from : BandSpot → ℕ → ℕ → Result (List ℤ) Cause → Syntax CodedBand
-band_from spot index at (Ok xs) = done (record { index = index; table = band_table spot xs })
-band_from spot index at (Err cause) = refuse at cause
+abbrev pub band_from : BandLayout → ℕ → ℕ → Result (List ℤ) Cause → Syntax CodedBand
+band_from layout index at (Ok xs) = done (record { index = index; table = band_table layout xs })
+band_from layout index at (Err cause) = refuse at cause
 
 -- a band with a block of this length
-unfoldable pub coded_band : BandSpot → List ℤ → ℕ → Syntax CodedBand
-coded_band spot parent len = do
+unfoldable pub coded_band : BandLayout → List ℤ → ℕ → Syntax CodedBand
+coded_band layout parent len = do
   index ← field QuantIndex (between 0 99)
   gap ← align
   at ← here
-  block_then len (λ block. band_from spot index at (band_read spot parent block))
+  block_then len (λ block. band_from layout index at (band_read layout parent block))
 
 -- a band
-unfoldable pub band : BandSpot → List ℤ → Syntax CodedBand
-band spot parent = do
+unfoldable pub band : BandLayout → List ℤ → Syntax CodedBand
+band layout parent = do
   gap ← align
   len ← uint
-  if len == 0 then done (zero_band spot) else coded_band spot parent len
+  if len == 0 then done (zero_band layout) else coded_band layout parent len
 
 -- the values of the parent, none where there is no parent
 abbrev pub values_of_parent : Option (Bor Table) → List ℤ
@@ -44,13 +44,13 @@ values_of_parent None = []
 values_of_parent (Some t) = t.now.values
 
 -- the parent has half the band's sizes
-abbrev pub IsParentOf : BandSpot → Bor Table → Type 0
-IsParentOf spot t = (spot.width ≡ 2 * t.now.width) × (spot.height ≡ 2 * t.now.height)
+abbrev pub IsParentOf : BandLayout → Bor Table → Type 0
+IsParentOf layout t = (layout.width ≡ 2 * t.now.width) × (layout.height ≡ 2 * t.now.height)
 
 -- what a coded band is: an index of a quantiser, and a table of the spot's sizes whose values can be spelt
-pub record IsCodedBand (spot : BandSpot) (b : CodedBand) : Type 0 where
+pub record IsCodedBand (layout : BandLayout) (b : CodedBand) : Type 0 where
   pub index : b.index ≤ 99
-  pub width : b.table.width ≡ spot.width
-  pub height : b.table.height ≡ spot.height
-  pub len : length b.table.values ≡ spot.width * spot.height
+  pub width : b.table.width ≡ layout.width
+  pub height : b.table.height ≡ layout.height
+  pub len : length b.table.values ≡ layout.width * layout.height
   pub small : AreSmall b.table.values

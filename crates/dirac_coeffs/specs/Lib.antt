@@ -1,5 +1,5 @@
 pub mod Contexts
-pub mod Spots
+pub mod Layouts
 pub mod Decisions
 pub mod Carried
 pub mod BandRead

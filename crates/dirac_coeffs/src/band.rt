@@ -3,10 +3,10 @@ ghost use Rattle.std.specs.Option.{ForSome};
 ghost use Rattle.dirac_bits.specs.Syntax.{read};
 ghost use Rattle.dirac_bits.specs.Answers.{ReadsOrStops, IsEarly};
 ghost use Rattle.dirac_coeffs.specs.Grammar.{band, coded_band, values_of_parent, IsParentOf, IsCodedBand};
-ghost use Rattle.dirac_coeffs.specs.Spots.{IsSpot};
+ghost use Rattle.dirac_coeffs.specs.Layouts.{IsBandLayout};
 
 use crate::block::read_block;
-use crate::spot::{BandSpot, CodedBand};
+use crate::layout::{BandLayout, CodedBand};
 use dirac_bits::BitReader;
 use dirac_types::{BandTable, Cause, Refusal, Stop};
 use std::alloc::Global;
@@ -27,14 +27,14 @@ fn read_coded(
     alloc: Global,
     r: &mut BitReader<'_>,
     len: u64,
-    spot: BandSpot,
+    layout: BandLayout,
     parent: &[i64],
 ) -> Result<CodedBand, Stop>
-    requires { IsSpot spot }
-    ensures value { ReadsOrStops result r.new (read (coded_band spot parent.now len) r.old) }
+    requires { IsBandLayout layout }
+    ensures value { ReadsOrStops result r.new (read (coded_band layout parent.now len) r.old) }
     ensures place_inside { IfErr result (IsEarly (length r.old.bytes)) }
     ensures kept { r.new.bytes ≡ r.old.bytes }
-    ensures lawful { IfOk result (IsCodedBand spot) }
+    ensures lawful { IfOk result (IsCodedBand layout) }
 {
     let place = r.place();
     let index = r.uint()?;
@@ -47,7 +47,7 @@ fn read_coded(
     r.align();
     let at = r.place();
     let block = r.block(len)?;
-    let table = read_block(alloc, block, at, spot, parent)?;
+    let table = read_block(alloc, block, at, layout, parent)?;
     Ok(CodedBand {
         index: index as u8,
         table,
@@ -60,21 +60,21 @@ fn read_coded(
 pub fn read_band(
     alloc: Global,
     r: &mut BitReader<'_>,
-    spot: BandSpot,
+    layout: BandLayout,
     parent: Option<&BandTable>,
 ) -> Result<CodedBand, Stop>
-    requires spot { IsSpot spot }
-    requires parent { ForSome parent (IsParentOf spot) }
-    ensures value { ReadsOrStops result r.new (read (band spot (values_of_parent parent.entry)) r.old) }
+    requires layout { IsBandLayout layout }
+    requires parent { ForSome parent (IsParentOf layout) }
+    ensures value { ReadsOrStops result r.new (read (band layout (values_of_parent parent.entry)) r.old) }
     ensures place_inside { IfErr result (IsEarly (length r.old.bytes)) }
     ensures kept { r.new.bytes ≡ r.old.bytes }
-    ensures lawful { IfOk result (IsCodedBand spot) }
+    ensures lawful { IfOk result (IsCodedBand layout) }
 {
     r.align();
     let len = r.uint()?;
     if len == 0 {
-        let table = BandTable::try_new(alloc, spot.width, spot.height, 0)?;
+        let table = BandTable::try_new(alloc, layout.width, layout.height, 0)?;
         return Ok(CodedBand { index: 0, table });
     }
-    read_coded(alloc, r, len, spot, parent_values(parent))
+    read_coded(alloc, r, len, layout, parent_values(parent))
 }

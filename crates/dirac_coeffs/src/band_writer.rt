@@ -4,12 +4,12 @@ ghost use Rattle.dirac_bits.specs.Writing.{IsWhole};
 ghost use Rattle.dirac_bits.specs.Spelling.{SpelledBehind};
 ghost use Rattle.dirac_coeffs.specs.Carried.{AreSmall};
 ghost use Rattle.dirac_coeffs.specs.Grammar.{band as band_grammar, values_of_parent, IsParentOf, IsCodedBand};
-ghost use Rattle.dirac_coeffs.specs.Spots.{IsSpot};
+ghost use Rattle.dirac_coeffs.specs.Layouts.{IsBandLayout};
 ghost use Rattle.dirac_coeffs.specs.Written.{block_of, is_zero_band, with_block, with_band};
 
 use crate::band::parent_values;
 use crate::block_writer::write_block;
-use crate::spot::{BandSpot, CodedBand};
+use crate::layout::{BandLayout, CodedBand};
 use crate::zeros::are_all_zeros;
 use dirac_bits::BitWriter;
 use dirac_types::{BandTable, NoMemory};
@@ -20,17 +20,17 @@ use std::alloc::Global;
 fn write_coded(
     alloc: Global,
     w: &mut BitWriter,
-    spot: BandSpot,
+    layout: BandLayout,
     parent: &[i64],
     index: u8,
     values: &[i64],
 ) -> Result<(), NoMemory>
-    requires spot { IsSpot spot }
-    requires len { length values.now ≡ spot.width * spot.height }
+    requires layout { IsBandLayout layout }
+    requires len { length values.now ≡ layout.width * layout.height }
     requires magnitudes_bounded { AreSmall values.now }
-    ensures exact { OnOk result (w.new ≡ with_block index (block_of spot parent.now values.now) w.old) }
+    ensures exact { OnOk result (w.new ≡ with_block index (block_of layout parent.now values.now) w.old) }
 {
-    let block = write_block(alloc, values, spot, parent)?;
+    let block = write_block(alloc, values, layout, parent)?;
     w.uint(block.len() as u64)?;
     w.uint(u64::from(index))?;
     w.align()?;
@@ -42,21 +42,21 @@ fn write_coded(
 pub fn write_band(
     alloc: Global,
     w: &mut BitWriter,
-    spot: BandSpot,
+    layout: BandLayout,
     parent: Option<&BandTable>,
     band: &CodedBand,
 ) -> Result<(), NoMemory>
-    requires spot { IsSpot spot }
-    requires parent { ForSome parent (IsParentOf spot) }
-    requires band { IsCodedBand spot band.now }
+    requires layout { IsBandLayout layout }
+    requires parent { ForSome parent (IsParentOf layout) }
+    requires band { IsCodedBand layout band.now }
     requires zeros { is_zero_band band.now.table.values ≡ true → band.now.index ≡ 0 }
-    ensures exact { OnOk result (w.new ≡ with_band spot (values_of_parent parent.entry) band.now w.old) }
-    ensures spelled { OnOk result (SpelledBehind (band_grammar spot (values_of_parent parent.entry)) band.now w.old w.new) }
+    ensures exact { OnOk result (w.new ≡ with_band layout (values_of_parent parent.entry) band.now w.old) }
+    ensures spelled { OnOk result (SpelledBehind (band_grammar layout (values_of_parent parent.entry)) band.now w.old w.new) }
 {
     w.align()?;
     let values = band.table.values();
     if are_all_zeros(values) {
         return w.uint(0);
     }
-    write_coded(alloc, w, spot, parent_values(parent), band.index, values)
+    write_coded(alloc, w, layout, parent_values(parent), band.index, values)
 }

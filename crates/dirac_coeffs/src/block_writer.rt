@@ -1,11 +1,11 @@
 ghost use Rattle.std.specs.Prelude.{◌≡◌, ◌*◌, length, IfOk, Ok};
 ghost use Rattle.dirac_coeffs.specs.BandRead.{band_read};
 ghost use Rattle.dirac_coeffs.specs.Carried.{AreSmall};
-ghost use Rattle.dirac_coeffs.specs.Spots.{IsSpot};
+ghost use Rattle.dirac_coeffs.specs.Layouts.{IsBandLayout};
 ghost use Rattle.dirac_coeffs.specs.Written.{block_of};
 
 use crate::codeblock_writer::write_all;
-use crate::spot::BandSpot;
+use crate::layout::BandLayout;
 use dirac_arith::Encoder;
 use dirac_types::NoMemory;
 use std::alloc::Global;
@@ -15,16 +15,16 @@ use std::alloc::Global;
 pub fn write_block(
     alloc: Global,
     values: &[i64],
-    spot: BandSpot,
+    layout: BandLayout,
     parent: &[i64],
 ) -> Result<Vec<u8>, NoMemory>
-    requires spot { IsSpot spot }
-    requires len { length values.now ≡ spot.width * spot.height }
+    requires layout { IsBandLayout layout }
+    requires len { length values.now ≡ layout.width * layout.height }
     requires magnitudes_bounded { AreSmall values.now }
-    ensures exact { IfOk result (λ block. block.items ≡ block_of spot parent.now values.now) }
-    ensures read_back { IfOk result (λ block. band_read spot parent.now block.items ≡ Ok values.now) }
+    ensures exact { IfOk result (λ block. block.items ≡ block_of layout parent.now values.now) }
+    ensures read_back { IfOk result (λ block. band_read layout parent.now block.items ≡ Ok values.now) }
 {
     let mut encoder = Encoder::new(alloc);
-    write_all(&mut encoder, values, spot, parent)?;
+    write_all(&mut encoder, values, layout, parent)?;
     encoder.finish()
 }

@@ -3,11 +3,11 @@ ghost use Rattle.dirac_arith.specs.Interval.{narrowed_by};
 ghost use Rattle.dirac_bands.specs.Geometry.{edge_of};
 ghost use Rattle.dirac_coeffs.specs.Carried.{AreSmall};
 ghost use Rattle.dirac_coeffs.specs.Decisions.{frame_of, rows_part, block_part, blocks_part, band_decisions};
-ghost use Rattle.dirac_coeffs.specs.Spots.{IsSpot, span_of};
+ghost use Rattle.dirac_coeffs.specs.Layouts.{IsBandLayout, span_of};
 ghost use Rattle.dirac_coeffs.specs.Written.{marks_of};
 
-use crate::parts::{has_flags, part_of};
-use crate::spot::BandSpot;
+use crate::spans::{has_flags, codeblock_span};
+use crate::layout::BandLayout;
 use crate::value_writer::write_rows;
 use crate::zeros::has_zeros_alone;
 use dirac_arith::Encoder;
@@ -17,24 +17,24 @@ use dirac_types::NoMemory;
 fn write_block_values(
     encoder: &mut Encoder,
     values: &[i64],
-    spot: BandSpot,
+    layout: BandLayout,
     parent: &[i64],
     cy: u32,
     cx: u32,
 ) -> Result<(), NoMemory>
-    requires spot { IsSpot spot }
-    requires row { cy < spot.down }
-    requires column { cx < spot.across }
-    requires len { length values.now ≡ spot.width * spot.height }
+    requires layout { IsBandLayout layout }
+    requires row { cy < layout.down }
+    requires column { cx < layout.across }
+    requires len { length values.now ≡ layout.width * layout.height }
     requires magnitudes_bounded { AreSmall values.now }
-    ensures { OnOk result (encoder.new ≡ narrowed_by encoder.old (rows_part (frame_of spot parent.now) values.now (edge_of spot.width spot.across cx) (span_of spot.width spot.across cx) (edge_of spot.height spot.down cy) (span_of spot.height spot.down cy))) }
+    ensures { OnOk result (encoder.new ≡ narrowed_by encoder.old (rows_part (frame_of layout parent.now) values.now (edge_of layout.width layout.across cx) (span_of layout.width layout.across cx) (edge_of layout.height layout.down cy) (span_of layout.height layout.down cy))) }
 {
-    let columns = part_of(spot.width, spot.across, cx);
-    let rows = part_of(spot.height, spot.down, cy);
+    let columns = codeblock_span(layout.width, layout.across, cx);
+    let rows = codeblock_span(layout.height, layout.down, cy);
     write_rows(
         encoder,
         values,
-        spot,
+        layout,
         parent,
         rows.start,
         rows.length,
@@ -47,26 +47,26 @@ fn write_block_values(
 fn write_codeblock(
     encoder: &mut Encoder,
     values: &[i64],
-    spot: BandSpot,
+    layout: BandLayout,
     parent: &[i64],
     cy: u32,
     cx: u32,
 ) -> Result<(), NoMemory>
-    requires spot { IsSpot spot }
-    requires row { cy < spot.down }
-    requires column { cx < spot.across }
-    requires len { length values.now ≡ spot.width * spot.height }
+    requires layout { IsBandLayout layout }
+    requires row { cy < layout.down }
+    requires column { cx < layout.across }
+    requires len { length values.now ≡ layout.width * layout.height }
     requires magnitudes_bounded { AreSmall values.now }
-    ensures { OnOk result (encoder.new ≡ narrowed_by encoder.old (block_part spot parent.now values.now cy cx (marks_of spot values.now cy cx))) }
+    ensures { OnOk result (encoder.new ≡ narrowed_by encoder.old (block_part layout parent.now values.now cy cx (marks_of layout values.now cy cx))) }
 {
-    if !has_flags(spot) {
-        return write_block_values(encoder, values, spot, parent, cy, cx);
+    if !has_flags(layout) {
+        return write_block_values(encoder, values, layout, parent, cy, cx);
     }
-    if has_zeros_alone(values, spot, cy, cx) {
+    if has_zeros_alone(values, layout, cy, cx) {
         return encoder.decision(18, true);
     }
     match encoder.decision(18, false) {
-        Ok(()) => write_block_values(encoder, values, spot, parent, cy, cx),
+        Ok(()) => write_block_values(encoder, values, layout, parent, cy, cx),
         Err(e) => Err(e),
     }
 }
@@ -75,18 +75,18 @@ fn write_codeblock(
 fn write_codeblocks(
     encoder: &mut Encoder,
     values: &[i64],
-    spot: BandSpot,
+    layout: BandLayout,
     parent: &[i64],
     cy: u32,
 ) -> Result<(), NoMemory>
-    requires spot { IsSpot spot }
-    requires row { cy < spot.down }
-    requires len { length values.now ≡ spot.width * spot.height }
+    requires layout { IsBandLayout layout }
+    requires row { cy < layout.down }
+    requires len { length values.now ≡ layout.width * layout.height }
     requires magnitudes_bounded { AreSmall values.now }
-    ensures { OnOk result (encoder.new ≡ narrowed_by encoder.old (blocks_part spot parent.now values.now (marks_of spot values.now cy) cy spot.across)) }
+    ensures { OnOk result (encoder.new ≡ narrowed_by encoder.old (blocks_part layout parent.now values.now (marks_of layout values.now cy) cy layout.across)) }
 {
-    'across: for cx in 0..spot.across {
-        match write_codeblock(encoder, values, spot, parent, cy, cx) {
+    'across: for cx in 0..layout.across {
+        match write_codeblock(encoder, values, layout, parent, cy, cx) {
             Ok(()) => {}
             Err(e) => return Err(e),
         }
@@ -98,16 +98,16 @@ fn write_codeblocks(
 pub fn write_all(
     encoder: &mut Encoder,
     values: &[i64],
-    spot: BandSpot,
+    layout: BandLayout,
     parent: &[i64],
 ) -> Result<(), NoMemory>
-    requires spot { IsSpot spot }
-    requires len { length values.now ≡ spot.width * spot.height }
+    requires layout { IsBandLayout layout }
+    requires len { length values.now ≡ layout.width * layout.height }
     requires magnitudes_bounded { AreSmall values.now }
-    ensures { OnOk result (encoder.new ≡ narrowed_by encoder.old (band_decisions spot parent.now values.now (marks_of spot values.now))) }
+    ensures { OnOk result (encoder.new ≡ narrowed_by encoder.old (band_decisions layout parent.now values.now (marks_of layout values.now))) }
 {
-    'down: for cy in 0..spot.down {
-        match write_codeblocks(encoder, values, spot, parent, cy) {
+    'down: for cy in 0..layout.down {
+        match write_codeblocks(encoder, values, layout, parent, cy) {
             Ok(()) => {}
             Err(e) => return Err(e),
         }

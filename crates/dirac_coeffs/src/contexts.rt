@@ -68,7 +68,7 @@ pub fn parent_value(parent: &[i64], width: usize, x: usize, y: usize) -> i64
 
 /// Whether a value is 0.
 #[inline(always)]
-pub fn is_nought(value: i64) -> bool
+pub fn is_zero_value(value: i64) -> bool
     ensures { result ≡ is_zero value }
 {
     value == 0
@@ -76,10 +76,10 @@ pub fn is_nought(value: i64) -> bool
 
 /// Whether all neighbours are 0.
 #[inline(always)]
-pub fn are_noughts(left: i64, above: i64, corner: i64) -> bool
+pub fn are_zeros(left: i64, above: i64, corner: i64) -> bool
     ensures { result ≡ (is_zero left && (is_zero above && is_zero corner)) }
 {
-    is_nought(left) && (is_nought(above) && is_nought(corner))
+    is_zero_value(left) && (is_zero_value(above) && is_zero_value(corner))
 }
 
 /// The follow contexts of a coefficient's magnitude, the last of them repeated.
@@ -102,7 +102,7 @@ pub fn follow_among(left: i64, above: i64, corner: i64, parent: i64) -> &'static
     ensures value { result.now ≡ follow_of (is_zero parent) (is_zero left && (is_zero above && is_zero corner)) }
     ensures contexts { AreContexts result.now }
 {
-    follow_contexts(is_nought(parent), are_noughts(left, above, corner))
+    follow_contexts(is_zero_value(parent), are_zeros(left, above, corner))
 }
 
 /// The value whose sign the sign's context goes by.

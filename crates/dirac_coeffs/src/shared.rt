@@ -5,6 +5,6 @@ fn is_shared<T: Send + Sync>() {}
 
 /// Each of these types may be shared by threads and sent to them.
 fn are_shared() {
-    is_shared::<crate::BandSpot>();
+    is_shared::<crate::BandLayout>();
     is_shared::<crate::CodedBand>();
 }

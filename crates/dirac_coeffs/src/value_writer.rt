@@ -5,7 +5,7 @@ ghost use Rattle.dirac_coeffs.specs.Contexts.{value_spelling};
 ghost use Rattle.dirac_coeffs.specs.Decisions.{frame_of, value_part, row_part, rows_part};
 
 use crate::contexts;
-use crate::spot::BandSpot;
+use crate::layout::BandLayout;
 use dirac_arith::Encoder;
 use dirac_types::{Band, NoMemory};
 
@@ -33,26 +33,26 @@ fn write_value(
 fn write_at(
     encoder: &mut Encoder,
     values: &[i64],
-    spot: BandSpot,
+    layout: BandLayout,
     parent: &[i64],
     x: usize,
     y: usize,
 ) -> Result<(), NoMemory>
-    requires column { x < spot.width }
-    requires width { spot.width ≤ 8192 }
+    requires column { x < layout.width }
+    requires width { layout.width ≤ 8192 }
     requires row { y < 8192 }
-    requires inside { (y + 1) * spot.width ≤ length values.now }
+    requires inside { (y + 1) * layout.width ≤ length values.now }
     requires magnitudes_bounded { AreSmall values.now }
-    ensures { OnOk result (encoder.new ≡ narrowed_by encoder.old (value_part (frame_of spot parent.now) values.now x y)) }
+    ensures { OnOk result (encoder.new ≡ narrowed_by encoder.old (value_part (frame_of layout parent.now) values.now x y)) }
 {
-    let width = spot.width as usize;
+    let width = layout.width as usize;
     let left = contexts::left_value(values, width, x, y);
     let above = contexts::above_value(values, width, x, y);
     let corner = contexts::corner_value(values, width, x, y);
     let parent = contexts::parent_value(parent, width, x, y);
     write_value(
         encoder,
-        spot.band,
+        layout.band,
         left,
         above,
         corner,
@@ -65,21 +65,21 @@ fn write_at(
 fn write_row(
     encoder: &mut Encoder,
     values: &[i64],
-    spot: BandSpot,
+    layout: BandLayout,
     parent: &[i64],
     y: usize,
     from: usize,
     count: usize,
 ) -> Result<(), NoMemory>
-    requires columns { from + count ≤ spot.width }
-    requires width { spot.width ≤ 8192 }
+    requires columns { from + count ≤ layout.width }
+    requires width { layout.width ≤ 8192 }
     requires row { y < 8192 }
-    requires inside { (y + 1) * spot.width ≤ length values.now }
+    requires inside { (y + 1) * layout.width ≤ length values.now }
     requires magnitudes_bounded { AreSmall values.now }
-    ensures { OnOk result (encoder.new ≡ narrowed_by encoder.old (row_part (frame_of spot parent.now) values.now y from count)) }
+    ensures { OnOk result (encoder.new ≡ narrowed_by encoder.old (row_part (frame_of layout parent.now) values.now y from count)) }
 {
     'values: for i in 0..count {
-        match write_at(encoder, values, spot, parent, from + i, y) {
+        match write_at(encoder, values, layout, parent, from + i, y) {
             Ok(()) => {}
             Err(e) => return Err(e),
         }
@@ -91,22 +91,22 @@ fn write_row(
 pub fn write_rows(
     encoder: &mut Encoder,
     values: &[i64],
-    spot: BandSpot,
+    layout: BandLayout,
     parent: &[i64],
     top: usize,
     rows: usize,
     from: usize,
     count: usize,
 ) -> Result<(), NoMemory>
-    requires columns { from + count ≤ spot.width }
-    requires width { spot.width ≤ 8192 }
+    requires columns { from + count ≤ layout.width }
+    requires width { layout.width ≤ 8192 }
     requires rows { top + rows ≤ 8192 }
-    requires inside { (top + rows) * spot.width ≤ length values.now }
+    requires inside { (top + rows) * layout.width ≤ length values.now }
     requires magnitudes_bounded { AreSmall values.now }
-    ensures { OnOk result (encoder.new ≡ narrowed_by encoder.old (rows_part (frame_of spot parent.now) values.now from count top rows)) }
+    ensures { OnOk result (encoder.new ≡ narrowed_by encoder.old (rows_part (frame_of layout parent.now) values.now from count top rows)) }
 {
     'rows: for j in 0..rows {
-        match write_row(encoder, values, spot, parent, top + j, from, count) {
+        match write_row(encoder, values, layout, parent, top + j, from, count) {
             Ok(()) => {}
             Err(e) => return Err(e),
         }

@@ -6,7 +6,7 @@ ghost use Rattle.dirac_coeffs.specs.Contexts.{follow_among, bits_context, sign_o
 ghost use Rattle.dirac_coeffs.specs.Decisions.{frame_of};
 
 use crate::contexts;
-use crate::spot::BandSpot;
+use crate::layout::BandLayout;
 use dirac_arith::Decoder;
 use dirac_types::{Band, Cause};
 
@@ -35,26 +35,26 @@ fn read_value(
 fn read_at(
     decoder: &mut Decoder<'_>,
     values: &mut [i64],
-    spot: BandSpot,
+    layout: BandLayout,
     parent: &[i64],
     x: usize,
     y: usize,
 ) -> Result<(), Cause>
-    requires column { x < spot.width }
-    requires width { spot.width ≤ 8192 }
+    requires column { x < layout.width }
+    requires width { layout.width ≤ 8192 }
     requires row { y < 8192 }
-    requires inside { (y + 1) * spot.width ≤ length values.old }
+    requires inside { (y + 1) * layout.width ≤ length values.old }
     requires no_overflow { decoder.old.at.doublings < 2 ^ 61 }
-    ensures value { Moves result values.new decoder.new (value_step (frame_of spot parent.now) x y (progress values.old decoder.old)) }
+    ensures value { Moves result values.new decoder.new (value_step (frame_of layout parent.now) x y (progress values.old decoder.old)) }
     ensures len { length values.new ≡ length values.old }
     ensures few_doublings { decoder.new.at.doublings ≤ decoder.old.at.doublings + 702 }
 {
-    let width = spot.width as usize;
+    let width = layout.width as usize;
     let left = contexts::left_value(values, width, x, y);
     let above = contexts::above_value(values, width, x, y);
     let corner = contexts::corner_value(values, width, x, y);
     let parent = contexts::parent_value(parent, width, x, y);
-    match read_value(decoder, spot.band, left, above, corner, parent) {
+    match read_value(decoder, layout.band, left, above, corner, parent) {
         Ok(value) => {
             values[y * width + x] = value;
             Ok(())
@@ -67,23 +67,23 @@ fn read_at(
 fn read_row(
     decoder: &mut Decoder<'_>,
     values: &mut [i64],
-    spot: BandSpot,
+    layout: BandLayout,
     parent: &[i64],
     y: usize,
     from: usize,
     count: usize,
 ) -> Result<(), Cause>
-    requires columns { from + count ≤ spot.width }
-    requires width { spot.width ≤ 8192 }
+    requires columns { from + count ≤ layout.width }
+    requires width { layout.width ≤ 8192 }
     requires row { y < 8192 }
-    requires inside { (y + 1) * spot.width ≤ length values.old }
+    requires inside { (y + 1) * layout.width ≤ length values.old }
     requires no_overflow { decoder.old.at.doublings < 2 ^ 60 }
-    ensures value { Moves result values.new decoder.new (row_step (frame_of spot parent.now) y from count (progress values.old decoder.old)) }
+    ensures value { Moves result values.new decoder.new (row_step (frame_of layout parent.now) y from count (progress values.old decoder.old)) }
     ensures len { length values.new ≡ length values.old }
     ensures few_doublings { decoder.new.at.doublings ≤ decoder.old.at.doublings + 702 * count }
 {
     'values: for i in 0..count {
-        match read_at(decoder, values, spot, parent, from + i, y) {
+        match read_at(decoder, values, layout, parent, from + i, y) {
             Ok(()) => {}
             Err(cause) => return Err(cause),
         }
@@ -95,24 +95,24 @@ fn read_row(
 pub fn read_rows(
     decoder: &mut Decoder<'_>,
     values: &mut [i64],
-    spot: BandSpot,
+    layout: BandLayout,
     parent: &[i64],
     top: usize,
     rows: usize,
     from: usize,
     count: usize,
 ) -> Result<(), Cause>
-    requires columns { from + count ≤ spot.width }
-    requires width { spot.width ≤ 8192 }
+    requires columns { from + count ≤ layout.width }
+    requires width { layout.width ≤ 8192 }
     requires rows { top + rows ≤ 8192 }
-    requires inside { (top + rows) * spot.width ≤ length values.old }
+    requires inside { (top + rows) * layout.width ≤ length values.old }
     requires no_overflow { decoder.old.at.doublings < 2 ^ 59 }
-    ensures value { Moves result values.new decoder.new (rows_step (frame_of spot parent.now) from count top rows (progress values.old decoder.old)) }
+    ensures value { Moves result values.new decoder.new (rows_step (frame_of layout parent.now) from count top rows (progress values.old decoder.old)) }
     ensures len { length values.new ≡ length values.old }
     ensures few_doublings { decoder.new.at.doublings ≤ decoder.old.at.doublings + 702 * 8192 * count }
 {
     'rows: for j in 0..rows {
-        match read_row(decoder, values, spot, parent, top + j, from, count) {
+        match read_row(decoder, values, layout, parent, top + j, from, count) {
             Ok(()) => {}
             Err(cause) => return Err(cause),
         }

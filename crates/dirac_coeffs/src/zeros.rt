@@ -2,11 +2,11 @@ ghost use Rattle.std.specs.Prelude.{◌≡◌, ℕ, ◌+◌, ◌*◌, ◌<◌, �
 ghost use Rattle.dirac_bands.specs.Geometry.{edge_of};
 ghost use Rattle.dirac_coeffs.specs.Written.{is_zero_band, is_zero_block};
 ghost use Rattle.dirac_coeffs.specs.Contexts.{value_at};
-ghost use Rattle.dirac_coeffs.specs.Spots.{IsSpot, span_of};
+ghost use Rattle.dirac_coeffs.specs.Layouts.{IsBandLayout, span_of};
 
-use crate::contexts::is_nought;
-use crate::parts::part_of;
-use crate::spot::BandSpot;
+use crate::contexts::is_zero_value;
+use crate::spans::codeblock_span;
+use crate::layout::BandLayout;
 
 /// Whether `count` values of row `y` from column `from` on are zeros.
 fn is_zero_row(values: &[i64], width: usize, y: usize, from: usize, count: usize) -> bool
@@ -18,7 +18,7 @@ fn is_zero_row(values: &[i64], width: usize, y: usize, from: usize, count: usize
     ensures others { result ≡ false → ((i : ℕ) → i < count → value_at width values.now (from + i) y ≡ pos 0) → ⊥ }
 {
     'values: for i in 0..count {
-        if !is_nought(values[y * width + (from + i)]) {
+        if !is_zero_value(values[y * width + (from + i)]) {
             return false;
         }
     }
@@ -50,18 +50,18 @@ fn are_zero_rows(
 }
 
 /// Whether codeblock `cx` of row `cy` has zeros alone, or no values.
-pub fn has_zeros_alone(values: &[i64], spot: BandSpot, cy: u32, cx: u32) -> bool
-    requires spot { IsSpot spot }
-    requires row { cy < spot.down }
-    requires column { cx < spot.across }
-    requires len { length values.now ≡ spot.width * spot.height }
-    ensures { result ≡ is_zero_block spot values.now cy cx }
+pub fn has_zeros_alone(values: &[i64], layout: BandLayout, cy: u32, cx: u32) -> bool
+    requires layout { IsBandLayout layout }
+    requires row { cy < layout.down }
+    requires column { cx < layout.across }
+    requires len { length values.now ≡ layout.width * layout.height }
+    ensures { result ≡ is_zero_block layout values.now cy cx }
 {
-    let columns = part_of(spot.width, spot.across, cx);
-    let rows = part_of(spot.height, spot.down, cy);
+    let columns = codeblock_span(layout.width, layout.across, cx);
+    let rows = codeblock_span(layout.height, layout.down, cy);
     are_zero_rows(
         values,
-        spot.width as usize,
+        layout.width as usize,
         rows.start,
         rows.length,
         columns.start,
@@ -73,5 +73,5 @@ pub fn has_zeros_alone(values: &[i64], spot: BandSpot, cy: u32, cx: u32) -> bool
 pub fn are_all_zeros(values: &[i64]) -> bool
     ensures { result ≡ is_zero_band values.now }
 {
-    values.iter().all(|v| is_nought(*v))
+    values.iter().all(|v| is_zero_value(*v))
 }

@@ -20,8 +20,8 @@ use Rattle.dirac_decide.specs.declared.choice.Choice.{Choice}
 use Rattle.dirac_decide.proofs.Choices.{modes_are}
 use Rattle.dirac_decide.specs.declared.prediction_unit.PredictionUnit.{PredictionUnit}
 
-nought : IsSample (pos 0)
-nought = record { least = omega (arith, ints); most = omega (arith, ints) }
+zero_fits : IsSample (pos 0)
+zero_fits = record { least = omega (arith, ints); most = omega (arith, ints) }
 
 cheaper_has : (a b : Choice) → HasSamples a.block → HasSamples b.block → HasSamples (cheaper a b).block
 cheaper_has a b p q = elim (cases_Bool (nat_lt b.cost a.cost)) [
@@ -30,11 +30,11 @@ cheaper_has a b p q = elim (cases_Bool (nat_lt b.cost a.cost)) [
 ]
 
 motion_has : (d : Deciding) (u : PredictionUnit) (o : Option View) → HasSamples (motion_mode d u o).block
-motion_has d u None = record { y = nought; u = nought; v = nought }
+motion_has d u None = record { y = zero_fits; u = zero_fits; v = zero_fits }
 motion_has d u (Some r) =
     cheaper_has (cheaper (first_mode d u) (second_mode d r u)) (both_mode d r u)
-    (cheaper_has (first_mode d u) (second_mode d r u) (record { y = nought; u = nought; v = nought }) (record { y = nought; u = nought; v = nought }))
-    (record { y = nought; u = nought; v = nought })
+    (cheaper_has (first_mode d u) (second_mode d r u) (record { y = zero_fits; u = zero_fits; v = zero_fits }) (record { y = zero_fits; u = zero_fits; v = zero_fits }))
+    (record { y = zero_fits; u = zero_fits; v = zero_fits })
 
 some_part : (n ratio : ℕ) → 2 ≤ n → 1 ≤ ratio → ratio ≤ 2 → 1 ≤ n / ratio
 some_part n zero a b c = absurd (omega arith)

@@ -25,11 +25,11 @@ use Rattle.dirac_decide.proofs.DcValues.{blocks_have, dc_has, low_split, some_si
 
 -- ---- blocks
 
-nought : IsShort (pos 0)
-nought = record { least = omega (arith, ints); most = omega (arith, ints) }
+zero_fits : IsShort (pos 0)
+zero_fits = record { least = omega (arith, ints); most = omega (arith, ints) }
 
 nowhere : IsShortVector no_vector
-nowhere = record { x = nought; y = nought }
+nowhere = record { x = zero_fits; y = zero_fits }
 
 sample_short : (v : ℤ) → IsSample v → IsShort v
 sample_short v is = record { least = omega (arith, ints, is.least); most = omega (arith, ints, is.most) }
@@ -39,9 +39,9 @@ first_block refs v is = record {
   second = λ e. refl;
   v1 = is;
   v2 = nowhere;
-  dc_y = nought;
-  dc_u = nought;
-  dc_v = nought;
+  dc_y = zero_fits;
+  dc_u = zero_fits;
+  dc_v = zero_fits;
   no_v1 = λ e. absurd cc;
   no_v2 = λ e. refl;
   no_dc = λ e. (refl, refl, refl);
@@ -52,9 +52,9 @@ second_block v is = record {
   second = λ e. absurd (omega arith);
   v1 = nowhere;
   v2 = is;
-  dc_y = nought;
-  dc_u = nought;
-  dc_v = nought;
+  dc_y = zero_fits;
+  dc_u = zero_fits;
+  dc_v = zero_fits;
   no_v1 = λ e. refl;
   no_v2 = λ e. absurd cc;
   no_dc = λ e. (refl, refl, refl);
@@ -65,9 +65,9 @@ both_block v w is also = record {
   second = λ e. absurd (omega arith);
   v1 = is;
   v2 = also;
-  dc_y = nought;
-  dc_u = nought;
-  dc_v = nought;
+  dc_y = zero_fits;
+  dc_u = zero_fits;
+  dc_v = zero_fits;
   no_v1 = λ e. absurd cc;
   no_v2 = λ e. absurd cc;
   no_dc = λ e. (refl, refl, refl);

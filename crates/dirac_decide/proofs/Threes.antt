@@ -8,8 +8,8 @@ first_one f one four e t less =
     let four_is : four ≡ f 1 = t.below less in
     least_taken f 0 (omega arith)
 
-first_nought : (f : ℕ → ℕ) (one four : ℕ) → one ≡ f 0 → IsToldBelow one (f 1) four → one ≤ four → first_least_to f 1 ≡ 0
-first_nought f one four e t more =
+first_zero : (f : ℕ → ℕ) (one four : ℕ) → one ≡ f 0 → IsToldBelow one (f 1) four → one ≤ four → first_least_to f 1 ≡ 0
+first_zero f one four e t more =
     let above : one ≤ f 1 = t.above more in
     least_kept f 0 (omega arith)
 
@@ -36,7 +36,7 @@ pub third_after_first : (f : ℕ → ℕ) (one four sixteen : ℕ) → one ≡ f
     → IsToldBelow one (f 2) sixteen → sixteen < one → first_least_to f 2 ≡ 2
 third_after_first f one four sixteen e t more s less =
     let sixteen_is : sixteen ≡ f 2 = s.below less in
-    let so_far : f (first_least_to f 1) ≡ f 0 = ap f (first_nought f one four e t more) in
+    let so_far : f (first_least_to f 1) ≡ f 0 = ap f (first_zero f one four e t more) in
     least_taken f 1 (omega arith)
 
 -- none costs less than the first
@@ -44,5 +44,5 @@ pub first_stays : (f : ℕ → ℕ) (one four sixteen : ℕ) → one ≡ f 0 →
     → IsToldBelow one (f 2) sixteen → one ≤ sixteen → first_least_to f 2 ≡ 0
 first_stays f one four sixteen e t more s past =
     let above : one ≤ f 2 = s.above past in
-    let so_far : f (first_least_to f 1) ≡ f 0 = ap f (first_nought f one four e t more) in
-    least_kept f 1 (omega arith) ∙ first_nought f one four e t more
+    let so_far : f (first_least_to f 1) ≡ f 0 = ap f (first_zero f one four e t more) in
+    least_kept f 1 (omega arith) ∙ first_zero f one four e t more

@@ -13,8 +13,8 @@ use Rattle.dirac_sequence.specs.Lawful.{IsSequence}
 use Rattle.dirac_sequence.specs.Ratios.{ratio_across, ratio_down}
 use Rattle.dirac_header.specs.Prediction.{is_grid}
 use Rattle.dirac_upconvert.specs.SubSamples.{Up}
-use Rattle.dirac_types.specs.declared.formats.Part.{Part}
-use Rattle.dirac_types.specs.declared.formats.Part.TheVariants as part
+use Rattle.dirac_types.specs.declared.formats.Component.{Component}
+use Rattle.dirac_types.specs.declared.formats.Component.TheVariants as component
 use Rattle.dirac_obmc.specs.Compensation.{IsPredictable, ratio_of}
 use Rattle.dirac_picture.specs.declared.coded.CodedMotion.{CodedMotion}
 use Rattle.dirac_picture.specs.Fits.{IsMotion}
@@ -42,8 +42,8 @@ halves w s q h = omega arith
 half_covered : (size sep q : ℕ) → size % 2 ≡ 0 → sep % 2 ≡ 0 → size ≤ q * (4 * sep) → size / 2 ≤ 4 * q * (sep / 2)
 half_covered size sep q even divides h =
     let wide : size ≡ 2 * (size / 2) = omega arith in
-    let part : sep ≡ 2 * (sep / 2) = omega arith in
-    let both : 2 * (size / 2) ≤ q * (4 * (2 * (sep / 2))) = subst (λ n. 2 * (size / 2) ≤ q * (4 * n)) part (omega arith) in
+    let component : sep ≡ 2 * (sep / 2) = omega arith in
+    let both : 2 * (size / 2) ≤ q * (4 * (2 * (sep / 2))) = subst (λ n. 2 * (size / 2) ≤ q * (4 * n)) component (omega arith) in
     halves (size / 2) (sep / 2) q both
 
 div-one : (n : ℕ) → n / 1 ≡ n
@@ -68,27 +68,27 @@ chroma_down C422 size sep q whole divides h = luma_times size sep q h
 chroma_down C420 size sep q whole divides h = half_covered size sep q whole divides h
 
 -- the columns of each plane are covered
-part_across : (s : Sequence) (sep q : ℕ) (p : Part) → IsSequence s → sep % ratio_across s.chroma ≡ 0 → s.width ≤ q * (4 * sep)
+part_across : (s : Sequence) (sep q : ℕ) (p : Component) → IsSequence s → sep % ratio_across s.chroma ≡ 0 → s.width ≤ q * (4 * sep)
     → width_of s p ≤ 4 * q * (sep / ratio_of p (ratio_across s.chroma))
-part_across s sep q part.Y lawful divides h = rw (div-one sep) (omega arith)
-part_across s sep q part.U lawful divides h = chroma_across s.chroma s.width sep q lawful.whole_across divides h
-part_across s sep q part.V lawful divides h = chroma_across s.chroma s.width sep q lawful.whole_across divides h
+part_across s sep q component.Y lawful divides h = rw (div-one sep) (omega arith)
+part_across s sep q component.U lawful divides h = chroma_across s.chroma s.width sep q lawful.whole_across divides h
+part_across s sep q component.V lawful divides h = chroma_across s.chroma s.width sep q lawful.whole_across divides h
 
 -- and its rows
-part_down : (s : Sequence) (sep q : ℕ) (p : Part) → IsSequence s → sep % ratio_down s.chroma ≡ 0 → s.height ≤ q * (4 * sep)
+part_down : (s : Sequence) (sep q : ℕ) (p : Component) → IsSequence s → sep % ratio_down s.chroma ≡ 0 → s.height ≤ q * (4 * sep)
     → height_of s p ≤ 4 * q * (sep / ratio_of p (ratio_down s.chroma))
-part_down s sep q part.Y lawful divides h = rw (div-one sep) (omega arith)
-part_down s sep q part.U lawful divides h = chroma_down s.chroma s.height sep q lawful.whole_down divides h
-part_down s sep q part.V lawful divides h = chroma_down s.chroma s.height sep q lawful.whole_down divides h
+part_down s sep q component.Y lawful divides h = rw (div-one sep) (omega arith)
+part_down s sep q component.U lawful divides h = chroma_down s.chroma s.height sep q lawful.whole_down divides h
+part_down s sep q component.V lawful divides h = chroma_down s.chroma s.height sep q lawful.whole_down divides h
 
 -- a plane of a picture has the sizes of its part
-pub plane_size : (s : Sequence) (picture : Picture) (p : Part) → IsPicture s picture → IsPlane (width_of s p) (height_of s p) (plane_of picture p)
-plane_size s picture part.Y fits = fits.y
-plane_size s picture part.U fits = fits.u
-plane_size s picture part.V fits = fits.v
+pub plane_size : (s : Sequence) (picture : Picture) (p : Component) → IsPicture s picture → IsPlane (width_of s p) (height_of s p) (plane_of picture p)
+plane_size s picture component.Y fits = fits.y
+plane_size s picture component.U fits = fits.u
+plane_size s picture component.V fits = fits.v
 
 -- so each plane can be predicted from upconverted planes of its size
-pub is_compensation : (code : ℕ) (s : Sequence) (m : CodedMotion) (first : Up) (second : Option Up) (p : Part) → IsSequence s → IsMotion code s m
+pub is_compensation : (code : ℕ) (s : Sequence) (m : CodedMotion) (first : Up) (second : Option Up) (p : Component) → IsSequence s → IsMotion code s m
     → IsUpOfPart s p first → ForSome second (IsUpOfPart s p) → (m.blocks.refs ≡ 2 → IsSome second)
     → IsPredictable (compensated s m first second p)
 is_compensation code s m first second p lawful fits one two there =
@@ -117,23 +117,23 @@ there_lent None there = absurd cc
 there_lent (Some b) there = refl
 
 -- the upconverted planes of a picture have the sizes of their parts
-pub up_size : (s : Sequence) (picture : Picture) (p : Part) (u : Up) → IsPicture s picture → u ≡ up_of (plane_of picture p) → IsUpOfPart s p u
+pub up_size : (s : Sequence) (picture : Picture) (p : Component) (u : Up) → IsPicture s picture → u ≡ up_of (plane_of picture p) → IsUpOfPart s p u
 up_size s picture p u fits is =
     let size = plane_size s picture p fits in
     (ap (λ (x : Up). x.width) is ∙ size.across, ap (λ (x : Up). x.height) is ∙ size.down)
 
 -- one that is lent too
-pub lent_size : (s : Sequence) (picture : Picture) (p : Part) (u x : Up) → IsPicture s picture → u ≡ up_of (plane_of picture p) → Some u ≡ Some x → IsUpOfPart s p x
+pub lent_size : (s : Sequence) (picture : Picture) (p : Component) (u x : Up) → IsPicture s picture → u ≡ up_of (plane_of picture p) → Some u ≡ Some x → IsUpOfPart s p x
 lent_size s picture p u x fits is e = let same : u ≡ x = cc in subst (IsUpOfPart s p) same (up_size s picture p u fits is)
 
 -- from one reference
-pub from_one : (code : ℕ) (s : Sequence) (m : CodedMotion) (picture : Picture) (first : Up) (p : Part) → IsSequence s → IsMotion code s m
+pub from_one : (code : ℕ) (s : Sequence) (m : CodedMotion) (picture : Picture) (first : Up) (p : Component) → IsSequence s → IsMotion code s m
     → IsPicture s picture → first ≡ up_of (plane_of picture p) → (m.blocks.refs ≡ 2 → ⊥) → IsPredictable (compensated s m first None p)
 from_one code s m picture first p lawful fits one is alone =
     is_compensation code s m first None p lawful fits (up_size s picture p first one is) (λ u e. absurd cc) (λ two. absurd (alone two))
 
 -- and from two
-pub from_two : (code : ℕ) (s : Sequence) (m : CodedMotion) (picture other : Picture) (first second : Up) (p : Part) → IsSequence s → IsMotion code s m
+pub from_two : (code : ℕ) (s : Sequence) (m : CodedMotion) (picture other : Picture) (first second : Up) (p : Component) → IsSequence s → IsMotion code s m
     → IsPicture s picture → IsPicture s other → first ≡ up_of (plane_of picture p) → second ≡ up_of (plane_of other p)
     → IsPredictable (compensated s m first (Some second) p)
 from_two code s m picture other first second p lawful fits one two is also =

@@ -12,7 +12,7 @@ use Rattle.dirac_refs.specs.References.{listed, without, retire, append, appende
 use Rattle.dirac_picture.specs.Grammar.{are_listed}
 use Rattle.dirac_decode.specs.declared.opened.Opened.{Opened}
 use Rattle.dirac_decode.specs.Content.{named, IsPicture, AreReferences}
-use Rattle.dirac_decode.specs.Course.{as_reference}
+use Rattle.dirac_decode.specs.StreamState.{as_reference}
 use Rattle.dirac_decode.specs.Taking.{IsOpen, IsOfOpen}
 
 first_fits : (P : Picture → Type 0) (q : Picture) (list : List Picture) → All P (q ∷ list) → P q

@@ -10,8 +10,8 @@ use Rattle.dirac_types.specs.Samples.{clip}
 use Rattle.dirac_sequence.specs.declared.sequence.Sequence.{Sequence}
 use Rattle.dirac_header.specs.declared.header.PictureHeader.{PictureHeader}
 use Rattle.dirac_upconvert.specs.HalfSamples.{IsSample}
-use Rattle.dirac_types.specs.declared.formats.Part.{Part}
-use Rattle.dirac_types.specs.declared.formats.Part.TheVariants as part
+use Rattle.dirac_types.specs.declared.formats.Component.{Component}
+use Rattle.dirac_types.specs.declared.formats.Component.TheVariants as component
 use Rattle.dirac_picture.specs.declared.coded.CodedMotion.{CodedMotion}
 use Rattle.dirac_picture.specs.declared.coded.CodedPicture.{CodedPicture}
 use Rattle.dirac_picture.specs.declared.coded.CodedResidual.{CodedResidual}
@@ -29,21 +29,21 @@ all_clipped : (vs : List ℤ) → All IsSample (map clip vs)
 all_clipped vs = All-map IsSample clip vs (λ k d h. clip_is_sample (get_or vs k d))
 
 -- the samples of a plane
-samples_fit : (s : Sequence) (refs : List Picture) (head : PictureHeader) (m : Option CodedMotion) (coded : Option CodedResidual) (part : Part)
-    → IsPlane (width_of s part) (height_of s part) (samples_from s refs head m coded part)
-samples_fit s refs head None None part = record { across = refl; down = refl; samples = all_clipped _ }
-samples_fit s refs head None (Some r) part = record { across = refl; down = refl; samples = all_clipped _ }
-samples_fit s refs head (Some m) None part = record { across = refl; down = refl; samples = all_clipped _ }
-samples_fit s refs head (Some m) (Some r) part = record { across = refl; down = refl; samples = all_clipped _ }
+samples_fit : (s : Sequence) (refs : List Picture) (head : PictureHeader) (m : Option CodedMotion) (coded : Option CodedResidual) (component : Component)
+    → IsPlane (width_of s component) (height_of s component) (samples_from s refs head m coded component)
+samples_fit s refs head None None component = record { across = refl; down = refl; samples = all_clipped _ }
+samples_fit s refs head None (Some r) component = record { across = refl; down = refl; samples = all_clipped _ }
+samples_fit s refs head (Some m) None component = record { across = refl; down = refl; samples = all_clipped _ }
+samples_fit s refs head (Some m) (Some r) component = record { across = refl; down = refl; samples = all_clipped _ }
 
-pub plane_fits : (s : Sequence) (refs : List Picture) (coded : CodedPicture) (part : Part) → IsPlane (width_of s part) (height_of s part) (plane_samples s refs coded part)
-plane_fits s refs coded part = samples_fit s refs coded.header coded.motion coded.residual part
+pub plane_fits : (s : Sequence) (refs : List Picture) (coded : CodedPicture) (component : Component) → IsPlane (width_of s component) (height_of s component) (plane_samples s refs coded component)
+plane_fits s refs coded component = samples_fit s refs coded.header coded.motion coded.residual component
 
 pub picture_fits : (s : Sequence) (refs : List Picture) (coded : CodedPicture) → IsPicture s (rebuilt s refs coded)
 picture_fits s refs coded = record {
-  y = plane_fits s refs coded part.Y;
-  u = plane_fits s refs coded part.U;
-  v = plane_fits s refs coded part.V;
+  y = plane_fits s refs coded component.Y;
+  u = plane_fits s refs coded component.U;
+  v = plane_fits s refs coded component.V;
 }
 
 -- an inter picture is the one that its references stand for, once these are looked up
@@ -53,9 +53,9 @@ pub inter_found : {E : Type 0} (s : Sequence) (refs : List Picture) (coded : Cod
 inter_found s refs coded m first second (Ok p) moves e f is =
     let of : Option CodedMotion → Picture = λ x. record {
       number = coded.header.number;
-      y = samples_from s refs coded.header x coded.residual part.Y;
-      u = samples_from s refs coded.header x coded.residual part.U;
-      v = samples_from s refs coded.header x coded.residual part.V;
+      y = samples_from s refs coded.header x coded.residual component.Y;
+      u = samples_from s refs coded.header x coded.residual component.U;
+      v = samples_from s refs coded.header x coded.residual component.V;
     } in
     is ∙ ap₂ (λ (a b : Option Picture). inter_picture s a b coded.header m coded.residual) (sym e) f ∙ ap of (sym moves)
 inter_found s refs coded m first second (Err stop) moves e f is = tt
@@ -66,9 +66,9 @@ pub intra_found : {E : Type 0} (s : Sequence) (refs : List Picture) (coded : Cod
 intra_found s refs coded (Ok p) stays is =
     let of : Option CodedMotion → Picture = λ x. record {
       number = coded.header.number;
-      y = samples_from s refs coded.header x coded.residual part.Y;
-      u = samples_from s refs coded.header x coded.residual part.U;
-      v = samples_from s refs coded.header x coded.residual part.V;
+      y = samples_from s refs coded.header x coded.residual component.Y;
+      u = samples_from s refs coded.header x coded.residual component.U;
+      v = samples_from s refs coded.header x coded.residual component.V;
     } in
     is ∙ ap of (sym stays)
 intra_found s refs coded (Err stop) stays is = tt

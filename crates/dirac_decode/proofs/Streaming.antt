@@ -8,14 +8,14 @@ use Rattle.std.proofs.lemmas.List.{append-nil}
 use Rattle.dirac_types.specs.declared.faults.Fault.{Fault}
 use Rattle.dirac_types.specs.declared.picture.Picture.{Picture}
 use Rattle.dirac_io.specs.Writing.{AppendsFront}
-use Rattle.dirac_units.specs.declared.spot.Spot.{Spot}
-use Rattle.dirac_units.specs.declared.unit.Met.{Met}
-use Rattle.dirac_units.specs.declared.unit.Met.TheVariants as met
+use Rattle.dirac_units.specs.declared.unit_place.UnitPlace.{UnitPlace}
+use Rattle.dirac_units.specs.declared.unit.StreamEnd.{StreamEnd}
+use Rattle.dirac_units.specs.declared.unit.StreamEnd.TheVariants as stream_end
 use Rattle.dirac_units.specs.Cut.{EachHasACut, IsCut, UnitText}
 use Rattle.dirac_units.specs.Progress.{Progress}
 use Rattle.dirac_decode.specs.declared.answers.Decoded.TheVariants as decoded
 use Rattle.dirac_decode.specs.declared.answers.Next.TheVariants as next
-use Rattle.dirac_decode.specs.Course.{Course}
+use Rattle.dirac_decode.specs.StreamState.{StreamState}
 use Rattle.dirac_decode.specs.Shown.{IsShown, Outcome, Shows, outcome, tally_of, with_front}
 use Rattle.dirac_decode.specs.Decoding.{Comes, Decoding, Gives, LeadsTo, Remains, begun, tally}
 use Rattle.dirac_decode.specs.Raw.{raw, raws}
@@ -63,35 +63,35 @@ comes_shown bytes o comes = subst (λ (x : Outcome). IsShown bytes x) (sym comes
 abbrev closed : ℕ → Option Fault → Outcome
 closed most end = record { shown = []; most = most; end = end }
 
-closed_comes : (d : Decoding) (held : Option (List ℕ)) (end : Option Fault) → d.due ≡ [] → Remains d.met d.course d.units held (closed d.course.most end) → Comes d held (closed d.course.most end)
+closed_comes : (d : Decoding) (held : Option (List ℕ)) (end : Option Fault) → d.due ≡ [] → Remains d.stream_end d.state d.units held (closed d.state.most end) → Comes d held (closed d.state.most end)
 closed_comes d held end none remains = record {
-  rest = closed d.course.most end;
-  same = ap (λ due. with_front due (closed d.course.most end)) (sym none);
+  rest = closed d.state.most end;
+  same = ap (λ due. with_front due (closed d.state.most end)) (sym none);
   remains = remains;
 }
 
 -- what the stream shows, once its end or fault was answered
-ends_shown : (bytes : List ℕ) (given : List Picture) (d d' : Decoding) (held' held'' : Option (List ℕ)) (end : Option Fault) → LeadsTo begun d (Some bytes) held' given → LeadsTo d d' held' held'' [] → d'.due ≡ [] → Remains d'.met d'.course d'.units held'' (closed d'.course.most end) → IsShown bytes (record { shown = given; most = d'.course.most; end = end })
+ends_shown : (bytes : List ℕ) (given : List Picture) (d d' : Decoding) (held' held'' : Option (List ℕ)) (end : Option Fault) → LeadsTo begun d (Some bytes) held' given → LeadsTo d d' held' held'' [] → d'.due ≡ [] → Remains d'.stream_end d'.state d'.units held'' (closed d'.state.most end) → IsShown bytes (record { shown = given; most = d'.state.most; end = end })
 ends_shown bytes given d d' held' held'' end leads last none remains =
-    let make : List Picture → Outcome = λ shown. record { shown = shown; most = d'.course.most; end = end } in
-    let o : Outcome = closed d'.course.most end in
+    let make : List Picture → Outcome = λ shown. record { shown = shown; most = d'.state.most; end = end } in
+    let o : Outcome = closed d'.state.most end in
     subst (λ (x : Outcome). IsShown bytes x) (ap make (append-nil given))
     (comes_shown bytes (with_front given o) (leads o (last o (closed_comes d' held'' end none remains))))
 
-remains_ended : (d : Decoding) (held : Option (List ℕ)) → d.met ≡ met.Ended → Remains d.met d.course d.units held (closed d.course.most None)
-remains_ended d held is = subst (λ (m : Met). Remains m d.course d.units held (closed d.course.most None)) (sym is) refl
+remains_ended : (d : Decoding) (held : Option (List ℕ)) → d.stream_end ≡ stream_end.Ended → Remains d.stream_end d.state d.units held (closed d.state.most None)
+remains_ended d held is = subst (λ (m : StreamEnd). Remains m d.state d.units held (closed d.state.most None)) (sym is) refl
 
-remains_faulted : (d : Decoding) (held : Option (List ℕ)) (fault : Fault) → d.met ≡ met.Faulted fault → Remains d.met d.course d.units held (closed d.course.most (Some fault))
-remains_faulted d held fault is = subst (λ (m : Met). Remains m d.course d.units held (closed d.course.most (Some fault))) (sym is) refl
+remains_faulted : (d : Decoding) (held : Option (List ℕ)) (fault : Fault) → d.stream_end ≡ stream_end.Faulted fault → Remains d.stream_end d.state d.units held (closed d.state.most (Some fault))
+remains_faulted d held fault is = subst (λ (m : StreamEnd). Remains m d.state d.units held (closed d.state.most (Some fault))) (sym is) refl
 
-tally_is : (d d' : Decoding) (given : List Picture) (end : Option Fault) → d.given ≡ length given → d'.given ≡ d.given → tally d' ≡ tally_of (record { shown = given; most = d'.course.most; end = end })
-tally_is d d' given end counted same = ap (λ n. record { pictures = n; references = d'.course.most }) (same ∙ counted)
+tally_is : (d d' : Decoding) (given : List Picture) (end : Option Fault) → d.given ≡ length given → d'.given ≡ d.given → tally d' ≡ tally_of (record { shown = given; most = d'.state.most; end = end })
+tally_is d d' given end counted same = ap (λ n. record { pictures = n; references = d'.state.most }) (same ∙ counted)
 
 -- the stream ended lawfully
 pub streamed_done : (d d' : Decoding) (held held' held'' taken taken' : Option (List ℕ)) → IsStreamed d held held' taken taken' → Gives next.End d d' held' held'' → IfSome held (λ bytes. IsDecoded bytes (decoded.Done (tally d')) taken taken')
 streamed_done d d' None held' held'' taken taken' so gives = tt
 streamed_done d d' (Some bytes) held' held'' taken taken' so gives = (
-  record { shown = so.given; most = d'.course.most; end = None },
+  record { shown = so.given; most = d'.state.most; end = None },
   ends_shown bytes so.given d d' held' held'' None so.leads gives.0 gives.2 (remains_ended d' held'' gives.1),
   (refl, tally_is d d' so.given None so.counted gives.3, so.written),
 )
@@ -100,27 +100,27 @@ streamed_done d d' (Some bytes) held' held'' taken taken' so gives = (
 pub streamed_fault : (d d' : Decoding) (fault : Fault) (held held' held'' taken taken' : Option (List ℕ)) → IsStreamed d held held' taken taken' → Gives (next.Fault fault) d d' held' held'' → IfSome held (λ bytes. IsDecoded bytes (decoded.Fault fault (tally d')) taken taken')
 streamed_fault d d' fault None held' held'' taken taken' so gives = tt
 streamed_fault d d' fault (Some bytes) held' held'' taken taken' so gives = (
-  record { shown = so.given; most = d'.course.most; end = Some fault },
+  record { shown = so.given; most = d'.state.most; end = Some fault },
   ends_shown bytes so.given d d' held' held'' (Some fault) so.leads gives.0 gives.2 (remains_faulted d' held'' fault gives.1),
   (refl, tally_is d d' so.given (Some fault) so.counted gives.3, so.written),
 )
 
-shows_some : (c : Course) (spot : Spot) (known : Option (List ℕ)) → EachHasACut → (o : Outcome) × IfSome known (λ bytes. Shows c spot bytes o)
-shows_some c spot None cuts = (closed 0 None, tt)
-shows_some c spot (Some bytes) cuts =
-    let cut : (units : List UnitText) × (end : Option Fault) × IsCut spot bytes units end = cuts spot bytes in
-    (outcome c spot cut.0 cut.1, record { units = cut.0; end = cut.1; cut = cut.2; same = refl })
+shows_some : (c : StreamState) (unit_place : UnitPlace) (known : Option (List ℕ)) → EachHasACut → (o : Outcome) × IfSome known (λ bytes. Shows c unit_place bytes o)
+shows_some c unit_place None cuts = (closed 0 None, tt)
+shows_some c unit_place (Some bytes) cuts =
+    let cut : (units : List UnitText) × (end : Option Fault) × IsCut unit_place bytes units end = cuts unit_place bytes in
+    (outcome c unit_place cut.0 cut.1, record { units = cut.0; end = cut.1; cut = cut.2; same = refl })
 
 -- something comes from each place of a stream
-remains_some : (m : Met) (c : Course) (units : Progress) (held : Option (List ℕ)) → EachHasACut → (m ≡ met.Stopped → ⊥) → (o : Outcome) × Remains m c units held o
-remains_some met.Going c units held cuts moving = shows_some c units.spot (prepend_known units.ahead held) cuts
-remains_some met.Ended c units held cuts moving = (closed c.most None, refl)
-remains_some (met.Faulted fault) c units held cuts moving = (closed c.most (Some fault), refl)
-remains_some met.Stopped c units held cuts moving = absurd (moving refl)
+remains_some : (m : StreamEnd) (c : StreamState) (units : Progress) (held : Option (List ℕ)) → EachHasACut → (m ≡ stream_end.Stopped → ⊥) → (o : Outcome) × Remains m c units held o
+remains_some stream_end.Going c units held cuts moving = shows_some c units.unit_place (prepend_known units.ahead held) cuts
+remains_some stream_end.Ended c units held cuts moving = (closed c.most None, refl)
+remains_some (stream_end.Faulted fault) c units held cuts moving = (closed c.most (Some fault), refl)
+remains_some stream_end.Stopped c units held cuts moving = absurd (moving refl)
 
-comes_some : (d : Decoding) (held : Option (List ℕ)) → EachHasACut → (d.met ≡ met.Stopped → ⊥) → (o : Outcome) × Comes d held o
+comes_some : (d : Decoding) (held : Option (List ℕ)) → EachHasACut → (d.stream_end ≡ stream_end.Stopped → ⊥) → (o : Outcome) × Comes d held o
 comes_some d held cuts moving =
-    let rest : (o : Outcome) × Remains d.met d.course d.units held o = remains_some d.met d.course d.units held cuts moving in
+    let rest : (o : Outcome) × Remains d.stream_end d.state d.units held o = remains_some d.stream_end d.state d.units held cuts moving in
     (with_front d.due rest.0, record { rest = rest.0; same = refl; remains = rest.1 })
 
 -- a front of all that comes was written, and the stream isn't gone on with
@@ -130,7 +130,7 @@ IsCutOff bytes taken taken' = (o : Outcome) × IsShown bytes o × AppendsFront t
 raws_front : (front rest : List Picture) → raws (front ++ rest) ≡ raws front ++ raws rest
 raws_front front rest = flat_map-append raw front rest
 
-pub cut_off : (d : Decoding) (held held' taken taken' : Option (List ℕ)) → EachHasACut → (d.met ≡ met.Stopped → ⊥) → IsStreamed d held held' taken taken' → IfSome held (λ bytes. IsCutOff bytes taken taken')
+pub cut_off : (d : Decoding) (held held' taken taken' : Option (List ℕ)) → EachHasACut → (d.stream_end ≡ stream_end.Stopped → ⊥) → IsStreamed d held held' taken taken' → IfSome held (λ bytes. IsCutOff bytes taken taken')
 cut_off d None held' taken taken' cuts moving so = tt
 cut_off d (Some bytes) held' taken taken' cuts moving so =
     let later : (o : Outcome) × Comes d held' o = comes_some d held' cuts moving in (
@@ -140,7 +140,7 @@ cut_off d (Some bytes) held' taken taken' cuts moving so =
     )
 
 -- the same in the middle of a picture
-pub cut_off_in : (d d' : Decoding) (p : Picture) (held held' held'' taken taken' taken'' : Option (List ℕ)) → EachHasACut → (d.met ≡ met.Stopped → ⊥) → IsStreamed d held held' taken taken' → Gives (next.Shown p) d d' held' held'' → AppendsFront taken' taken'' (raw p) → IfSome held (λ bytes. IsCutOff bytes taken taken'')
+pub cut_off_in : (d d' : Decoding) (p : Picture) (held held' held'' taken taken' taken'' : Option (List ℕ)) → EachHasACut → (d.stream_end ≡ stream_end.Stopped → ⊥) → IsStreamed d held held' taken taken' → Gives (next.Shown p) d d' held' held'' → AppendsFront taken' taken'' (raw p) → IfSome held (λ bytes. IsCutOff bytes taken taken'')
 cut_off_in d d' p None held' held'' taken taken' taken'' cuts moving so gives front = tt
 cut_off_in d d' p (Some bytes) held' held'' taken taken' taken'' cuts moving so gives front =
     let later : (o : Outcome) × Comes d' held'' o = comes_some d' held'' cuts (λ e. moving (gives.2 e)) in

@@ -9,11 +9,11 @@ use Rattle.dirac_types.specs.Table.{Table}
 use Rattle.dirac_sequence.specs.declared.sequence.Sequence.{Sequence}
 use Rattle.dirac_sequence.specs.Sizes.{chroma_height, chroma_width, picture_height, plane_height, plane_width}
 use Rattle.dirac_header.specs.declared.header.PictureHeader.{PictureHeader}
-use Rattle.dirac_coeffs.specs.declared.spot.CodedBand.{CodedBand}
+use Rattle.dirac_coeffs.specs.declared.layout.CodedBand.{CodedBand}
 use Rattle.dirac_upconvert.specs.HalfSamples.{IsSample, half}
 use Rattle.dirac_upconvert.specs.SubSamples.{Up}
-use Rattle.dirac_types.specs.declared.formats.Part.{Part}
-use Rattle.dirac_types.specs.declared.formats.Part.TheVariants as part
+use Rattle.dirac_types.specs.declared.formats.Component.{Component}
+use Rattle.dirac_types.specs.declared.formats.Component.TheVariants as component
 use Rattle.dirac_obmc.specs.Compensation.{Compensation, predicted_plane}
 use Rattle.dirac_refs.specs.References.{listed}
 use Rattle.dirac_picture.specs.declared.coded.CodedMotion.{CodedMotion}
@@ -24,30 +24,30 @@ use Rattle.dirac_residual.specs.Residual.{residual, clipped, with_prediction}
 pub use Rattle.dirac_residual.specs.Zeros.{zeros}
 
 -- the columns of a plane
-abbrev pub width_of : Sequence → Part → ℕ
-width_of s part = plane_width s part
+abbrev pub width_of : Sequence → Component → ℕ
+width_of s component = plane_width s component
 
 -- its rows
-abbrev pub height_of : Sequence → Part → ℕ
-height_of s part = plane_height s part
+abbrev pub height_of : Sequence → Component → ℕ
+height_of s component = plane_height s component
 
 -- a plane of a picture
-abbrev pub plane_of : Picture → Part → Table
-plane_of p part.Y = p.y
-plane_of p part.U = p.u
-plane_of p part.V = p.v
+abbrev pub plane_of : Picture → Component → Table
+plane_of p component.Y = p.y
+plane_of p component.U = p.u
+plane_of p component.V = p.v
 
 -- the bands of a plane
-abbrev pub bands_of : CodedResidual → Part → List CodedBand
-bands_of r part.Y = r.y
-bands_of r part.U = r.u
-bands_of r part.V = r.v
+abbrev pub bands_of : CodedResidual → Component → List CodedBand
+bands_of r component.Y = r.y
+bands_of r component.U = r.u
+bands_of r component.V = r.v
 
 -- the residual of a plane; where none is coded it is 0
-abbrev pub residual_among : Sequence → Kind → Part → Option CodedResidual → Table
-residual_among s kind part None = zeros (width_of s part) (height_of s part)
-residual_among s kind part (Some r) =
-    residual r.transform.wavelet r.transform.depth kind (bands_of r part) (width_of s part) (height_of s part)
+abbrev pub residual_among : Sequence → Kind → Component → Option CodedResidual → Table
+residual_among s kind component None = zeros (width_of s component) (height_of s component)
+residual_among s kind component (Some r) =
+    residual r.transform.wavelet r.transform.depth kind (bands_of r component) (width_of s component) (height_of s component)
 
 -- the listed picture that a header names
 abbrev pub named : List Picture → Option ℕ → Option Picture
@@ -59,53 +59,53 @@ abbrev pub up_of : Table → Up
 up_of t = record { width = t.width; height = t.height; table = half t }
 
 -- what a plane is predicted from, with these upconverted references
-abbrev pub compensated : Sequence → CodedMotion → Up → Option Up → Part → Compensation
-compensated s m first second part = record {
+abbrev pub compensated : Sequence → CodedMotion → Up → Option Up → Component → Compensation
+compensated s m first second component = record {
   blocks = m.blocks;
   prediction = m.prediction;
   up1 = first;
   up2 = second;
-  part = part;
+  component = component;
   chroma = s.chroma;
-  width = width_of s part;
-  height = height_of s part;
+  width = width_of s component;
+  height = height_of s component;
 }
 
 -- what a plane is predicted from, with these references
-abbrev pub compensation : Sequence → CodedMotion → Picture → Option Picture → Part → Compensation
-compensation s m first second part =
-    compensated s m (up_of (plane_of first part)) (option_map (λ (p : Picture). up_of (plane_of p part)) second) part
+abbrev pub compensation : Sequence → CodedMotion → Picture → Option Picture → Component → Compensation
+compensation s m first second component =
+    compensated s m (up_of (plane_of first component)) (option_map (λ (p : Picture). up_of (plane_of p component)) second) component
 
 -- the predictions of a plane, by rows; an inter picture has a first reference
-abbrev pub predicted_among : Sequence → CodedMotion → Option Picture → Option Picture → Part → List ℤ
-predicted_among s m None second part = []
-predicted_among s m (Some first) second part = (predicted_plane (compensation s m first second part)).values
+abbrev pub predicted_among : Sequence → CodedMotion → Option Picture → Option Picture → Component → List ℤ
+predicted_among s m None second component = []
+predicted_among s m (Some first) second component = (predicted_plane (compensation s m first second component)).values
 
 -- the samples of a plane of an intra picture: its residual, clipped
-abbrev pub intra_samples : Sequence → Option CodedResidual → Part → Table
-intra_samples s coded part = clipped (residual_among s Intra part coded)
+abbrev pub intra_samples : Sequence → Option CodedResidual → Component → Table
+intra_samples s coded component = clipped (residual_among s Intra component coded)
 
 -- the samples of a plane of an inter picture: its residual and what is predicted, clipped
-abbrev pub inter_samples : Sequence → List Picture → PictureHeader → CodedMotion → Option CodedResidual → Part → Table
-inter_samples s refs head m coded part =
-    clipped (with_prediction (residual_among s Inter part coded) (predicted_among s m (named refs head.ref1) (named refs head.ref2) part))
+abbrev pub inter_samples : Sequence → List Picture → PictureHeader → CodedMotion → Option CodedResidual → Component → Table
+inter_samples s refs head m coded component =
+    clipped (with_prediction (residual_among s Inter component coded) (predicted_among s m (named refs head.ref1) (named refs head.ref2) component))
 
 -- just an inter picture is predicted
-abbrev pub samples_from : Sequence → List Picture → PictureHeader → Option CodedMotion → Option CodedResidual → Part → Table
-samples_from s refs head None coded part = intra_samples s coded part
-samples_from s refs head (Some m) coded part = inter_samples s refs head m coded part
+abbrev pub samples_from : Sequence → List Picture → PictureHeader → Option CodedMotion → Option CodedResidual → Component → Table
+samples_from s refs head None coded component = intra_samples s coded component
+samples_from s refs head (Some m) coded component = inter_samples s refs head m coded component
 
 -- the samples of a plane of a coded picture
-abbrev pub plane_samples : Sequence → List Picture → CodedPicture → Part → Table
-plane_samples s refs coded part = samples_from s refs coded.header coded.motion coded.residual part
+abbrev pub plane_samples : Sequence → List Picture → CodedPicture → Component → Table
+plane_samples s refs coded component = samples_from s refs coded.header coded.motion coded.residual component
 
 -- the picture that a coded picture stands for, with these pictures listed
 abbrev pub rebuilt : Sequence → List Picture → CodedPicture → Picture
 rebuilt s refs coded = record {
   number = coded.header.number;
-  y = plane_samples s refs coded part.Y;
-  u = plane_samples s refs coded part.U;
-  v = plane_samples s refs coded part.V;
+  y = plane_samples s refs coded component.Y;
+  u = plane_samples s refs coded component.U;
+  v = plane_samples s refs coded component.V;
 }
 
 -- a plane of this size whose samples have eight bits

@@ -1,5 +1,5 @@
 pub mod Content
-pub mod Course
+pub mod StreamState
 pub mod Shown
 pub mod Decoding
 pub mod Taking

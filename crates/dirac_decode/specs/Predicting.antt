@@ -6,36 +6,36 @@ use Rattle.dirac_types.specs.Table.{Table}
 use Rattle.dirac_sequence.specs.declared.sequence.Sequence.{Sequence}
 use Rattle.dirac_header.specs.declared.header.PictureHeader.{PictureHeader}
 use Rattle.dirac_upconvert.specs.SubSamples.{Up}
-use Rattle.dirac_types.specs.declared.formats.Part.{Part}
-use Rattle.dirac_types.specs.declared.formats.Part.TheVariants as part
+use Rattle.dirac_types.specs.declared.formats.Component.{Component}
+use Rattle.dirac_types.specs.declared.formats.Component.TheVariants as component
 use Rattle.dirac_picture.specs.declared.coded.CodedMotion.{CodedMotion}
 use Rattle.dirac_picture.specs.declared.coded.CodedResidual.{CodedResidual}
 use Rattle.dirac_residual.specs.Residual.{clipped, with_prediction}
 use Rattle.dirac_decode.specs.Content.{height_of, intra_samples, predicted_among, residual_among, width_of}
 
 -- an upconverted plane of this part's size
-abbrev pub IsUpOfPart : Sequence → Part → Up → Type 0
-IsUpOfPart s part u = (u.width ≡ width_of s part) × (u.height ≡ height_of s part)
+abbrev pub IsUpOfPart : Sequence → Component → Up → Type 0
+IsUpOfPart s component u = (u.width ≡ width_of s component) × (u.height ≡ height_of s component)
 
 -- the samples of a plane of an inter picture with these references
-abbrev pub inter_plane : Sequence → Option Picture → Option Picture → CodedMotion → Option CodedResidual → Part → Table
-inter_plane s first second m coded part =
-    clipped (with_prediction (residual_among s Inter part coded) (predicted_among s m first second part))
+abbrev pub inter_plane : Sequence → Option Picture → Option Picture → CodedMotion → Option CodedResidual → Component → Table
+inter_plane s first second m coded component =
+    clipped (with_prediction (residual_among s Inter component coded) (predicted_among s m first second component))
 
 -- an inter picture with these references
 abbrev pub inter_picture : Sequence → Option Picture → Option Picture → PictureHeader → CodedMotion → Option CodedResidual → Picture
 inter_picture s first second head m coded = record {
   number = head.number;
-  y = inter_plane s first second m coded part.Y;
-  u = inter_plane s first second m coded part.U;
-  v = inter_plane s first second m coded part.V;
+  y = inter_plane s first second m coded component.Y;
+  u = inter_plane s first second m coded component.U;
+  v = inter_plane s first second m coded component.V;
 }
 
 -- an intra picture
 abbrev pub intra_picture : Sequence → PictureHeader → Option CodedResidual → Picture
 intra_picture s head coded = record {
   number = head.number;
-  y = intra_samples s coded part.Y;
-  u = intra_samples s coded part.U;
-  v = intra_samples s coded part.V;
+  y = intra_samples s coded component.Y;
+  u = intra_samples s coded component.U;
+  v = intra_samples s coded component.V;
 }

@@ -16,14 +16,14 @@ use Rattle.dirac_decode.specs.declared.picture.Rebuilt.{Rebuilt}
 use Rattle.dirac_decode.specs.declared.state.Took.{Took}
 use Rattle.dirac_decode.specs.declared.state.Took.TheVariants as took
 use Rattle.dirac_decode.specs.Content.{IsPicture, rebuilt}
-use Rattle.dirac_decode.specs.Course.{Course, Moved, as_reference}
+use Rattle.dirac_decode.specs.StreamState.{StreamState, StreamStep, as_reference}
 use Rattle.dirac_decode.specs.Decoding.{emptied}
 
 -- the answer is what the unit's content brings; after Ends the waiting pictures are left to the caller
-abbrev pub IsTook : Took → Result Moved Refusal → Course → Course → Type 0
-IsTook took.Nothing read old new = read ≡ Ok (record { course = new; gone = [] })
-IsTook (took.Shown p) read old new = read ≡ Ok (record { course = new; gone = p ∷ [] })
-IsTook took.Ends read old new = read ≡ Ok (record { course = emptied new; gone = flushed new.waiting })
+abbrev pub IsTook : Took → Result StreamStep Refusal → StreamState → StreamState → Type 0
+IsTook took.Nothing read old new = read ≡ Ok (record { state = new; gone = [] })
+IsTook (took.Shown p) read old new = read ≡ Ok (record { state = new; gone = p ∷ [] })
+IsTook took.Ends read old new = read ≡ Ok (record { state = emptied new; gone = flushed new.waiting })
 IsTook (took.Refused refusal) read old new = (read ≡ Err refusal) × (new ≡ old)
 IsTook took.NoMemory read old new = new ≡ old
 
@@ -49,7 +49,7 @@ Fewer (took.Refused refusal) before now = now ≤ before
 Fewer took.NoMemory before now = now ≤ before
 
 -- the picture of least key left, where one waited
-pub record IsPopped (popped : Option Picture) (old new : Course) : Type 0 where
+pub record IsPopped (popped : Option Picture) (old new : StreamState) : Type 0 where
   pub gone : option_to_list popped ≡ least old.waiting
   pub others : new.waiting ≡ rest_of old.waiting
   pub same : new ≡ record old { waiting = new.waiting }

@@ -9,7 +9,7 @@ ghost use Rattle.dirac_decode.specs.Advancing.{Advances, GoesOn, Settles, shown_
 use crate::state::{State, Took};
 use dirac_io::Source;
 use dirac_types::{Fault, Picture};
-use dirac_units::{Met, UnitStep, Units};
+use dirac_units::{StreamEnd, UnitStep, Units};
 use std::alloc::Global;
 
 /// What the next unit of a stream brought.
@@ -35,19 +35,19 @@ pub(crate) fn advance_by_unit<S: Source>(
     state: &mut State,
     source: &mut S,
 ) -> Advanced
-    requires going { units.old.met ≡ Met.Going }
-    requires no_overflow { units.old.spot.at + length units.old.ahead + S.left source.old < 2 ^ 63 }
+    requires going { units.old.stream_end ≡ StreamEnd.Going }
+    requires no_overflow { units.old.unit_place.at + length units.old.ahead + S.left source.old < 2 ^ 63 }
     ensures advances { Advances result units.old units.new state.old state.new (S.held source.old) (S.held source.new) }
     ensures goes_on { GoesOn result units.old units.new }
-    ensures no_more_than_units { units.old.spot.index + shown_by result + length state.new.waiting
-        ≤ units.new.spot.index + length state.old.waiting }
-    ensures fits { units.new.spot.index < 2 ^ 64 }
+    ensures no_more_than_units { units.old.unit_place.index + shown_by result + length state.new.waiting
+        ≤ units.new.unit_place.index + length state.old.waiting }
+    ensures fits { units.new.unit_place.index < 2 ^ 64 }
     ensures greatest_never_falls { state.old.most ≤ state.new.most }
     ensures whole { result ≡ Advanced.End → IsAtEnd (S.held source.new) }
     ensures read { result ≡ Advanced.ReadFault → Rose (S.faults source.old) (S.faults source.new) }
     ensures count { S.faults source.old ≤ S.faults source.new }
-    ensures no_overflow_result { units.new.spot.at + length units.new.ahead + S.left source.new
-        ≤ units.old.spot.at + length units.old.ahead + S.left source.old }
+    ensures no_overflow_result { units.new.unit_place.at + length units.new.ahead + S.left source.new
+        ≤ units.old.unit_place.at + length units.old.ahead + S.left source.old }
 {
     let unit = match units.next(source, true) {
         UnitStep::Unit(unit) => unit,

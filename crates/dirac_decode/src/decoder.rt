@@ -7,7 +7,7 @@ use crate::advance::{Advanced, advance_by_unit, next_due};
 use crate::answers::{Next, Tally};
 use crate::state::State;
 use dirac_io::Source;
-use dirac_units::{Met, Units};
+use dirac_units::{StreamEnd, Units};
 use std::alloc::Global;
 use std::marker::Model;
 
@@ -19,19 +19,19 @@ pub struct Decoder {
     state: State,
     draining: bool,
     given: u64,
-    met: Met,
+    stream_end: StreamEnd,
 }
 
 impl Model for Decoder {
     ghost use Rattle.std.specs.Prelude.{◌≡◌, ◌+◌, ◌≤◌, ◌<◌, ◌^◌, length};
-    ghost use Rattle.dirac_units.specs.declared.unit.Met.TheVariants.{Going};
+    ghost use Rattle.dirac_units.specs.declared.unit.StreamEnd.TheVariants.{Going};
     ghost use Rattle.dirac_decode.specs.Decoding.{Decoding, decoding};
 
     ghost Value = { Decoding };
 
-    ghost view = { λ d. decoding d.units d.state d.draining d.given d.met };
+    ghost view = { λ d. decoding d.units d.state d.draining d.given d.stream_end };
 
-    ghost invariant = { λ d. (d.given + length d.state.waiting ≤ d.units.spot.index) × (d.units.spot.index < 2 ^ 64) × (d.met ≡ Going → d.units.met ≡ Going) };
+    ghost invariant = { λ d. (d.given + length d.state.waiting ≤ d.units.unit_place.index) × (d.units.unit_place.index < 2 ^ 64) × (d.stream_end ≡ Going → d.units.stream_end ≡ Going) };
 }
 
 impl Decoder {
@@ -45,7 +45,7 @@ impl Decoder {
             state: State::new(),
             draining: false,
             given: 0,
-            met: Met::Going,
+            stream_end: StreamEnd::Going,
         }
     }
 
@@ -64,20 +64,20 @@ impl Decoder {
     /// come before the end or the first fault is answered. Both are answered again by each later call,
     /// and after `ReadFault` and `NoMemory` each later call answers `Stopped`; none of them reads.
     pub fn next_picture<S: Source>(&mut self, source: &mut S) -> Next
-        requires { self.old.units.spot.at + length self.old.units.ahead + S.left source.old < 2 ^ 63 }
+        requires { self.old.units.unit_place.at + length self.old.units.ahead + S.left source.old < 2 ^ 63 }
         ensures gives { Gives result self.old self.new (S.held source.old) (S.held source.new) }
-        ensures repeated { Answers self.old.met self.old.due result }
-        ensures repeats_without_reading { (self.old.met ≡ Met.Going → ⊥) → source.new ≡ source.old }
-        ensures whole { (self.old.met ≡ Met.Ended → IsAtEnd (S.held source.old)) → self.new.met ≡ Met.Ended → IsAtEnd (S.held source.new) }
+        ensures repeated { Answers self.old.stream_end self.old.due result }
+        ensures repeats_without_reading { (self.old.stream_end ≡ StreamEnd.Going → ⊥) → source.new ≡ source.old }
+        ensures whole { (self.old.stream_end ≡ StreamEnd.Ended → IsAtEnd (S.held source.old)) → self.new.stream_end ≡ StreamEnd.Ended → IsAtEnd (S.held source.new) }
         ensures read { result ≡ Next.ReadFault → Rose (S.faults source.old) (S.faults source.new) }
         ensures count { S.faults source.old ≤ S.faults source.new }
         ensures fits { self.new.given < 2 ^ 64 }
         // Whatever is answered, the greatest length of the list never falls.
-        ensures greatest { self.old.course.most ≤ self.new.course.most }
-        ensures no_overflow { self.new.units.spot.at + length self.new.units.ahead + S.left source.new
-            ≤ self.old.units.spot.at + length self.old.units.ahead + S.left source.old }
+        ensures greatest { self.old.state.most ≤ self.new.state.most }
+        ensures no_overflow { self.new.units.unit_place.at + length self.new.units.ahead + S.left source.new
+            ≤ self.old.units.unit_place.at + length self.old.units.ahead + S.left source.old }
     {
-        if let Met::Stopped = self.met {
+        if let StreamEnd::Stopped = self.stream_end {
             return Next::Stopped;
         }
         'units: loop {
@@ -89,11 +89,11 @@ impl Decoder {
                 }
             }
             self.draining = false;
-            match self.met {
-                Met::Going => {}
-                Met::Ended => return Next::End,
-                Met::Faulted(fault) => return Next::Fault(fault),
-                Met::Stopped => return Next::Stopped,
+            match self.stream_end {
+                StreamEnd::Going => {}
+                StreamEnd::Ended => return Next::End,
+                StreamEnd::Faulted(fault) => return Next::Fault(fault),
+                StreamEnd::Stopped => return Next::Stopped,
             }
             match advance_by_unit(self.alloc, &mut self.units, &mut self.state, source) {
                 Advanced::On => {}
@@ -104,18 +104,18 @@ impl Decoder {
                 Advanced::Drains => self.draining = true,
                 Advanced::End => {
                     self.draining = true;
-                    self.met = Met::Ended;
+                    self.stream_end = StreamEnd::Ended;
                 }
                 Advanced::Fault(fault) => {
                     self.draining = true;
-                    self.met = Met::Faulted(fault);
+                    self.stream_end = StreamEnd::Faulted(fault);
                 }
                 Advanced::ReadFault => {
-                    self.met = Met::Stopped;
+                    self.stream_end = StreamEnd::Stopped;
                     return Next::ReadFault;
                 }
                 Advanced::NoMemory => {
-                    self.met = Met::Stopped;
+                    self.stream_end = StreamEnd::Stopped;
                     return Next::NoMemory;
                 }
             }

@@ -1,6 +1,6 @@
 //! The decoder: from the bytes of a stream to its pictures, in order of delivery, up to the first fault.
 //!
-//! `specs/Course` says what the content of each unit does, `specs/Shown` what a stream shows.
+//! `specs/StreamState` says what the content of each unit does, `specs/Shown` what a stream shows.
 #![tactic(auto)]
 
 mod advance;

@@ -8,14 +8,14 @@ ghost use Rattle.dirac_picture.specs.Grammar.{is_picture, picture_read};
 ghost use Rattle.dirac_residual.specs.Residual.{clipped as clipped_table, with_prediction};
 ghost use Rattle.dirac_decode.specs.Content as content;
 ghost use Rattle.dirac_decode.specs.Content.{AreReferences, IsPicture, rebuilt};
-ghost use Rattle.dirac_decode.specs.Course.{as_reference};
+ghost use Rattle.dirac_decode.specs.StreamState.{as_reference};
 ghost use Rattle.dirac_decode.specs.Predicting.{inter_picture, inter_plane, intra_picture};
 ghost use Rattle.dirac_decode.specs.Taking.{IfStopped, IsRebuilt};
 
 use crate::compensate::{named, predict_from};
 use crate::planes::residual_of;
 use dirac_header::is_reference;
-use dirac_obmc::Part;
+use dirac_obmc::Component;
 use dirac_picture::{CodedMotion, CodedPicture, CodedResidual, read_picture};
 use dirac_refs::RefBuffer;
 use dirac_residual::{clipped, clipped_sum};
@@ -27,14 +27,14 @@ use std::alloc::Global;
 fn intra_samples(
     alloc: Global,
     sequence: &Sequence,
-    part: Part,
+    component: Component,
     residual: &Option<CodedResidual>,
 ) -> Result<Plane, NoMemory>
     requires sequence { IsSequence sequence.now }
     requires fits { IfSome residual.now (IsResidual sequence.now) }
-    ensures value { IfOk result (λ t. t ≡ content.intra_samples sequence.now residual.now part) }
+    ensures value { IfOk result (λ t. t ≡ content.intra_samples sequence.now residual.now component) }
 {
-    let residual = residual_of(alloc, sequence, Kind::Intra, part, residual)?;
+    let residual = residual_of(alloc, sequence, Kind::Intra, component, residual)?;
     clipped(alloc, &residual)
 }
 
@@ -45,14 +45,14 @@ pub fn predicted_samples(
     sequence: &Sequence,
     residual: &Option<CodedResidual>,
     predicted: &[i32],
-    part: Part,
+    component: Component,
 ) -> Result<Plane, NoMemory>
     requires sequence { IsSequence sequence.now }
     requires fits { IfSome residual.now (IsResidual sequence.now) }
-    requires predicted { length predicted.now ≡ content.width_of sequence.now part * content.height_of sequence.now part }
-    ensures value { IfOk result (λ t. t ≡ clipped_table (with_prediction (content.residual_among sequence.now Inter part residual.now) predicted.now)) }
+    requires predicted { length predicted.now ≡ content.width_of sequence.now component * content.height_of sequence.now component }
+    ensures value { IfOk result (λ t. t ≡ clipped_table (with_prediction (content.residual_among sequence.now Inter component residual.now) predicted.now)) }
 {
-    let residual = residual_of(alloc, sequence, Kind::Inter, part, residual)?;
+    let residual = residual_of(alloc, sequence, Kind::Inter, component, residual)?;
     clipped_sum(alloc, &residual, predicted)
 }
 
@@ -64,7 +64,7 @@ fn inter_samples(
     sequence: &Sequence,
     first: &Picture,
     second: Option<&Picture>,
-    part: Part,
+    component: Component,
 ) -> Result<Plane, NoMemory>
     requires sequence { IsSequence sequence.now }
     requires motion { IsMotion coded.now.code sequence.now motion.now }
@@ -73,10 +73,10 @@ fn inter_samples(
     requires second { ForSome (option_copied second) (IsPicture sequence.now) }
     requires two { motion.now.blocks.refs ≡ 2 → IsSome second }
     ensures value { IfOk result (λ t. t ≡ inter_plane sequence.now (Some first.now) (option_copied second.entry)
-        motion.now coded.now.residual part) }
+        motion.now coded.now.residual component) }
 {
-    let predicted = predict_from(alloc, coded.code, sequence, motion, first, second, part)?;
-    predicted_samples(alloc, sequence, &coded.residual, predicted.values(), part)
+    let predicted = predict_from(alloc, coded.code, sequence, motion, first, second, component)?;
+    predicted_samples(alloc, sequence, &coded.residual, predicted.values(), component)
 }
 
 /// An inter picture, from its references.
@@ -97,9 +97,9 @@ fn rebuild_from(
     ensures { IfOk result (λ p. p ≡ inter_picture sequence.now (Some first.now) (option_copied second.entry)
         coded.now.header motion.now coded.now.residual) }
 {
-    let y = inter_samples(alloc, coded, motion, sequence, first, second, Part::Y)?;
-    let u = inter_samples(alloc, coded, motion, sequence, first, second, Part::U)?;
-    let v = inter_samples(alloc, coded, motion, sequence, first, second, Part::V)?;
+    let y = inter_samples(alloc, coded, motion, sequence, first, second, Component::Y)?;
+    let u = inter_samples(alloc, coded, motion, sequence, first, second, Component::U)?;
+    let v = inter_samples(alloc, coded, motion, sequence, first, second, Component::V)?;
     Ok(Picture {
         number: coded.header.number,
         y,
@@ -141,9 +141,9 @@ fn intra_planes(
     requires fits { IfSome coded.now.residual (IsResidual sequence.now) }
     ensures { IfOk result (λ p. p ≡ intra_picture sequence.now coded.now.header coded.now.residual) }
 {
-    let y = intra_samples(alloc, sequence, Part::Y, &coded.residual)?;
-    let u = intra_samples(alloc, sequence, Part::U, &coded.residual)?;
-    let v = intra_samples(alloc, sequence, Part::V, &coded.residual)?;
+    let y = intra_samples(alloc, sequence, Component::Y, &coded.residual)?;
+    let u = intra_samples(alloc, sequence, Component::U, &coded.residual)?;
+    let v = intra_samples(alloc, sequence, Component::V, &coded.residual)?;
     Ok(Picture {
         number: coded.header.number,
         y,

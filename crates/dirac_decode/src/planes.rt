@@ -4,7 +4,7 @@ ghost use Rattle.dirac_sequence.specs.Lawful.{IsSequence};
 ghost use Rattle.dirac_picture.specs.Fits.{IsPlaneSize, IsResidual};
 ghost use Rattle.dirac_decode.specs.Content as content;
 
-use dirac_obmc::Part;
+use dirac_obmc::Component;
 use dirac_picture::{CodedResidual, PlaneBands};
 use dirac_residual::plane_residual;
 use dirac_sequence::Sequence;
@@ -12,44 +12,44 @@ use dirac_types::{Kind, NoMemory, Picture, Plane, Wide};
 use std::alloc::Global;
 
 /// The number of columns of a plane.
-pub fn width_of(sequence: &Sequence, part: Part) -> u32
+pub fn width_of(sequence: &Sequence, component: Component) -> u32
     requires { IsSequence sequence.now }
-    ensures value { result ≡ content.width_of sequence.now part }
+    ensures value { result ≡ content.width_of sequence.now component }
     ensures at_least_1 { 1 ≤ result }
     ensures at_most_4096 { result ≤ 4096 }
 {
-    sequence.plane_width(part)
+    sequence.plane_width(component)
 }
 
 /// The number of rows of a plane.
-pub fn height_of(sequence: &Sequence, part: Part) -> u32
+pub fn height_of(sequence: &Sequence, component: Component) -> u32
     requires { IsSequence sequence.now }
-    ensures value { result ≡ content.height_of sequence.now part }
+    ensures value { result ≡ content.height_of sequence.now component }
     ensures at_least_1 { 1 ≤ result }
     ensures at_most_4096 { result ≤ 4096 }
 {
-    sequence.plane_height(part)
+    sequence.plane_height(component)
 }
 
 /// Lends a plane of a picture.
-pub fn plane_of(picture: &Picture, part: Part) -> &Plane
-    ensures { result.now ≡ content.plane_of picture.now part }
+pub fn plane_of(picture: &Picture, component: Component) -> &Plane
+    ensures { result.now ≡ content.plane_of picture.now component }
 {
-    match part {
-        Part::Y => &picture.y,
-        Part::U => &picture.u,
-        Part::V => &picture.v,
+    match component {
+        Component::Y => &picture.y,
+        Component::U => &picture.u,
+        Component::V => &picture.v,
     }
 }
 
 /// Lends the bands of a plane.
-fn bands_of(residual: &CodedResidual, part: Part) -> &PlaneBands
-    ensures { result.now ≡ content.bands_of residual.now part }
+fn bands_of(residual: &CodedResidual, component: Component) -> &PlaneBands
+    ensures { result.now ≡ content.bands_of residual.now component }
 {
-    match part {
-        Part::Y => &residual.y,
-        Part::U => &residual.u,
-        Part::V => &residual.v,
+    match component {
+        Component::Y => &residual.y,
+        Component::U => &residual.u,
+        Component::V => &residual.v,
     }
 }
 
@@ -58,12 +58,12 @@ fn coded_residual(
     alloc: Global,
     sequence: &Sequence,
     kind: Kind,
-    part: Part,
+    component: Component,
     residual: &CodedResidual,
 ) -> Result<Wide, NoMemory>
     requires sequence { IsSequence sequence.now }
     requires fits { IsResidual sequence.now residual.now }
-    ensures value { IfOk result (λ t. t ≡ content.residual_among sequence.now kind part (Some residual.now)) }
+    ensures value { IfOk result (λ t. t ≡ content.residual_among sequence.now kind component (Some residual.now)) }
     ensures bound { IfOk result (λ t. All (λ v. unsigned_abs v ≤ 2 ^ 108) t.values) }
 {
     let transform = &residual.transform;
@@ -72,9 +72,9 @@ fn coded_residual(
         transform.wavelet,
         transform.depth,
         kind,
-        bands_of(residual, part).bands(),
-        width_of(sequence, part),
-        height_of(sequence, part),
+        bands_of(residual, component).bands(),
+        width_of(sequence, component),
+        height_of(sequence, component),
     )
 }
 
@@ -83,14 +83,14 @@ fn zero_residual(
     alloc: Global,
     sequence: &Sequence,
     kind: Kind,
-    part: Part,
+    component: Component,
 ) -> Result<Wide, NoMemory>
     requires sequence { IsSequence sequence.now }
-    ensures value { IfOk result (λ t. t ≡ content.residual_among sequence.now kind part None) }
+    ensures value { IfOk result (λ t. t ≡ content.residual_among sequence.now kind component None) }
     ensures bound { IfOk result (λ t. All (λ v. unsigned_abs v ≤ 2 ^ 108) t.values) }
 {
-    let width = width_of(sequence, part);
-    let height = height_of(sequence, part);
+    let width = width_of(sequence, component);
+    let height = height_of(sequence, component);
     Wide::try_new(alloc, width, height, 0)
 }
 
@@ -99,16 +99,16 @@ pub fn residual_of(
     alloc: Global,
     sequence: &Sequence,
     kind: Kind,
-    part: Part,
+    component: Component,
     residual: &Option<CodedResidual>,
 ) -> Result<Wide, NoMemory>
     requires sequence { IsSequence sequence.now }
     requires fits { IfSome residual.now (IsResidual sequence.now) }
-    ensures value { IfOk result (λ t. t ≡ content.residual_among sequence.now kind part residual.now) }
+    ensures value { IfOk result (λ t. t ≡ content.residual_among sequence.now kind component residual.now) }
     ensures bound { IfOk result (λ t. All (λ v. unsigned_abs v ≤ 2 ^ 108) t.values) }
 {
     match residual {
-        None => zero_residual(alloc, sequence, kind, part),
-        Some(residual) => coded_residual(alloc, sequence, kind, part, residual),
+        None => zero_residual(alloc, sequence, kind, component),
+        Some(residual) => coded_residual(alloc, sequence, kind, component, residual),
     }
 }

@@ -1,6 +1,6 @@
 ghost use Rattle.std.specs.Prelude.{◌≡◌, ℕ, ◌+◌, ◌<◌, ◌≤◌, ◌^◌, length, IsTrue, Ok, Option};
 ghost use Rattle.dirac_picture.specs.Grammar.{is_picture};
-ghost use Rattle.dirac_decode.specs.Course.{as_reference, begun, header_moves, in_unit, is_same as same_header, first_or as first_of, moved, passed, picture_moves, shows};
+ghost use Rattle.dirac_decode.specs.StreamState.{as_reference, begun, header_step, in_unit, is_same as same_header, first_or as first_of, unit_step, passed, picture_step, shows};
 ghost use Rattle.dirac_decode.specs.Taking.{Fewer, IfRefused, IsOfOpen, IsPopped, IsTook};
 
 use crate::opened::Opened;
@@ -24,10 +24,10 @@ pub(crate) struct State {
 
 impl Model for State {
     ghost use Rattle.std.specs.Prelude.{◌≤◌};
-    ghost use Rattle.dirac_decode.specs.Course.{Course};
+    ghost use Rattle.dirac_decode.specs.StreamState.{StreamState};
     ghost use Rattle.dirac_decode.specs.Taking.{IsOpen};
 
-    ghost Value = { Course };
+    ghost Value = { StreamState };
 
     ghost view = { λ s. record { opened = s.opened; first = s.first; list = s.refs; waiting = s.waits; most = s.most } };
 
@@ -76,10 +76,10 @@ impl State {
     }
 
     /// Takes the content of a unit with this parse code.
-    #[tactic(auto, unfolding(crate::specs::Course::moved))]
+    #[tactic(auto, unfolding(crate::specs::StreamState::unit_step))]
     pub(crate) fn take(&mut self, alloc: Global, code: u8, payload: Payload) -> Took
         requires { length payload < 2 ^ 63 }
-        ensures took { IsTook result (moved self.old code payload) self.old self.new }
+        ensures took { IsTook result (unit_step self.old code payload) self.old self.new }
         ensures place_inside { IfRefused result (λ e. e.at ≤ 13 + length payload) }
         ensures fewer_wait { Fewer result (length self.old.waiting) (length self.new.waiting) }
         ensures greatest_never_falls { self.old.most ≤ self.new.most }
@@ -112,7 +112,7 @@ impl State {
     /// Opens a sequence, or compares a repeated header with the open one's.
     fn take_header(&mut self, payload: Payload) -> Took
         requires { length payload < 2 ^ 63 }
-        ensures took { IsTook result (header_moves self.old self.old.opened payload) self.old self.new }
+        ensures took { IsTook result (header_step self.old self.old.opened payload) self.old self.new }
         ensures place_inside { IfRefused result (λ e. e.at ≤ 13 + length payload) }
         ensures fewer_wait { Fewer result (length self.old.waiting) (length self.new.waiting) }
         ensures greatest_never_falls { self.old.most ≤ self.new.most }
@@ -143,7 +143,7 @@ impl State {
     fn take_picture(&mut self, alloc: Global, code: u8, payload: &[u8]) -> Took
         requires code { IsTrue (is_picture code) }
         requires below_2_63 { length payload.now < 2 ^ 63 }
-        ensures took { IsTook result (picture_moves self.old self.old.opened code payload.now) self.old self.new }
+        ensures took { IsTook result (picture_step self.old self.old.opened code payload.now) self.old self.new }
         ensures place_inside { IfRefused result (λ e. e.at ≤ 13 + length payload.now) }
         ensures fewer_wait { Fewer result (length self.old.waiting) (length self.new.waiting) }
         ensures greatest_never_falls { self.old.most ≤ self.new.most }

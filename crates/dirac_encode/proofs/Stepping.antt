@@ -13,7 +13,7 @@ use Rattle.dirac_refs.specs.Delivery.{delivered}
 use Rattle.dirac_refs.specs.References.{committed}
 use Rattle.dirac_decode.proofs.Rows.{behind_front}
 use Rattle.dirac_decode.specs.Content.{rebuilt}
-use Rattle.dirac_decode.specs.Course.{as_reference}
+use Rattle.dirac_decode.specs.StreamState.{as_reference}
 use Rattle.dirac_decode.specs.Raw.{raws}
 use Rattle.dirac_stream.specs.declared.answers.Encoded.{Encoded}
 use Rattle.dirac_stream.specs.declared.answers.Encoded.TheVariants as encoded

@@ -73,7 +73,7 @@ pub(crate) fn put_pictures<R: Threads + Sync, S: Source, K: Sink, N: Sink, G: Ro
     'pictures: loop {
         match fill(source, bytes) {
             Filled::Failed => return Encoded::ReadFault,
-            Filled::Part(n) => {
+            Filled::Ended(n) => {
                 if let Err(answer) = put_planned(coder, out, side, planner, true, coding) {
                     return answer;
                 }

@@ -12,7 +12,7 @@ ghost use Rattle.dirac_stream.specs.Coded.{IsSource};
 ghost use Rattle.dirac_stream.specs.Raw.{picture_from, picture_in, plane_from, raw_length as length_of, sample_of};
 
 use dirac_sequence::{Sequence, sequence_of};
-use dirac_types::{NoMemory, Part, Picture, Plane, Settings};
+use dirac_types::{NoMemory, Component, Picture, Plane, Settings};
 use std::alloc::Global;
 
 /// The sample of a byte.
@@ -62,8 +62,8 @@ fn length_in(settings: &Settings, sequence: &Sequence) -> usize
     requires chroma { IsPlaneSize (chroma_width sequence.now) (chroma_height sequence.now) }
     ensures { result ≡ settings.now.width * settings.now.height + chroma_width sequence.now * chroma_height sequence.now + chroma_width sequence.now * chroma_height sequence.now }
 {
-    let width = sequence.plane_width(Part::U);
-    let height = sequence.plane_height(Part::U);
+    let width = sequence.plane_width(Component::U);
+    let height = sequence.plane_height(Component::U);
     let luma = settings.width as usize * settings.picture_height() as usize;
     let chroma = width as usize * height as usize;
     luma + chroma + chroma
@@ -103,8 +103,8 @@ fn planes_of(
     ensures u { IfOk result (λ p. AreSamples p.u.values) }
     ensures v { IfOk result (λ p. AreSamples p.v.values) }
 {
-    let width = sequence.plane_width(Part::U);
-    let height = sequence.plane_height(Part::U);
+    let width = sequence.plane_width(Component::U);
+    let height = sequence.plane_height(Component::U);
     let luma = settings.width as usize * settings.picture_height() as usize;
     let chroma = width as usize * height as usize;
     Ok(Picture {

@@ -10,7 +10,7 @@ ghost use Rattle.dirac_sequence.specs.Written.{sequence_payload};
 ghost use Rattle.dirac_picture.specs.Grammar.{are_listed, is_intra as is_intra_code};
 ghost use Rattle.dirac_refs.specs.Delivery.{delivered};
 ghost use Rattle.dirac_refs.specs.References.{committed};
-ghost use Rattle.dirac_decode.specs.Course.{as_reference};
+ghost use Rattle.dirac_decode.specs.StreamState.{as_reference};
 ghost use Rattle.dirac_decode.specs.Raw.{raws};
 ghost use Rattle.dirac_plan_laws.specs.Headers.{IsPlanned, header_of};
 ghost use Rattle.dirac_stream.specs.Coded.{IsSource};

@@ -9,12 +9,12 @@ add_up : (exact here there rest all further : ℕ) → here ≡ there → furthe
 add_up exact here there rest all further same opened before = omega arith
 
 -- one more picture: its own part of the count, and the rest
-pub one_picture : (t : Settings) (count number all exact part : ℕ) (rest first others picture : List ℕ) → number < count → exact + exact_from t (count - number) number rest ≡ all
-    → picture ≡ generated t number → first ≡ take (picture_count t) rest → others ≡ drop (picture_count t) rest → part ≡ (if bytes_eq first picture then 1 else 0)
-    → (exact + part) + exact_from t (count - (number + 1)) (number + 1) others ≡ all
-one_picture t count number all exact part rest first others picture more before made front behind is =
+pub one_picture : (t : Settings) (count number all exact component : ℕ) (rest first others picture : List ℕ) → number < count → exact + exact_from t (count - number) number rest ≡ all
+    → picture ≡ generated t number → first ≡ take (picture_count t) rest → others ≡ drop (picture_count t) rest → component ≡ (if bytes_eq first picture then 1 else 0)
+    → (exact + component) + exact_from t (count - (number + 1)) (number + 1) others ≡ all
+one_picture t count number all exact component rest first others picture more before made front behind is =
     let next : count - number ≡ suc (count - (number + 1)) = omega arith in
-    add_up exact part (if bytes_eq (take (picture_count t) rest) (generated t number) then 1 else 0) (exact_from t (count - (number + 1)) (number + 1) others) all (exact_from t (count - number) number rest)
+    add_up exact component (if bytes_eq (take (picture_count t) rest) (generated t number) then 1 else 0) (exact_from t (count - (number + 1)) (number + 1) others) all (exact_from t (count - number) number rest)
     (is ∙ ap₂ (λ (a b : List ℕ). if bytes_eq a b then 1 else 0) front made)
     (ap (λ (k : ℕ). exact_from t k number rest) next
     ∙ ap (λ (l : List ℕ). (if bytes_eq (take (picture_count t) rest) (generated t number) then 1 else 0) + exact_from t (count - (number + 1)) (number + 1) l) (sym behind))

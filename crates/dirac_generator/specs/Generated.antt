@@ -2,7 +2,7 @@
 use Rattle.std.specs.Prelude.{if◌then◌else◌, ℕ, zero, suc, ◌+◌, ◌*◌, ◌/◌, ◌%◌, List, [], ◌++◌, map, take, drop, bytes_eq}
 use Rattle.std.specs.List.{range_with_len}
 use Rattle.dirac_types.specs.declared.settings.Settings.{Settings}
-use Rattle.dirac_types.specs.declared.formats.Part.TheVariants as part
+use Rattle.dirac_types.specs.declared.formats.Component.TheVariants as component
 use Rattle.dirac_types.specs.Sizes.{picture_height, plane_height, plane_width}
 
 -- the byte of picture `number` in plane 0, 1 or 2, at column x of row y
@@ -16,10 +16,10 @@ generated_rows number plane width count =
 
 -- the sizes of chroma with these settings
 abbrev pub chroma_across : Settings → ℕ
-chroma_across t = plane_width t part.U
+chroma_across t = plane_width t component.U
 
 abbrev pub chroma_down : Settings → ℕ
-chroma_down t = plane_height t part.U
+chroma_down t = plane_height t component.U
 
 -- how many bytes a plane of luma has, and one of chroma
 abbrev pub luma_count : Settings → ℕ

@@ -4,7 +4,7 @@ ghost use Rattle.dirac_types.specs.Sizes.{picture_height};
 ghost use Rattle.dirac_generator.specs.Generated.{generated_byte, generated_rows, generated as bytes_of};
 ghost use Rattle.dirac_generator.specs.Generated.{chroma_across, chroma_down, picture_count};
 
-use dirac_types::{Part, Settings};
+use dirac_types::{Component, Settings};
 
 /// How many bytes a plane of luma has, and one of chroma, and how wide one of chroma is.
 #[derive(Clone, Copy)]
@@ -23,8 +23,8 @@ fn sizes_of(settings: &Settings) -> Sizes
     ensures some_luma { (1 ≤ settings.now.width) × (settings.now.width ≤ 4096) × (1 ≤ result.luma) }
     ensures bounded { result.luma + (result.chroma + result.chroma) ≤ 28311552 }
 {
-    let across = settings.plane_width(Part::U);
-    let down = settings.plane_height(Part::U);
+    let across = settings.plane_width(Component::U);
+    let down = settings.plane_height(Component::U);
     Sizes {
         luma: settings.width as usize * settings.picture_height() as usize,
         chroma: across as usize * down as usize,

@@ -35,40 +35,40 @@ filled_zeros w h f each = told_zeros (λ p. f (p % w) (p / w)) 0 (w * h) (λ k. 
 
 -- ---- a step
 
-times_nought : (c : ℤ) → c *ℤ pos 0 ≡ pos 0
-times_nought (pos n) = omega (arith, ints)
-times_nought (negsuc n) = omega (arith, ints)
+times_zero : (c : ℤ) → c *ℤ pos 0 ≡ pos 0
+times_zero (pos n) = omega (arith, ints)
+times_zero (negsuc n) = omega (arith, ints)
 
 weighted_zeros : (taps : List ℤ) (f : ℕ → ℤ) (n : ℕ) → ((k : ℕ) → f k ≡ pos 0) → weighted taps f n ≡ pos 0
 weighted_zeros taps f zero h = refl
 weighted_zeros taps f (suc n) h =
-    rw (weighted_zeros taps f n h, h n, times_nought (get_or taps n (pos 0))) refl
+    rw (weighted_zeros taps f n h, h n, times_zero (get_or taps n (pos 0))) refl
 
 half_below : (p : ℕ) → 0 < p → p / 2 / p ≡ 0
 half_below p some =
     let few : p / 2 / p < 1 = div_below (p / 2) p 1 some (omega arith) in
     omega (arith, few)
 
-rounded_nought : (shift : ℕ) → rounded shift (pos 0) ≡ pos 0
-rounded_nought shift =
+rounded_zero : (shift : ℕ) → rounded shift (pos 0) ≡ pos 0
+rounded_zero shift =
     let half : pos 0 +ℤ pos (2 ^ shift / 2) ≡ pos (2 ^ shift / 2) = omega (arith, ints) in
     ap (λ z. int_shr z shift) half ∙ ap pos (half_below (2 ^ shift) (pow_pos shift))
 
-moved_nought : (b : Bool) → moved b (pos 0) (pos 0) ≡ pos 0
-moved_nought true = refl
-moved_nought false = refl
+moved_zero : (b : Bool) → moved b (pos 0) (pos 0) ≡ pos 0
+moved_zero true = refl
+moved_zero false = refl
 
-either_nought : (b : Bool) (x y : ℤ) → x ≡ pos 0 → y ≡ pos 0 → (if b then x else y) ≡ pos 0
-either_nought true x y p q = p
-either_nought false x y p q = q
+either_zero : (b : Bool) (x y : ℤ) → x ≡ pos 0 → y ≡ pos 0 → (if b then x else y) ≡ pos 0
+either_zero true x y p q = p
+either_zero false x y p q = q
 
 lifted_zeros : (s : Step) (xs : List ℤ) → ReadsZeros xs → ReadsZeros (lift s xs)
 unfolding lift
 lifted_zeros s xs h =
     told_zeros (lifted_at s xs) 0 (length xs) (λ p.
-    let change : change_at s xs (p / 2) ≡ pos 0 = ap (rounded s.shift) (weighted_zeros s.taps (value_read s.parity s.lead xs (p / 2)) (length s.taps) (λ k. h _)) ∙ rounded_nought s.shift in
-    let new : new_at s xs (p / 2) ≡ pos 0 = ap₂ (moved s.minus) (h (own s.parity (p / 2))) change ∙ moved_nought s.minus in
-    either_nought (p % 2 == s.parity) (new_at s xs (p / 2)) (get_or xs p (pos 0)) new (h p))
+    let change : change_at s xs (p / 2) ≡ pos 0 = ap (rounded s.shift) (weighted_zeros s.taps (value_read s.parity s.lead xs (p / 2)) (length s.taps) (λ k. h _)) ∙ rounded_zero s.shift in
+    let new : new_at s xs (p / 2) ≡ pos 0 = ap₂ (moved s.minus) (h (own s.parity (p / 2))) change ∙ moved_zero s.minus in
+    either_zero (p % 2 == s.parity) (new_at s xs (p / 2)) (get_or xs p (pos 0)) new (h p))
 
 run_zeros : (ss : List Step) (xs : List ℤ) → ReadsZeros xs → ReadsZeros (run ss xs)
 run_zeros [] xs h = h

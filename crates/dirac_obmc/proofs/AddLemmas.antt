@@ -7,8 +7,8 @@ use Rattle.std.proofs.lemmas.List.{get_or-set_same, get_or-set_other, length-set
 use Rattle.dirac_obmc.specs.Adding.{Adds, AddsPart}
 use Rattle.dirac_obmc.specs.Compensation.{total}
 
-add_nought : (x : ℤ) → x +ℤ pos 0 ≡ x
-add_nought x = omega (arith, ints)
+add_zero : (x : ℤ) → x +ℤ pos 0 ≡ x
+add_zero x = omega (arith, ints)
 
 pub part_none : (start : ℕ) (f : ℕ → ℤ) (xs : List ℤ) → AddsPart start f 0 xs xs
 part_none start f xs = record { len = refl; before = λ x l. refl; done = λ k l. absurd (omega arith); rest = λ x l. refl }
@@ -40,7 +40,7 @@ part_all start f n count xs ys a e = subst (λ (i : ℕ). AddsPart start f i xs 
 
 -- nothing is added
 pub adds_none : (f : ℕ → ℤ) (n : ℕ) (xs : List ℤ) → ((x : ℕ) → x < n → f x ≡ pos 0) → Adds f n xs xs
-adds_none f n xs h = record { len = refl; each = λ x l. sym (add_nought (get_or xs x (pos 0))) ∙ ap (λ z. get_or xs x (pos 0) +ℤ z) (sym (h x l)) }
+adds_none f n xs h = record { len = refl; each = λ x l. sym (add_zero (get_or xs x (pos 0))) ∙ ap (λ z. get_or xs x (pos 0) +ℤ z) (sym (h x l)) }
 
 -- a part grows, where f is 0 outside of it
 pub adds_part : (start : ℕ) (g f : ℕ → ℤ) (count n : ℕ) (xs ys : List ℤ) → AddsPart start g count xs ys → ((k : ℕ) → k < count → g k ≡ f (start + k))
@@ -48,14 +48,14 @@ pub adds_part : (start : ℕ) (g f : ℕ → ℤ) (count n : ℕ) (xs ys : List 
 adds_part start g f count n xs ys a same before behind = record {
   len = a.len;
   each = λ x l. elim (cases_lt x start) [
-    | inl left ↦ a.before x left ∙ sym (add_nought (get_or xs x (pos 0))) ∙ ap (λ z. get_or xs x (pos 0) +ℤ z) (sym (before x l left))
+    | inl left ↦ a.before x left ∙ sym (add_zero (get_or xs x (pos 0))) ∙ ap (λ z. get_or xs x (pos 0) +ℤ z) (sym (before x l left))
     | inr right ↦ elim (cases_lt x (start + count)) [
       | inl inside ↦
           let place : start + (x - start) ≡ x = omega arith in
           ap (λ i. get_or ys i (pos 0)) (sym place) ∙ a.done (x - start) (omega arith)
           ∙ ap (λ z. get_or xs (start + (x - start)) (pos 0) +ℤ z) (same (x - start) (omega arith))
           ∙ ap (λ i. get_or xs i (pos 0) +ℤ f i) place
-      | inr past ↦ a.rest x past ∙ sym (add_nought (get_or xs x (pos 0))) ∙ ap (λ z. get_or xs x (pos 0) +ℤ z) (sym (behind x l past))
+      | inr past ↦ a.rest x past ∙ sym (add_zero (get_or xs x (pos 0))) ∙ ap (λ z. get_or xs x (pos 0) +ℤ z) (sym (behind x l past))
     ]
   ];
 }
@@ -88,5 +88,5 @@ pub adds_all : (f : ℕ → ℕ → ℤ) (k m n : ℕ) (xs ys : List ℤ) → Ad
 adds_all f k m n xs ys a e = subst (λ (i : ℕ). Adds (λ x. total (f x) i) n xs ys) e a
 
 -- sums that are 0
-pub noughts_small : (xs : List ℤ) → ((x : ℕ) → get_or xs x (pos 0) ≡ pos 0) → All (λ v. unsigned_abs v ≤ 0) xs
-noughts_small xs h k d inside = rw (get_or_default xs k d (pos 0) inside, h k) (omega arith)
+pub zeros_small : (xs : List ℤ) → ((x : ℕ) → get_or xs x (pos 0) ≡ pos 0) → All (λ v. unsigned_abs v ≤ 0) xs
+zeros_small xs h k d inside = rw (get_or_default xs k d (pos 0) inside, h k) (omega arith)

@@ -11,8 +11,8 @@ use Rattle.dirac_blocks.specs.declared.block.Block.{Block}
 use Rattle.dirac_upconvert.specs.HalfSamples.{IsSample}
 use Rattle.dirac_upconvert.specs.SubSamples.{Up}
 use Rattle.dirac_upconvert.proofs.SampleRows.{sub_sample_is}
-use Rattle.dirac_types.specs.declared.formats.Part.{Part}
-use Rattle.dirac_types.specs.declared.formats.Part.TheVariants as part
+use Rattle.dirac_types.specs.declared.formats.Component.{Component}
+use Rattle.dirac_types.specs.declared.formats.Component.TheVariants as component
 use Rattle.dirac_obmc.specs.Compensation.{Compensation, IsMotion, across_ratio, blocks_across, blocks_down, dc_of, down_ratio, from_one, from_two, moved_sample, position, predicts, second_sample, term, total, weight_of, y_length, y_separation}
 use Rattle.dirac_obmc.specs.Directions.{IsSound}
 use Rattle.dirac_obmc.specs.Weights.{share, sum_below}
@@ -46,10 +46,10 @@ two_small m v w h s t =
     (sum_within (v *ℤ m.prediction.weight1) (w *ℤ m.prediction.weight2) 32640 32640 65280
     (omega (arith, h.weight1, product_small v m.prediction.weight1 s)) (omega (arith, h.weight2, product_small w m.prediction.weight2 t)) (omega arith))
 
-dc_small : (p : Part) (refs : ℕ) (b : Block) → IsBlock refs b → unsigned_abs (dc_of p b) ≤ 2 ^ 15
-dc_small part.Y refs b h = omega (arith, ints, h.dc_y.least, h.dc_y.most)
-dc_small part.U refs b h = omega (arith, ints, h.dc_u.least, h.dc_u.most)
-dc_small part.V refs b h = omega (arith, ints, h.dc_v.least, h.dc_v.most)
+dc_small : (p : Component) (refs : ℕ) (b : Block) → IsBlock refs b → unsigned_abs (dc_of p b) ≤ 2 ^ 15
+dc_small component.Y refs b h = omega (arith, ints, h.dc_y.least, h.dc_y.most)
+dc_small component.U refs b h = omega (arith, ints, h.dc_u.least, h.dc_u.most)
+dc_small component.V refs b h = omega (arith, ints, h.dc_v.least, h.dc_v.most)
 
 choice_small : (r s : Bool) (a b c d : ℤ) (n : ℕ) → unsigned_abs a ≤ n → unsigned_abs b ≤ n → unsigned_abs c ≤ n → unsigned_abs d ≤ n → unsigned_abs (cond r (cond s a b) (cond s c d)) ≤ n
 choice_small true true a b c d n p q r s = p
@@ -63,7 +63,7 @@ unfolding predicts
 predicts_small m refs b x y h s k =
     let first = moved_is m m.up1 b.v1 x y h s.first in
     let second = second_is m m.up2 b.v2 x y h s.second in
-    choice_small b.ref1 b.ref2 _ _ _ _ (2 ^ 15) (two_small m _ _ h first second) (one_small m _ h first) (one_small m _ h second) (dc_small m.part refs b k)
+    choice_small b.ref1 b.ref2 _ _ _ _ (2 ^ 15) (two_small m _ _ h first second) (one_small m _ h first) (one_small m _ h second) (dc_small m.component refs b k)
 
 -- the block of the table at this place
 pub block_is : (m : Compensation) (i j : ℕ) → IsSound m → i < blocks_across m → j < blocks_down m → IsBlock m.blocks.refs (block_at m.blocks i j)

@@ -15,6 +15,6 @@ pub by_second : (m : Compensation) (b : Block) (x y : ℕ) (w : ℤ) → b.ref1 
 unfolding predicts
 by_second m b x y w first second ew = rw (first, second, ew) refl
 
-pub by_value : (m : Compensation) (b : Block) (x y : ℕ) → b.ref1 ≡ false → b.ref2 ≡ false → dc_of m.part b ≡ predicts m b x y
+pub by_value : (m : Compensation) (b : Block) (x y : ℕ) → b.ref1 ≡ false → b.ref2 ≡ false → dc_of m.component b ≡ predicts m b x y
 unfolding predicts
 by_value m b x y first second = rw (first, second) refl

@@ -8,7 +8,7 @@ use Rattle.dirac_blocks.specs.declared.block.Block.{Block}
 use Rattle.dirac_blocks.specs.Tables.{grey}
 use Rattle.dirac_upconvert.specs.HalfSamples.{between, half}
 use Rattle.dirac_upconvert.specs.SubSamples.{part_sample}
-use Rattle.dirac_types.specs.declared.formats.Part.TheVariants as part
+use Rattle.dirac_types.specs.declared.formats.Component.TheVariants as component
 use Rattle.dirac_obmc.specs.Compensation.{Compensation, moved_sample, position, predicted_plane, predicts, term}
 use Rattle.dirac_obmc.specs.Weights.{share, weight_at}
 
@@ -47,7 +47,7 @@ plane_of b p first second = record {
   prediction = p;
   up1 = record { width = length first; height = 1; table = half (record { width = length first; height = 1; values = first }) };
   up2 = Some (record { width = length second; height = 1; table = half (record { width = length second; height = 1; values = second }) });
-  part = part.Y;
+  component = component.Y;
   chroma = C444;
   width = length first;
   height = 1;

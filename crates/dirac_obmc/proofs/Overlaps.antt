@@ -6,8 +6,8 @@ use Rattle.dirac_types.specs.declared.formats.Chroma.{Chroma}
 use Rattle.dirac_types.specs.declared.formats.Chroma.TheVariants.{C444, C422, C420}
 use Rattle.dirac_sequence.specs.Ratios.{ratio_across, ratio_down}
 use Rattle.dirac_header.specs.Prediction.{is_divisible, is_overlap}
-use Rattle.dirac_types.specs.declared.formats.Part.{Part}
-use Rattle.dirac_types.specs.declared.formats.Part.TheVariants as part
+use Rattle.dirac_types.specs.declared.formats.Component.{Component}
+use Rattle.dirac_types.specs.declared.formats.Component.TheVariants as component
 use Rattle.dirac_obmc.specs.Compensation.{Compensation, IsMotion, ratio_of, x_length, x_separation, y_length, y_separation}
 use Rattle.dirac_obmc.specs.Weights.{IsOverlap}
 use Rattle.std.proofs.lemmas.Bool.Decides.{nat_tests}
@@ -69,10 +69,10 @@ divided (suc (suc zero)) length separation some few d = record {
 divided (suc (suc (suc ratio))) length separation some few d = absurd (omega arith)
 
 -- in luma and in chroma
-of_part : (p : Part) (ratio length separation : ℕ) → 1 ≤ ratio → ratio ≤ 2 → IsDivisible ratio length separation → IsOverlap (length / ratio_of p ratio) (separation / ratio_of p ratio)
-of_part part.Y ratio length separation some few d = whole ratio length separation some few d
-of_part part.U ratio length separation some few d = divided ratio length separation some few d
-of_part part.V ratio length separation some few d = divided ratio length separation some few d
+of_part : (p : Component) (ratio length separation : ℕ) → 1 ≤ ratio → ratio ≤ 2 → IsDivisible ratio length separation → IsOverlap (length / ratio_of p ratio) (separation / ratio_of p ratio)
+of_part component.Y ratio length separation some few d = whole ratio length separation some few d
+of_part component.U ratio length separation some few d = divided ratio length separation some few d
+of_part component.V ratio length separation some few d = divided ratio length separation some few d
 
 some_across : (c : Chroma) → 1 ≤ ratio_across c
 some_across C444 = omega arith
@@ -115,11 +115,11 @@ grid_rules m h = rules_of _ _ _ _ h.grid
 pub overlap_across : (m : Compensation) → IsMotion m → IsOverlap (x_length m) (x_separation m)
 overlap_across m h =
     let g = grid_rules m h in
-    of_part m.part (ratio_across m.chroma) m.prediction.grid.xblen m.prediction.grid.xbsep (some_across m.chroma) (few_across m.chroma)
+    of_part m.component (ratio_across m.chroma) m.prediction.grid.xblen m.prediction.grid.xbsep (some_across m.chroma) (few_across m.chroma)
     (divisible (ratio_across m.chroma) m.prediction.grid.xblen m.prediction.grid.xbsep g.first g.second)
 
 pub overlap_down : (m : Compensation) → IsMotion m → IsOverlap (y_length m) (y_separation m)
 overlap_down m h =
     let g = grid_rules m h in
-    of_part m.part (ratio_down m.chroma) m.prediction.grid.yblen m.prediction.grid.ybsep (some_down m.chroma) (few_down m.chroma)
+    of_part m.component (ratio_down m.chroma) m.prediction.grid.yblen m.prediction.grid.ybsep (some_down m.chroma) (few_down m.chroma)
     (divisible (ratio_down m.chroma) m.prediction.grid.yblen m.prediction.grid.ybsep g.third g.fourth)

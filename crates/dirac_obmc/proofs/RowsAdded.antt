@@ -42,8 +42,8 @@ first_within m rows y n h inside above = elim (cases_lt (blocks_down m) n) [
 
 -- sums that began at 0 are what was added
 pub added_alone : (f : ℕ → ℤ) (n x : ℕ) (xs ys : List ℤ) → Adds f n xs ys → x < n → ((k : ℕ) → get_or xs k (pos 0) ≡ pos 0) → get_or ys x (pos 0) ≡ f x
-added_alone f n x xs ys a l nought =
-    a.each x l ∙ ap (λ z. z +ℤ f x) (nought x) ∙ nought_more (f x)
+added_alone f n x xs ys a l adds_zero =
+    a.each x l ∙ ap (λ z. z +ℤ f x) (adds_zero x) ∙ zero_more (f x)
   where
-    nought_more : (z : ℤ) → pos 0 +ℤ z ≡ z
-    nought_more z = omega (arith, ints)
+    zero_more : (z : ℤ) → pos 0 +ℤ z ≡ z
+    zero_more z = omega (arith, ints)

@@ -56,7 +56,7 @@ second_is m h None all v x y = record { least = omega (arith, ints); most = omeg
 second_is m h (Some up) all v x y = moved_is m h up (all up refl) v x y
 
 -- what a block predicts
-value_is : (m : Compensation) → IsMotion m → IsOfSamples m → (b : Block) → IsSample (dc_of m.part b) → (x y : ℕ) → IsSample (predicts m b x y)
+value_is : (m : Compensation) → IsMotion m → IsOfSamples m → (b : Block) → IsSample (dc_of m.component b) → (x y : ℕ) → IsSample (predicts m b x y)
 value_is m h o b dc x y =
     let first = moved_is m h m.up1 o.first b.v1 x y in
     let second = second_is m h m.up2 o.second b.v2 x y in

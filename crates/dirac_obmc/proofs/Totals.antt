@@ -50,7 +50,7 @@ total_stays f k zero l h = elim (cases_eq k 0) [
 total_stays f k (suc n) l h = elim (cases_eq k (suc n)) [
   | inl e ↦ ap (total f) (sym e)
   | inr less ↦
-      rw (h n (omega arith) (omega arith), total_stays f k n (omega arith) (λ i a b. h i a (omega arith))) (add_nought (total f k))
+      rw (h n (omega arith) (omega arith), total_stays f k n (omega arith) (λ i a b. h i a (omega arith))) (add_zero (total f k))
 ] where
-  add_nought : (x : ℤ) → x +ℤ pos 0 ≡ x
-  add_nought x = omega (arith, ints)
+  add_zero : (x : ℤ) → x +ℤ pos 0 ≡ x
+  add_zero x = omega (arith, ints)

@@ -11,8 +11,8 @@ use Rattle.dirac_header.specs.declared.prediction.Prediction.{Prediction}
 use Rattle.dirac_blocks.specs.Tables.{BlockTable, block_at}
 use Rattle.dirac_blocks.specs.declared.block.Block.{Block}
 use Rattle.dirac_upconvert.specs.SubSamples.{Up, rounded, sub_sample}
-use Rattle.dirac_types.specs.declared.formats.Part.{Part}
-use Rattle.dirac_types.specs.declared.formats.Part.TheVariants as part
+use Rattle.dirac_types.specs.declared.formats.Component.{Component}
+use Rattle.dirac_types.specs.declared.formats.Component.TheVariants as component
 use Rattle.dirac_obmc.specs.Weights.{share}
 
 -- what a plane of an inter picture is predicted from, and the plane's size
@@ -21,24 +21,24 @@ pub record Compensation : Type 0 where
   pub prediction : Prediction
   pub up1 : Up
   pub up2 : Option Up
-  pub part : Part
+  pub component : Component
   pub chroma : Chroma
   pub width : ℕ
   pub height : ℕ
 
 -- how many luma samples a sample of this part stands for, in a direction where a chroma sample stands for so many
-abbrev pub ratio_of : Part → ℕ → ℕ
-ratio_of part.Y ratio = 1
-ratio_of part.U ratio = ratio
-ratio_of part.V ratio = ratio
+abbrev pub ratio_of : Component → ℕ → ℕ
+ratio_of component.Y ratio = 1
+ratio_of component.U ratio = ratio
+ratio_of component.V ratio = ratio
 
 -- across
 abbrev pub across_ratio : Compensation → ℕ
-across_ratio m = ratio_of m.part (ratio_across m.chroma)
+across_ratio m = ratio_of m.component (ratio_across m.chroma)
 
 -- down
 abbrev pub down_ratio : Compensation → ℕ
-down_ratio m = ratio_of m.part (ratio_down m.chroma)
+down_ratio m = ratio_of m.component (ratio_down m.chroma)
 
 -- how many samples of this plane a block has across
 abbrev pub x_length : Compensation → ℕ
@@ -89,10 +89,10 @@ abbrev pub from_two : Prediction → ℤ → ℤ → ℤ
 from_two p v1 v2 = rounded p.weight_bits (v1 *ℤ p.weight1 +ℤ v2 *ℤ p.weight2)
 
 -- the DC value of a block for this part
-abbrev pub dc_of : Part → Block → ℤ
-dc_of part.Y b = b.dc_y
-dc_of part.U b = b.dc_u
-dc_of part.V b = b.dc_v
+abbrev pub dc_of : Component → Block → ℤ
+dc_of component.Y b = b.dc_y
+dc_of component.U b = b.dc_u
+dc_of component.V b = b.dc_v
 
 -- what a block predicts at column x of row y
 unfoldable pub predicts : Compensation → Block → ℕ → ℕ → ℤ
@@ -101,7 +101,7 @@ predicts m b x y =
     then (if b.ref2
     then from_two m.prediction (moved_sample m m.up1 b.v1 x y) (second_sample m m.up2 b.v2 x y)
     else from_one m.prediction (moved_sample m m.up1 b.v1 x y))
-    else (if b.ref2 then from_one m.prediction (second_sample m m.up2 b.v2 x y) else dc_of m.part b)
+    else (if b.ref2 then from_one m.prediction (second_sample m m.up2 b.v2 x y) else dc_of m.component b)
 
 -- the sum of the first n values of f
 abbrev pub total : (ℕ → ℤ) → ℕ → ℤ
@@ -167,4 +167,4 @@ pub record IsMotion (m : Compensation) : Type 0 where
 abbrev pub IsFlat : Compensation → ℤ → Type 0
 IsFlat m v =
     (i j : ℕ) → i < blocks_across m → j < blocks_down m
-    → ((block_at m.blocks i j).ref1 ≡ false) × ((block_at m.blocks i j).ref2 ≡ false) × (dc_of m.part (block_at m.blocks i j) ≡ v)
+    → ((block_at m.blocks i j).ref1 ≡ false) × ((block_at m.blocks i j).ref2 ≡ false) × (dc_of m.component (block_at m.blocks i j) ≡ v)

@@ -18,7 +18,7 @@ pub record IsOfSamples (m : Compensation) : Type 0 where
   pub weights : HasDefaultWeights m.prediction
   pub first : All IsSample m.up1.table.values
   pub second : ForSome m.up2 (λ u. All IsSample u.table.values)
-  pub dc : (i j : ℕ) → i < blocks_across m → j < blocks_down m → IsSample (dc_of m.part (block_at m.blocks i j))
+  pub dc : (i j : ℕ) → i < blocks_across m → j < blocks_down m → IsSample (dc_of m.component (block_at m.blocks i j))
 
 -- what is predicted from samples alone is a sample
 abbrev pub SamplesPredictSamples : Type 0

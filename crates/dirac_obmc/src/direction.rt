@@ -5,7 +5,7 @@ ghost use Rattle.dirac_obmc.specs.Given.{given};
 
 use crate::motion::Motion;
 use dirac_sequence::{ratio_across, ratio_down};
-use dirac_types::Part;
+use dirac_types::Component;
 
 /// How the blocks stand along one direction of a plane: how many, and their length and separation in its samples.
 #[derive(Clone, Copy)]
@@ -16,12 +16,12 @@ pub struct Direction {
 }
 
 /// How many luma samples a sample of this part stands for, where a chroma sample stands for `ratio`.
-fn ratio(part: Part, ratio: u32) -> u32
-    ensures { result ≡ ratio_of part ratio }
+fn ratio(component: Component, ratio: u32) -> u32
+    ensures { result ≡ ratio_of component ratio }
 {
-    match part {
-        Part::Y => 1,
-        Part::U | Part::V => ratio,
+    match component {
+        Component::Y => 1,
+        Component::U | Component::V => ratio,
     }
 }
 
@@ -31,7 +31,7 @@ pub fn across_ratio(motion: &Motion<'_>) -> u32
     ensures at_least_1 { 1 ≤ result }
     ensures at_most_2 { result ≤ 2 }
 {
-    ratio(motion.part, ratio_across(motion.chroma))
+    ratio(motion.component, ratio_across(motion.chroma))
 }
 
 /// How many luma samples a sample of the plane stands for down.
@@ -40,7 +40,7 @@ pub fn down_ratio(motion: &Motion<'_>) -> u32
     ensures at_least_1 { 1 ≤ result }
     ensures at_most_2 { result ≤ 2 }
 {
-    ratio(motion.part, ratio_down(motion.chroma))
+    ratio(motion.component, ratio_down(motion.chroma))
 }
 
 /// The blocks of the plane from left to right.

@@ -12,7 +12,7 @@ mod sums;
 mod values;
 mod weights;
 
-pub use dirac_types::Part;
+pub use dirac_types::Component;
 pub use motion::Motion;
 pub use of_samples::samples_predict_samples;
 pub use predict::{predict_plane, predict_rows};

@@ -1,6 +1,6 @@
 use dirac_blocks::BlockData;
 use dirac_header::Prediction;
-use dirac_types::{Chroma, Part};
+use dirac_types::{Chroma, Component};
 use dirac_upconvert::UpPlane;
 
 /// What one plane of an inter picture is predicted from: the picture's blocks and parameters, and this plane of
@@ -12,7 +12,7 @@ pub struct Motion<'a> {
     pub up1: &'a UpPlane,
     /// There where the block table has two references.
     pub up2: Option<&'a UpPlane>,
-    pub part: Part,
+    pub component: Component,
     pub chroma: Chroma,
     /// The number of columns of this plane.
     pub width: u32,

@@ -13,7 +13,7 @@ use crate::direction::{across_ratio, down_ratio};
 use crate::motion::Motion;
 use dirac_blocks::Block;
 use dirac_header::Prediction;
-use dirac_types::{Part, Vector};
+use dirac_types::{Component, Vector};
 use dirac_upconvert::UpPlane;
 
 /// A place in parts of a sample.
@@ -208,13 +208,13 @@ fn weigh_two(p: &Prediction, first: &[i16], second: &[i16], out: &mut [i32])
 }
 
 /// The DC value of a block for this part.
-fn dc(part: Part, block: &Block) -> i32
-    ensures { result ≡ dc_of part block.now }
+fn dc(component: Component, block: &Block) -> i32
+    ensures { result ≡ dc_of component block.now }
 {
-    match part {
-        Part::Y => block.dc_y,
-        Part::U => block.dc_u,
-        Part::V => block.dc_v,
+    match component {
+        Component::Y => block.dc_y,
+        Component::U => block.dc_u,
+        Component::V => block.dc_v,
     }
 }
 
@@ -260,5 +260,5 @@ pub fn block_values(
         weigh_one(motion.prediction, second, out);
         return;
     }
-    set_all(dc(motion.part, block), out);
+    set_all(dc(motion.component, block), out);
 }

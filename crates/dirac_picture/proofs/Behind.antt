@@ -8,33 +8,33 @@ use Rattle.dirac_bits.specs.Syntax.{read}
 use Rattle.dirac_bits.specs.Then.{read_then}
 use Rattle.dirac_bits.specs.Answers.{ReadsOrStops}
 use Rattle.dirac_header.specs.declared.transform.Transform.{Transform}
-use Rattle.dirac_coeffs.specs.declared.spot.CodedBand.{CodedBand}
+use Rattle.dirac_coeffs.specs.declared.layout.CodedBand.{CodedBand}
 use Rattle.dirac_coeffs.specs.Grammar.{band}
-use Rattle.dirac_picture.specs.Bands.{spot_of, parent_values}
+use Rattle.dirac_picture.specs.Bands.{layout_of, parent_values}
 use Rattle.dirac_picture.specs.Grammar.{bands_behind}
 
 -- one more band
 pub one_band : (t : Transform) (width height : ℕ) (before : List CodedBand) (more : ℕ) (c d : Cursor) (b : CodedBand) → 0 < more
-    → read (band (spot_of t width height (length before)) (parent_values before)) c ≡ Ok (b, d)
+    → read (band (layout_of t width height (length before)) (parent_values before)) c ≡ Ok (b, d)
     → read (bands_behind t width height before more) c ≡ read (bands_behind t width height (before ++ b ∷ []) (more - 1)) d
 unfolding bands_behind
 one_band t width height before zero c d b some is = absurd (omega arith)
 one_band t width height before (suc more) c d b some is =
     let same : suc more - 1 ≡ more = omega arith in
-    read_then (band (spot_of t width height (length before)) (parent_values before)) (λ x. bands_behind t width height (before ++ x ∷ []) more) c ∙ rw (is, same) refl
+    read_then (band (layout_of t width height (length before)) (parent_values before)) (λ x. bands_behind t width height (before ++ x ∷ []) more) c ∙ rw (is, same) refl
 
 -- a band that is refused
 band_refused : (t : Transform) (width height : ℕ) (before : List CodedBand) (more : ℕ) (c : Cursor) (refusal : Refusal) → 0 < more
-    → read (band (spot_of t width height (length before)) (parent_values before)) c ≡ Err refusal
+    → read (band (layout_of t width height (length before)) (parent_values before)) c ≡ Err refusal
     → read (bands_behind t width height before more) c ≡ Err refusal
 unfolding bands_behind
 band_refused t width height before zero c refusal some is = absurd (omega arith)
 band_refused t width height before (suc more) c refusal some is =
-    read_then (band (spot_of t width height (length before)) (parent_values before)) (λ x. bands_behind t width height (before ++ x ∷ []) more) c ∙ rw is refl
+    read_then (band (layout_of t width height (length before)) (parent_values before)) (λ x. bands_behind t width height (before ++ x ∷ []) more) c ∙ rw is refl
 
 -- a band at which the reader stops
 pub band_stops : (t : Transform) (width height : ℕ) (before : List CodedBand) (more : ℕ) (c d e : Cursor) (s : Stop) → 0 < more
-    → ReadsOrStops (Err s) d (read (band (spot_of t width height (length before)) (parent_values before)) c)
+    → ReadsOrStops (Err s) d (read (band (layout_of t width height (length before)) (parent_values before)) c)
     → ReadsOrStops (Err s) e (read (bands_behind t width height before more) c)
 band_stops t width height before more c d e (stop.Refused refusal) some is = band_refused t width height before more c refusal some is
 band_stops t width height before more c d e stop.NoMemory some is = tt

@@ -2,8 +2,8 @@
 use Rattle.std.proofs.Common.{◌≡◌, ℕ, ◌/◌, ◌%◌, ◌≤◌, arith}
 use Rattle.dirac_types.specs.declared.formats.Chroma.{Chroma}
 use Rattle.dirac_types.specs.declared.formats.Chroma.TheVariants.{C444, C422, C420}
-use Rattle.dirac_types.specs.declared.formats.Part.{Part}
-use Rattle.dirac_types.specs.declared.formats.Part.TheVariants as part
+use Rattle.dirac_types.specs.declared.formats.Component.{Component}
+use Rattle.dirac_types.specs.declared.formats.Component.TheVariants as component
 use Rattle.dirac_sequence.specs.declared.sequence.Sequence.{Sequence}
 use Rattle.dirac_sequence.specs.Lawful.{IsSequence}
 use Rattle.dirac_sequence.specs.Ratios.{ratio_across, ratio_down}
@@ -34,7 +34,7 @@ chroma_size s lawful =
     }
 
 -- so each plane
-pub part_size : (s : Sequence) (p : Part) → IsSequence s → IsPlaneSize (plane_width s p) (plane_height s p)
-part_size s part.Y lawful = luma_size s lawful
-part_size s part.U lawful = chroma_size s lawful
-part_size s part.V lawful = chroma_size s lawful
+pub part_size : (s : Sequence) (p : Component) → IsSequence s → IsPlaneSize (plane_width s p) (plane_height s p)
+part_size s component.Y lawful = luma_size s lawful
+part_size s component.U lawful = chroma_size s lawful
+part_size s component.V lawful = chroma_size s lawful

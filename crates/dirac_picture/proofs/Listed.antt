@@ -6,9 +6,9 @@ use Rattle.std.proofs.lemmas.Bool.{cases_lt}
 use Rattle.std.proofs.lemmas.List.{get_or_append_left}
 use Rattle.std.proofs.Math.Seq.{get_or-append_seam}
 use Rattle.dirac_header.specs.declared.transform.Transform.{Transform}
-use Rattle.dirac_coeffs.specs.declared.spot.CodedBand.{CodedBand}
+use Rattle.dirac_coeffs.specs.declared.layout.CodedBand.{CodedBand}
 use Rattle.dirac_coeffs.specs.Grammar.{IsCodedBand}
-use Rattle.dirac_picture.specs.Bands.{spot_of}
+use Rattle.dirac_picture.specs.Bands.{layout_of}
 use Rattle.dirac_picture.specs.Fits.{AreBands}
 
 -- what stands at a place of a list that is longer by one
@@ -26,11 +26,11 @@ last_or_before xs y n x is =
 
 -- a band more, as its place asks for
 pub bands_more : (t : Transform) (width height : ℕ) (bands : List CodedBand) (b : CodedBand) → AreBands t width height bands
-    → IsCodedBand (spot_of t width height (length bands)) b → AreBands t width height (bands ++ b ∷ [])
+    → IsCodedBand (layout_of t width height (length bands)) b → AreBands t width height (bands ++ b ∷ [])
 bands_more t width height bands b all one n x is =
     elim (last_or_before bands b n x is) [
       | inl before ↦ all n x before
       | inr last ↦
-          let here : IsCodedBand (spot_of t width height n) b = subst (λ k. IsCodedBand (spot_of t width height k) b) (sym last.0) one in
-          subst (λ y. IsCodedBand (spot_of t width height n) y) last.1 here
+          let here : IsCodedBand (layout_of t width height n) b = subst (λ k. IsCodedBand (layout_of t width height k) b) (sym last.0) one in
+          subst (λ y. IsCodedBand (layout_of t width height n) y) last.1 here
     ]

@@ -5,8 +5,8 @@ use Rattle.dirac_types.specs.declared.formats.Band.TheVariants.{LL, HL, LH, HH}
 use Rattle.dirac_types.specs.Table.{Table}
 use Rattle.dirac_bands.specs.Geometry.{level_of, band_length}
 use Rattle.dirac_header.specs.declared.transform.Transform.{Transform}
-use Rattle.dirac_coeffs.specs.declared.spot.BandSpot.{BandSpot}
-use Rattle.dirac_coeffs.specs.declared.spot.CodedBand.{CodedBand}
+use Rattle.dirac_coeffs.specs.declared.layout.BandLayout.{BandLayout}
+use Rattle.dirac_coeffs.specs.declared.layout.CodedBand.{CodedBand}
 
 -- how many there are
 abbrev pub band_count : ℕ → ℕ
@@ -26,8 +26,8 @@ abbrev pub counts_at : List (ℕ × ℕ) → ℕ → ℕ × ℕ
 counts_at counts level = counts_among (slice_get counts level)
 
 -- what band n of a plane of this size is; the counts of its level serve all three planes
-unfoldable pub spot_of : Transform → ℕ → ℕ → ℕ → BandSpot
-spot_of t width height n = record {
+unfoldable pub layout_of : Transform → ℕ → ℕ → ℕ → BandLayout
+layout_of t width height n = record {
   band = orientation_of n;
   width = band_length width t.depth (level_of n);
   height = band_length height t.depth (level_of n);

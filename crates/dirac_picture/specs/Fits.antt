@@ -10,12 +10,12 @@ use Rattle.dirac_header.specs.declared.transform.Transform.{Transform}
 use Rattle.dirac_header.specs.Prediction.{is_grid}
 use Rattle.dirac_header.specs.Codes.{references_of}
 use Rattle.dirac_blocks.specs.Tables.{IsBlockTable}
-use Rattle.dirac_coeffs.specs.declared.spot.CodedBand.{CodedBand}
+use Rattle.dirac_coeffs.specs.declared.layout.CodedBand.{CodedBand}
 use Rattle.dirac_coeffs.specs.Grammar.{IsCodedBand}
 use Rattle.dirac_picture.specs.declared.coded.CodedMotion.{CodedMotion}
 use Rattle.dirac_picture.specs.declared.coded.CodedPicture.{CodedPicture}
 use Rattle.dirac_picture.specs.declared.coded.CodedResidual.{CodedResidual}
-use Rattle.dirac_picture.specs.Bands.{band_count, counts_at, spot_of}
+use Rattle.dirac_picture.specs.Bands.{band_count, counts_at, layout_of}
 use Rattle.dirac_picture.specs.Grammar.{is_intra, superblocks_over}
 
 -- a count of codeblocks is from 1 to so many
@@ -44,7 +44,7 @@ pub record IsPlaneSize (width height : ℕ) : Type 0 where
 
 -- each of these bands is what its place in a plane of this size asks for
 abbrev pub AreBands : Transform → ℕ → ℕ → List CodedBand → Type 0
-AreBands t width height bands = (n : ℕ) (b : CodedBand) → slice_get bands n ≡ Some b → IsCodedBand (spot_of t width height n) b
+AreBands t width height bands = (n : ℕ) (b : CodedBand) → slice_get bands n ≡ Some b → IsCodedBand (layout_of t width height n) b
 
 -- the bands of a plane of this size, all of them
 pub record AreBandsOf (t : Transform) (width height : ℕ) (bands : List CodedBand) : Type 0 where

@@ -14,20 +14,20 @@ pub use Rattle.dirac_units.specs.Codes.{is_intra, references_of}
 use Rattle.dirac_header.specs.Header.{header}
 use Rattle.dirac_header.specs.Prediction.{prediction}
 use Rattle.dirac_header.specs.Transform.{transform}
-use Rattle.dirac_coeffs.specs.declared.spot.CodedBand.{CodedBand}
+use Rattle.dirac_coeffs.specs.declared.layout.CodedBand.{CodedBand}
 use Rattle.dirac_coeffs.specs.Grammar.{band}
 use Rattle.dirac_blocks.specs.Grammar.{blocks}
 pub use Rattle.dirac_refs.specs.References.{is_listed}
 use Rattle.dirac_picture.specs.declared.coded.CodedMotion.{CodedMotion}
 use Rattle.dirac_picture.specs.declared.coded.CodedPicture.{CodedPicture}
 use Rattle.dirac_picture.specs.declared.coded.CodedResidual.{CodedResidual}
-use Rattle.dirac_picture.specs.Bands.{band_count, spot_of, parent_values}
+use Rattle.dirac_picture.specs.Bands.{band_count, layout_of, parent_values}
 
 -- the bands of a plane of this size: those before, and so many more
 unfoldable pub bands_behind : Transform → ℕ → ℕ → List CodedBand → ℕ → Syntax (List CodedBand)
 bands_behind t width height before zero = done before
 bands_behind t width height before (suc more) = do
-  b ← band (spot_of t width height (length before)) (parent_values before)
+  b ← band (layout_of t width height (length before)) (parent_values before)
   bands_behind t width height (before ++ b ∷ []) more
 
 -- all bands of a plane of this size

@@ -10,11 +10,11 @@ mod picture;
 mod plane;
 mod plane_bands;
 mod shared;
-mod spots;
+mod layouts;
 
 pub use coded::{CodedMotion, CodedPicture, CodedResidual};
 pub use dirac_units::is_intra;
 pub use motion::superblocks_over;
 pub use picture::read_picture;
 pub use plane_bands::PlaneBands;
-pub use spots::spot;
+pub use layouts::layout;

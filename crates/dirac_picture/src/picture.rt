@@ -16,7 +16,7 @@ use dirac_bits::BitReader;
 use dirac_header::{PictureHeader, Transform, read_header, read_transform};
 use dirac_refs::RefBuffer;
 use dirac_sequence::Sequence;
-use dirac_types::{Cause, Part, Refusal, Stop};
+use dirac_types::{Cause, Component, Refusal, Stop};
 use dirac_units::is_intra;
 use std::alloc::Global;
 
@@ -184,8 +184,8 @@ fn read_planes(
 {
     let (width, height) = (sequence.width, sequence.picture_height());
     let y = read_plane_bands(alloc, r, &transform, width, height)?;
-    let width = sequence.plane_width(Part::U);
-    let height = sequence.plane_height(Part::U);
+    let width = sequence.plane_width(Component::U);
+    let height = sequence.plane_height(Component::U);
     let u = read_plane_bands(alloc, r, &transform, width, height)?;
     let v = read_plane_bands(alloc, r, &transform, width, height)?;
     Ok(CodedResidual { transform, y, u, v })

@@ -8,7 +8,7 @@ ghost use Rattle.dirac_picture.specs.Grammar as grammar;
 ghost use Rattle.dirac_picture.specs.Fits.{AreBands, AreBandsOf, IsLayout, IsPlaneSize};
 
 use crate::plane_bands::PlaneBands;
-use crate::spots::spot;
+use crate::layouts::layout;
 use dirac_bits::BitReader;
 use dirac_coeffs::{CodedBand, read_band};
 use dirac_header::Transform;
@@ -42,13 +42,13 @@ fn read_next(
     requires size { IsPlaneSize width height }
     requires a_place_left { length bands.now ≤ 3 * transform.now.depth }
     requires before { AreBands transform.now width height bands.now }
-    ensures value { ReadsOrStops result r.new (read (band (places.spot_of transform.now width height (length bands.now)) (places.parent_values bands.now)) r.old) }
+    ensures value { ReadsOrStops result r.new (read (band (places.layout_of transform.now width height (length bands.now)) (places.parent_values bands.now)) r.old) }
     ensures place_inside { IfErr result (IsEarly (length r.old.bytes)) }
     ensures kept { r.new.bytes ≡ r.old.bytes }
-    ensures lawful { IfOk result (IsCodedBand (places.spot_of transform.now width height (length bands.now))) }
+    ensures lawful { IfOk result (IsCodedBand (places.layout_of transform.now width height (length bands.now))) }
 {
     let n = bands.len() as u32;
-    let place = spot(transform, width, height, n);
+    let place = layout(transform, width, height, n);
     read_band(alloc, r, place, parent(bands))
 }
 

@@ -15,7 +15,7 @@ pub struct PlaneBands {
 
 impl Model for PlaneBands {
     ghost use Rattle.std.specs.Prelude.{List};
-    ghost use Rattle.dirac_coeffs.specs.declared.spot.CodedBand.{CodedBand};
+    ghost use Rattle.dirac_coeffs.specs.declared.layout.CodedBand.{CodedBand};
 
     ghost Value = { List CodedBand };
 

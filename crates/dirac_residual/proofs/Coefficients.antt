@@ -9,7 +9,7 @@ use Rattle.dirac_types.specs.Table.{Table}
 use Rattle.dirac_types.specs.declared.formats.Kind.{Kind}
 use Rattle.dirac_types.specs.declared.formats.Kind.TheVariants.{Intra, Inter}
 use Rattle.dirac_quant.specs.Quantiser.{factor_of, general_offset, offset_of, with_sign_of, restored_magnitude, restored}
-use Rattle.dirac_coeffs.specs.declared.spot.CodedBand.{CodedBand}
+use Rattle.dirac_coeffs.specs.declared.layout.CodedBand.{CodedBand}
 use Rattle.dirac_residual.specs.Fits.{IsBesides}
 use Rattle.dirac_residual.specs.Residual.{restored_band}
 

@@ -8,7 +8,7 @@ use Rattle.dirac_types.specs.Table.{row_of}
 use Rattle.dirac_quant.specs.Quantiser.{restored}
 use Rattle.dirac_bands.specs.Interleaving.{interleaved}
 use Rattle.dirac_bands.proofs.Interleaves.{at_even, at_odd, interleaved_all}
-use Rattle.dirac_coeffs.specs.declared.spot.CodedBand.{CodedBand}
+use Rattle.dirac_coeffs.specs.declared.layout.CodedBand.{CodedBand}
 use Rattle.dirac_residual.specs.Residual.{restored_band}
 
 -- one more value is written to every place of a step

@@ -7,7 +7,7 @@ use Rattle.std.proofs.lemmas.List.FromFn.{length-map-range_with_len}
 use Rattle.dirac_types.specs.declared.formats.Kind.TheVariants.{Inter}
 use Rattle.dirac_types.specs.Table.{filled, table_at}
 use Rattle.dirac_quant.specs.Quantiser.{restored}
-use Rattle.dirac_coeffs.specs.declared.spot.CodedBand.{CodedBand}
+use Rattle.dirac_coeffs.specs.declared.layout.CodedBand.{CodedBand}
 use Rattle.dirac_coeffs.specs.Contexts.{is_zero}
 use Rattle.dirac_coeffs.specs.Written.{is_zero_band}
 use Rattle.dirac_lift.proofs.ZerosKept.{ReadsZeros, filled_zeros, level_zeros, map_zeros}

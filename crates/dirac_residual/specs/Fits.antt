@@ -3,7 +3,7 @@ use Rattle.std.specs.Prelude.{◌≡◌, ℕ, ◌+◌, ◌-◌, ◌*◌, ◌^◌
 use Rattle.std.specs.List.{All}
 use Rattle.dirac_types.specs.Table.{Table}
 use Rattle.dirac_bands.specs.Geometry.{level_of, band_length}
-use Rattle.dirac_coeffs.specs.declared.spot.CodedBand.{CodedBand}
+use Rattle.dirac_coeffs.specs.declared.layout.CodedBand.{CodedBand}
 
 -- the size across or down of band n, in a plane of this size
 abbrev pub length_of_band : ℕ → ℕ → ℕ → ℕ

@@ -7,7 +7,7 @@ pub use Rattle.dirac_types.specs.Samples.{clip}
 use Rattle.dirac_types.specs.Table.{Table, table_at, table_of}
 use Rattle.dirac_quant.specs.Quantiser.{restored}
 use Rattle.dirac_bands.specs.DcSum.{dc_sum}
-use Rattle.dirac_coeffs.specs.declared.spot.CodedBand.{CodedBand}
+use Rattle.dirac_coeffs.specs.declared.layout.CodedBand.{CodedBand}
 use Rattle.dirac_lift.specs.Level.{level}
 
 -- the coefficients that a coded band stands for

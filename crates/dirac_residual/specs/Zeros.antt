@@ -3,7 +3,7 @@ use Rattle.std.specs.Prelude.{◌≡◌, ℕ, pos, ◌*◌, Bool, true, List, re
 use Rattle.std.specs.List.{list_all}
 use Rattle.dirac_types.specs.declared.formats.Kind.TheVariants.{Inter}
 use Rattle.dirac_types.specs.Table.{Table}
-use Rattle.dirac_coeffs.specs.declared.spot.CodedBand.{CodedBand}
+use Rattle.dirac_coeffs.specs.declared.layout.CodedBand.{CodedBand}
 use Rattle.dirac_coeffs.specs.Written.{is_zero_band}
 use Rattle.dirac_residual.specs.Residual.{residual}
 

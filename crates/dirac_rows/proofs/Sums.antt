@@ -47,13 +47,13 @@ module _ {A : Type 0} where
     terms_le (x ∷ xs) (suc j) zero v u n e d = omega (arith, ap g (some-injective x u d), term_le xs j v e)
     terms_le (x ∷ xs) (suc j) (suc k) v u n e d = omega (arith, terms_le xs j k v u (λ h. n (ap suc h)) e d)
 
-    pub total_nought : (l : List A) → ((j : ℕ) (u : A) → get_elem? l j ≡ some u → g u ≡ 0) → total g l ≡ 0
-    total_nought [] h = refl
-    total_nought (x ∷ xs) h = omega (arith, h 0 x refl, total_nought xs (λ j u d. h (suc j) u d))
+    pub total_zero : (l : List A) → ((j : ℕ) (u : A) → get_elem? l j ≡ some u → g u ≡ 0) → total g l ≡ 0
+    total_zero [] h = refl
+    total_zero (x ∷ xs) h = omega (arith, h 0 x refl, total_zero xs (λ j u d. h (suc j) u d))
 
     pub total_only : (l : List A) (id : ℕ) (v : A) → get_elem? l id ≡ some v → ((j : ℕ) (u : A) → get_elem? l j ≡ some u → j ≢ id → g u ≡ 0) → total g l ≡ g v
     total_only [] id v e h = absurd (some-ne-none v (sym e))
-    total_only (x ∷ xs) zero v e h = omega (arith, ap g (some-injective x v e), total_nought xs (λ j u d. h (suc j) u d (λ p. omega arith)))
+    total_only (x ∷ xs) zero v e h = omega (arith, ap g (some-injective x v e), total_zero xs (λ j u d. h (suc j) u d (λ p. omega arith)))
     total_only (x ∷ xs) (suc id) v e h = omega (arith, h 0 x refl (λ p. omega arith), total_only xs id v e (λ j u d n. h (suc j) u d (λ p. n (omega arith))))
 
   pub total_le : (f g : A → ℕ) (l : List A) → ((j : ℕ) (v : A) → get_elem? l j ≡ some v → f v ≤ g v) → total f l ≤ total g l

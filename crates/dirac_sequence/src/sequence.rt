@@ -2,7 +2,7 @@ ghost use Rattle.std.specs.Prelude.{◌≡◌};
 ghost use Rattle.dirac_sequence.specs.Ratios as ratios;
 ghost use Rattle.dirac_sequence.specs.Sizes as sizes;
 
-use dirac_types::{Chroma, Part};
+use dirac_types::{Chroma, Component};
 
 /// What a sequence header says of the pictures that follow it.
 #[derive(Clone, Copy, Debug, PartialEq, Eq)]
@@ -42,22 +42,22 @@ impl Sequence {
     }
 
     /// The number of columns of a plane of a picture.
-    pub fn plane_width(&self, part: Part) -> u32
-        ensures { result ≡ sizes.plane_width self.now part }
+    pub fn plane_width(&self, component: Component) -> u32
+        ensures { result ≡ sizes.plane_width self.now component }
     {
-        match part {
-            Part::Y => self.width,
-            Part::U | Part::V => self.width / ratio_across(self.chroma),
+        match component {
+            Component::Y => self.width,
+            Component::U | Component::V => self.width / ratio_across(self.chroma),
         }
     }
 
     /// The number of rows of a plane of a picture.
-    pub fn plane_height(&self, part: Part) -> u32
-        ensures { result ≡ sizes.plane_height self.now part }
+    pub fn plane_height(&self, component: Component) -> u32
+        ensures { result ≡ sizes.plane_height self.now component }
     {
-        match part {
-            Part::Y => self.picture_height(),
-            Part::U | Part::V => self.picture_height() / ratio_down(self.chroma),
+        match component {
+            Component::Y => self.picture_height(),
+            Component::U | Component::V => self.picture_height() / ratio_down(self.chroma),
         }
     }
 }

@@ -15,8 +15,8 @@ use Rattle.dirac_types.specs.Table.{Table}
 use Rattle.dirac_sequence.specs.declared.sequence.Sequence.{Sequence}
 use Rattle.dirac_sequence.specs.Written.{sequence_of}
 use Rattle.dirac_obmc.specs.Compensation.{predicted_at}
-use Rattle.dirac_types.specs.declared.formats.Part.{Part}
-use Rattle.dirac_types.specs.declared.formats.Part.TheVariants as part
+use Rattle.dirac_types.specs.declared.formats.Component.{Component}
+use Rattle.dirac_types.specs.declared.formats.Component.TheVariants as component
 use Rattle.dirac_picture.specs.declared.coded.CodedMotion.{CodedMotion}
 use Rattle.dirac_picture.specs.declared.coded.CodedResidual.{CodedResidual}
 use Rattle.dirac_picture.specs.Grammar.{are_listed, is_intra, is_listed}
@@ -60,10 +60,10 @@ length-zip [] ps few = refl
 length-zip (v ∷ vs) [] few = absurd (omega (arith, few))
 length-zip (v ∷ vs) (p ∷ ps) few = ap suc (length-zip vs ps (omega (arith, few)))
 
-whole_plane : (p : Picture) (o : Part) → IsWhole p → length (plane_of p o).values ≡ (plane_of p o).width * (plane_of p o).height
-whole_plane p part.Y is = is.y
-whole_plane p part.U is = is.u
-whole_plane p part.V is = is.v
+whole_plane : (p : Picture) (o : Component) → IsWhole p → length (plane_of p o).values ≡ (plane_of p o).width * (plane_of p o).height
+whole_plane p component.Y is = is.y
+whole_plane p component.U is = is.u
+whole_plane p component.V is = is.v
 
 bands_at_zero : (t : Settings) (plane : Table) (width height : ℕ) → IsCodable t → t.index ≡ 0 → plane.width ≡ width → plane.height ≡ height → length plane.values ≡ plane.width * plane.height
     → residual t.wavelet t.depth Inter (bands_of t Inter plane) width height ≡ plane
@@ -79,28 +79,28 @@ intra_at_zero t plane width height codes none ew eh whole =
     ∙ ap (λ index. residual t.wavelet t.depth Intra (plane_bands Intra t.wavelet t.depth index plane) plane.width plane.height) none
     ∙ planes_kept Intra t.wavelet t.depth plane codes.wavelet whole
 
-zero_part : (r : CodedResidual) (o : Part) → is_zero_residual r ≡ true → are_zero_bands (bands_in r o) ≡ true
-zero_part r part.Y e = (and_parts (are_zero_bands r.y) (are_zero_bands r.u) (and_parts (are_zero_bands r.y && are_zero_bands r.u) (are_zero_bands r.v) e).0).0
-zero_part r part.U e = (and_parts (are_zero_bands r.y) (are_zero_bands r.u) (and_parts (are_zero_bands r.y && are_zero_bands r.u) (are_zero_bands r.v) e).0).1
-zero_part r part.V e = (and_parts (are_zero_bands r.y && are_zero_bands r.u) (are_zero_bands r.v) e).1
+zero_part : (r : CodedResidual) (o : Component) → is_zero_residual r ≡ true → are_zero_bands (bands_in r o) ≡ true
+zero_part r component.Y e = (and_parts (are_zero_bands r.y) (are_zero_bands r.u) (and_parts (are_zero_bands r.y && are_zero_bands r.u) (are_zero_bands r.v) e).0).0
+zero_part r component.U e = (and_parts (are_zero_bands r.y) (are_zero_bands r.u) (and_parts (are_zero_bands r.y && are_zero_bands r.u) (are_zero_bands r.v) e).0).1
+zero_part r component.V e = (and_parts (are_zero_bands r.y && are_zero_bands r.u) (are_zero_bands r.v) e).1
 
 -- a residual that is left out, being zero, is the same as one that is written
-left_out_again : (s : Sequence) (r : CodedResidual) (o : Part) (b : Bool) → is_zero_residual r ≡ b
+left_out_again : (s : Sequence) (r : CodedResidual) (o : Component) (b : Bool) → is_zero_residual r ≡ b
     → residual_among s Inter o (if b then None else Some r) ≡ residual r.transform.wavelet r.transform.depth Inter (bands_in r o) (width_of s o) (height_of s o)
 left_out_again s r o true e = sym (zeros_stand r.transform.wavelet r.transform.depth (bands_in r o) (width_of s o) (height_of s o) (zero_part r o e))
 left_out_again s r o false e = refl
 
-length-predicted : (s : Sequence) (m : CodedMotion) (first second : Option Picture) (o : Part) → (first ≡ None → ⊥) → length (predicted_among s m first second o) ≡ width_of s o * height_of s o
+length-predicted : (s : Sequence) (m : CodedMotion) (first second : Option Picture) (o : Component) → (first ≡ None → ⊥) → length (predicted_among s m first second o) ≡ width_of s o * height_of s o
 length-predicted s m None second o some = absurd (some refl)
 length-predicted s m (Some first) second o some = length-filled (width_of s o) (height_of s o) (predicted_at (compensation s m first second o))
 
-part_bands : (t : Settings) (refs : List Picture) (q : Planned) (m : Option CodedMotion) (p : Picture) (o : Part) → bands_in (residual_of t refs (header_of q) m p) o ≡ bands_of t (kind_of m) (left_of t refs (header_of q) m p o)
-part_bands t refs q m p part.Y = refl
-part_bands t refs q m p part.U = refl
-part_bands t refs q m p part.V = refl
+part_bands : (t : Settings) (refs : List Picture) (q : Planned) (m : Option CodedMotion) (p : Picture) (o : Component) → bands_in (residual_of t refs (header_of q) m p) o ≡ bands_of t (kind_of m) (left_of t refs (header_of q) m p o)
+part_bands t refs q m p component.Y = refl
+part_bands t refs q m p component.U = refl
+part_bands t refs q m p component.V = refl
 
 -- a plane of a source
-plane_kept : (t : Settings) (refs : List Picture) (q : Planned) (p : Picture) (m : Option CodedMotion) (o : Part) → IsCodable t → IsSource t p → IsWhole p → (is_intra q.code ≡ false → named refs q.ref1 ≡ None → ⊥) → t.index ≡ 0
+plane_kept : (t : Settings) (refs : List Picture) (q : Planned) (p : Picture) (m : Option CodedMotion) (o : Component) → IsCodable t → IsSource t p → IsWhole p → (is_intra q.code ≡ false → named refs q.ref1 ≡ None → ⊥) → t.index ≡ 0
     → (m ≡ None → is_intra q.code ≡ true) → ((x : CodedMotion) → m ≡ Some x → is_intra q.code ≡ false)
     → samples_from (sequence_of t) refs (header_of q) m (residual_unless_zero m (residual_of t refs (header_of q) m p)) o ≡ plane_of p o
 plane_kept t refs q p None o codes source whole found none stays moves =
@@ -145,9 +145,9 @@ pub kept_with : (t : Settings) (refs : List Picture) (q : Planned) (p : Picture)
     → (m ≡ None → is_intra q.code ≡ true) → ((x : CodedMotion) → m ≡ Some x → is_intra q.code ≡ false) → p.number ≡ q.number → t.index ≡ 0 → rebuilt (sequence_of t) refs (coded_with t refs q p m) ≡ p
 kept_with t refs q p m accepted source whole planned found stays moves number none =
     let codes = codable t accepted in
-    let kept : (o : Part) → samples_from (sequence_of t) refs (header_of q) m (residual_unless_zero m (residual_of t refs (header_of q) m p)) o ≡ plane_of p o =
+    let kept : (o : Component) → samples_from (sequence_of t) refs (header_of q) m (residual_unless_zero m (residual_of t refs (header_of q) m p)) o ≡ plane_of p o =
     λ o. plane_kept t refs q p m o codes source whole (first_found refs q planned found) none stays moves in
-    parts_same q.number p.number _ p.y _ p.u _ p.v (sym number) (kept part.Y) (kept part.U) (kept part.V)
+    parts_same q.number p.number _ p.y _ p.u _ p.v (sym number) (kept component.Y) (kept component.U) (kept component.V)
 
 pub source_kept : (t : Settings) (refs : List Picture) (q : Planned) (p : Picture) → IsAccepted t → IsSource t p → IsWhole p → IsPlanned q → are_listed refs (header_of q) ≡ true
     → p.number ≡ q.number → t.index ≡ 0 → rebuilt (sequence_of t) refs (coded_of t refs q p) ≡ p

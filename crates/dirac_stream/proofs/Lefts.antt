@@ -23,8 +23,8 @@ use Rattle.dirac_blocks.specs.Tables.{BlockTable, grey}
 use Rattle.dirac_upconvert.specs.HalfSamples.{IsSample}
 use Rattle.dirac_upconvert.specs.SubSamples.{Up}
 use Rattle.dirac_upconvert.proofs.Halves.{half_samples}
-use Rattle.dirac_types.specs.declared.formats.Part.{Part}
-use Rattle.dirac_types.specs.declared.formats.Part.TheVariants as part
+use Rattle.dirac_types.specs.declared.formats.Component.{Component}
+use Rattle.dirac_types.specs.declared.formats.Component.TheVariants as component
 use Rattle.dirac_obmc.specs.Compensation as obmc
 use Rattle.dirac_obmc.proofs.SamplesPredicted.{planes_predicted}
 use Rattle.dirac_picture.specs.Fits as fits
@@ -56,15 +56,15 @@ picture_is t p is = record {
   v = record { across = is.v.across; down = is.v.down; samples = samples_are p.v.values is.v.samples };
 }
 
-pub plane_samples : (s : Sequence) (p : Picture) (o : Part) → content.IsPicture s p → All IsSample (plane_of p o).values
-plane_samples s p part.Y is = is.y.samples
-plane_samples s p part.U is = is.u.samples
-plane_samples s p part.V is = is.v.samples
+pub plane_samples : (s : Sequence) (p : Picture) (o : Component) → content.IsPicture s p → All IsSample (plane_of p o).values
+plane_samples s p component.Y is = is.y.samples
+plane_samples s p component.U is = is.u.samples
+plane_samples s p component.V is = is.v.samples
 
-pub part_size : (s : Sequence) (o : Part) → IsSequence s → fits.IsPlaneSize (width_of s o) (height_of s o)
-part_size s part.Y lawful = luma_size s lawful
-part_size s part.U lawful = chroma_size s lawful
-part_size s part.V lawful = chroma_size s lawful
+pub part_size : (s : Sequence) (o : Component) → IsSequence s → fits.IsPlaneSize (width_of s o) (height_of s o)
+part_size s component.Y lawful = luma_size s lawful
+part_size s component.U lawful = chroma_size s lawful
+part_size s component.V lawful = chroma_size s lawful
 
 -- ---- the encoder's prediction parameters
 
@@ -103,21 +103,21 @@ motion_fits t code b is c = record {
   table = c.table;
 }
 
-dc_at : (xs : List Block) (k : ℕ) (o : Part) → All HasSamples xs → IsSample (obmc.dc_of o (get_or xs k grey))
+dc_at : (xs : List Block) (k : ℕ) (o : Component) → All HasSamples xs → IsSample (obmc.dc_of o (get_or xs k grey))
 dc_at xs k o all = elim (cases_lt k (length xs)) [
   | inl inside ↦ of o (get_or xs k grey) (all k grey inside)
-  | inr past ↦ rw (get_or_past xs k grey past) (of o grey (record { y = nought; u = nought; v = nought }))
+  | inr past ↦ rw (get_or_past xs k grey past) (of o grey (record { y = zero_sample; u = zero_sample; v = zero_sample }))
 ] where
-  nought : IsSample (pos 0)
-  nought = record { least = omega (arith, ints); most = omega (arith, ints) }
+  zero_sample : IsSample (pos 0)
+  zero_sample = record { least = omega (arith, ints); most = omega (arith, ints) }
 
-  of : (o : Part) (b : Block) → HasSamples b → IsSample (obmc.dc_of o b)
-  of part.Y b is = is.y
-  of part.U b is = is.u
-  of part.V b is = is.v
+  of : (o : Component) (b : Block) → HasSamples b → IsSample (obmc.dc_of o b)
+  of component.Y b is = is.y
+  of component.U b is = is.u
+  of component.V b is = is.v
 
 -- what a plane is predicted from
-motion_of : (s : Sequence) (o : Part) (m : obmc.Compensation) → IsSequence s → m.width ≡ width_of s o → m.height ≡ height_of s o → obmc.IsPredictable m → obmc.IsMotion m
+motion_of : (s : Sequence) (o : Component) (m : obmc.Compensation) → IsSequence s → m.width ≡ width_of s o → m.height ≡ height_of s o → obmc.IsPredictable m → obmc.IsMotion m
 motion_of s o m lawful w h is =
     let size = part_size s o lawful in
     record {
@@ -142,7 +142,7 @@ none_are : All IsSample []
 none_are k d l = absurd (omega (arith, l))
 
 -- what samples predict with the default weights are samples
-pub predicted_are : (t : Settings) (code : ℕ) (b : BlockTable) (first second : Option Picture) (o : Part) → IsPredicting t → IsChosen t code b → ForSome first (IsSource t) → ForSome second (IsSource t)
+pub predicted_are : (t : Settings) (code : ℕ) (b : BlockTable) (first second : Option Picture) (o : Component) → IsPredicting t → IsChosen t code b → ForSome first (IsSource t) → ForSome second (IsSource t)
     → (references_of code ≡ 2 → second ≡ None → ⊥) → All IsSample (predicted_among (sequence_of t) (motion_with t b) first second o)
 predicted_are t code b None second o is c one two there = none_are
 predicted_are t code b (Some p) None o is c one two there =

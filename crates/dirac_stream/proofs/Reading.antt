@@ -32,8 +32,8 @@ use Rattle.dirac_blocks.specs.Grammar.{blocks}
 use Rattle.dirac_blocks.specs.Tables.{BlockTable}
 use Rattle.dirac_blocks.specs.Written.{AreShort, with_block, with_lists}
 use Rattle.dirac_blocks.proofs.Spelled.{table_spelled}
-use Rattle.dirac_types.specs.declared.formats.Part.{Part}
-use Rattle.dirac_types.specs.declared.formats.Part.TheVariants as part
+use Rattle.dirac_types.specs.declared.formats.Component.{Component}
+use Rattle.dirac_types.specs.declared.formats.Component.TheVariants as component
 use Rattle.dirac_picture.specs.declared.coded.CodedMotion.{CodedMotion}
 use Rattle.dirac_picture.specs.declared.coded.CodedResidual.{CodedResidual}
 use Rattle.dirac_picture.specs.Grammar.{are_listed, chroma_height, chroma_width, is_intra, is_listed, motion, picture, picture_read, prediction_fields, residual, residual_unless, zero_residual}
@@ -48,7 +48,7 @@ use Rattle.dirac_stream.specs.Payload.{HasSpelledBlocks, payload_of, with_blocks
 use Rattle.dirac_choose.specs.Chosen.{ChosenTablesFit, IsChosen, chosen}
 use Rattle.dirac_stream.specs.Writable.{AreSmall, IsCodable, IsWritten}
 use Rattle.dirac_stream.proofs.Behind.{whole_starts}
-use Rattle.dirac_stream.proofs.Coding.{bands_fit, bands_noughts, bands_small, codable, is_written, sequence_lawful}
+use Rattle.dirac_stream.proofs.Coding.{bands_fit, bands_zeros, bands_small, codable, is_written, sequence_lawful}
 use Rattle.dirac_stream.proofs.Headers.{length-bytes_in}
 use Rattle.dirac_stream.proofs.InBytes.{bytes_again}
 use Rattle.dirac_stream.proofs.Lefts.{IsPredicting, differences_small, found_is, named_is, picture_is, predicted_are, samples_are}
@@ -75,11 +75,11 @@ pub record IsLeft (width height : ℕ) (t : Table) : Type 0 where
   pub down : t.height ≡ height
   pub small : AreDifferences t.values
 
-pub source_plane : (t : Settings) (p : Picture) (o : Part) → IsSource t p → IsPlane (width_of (sequence_of t) o) (height_of (sequence_of t) o) (plane_of p o)
+pub source_plane : (t : Settings) (p : Picture) (o : Component) → IsSource t p → IsPlane (width_of (sequence_of t) o) (height_of (sequence_of t) o) (plane_of p o)
 unfolding sequence_of
-source_plane t p part.Y is = is.y
-source_plane t p part.U is = is.u
-source_plane t p part.V is = is.v
+source_plane t p component.Y is = is.y
+source_plane t p component.U is = is.u
+source_plane t p component.V is = is.v
 
 -- the motion of a planned picture: just an inter picture has one, by a block table that fits it
 pub data Moves (t : Settings) (q : Planned) : Option CodedMotion → Type 0 where
@@ -91,7 +91,7 @@ second_found refs q is found two =
     let some : is_some q.ref2 ≡ true = is.references.second ∙ le-leb 2 (references_of q.code) (omega (arith, two)) in
     found_is refs q.ref2 some (and_parts (is_listed refs q.ref1) (is_listed refs q.ref2) found).1
 
-pub left_fits : (t : Settings) (refs : List Picture) (q : Planned) (p : Picture) (m : Option CodedMotion) (o : Part) → IsAccepted t → AllByRecursion (IsSource t) refs → IsSource t p → IsPlanned q → are_listed refs (header_of q) ≡ true
+pub left_fits : (t : Settings) (refs : List Picture) (q : Planned) (p : Picture) (m : Option CodedMotion) (o : Component) → IsAccepted t → AllByRecursion (IsSource t) refs → IsSource t p → IsPlanned q → are_listed refs (header_of q) ≡ true
     → Moves t q m → IsLeft (width_of (sequence_of t) o) (height_of (sequence_of t) o) (left_of t refs (header_of q) m p o)
 left_fits t refs q p None o accepted listed source planned found (stays intra) =
     let plane = source_plane t p o source in
@@ -118,16 +118,16 @@ unfolding sequence_of
 residual_fits t refs q p m accepted listed source planned found is =
     let codes = codable t accepted in
     let s = sequence_of t in
-    let left : (o : Part) → IsLeft (width_of s o) (height_of s o) (left_of t refs (header_of q) m p o) = λ o. left_fits t refs q p m o accepted listed source planned found is in
-    let bands : Part → List _ = λ o. bands_of t (kind_of m) (left_of t refs (header_of q) m p o) in
-    let y = level_bands t (kind_of m) t.width t.height (left_of t refs (header_of q) m p part.Y) codes (left part.Y) in
-    let u = level_bands t (kind_of m) (chroma_width s) (chroma_height s) (left_of t refs (header_of q) m p part.U) codes (left part.U) in
-    let v = level_bands t (kind_of m) (chroma_width s) (chroma_height s) (left_of t refs (header_of q) m p part.V) codes (left part.V) in
+    let left : (o : Component) → IsLeft (width_of s o) (height_of s o) (left_of t refs (header_of q) m p o) = λ o. left_fits t refs q p m o accepted listed source planned found is in
+    let bands : Component → List _ = λ o. bands_of t (kind_of m) (left_of t refs (header_of q) m p o) in
+    let y = level_bands t (kind_of m) t.width t.height (left_of t refs (header_of q) m p component.Y) codes (left component.Y) in
+    let u = level_bands t (kind_of m) (chroma_width s) (chroma_height s) (left_of t refs (header_of q) m p component.U) codes (left component.U) in
+    let v = level_bands t (kind_of m) (chroma_width s) (chroma_height s) (left_of t refs (header_of q) m p component.V) codes (left component.V) in
     is_written t (residual_of t refs (header_of q) m p) codes refl
-    (bands_fit t t.width t.height (bands part.Y) codes.depth.0 y) (bands_fit t (chroma_width s) (chroma_height s) (bands part.U) codes.depth.0 u) (bands_fit t (chroma_width s) (chroma_height s) (bands part.V) codes.depth.0 v)
-    (bands_noughts (lowest_size t.width t.depth) (lowest_size t.height t.depth) t.depth (bands part.Y) y)
-    (bands_noughts (lowest_size (chroma_width s) t.depth) (lowest_size (chroma_height s) t.depth) t.depth (bands part.U) u)
-    (bands_noughts (lowest_size (chroma_width s) t.depth) (lowest_size (chroma_height s) t.depth) t.depth (bands part.V) v)
+    (bands_fit t t.width t.height (bands component.Y) codes.depth.0 y) (bands_fit t (chroma_width s) (chroma_height s) (bands component.U) codes.depth.0 u) (bands_fit t (chroma_width s) (chroma_height s) (bands component.V) codes.depth.0 v)
+    (bands_zeros (lowest_size t.width t.depth) (lowest_size t.height t.depth) t.depth (bands component.Y) y)
+    (bands_zeros (lowest_size (chroma_width s) t.depth) (lowest_size (chroma_height s) t.depth) t.depth (bands component.U) u)
+    (bands_zeros (lowest_size (chroma_width s) t.depth) (lowest_size (chroma_height s) t.depth) t.depth (bands component.V) v)
 
 -- ---- the lengths of blocks
 
@@ -287,12 +287,12 @@ unfolding sequence_of
 residual_small t refs q p m accepted listed source planned found is =
     let codes = codable t accepted in
     let s = sequence_of t in
-    let left : (o : Part) → IsLeft (width_of s o) (height_of s o) (left_of t refs (header_of q) m p o) = λ o. left_fits t refs q p m o accepted listed source planned found is in
-    let bands : Part → List _ = λ o. bands_of t (kind_of m) (left_of t refs (header_of q) m p o) in
+    let left : (o : Component) → IsLeft (width_of s o) (height_of s o) (left_of t refs (header_of q) m p o) = λ o. left_fits t refs q p m o accepted listed source planned found is in
+    let bands : Component → List _ = λ o. bands_of t (kind_of m) (left_of t refs (header_of q) m p o) in
     record {
-      y = bands_small (lowest_size t.width t.depth) (lowest_size t.height t.depth) t.depth (bands part.Y) (level_bands t (kind_of m) t.width t.height (left_of t refs (header_of q) m p part.Y) codes (left part.Y));
-      u = bands_small (lowest_size (chroma_width s) t.depth) (lowest_size (chroma_height s) t.depth) t.depth (bands part.U) (level_bands t (kind_of m) (chroma_width s) (chroma_height s) (left_of t refs (header_of q) m p part.U) codes (left part.U));
-      v = bands_small (lowest_size (chroma_width s) t.depth) (lowest_size (chroma_height s) t.depth) t.depth (bands part.V) (level_bands t (kind_of m) (chroma_width s) (chroma_height s) (left_of t refs (header_of q) m p part.V) codes (left part.V));
+      y = bands_small (lowest_size t.width t.depth) (lowest_size t.height t.depth) t.depth (bands component.Y) (level_bands t (kind_of m) t.width t.height (left_of t refs (header_of q) m p component.Y) codes (left component.Y));
+      u = bands_small (lowest_size (chroma_width s) t.depth) (lowest_size (chroma_height s) t.depth) t.depth (bands component.U) (level_bands t (kind_of m) (chroma_width s) (chroma_height s) (left_of t refs (header_of q) m p component.U) codes (left component.U));
+      v = bands_small (lowest_size (chroma_width s) t.depth) (lowest_size (chroma_height s) t.depth) t.depth (bands component.V) (level_bands t (kind_of m) (chroma_width s) (chroma_height s) (left_of t refs (header_of q) m p component.V) codes (left component.V));
     }
 
 pub jobs_small : TablesAreChosen → JobsAreSmall

@@ -8,7 +8,7 @@ use Rattle.dirac_types.specs.declared.faults.Refusal.{Refusal}
 use Rattle.dirac_types.specs.declared.picture.Picture.{Picture}
 use Rattle.dirac_types.specs.declared.settings.Settings.{Settings}
 use Rattle.dirac_types.specs.Settings.{IsAccepted}
-use Rattle.dirac_units.specs.declared.spot.Spot.{Spot}
+use Rattle.dirac_units.specs.declared.unit_place.UnitPlace.{UnitPlace}
 use Rattle.dirac_units.specs.Cut.{UnitText, IsCut, after, start}
 use Rattle.dirac_units.specs.Info.{IsLawful}
 use Rattle.dirac_units.specs.Writing.{info_bytes, IsReadAsWritten}
@@ -21,7 +21,7 @@ use Rattle.dirac_refs.specs.Delivery.{delivered, flush, flushed, key_of}
 use Rattle.dirac_refs.specs.References.{committed}
 use Rattle.dirac_decode.specs.declared.opened.Opened.{Opened}
 use Rattle.dirac_decode.specs.Content.{rebuilt}
-use Rattle.dirac_decode.specs.Course.{Course, Moved, as_reference, begun, content, first_or, header_moves, is_same, made, moved, opening, passed, picture_moves, shows, staying}
+use Rattle.dirac_decode.specs.StreamState.{StreamState, StreamStep, as_reference, begun, content, first_or, header_step, is_same, made, unit_step, opening, passed, picture_step, shows, staying}
 use Rattle.dirac_decode.specs.Sequences.{flushed_behind}
 use Rattle.dirac_decode.specs.Shown.{Outcome, follows, outcome, with_front}
 use Rattle.dirac_stream.specs.Coding.{Made, pushed, refs_after, waiting_of}
@@ -39,54 +39,54 @@ header_lawful previous payload = rw (le-leb 13 (13 + length payload) (omega arit
 picture_lawful : (code previous : ℕ) (payload : List ℕ) → IsPictureCode code → IsLawful (info_for code previous payload)
 picture_lawful code previous payload is = rw (is.kind, le-leb 13 (13 + length payload) (omega arith)) refl
 
-header_cut : IsReadAsWritten → (t : Settings) (previous : ℕ) (spot : Spot) (rest : List ℕ) (units : List UnitText) → previous < 2 ^ 32
-    → IsCut (after spot (info_for 0x00 previous (sequence_payload t))) rest units None
-    → IsCut spot (header_unit t previous ++ rest) (header_text t previous ∷ units) None
+header_cut : IsReadAsWritten → (t : Settings) (previous : ℕ) (unit_place : UnitPlace) (rest : List ℕ) (units : List UnitText) → previous < 2 ^ 32
+    → IsCut (after unit_place (info_for 0x00 previous (sequence_payload t))) rest units None
+    → IsCut unit_place (header_unit t previous ++ rest) (header_text t previous ∷ units) None
 unfolding header_text
-header_cut written t previous spot rest units small more =
+header_cut written t previous unit_place rest units small more =
     let info = info_for 0x00 previous (sequence_payload t) in
-    one_cut spot info (sequence_payload t) rest units None
-    (unit_front_is written spot info (sequence_payload t) rest (omega arith) (header_short t) small (header_lawful previous (sequence_payload t))) more
+    one_cut unit_place info (sequence_payload t) rest units None
+    (unit_front_is written unit_place info (sequence_payload t) rest (omega arith) (header_short t) small (header_lawful previous (sequence_payload t))) more
 
-picture_cut : IsReadAsWritten → (code previous : ℕ) (payload : List ℕ) (spot : Spot) (rest : List ℕ) (units : List UnitText) → IsPictureCode code → 13 + length payload < 2 ^ 32 → previous < 2 ^ 32
-    → IsCut (after spot (info_for code previous payload)) rest units None
-    → IsCut spot (unit code previous payload ++ rest) (record { info = info_for code previous payload; payload = payload } ∷ units) None
-picture_cut written code previous payload spot rest units is short small more =
+picture_cut : IsReadAsWritten → (code previous : ℕ) (payload : List ℕ) (unit_place : UnitPlace) (rest : List ℕ) (units : List UnitText) → IsPictureCode code → 13 + length payload < 2 ^ 32 → previous < 2 ^ 32
+    → IsCut (after unit_place (info_for code previous payload)) rest units None
+    → IsCut unit_place (unit code previous payload ++ rest) (record { info = info_for code previous payload; payload = payload } ∷ units) None
+picture_cut written code previous payload unit_place rest units is short small more =
     let info = info_for code previous payload in
-    one_cut spot info payload rest units None
-    (unit_front_is written spot info payload rest (omega arith) short small (picture_lawful code previous payload is)) more
+    one_cut unit_place info payload rest units None
+    (unit_front_is written unit_place info payload rest (omega arith) short small (picture_lawful code previous payload is)) more
 
-end_cut : IsReadAsWritten → (previous : ℕ) (spot : Spot) → previous < 2 ^ 32 → IsCut spot (end_unit previous) (end_text previous ∷ []) None
+end_cut : IsReadAsWritten → (previous : ℕ) (unit_place : UnitPlace) → previous < 2 ^ 32 → IsCut unit_place (end_unit previous) (end_text previous ∷ []) None
 unfolding end_text
-end_cut written previous spot small =
+end_cut written previous unit_place small =
     let info = end_info previous in
     let whole : (info_bytes info ++ []) ++ [] ≡ info_bytes info = append-nil (info_bytes info ++ []) ∙ append-nil (info_bytes info) in
-    subst (λ (l : List ℕ). IsCut spot l (record { info = info; payload = [] } ∷ []) None) whole
-    (one_cut spot info [] [] [] None (unit_front_is written spot info [] [] refl (omega arith) small refl) (nothing_left (after spot info) refl))
+    subst (λ (l : List ℕ). IsCut unit_place l (record { info = info; payload = [] } ∷ []) None) whole
+    (one_cut unit_place info [] [] [] None (unit_front_is written unit_place info [] [] refl (omega arith) small refl) (nothing_left (after unit_place info) refl))
 
 -- a picture with the header that stands before an intra picture
-both_by : IsReadAsWritten → (t : Settings) (code previous : ℕ) (payload : List ℕ) (b : Bool) (spot : Spot) (rest : List ℕ) (units : List UnitText) → IsPictureCode code → 13 + length payload < 2 ^ 32 → previous < 2 ^ 32
-    → ((next : Spot) → IsCut next rest units None)
-    → IsCut spot (((if b then header_unit t previous else []) ++ unit code (if b then header_length t else previous) payload) ++ rest)
+both_by : IsReadAsWritten → (t : Settings) (code previous : ℕ) (payload : List ℕ) (b : Bool) (unit_place : UnitPlace) (rest : List ℕ) (units : List UnitText) → IsPictureCode code → 13 + length payload < 2 ^ 32 → previous < 2 ^ 32
+    → ((next : UnitPlace) → IsCut next rest units None)
+    → IsCut unit_place (((if b then header_unit t previous else []) ++ unit code (if b then header_length t else previous) payload) ++ rest)
     ((if b then header_text t previous ∷ [] else []) ++ record { info = info_for code (if b then header_length t else previous) payload; payload = payload } ∷ units) None
-both_by written t code previous payload true spot rest units is short small more =
-    let next = after spot (info_for 0x00 previous (sequence_payload t)) in
+both_by written t code previous payload true unit_place rest units is short small more =
+    let next = after unit_place (info_for 0x00 previous (sequence_payload t)) in
     let text : UnitText = record { info = info_for code (header_length t) payload; payload = payload } in
-    subst (λ (l : List ℕ). IsCut spot l (header_text t previous ∷ text ∷ units) None) (sym (append_assoc (header_unit t previous) (unit code (header_length t) payload) rest))
-    (header_cut written t previous spot (unit code (header_length t) payload ++ rest) (text ∷ units) small
+    subst (λ (l : List ℕ). IsCut unit_place l (header_text t previous ∷ text ∷ units) None) (sym (append_assoc (header_unit t previous) (unit code (header_length t) payload) rest))
+    (header_cut written t previous unit_place (unit code (header_length t) payload ++ rest) (text ∷ units) small
     (picture_cut written code (header_length t) payload next rest units is short (header_short t) (more (after next (info_for code (header_length t) payload)))))
-both_by written t code previous payload false spot rest units is short small more =
-    picture_cut written code previous payload spot rest units is short small (more (after spot (info_for code previous payload)))
+both_by written t code previous payload false unit_place rest units is short small more =
+    picture_cut written code previous payload unit_place rest units is short small (more (after unit_place (info_for code previous payload)))
 
-cut_from : IsReadAsWritten → (t : Settings) (ms : List Made) (previous : ℕ) (spot : Spot) → previous < 2 ^ 32 → AllByRecursion IsUnit ms
-    → IsCut spot (units_of t previous ms ++ end_unit (last_length previous ms)) (units_from t previous ms) None
+cut_from : IsReadAsWritten → (t : Settings) (ms : List Made) (previous : ℕ) (unit_place : UnitPlace) → previous < 2 ^ 32 → AllByRecursion IsUnit ms
+    → IsCut unit_place (units_of t previous ms ++ end_unit (last_length previous ms)) (units_from t previous ms) None
 unfolding units_of units_from picture_text
-cut_from written t [] previous spot small all = end_cut written previous spot small
-cut_from written t (m ∷ ms) previous spot small all =
+cut_from written t [] previous unit_place small all = end_cut written previous unit_place small
+cut_from written t (m ∷ ms) previous unit_place small all =
     let first = header_before t m previous ++ picture_unit t m previous in
     let last = end_unit (last_length (picture_length m) ms) in
-    subst (λ (l : List ℕ). IsCut spot l (units_from t previous (m ∷ ms)) None) (sym (append_assoc first (units_of t (picture_length m) ms) last))
-    (both_by written t m.coded.code previous m.payload (is_intra m.coded.code) spot (units_of t (picture_length m) ms ++ last) (units_from t (picture_length m) ms) all.0.code all.0.short small
+    subst (λ (l : List ℕ). IsCut unit_place l (units_from t previous (m ∷ ms)) None) (sym (append_assoc first (units_of t (picture_length m) ms) last))
+    (both_by written t m.coded.code previous m.payload (is_intra m.coded.code) unit_place (units_of t (picture_length m) ms ++ last) (units_from t (picture_length m) ms) all.0.code all.0.short small
     (λ next. cut_from written t ms (picture_length m) next all.0.short all.1))
 
 pub streams_cut : IsReadAsWritten → StreamsAreCut
@@ -109,81 +109,81 @@ opened_by : Settings → Opened
 opened_by t = record { header = sequence_payload t; sequence = sequence_of t }
 
 -- the stream so far: its sequence is open, these pictures are listed, and these wait
-record Going (t : Settings) (refs : List Picture) (waiting : List Waiting) (course : Course) : Type 0 where
-  pub opened : course.opened ≡ Some (opened_by t)
-  pub listed : course.list ≡ refs
-  pub waits : course.waiting ≡ waiting
+record Going (t : Settings) (refs : List Picture) (waiting : List Waiting) (state : StreamState) : Type 0 where
+  pub opened : state.opened ≡ Some (opened_by t)
+  pub listed : state.list ≡ refs
+  pub waits : state.waiting ≡ waiting
 
-repeats : (t : Settings) (course : Course) → course.opened ≡ Some (opened_by t) → moved course 0x00 (sequence_payload t) ≡ Ok (staying course)
-unfolding moved opened_by
-repeats t course e =
-    let answer : Bool → Result Moved Refusal = λ same. if same then Ok (staying course) else Err (record { at = 0; cause = SequenceChanged }) in
-    ap (λ o. header_moves course o (sequence_payload t)) e ∙ ap answer (same_header (sequence_payload t))
+repeats : (t : Settings) (state : StreamState) → state.opened ≡ Some (opened_by t) → unit_step state 0x00 (sequence_payload t) ≡ Ok (staying state)
+unfolding unit_step opened_by
+repeats t state e =
+    let answer : Bool → Result StreamStep Refusal = λ same. if same then Ok (staying state) else Err (record { at = 0; cause = SequenceChanged }) in
+    ap (λ o. header_step state o (sequence_payload t)) e ∙ ap answer (same_header (sequence_payload t))
 
-opens : (t : Settings) → sequence_read (sequence_payload t) ≡ Ok (sequence_of t) → moved begun 0x00 (sequence_payload t) ≡ Ok (staying (record begun { opened = Some (opened_by t); first = None }))
-unfolding moved opened_by
+opens : (t : Settings) → sequence_read (sequence_payload t) ≡ Ok (sequence_of t) → unit_step begun 0x00 (sequence_payload t) ≡ Ok (staying (record begun { opened = Some (opened_by t); first = None }))
+unfolding unit_step opened_by
 opens t read = ap (opening begun (sequence_payload t)) read
 
-adds : (t : Settings) (code : ℕ) (payload : List ℕ) (coded : CodedPicture) (course : Course) → course.opened ≡ Some (opened_by t) → IsPictureCode code
-    → picture_read code (sequence_of t) course.list payload ≡ Ok coded → moved course code payload ≡ Ok (shows course coded (rebuilt (sequence_of t) course.list coded))
-unfolding moved opened_by
-adds t code payload coded course e is read =
-    ap (λ (b : Bool). if b then content course code payload else Ok (passed course code)) is.read
-    ∙ ap (λ (b : Bool). if b then header_moves course course.opened payload else picture_moves course course.opened code payload) is.other
-    ∙ ap (λ o. picture_moves course o code payload) e ∙ ap (made course (opened_by t)) read
+adds : (t : Settings) (code : ℕ) (payload : List ℕ) (coded : CodedPicture) (state : StreamState) → state.opened ≡ Some (opened_by t) → IsPictureCode code
+    → picture_read code (sequence_of t) state.list payload ≡ Ok coded → unit_step state code payload ≡ Ok (shows state coded (rebuilt (sequence_of t) state.list coded))
+unfolding unit_step opened_by
+adds t code payload coded state e is read =
+    ap (λ (b : Bool). if b then content state code payload else Ok (passed state code)) is.read
+    ∙ ap (λ (b : Bool). if b then header_step state state.opened payload else picture_step state state.opened code payload) is.other
+    ∙ ap (λ o. picture_step state o code payload) e ∙ ap (made state (opened_by t)) read
 
-outcome_more : (course : Course) (spot : Spot) (unit : UnitText) (units : List UnitText) (m : Moved) → moved course unit.info.code unit.payload ≡ Ok m
-    → outcome course spot (unit ∷ units) None ≡ with_front m.gone (outcome m.course (after spot unit.info) units None)
+outcome_more : (state : StreamState) (unit_place : UnitPlace) (unit : UnitText) (units : List UnitText) (m : StreamStep) → unit_step state unit.info.code unit.payload ≡ Ok m
+    → outcome state unit_place (unit ∷ units) None ≡ with_front m.gone (outcome m.state (after unit_place unit.info) units None)
 unfolding outcome
-outcome_more course spot unit units m e = ap (follows course spot (λ next. outcome next (after spot unit.info) units None)) e
+outcome_more state unit_place unit units m e = ap (follows state unit_place (λ next. outcome next (after unit_place unit.info) units None)) e
 
 -- the pictures that come out, and no fault
 record Shows (o : Outcome) (pictures : List Picture) : Type 0 where
   pub shown : o.shown ≡ pictures
   pub none : o.end ≡ None
 
-shows_end : (previous : ℕ) (waiting : List Waiting) (spot : Spot) (course : Course) → course.waiting ≡ waiting → Shows (outcome course spot (end_text previous ∷ []) None) (flushed_behind waiting [])
-unfolding outcome moved end_text
-shows_end previous waiting spot course waits = record {
+shows_end : (previous : ℕ) (waiting : List Waiting) (unit_place : UnitPlace) (state : StreamState) → state.waiting ≡ waiting → Shows (outcome state unit_place (end_text previous ∷ []) None) (flushed_behind waiting [])
+unfolding outcome unit_step end_text
+shows_end previous waiting unit_place state waits = record {
   shown = ap (λ ws. flushed ws ++ []) waits ∙ append-nil (flushed waiting);
   none = refl;
 }
 
 -- a sequence header that stands before an intra picture
-shows_header : (t : Settings) (previous : ℕ) (b : Bool) (spot : Spot) (course : Course) (units : List UnitText) (pictures : List Picture) → course.opened ≡ Some (opened_by t)
-    → ((next : Spot) → Shows (outcome course next units None) pictures) → Shows (outcome course spot ((if b then header_text t previous ∷ [] else []) ++ units) None) pictures
+shows_header : (t : Settings) (previous : ℕ) (b : Bool) (unit_place : UnitPlace) (state : StreamState) (units : List UnitText) (pictures : List Picture) → state.opened ≡ Some (opened_by t)
+    → ((next : UnitPlace) → Shows (outcome state next units None) pictures) → Shows (outcome state unit_place ((if b then header_text t previous ∷ [] else []) ++ units) None) pictures
 unfolding header_text
-shows_header t previous true spot course units pictures opened more =
+shows_header t previous true unit_place state units pictures opened more =
     let header = header_text t previous in
-    let rest = more (after spot header.info) in
-    let step = outcome_more course spot header units (staying course) (repeats t course opened) in
+    let rest = more (after unit_place header.info) in
+    let step = outcome_more state unit_place header units (staying state) (repeats t state opened) in
     record { shown = ap (λ (o : Outcome). o.shown) step ∙ rest.shown; none = ap (λ (o : Outcome). o.end) step ∙ rest.none }
-shows_header t previous false spot course units pictures opened more = more spot
+shows_header t previous false unit_place state units pictures opened more = more unit_place
 
 -- one picture more
-shows_one : (t : Settings) (m : Made) (refs : List Picture) (waiting rest : List Waiting) (previous : ℕ) (spot : Spot) (course : Course) (units : List UnitText)
-    → Going t refs waiting course → first_or course.first m.shown.number ≡ 0 → IsMade t refs m
-    → ((next : Spot) (later : Course) → Going t (refs_after refs m) (delivered (waiting ++ waiting_of m ∷ [])).waiting later → later.first ≡ Some 0
+shows_one : (t : Settings) (m : Made) (refs : List Picture) (waiting rest : List Waiting) (previous : ℕ) (unit_place : UnitPlace) (state : StreamState) (units : List UnitText)
+    → Going t refs waiting state → first_or state.first m.shown.number ≡ 0 → IsMade t refs m
+    → ((next : UnitPlace) (later : StreamState) → Going t (refs_after refs m) (delivered (waiting ++ waiting_of m ∷ [])).waiting later → later.first ≡ Some 0
     → Shows (outcome later next units None) (flushed_behind (delivered (waiting ++ waiting_of m ∷ [])).waiting rest))
-    → Shows (outcome course spot (picture_text t m previous ∷ units) None) (flushed_behind waiting (waiting_of m ∷ rest))
+    → Shows (outcome state unit_place (picture_text t m previous ∷ units) None) (flushed_behind waiting (waiting_of m ∷ rest))
 unfolding picture_text
-shows_one t m refs waiting rest previous spot course units g first is more =
+shows_one t m refs waiting rest previous unit_place state units g first is more =
     let text = picture_text t m previous in
-    let mv = shows course m.coded m.shown in
+    let mv = shows state m.coded m.shown in
     let now = delivered (waiting ++ waiting_of m ∷ []) in
-    let read : picture_read m.coded.code (sequence_of t) course.list m.payload ≡ Ok m.coded = ap (λ l. picture_read m.coded.code (sequence_of t) l m.payload) g.listed ∙ is.read in
-    let same : rebuilt (sequence_of t) course.list m.coded ≡ m.shown = ap (λ l. rebuilt (sequence_of t) l m.coded) g.listed ∙ sym is.shows in
-    let moves : moved course m.coded.code m.payload ≡ Ok mv = adds t m.coded.code m.payload m.coded course g.opened is.fits.code read ∙ ap (λ p. Ok (shows course m.coded p)) same in
+    let read : picture_read m.coded.code (sequence_of t) state.list m.payload ≡ Ok m.coded = ap (λ l. picture_read m.coded.code (sequence_of t) l m.payload) g.listed ∙ is.read in
+    let same : rebuilt (sequence_of t) state.list m.coded ≡ m.shown = ap (λ l. rebuilt (sequence_of t) l m.coded) g.listed ∙ sym is.shows in
+    let moves : unit_step state m.coded.code m.payload ≡ Ok mv = adds t m.coded.code m.payload m.coded state g.opened is.fits.code read ∙ ap (λ p. Ok (shows state m.coded p)) same in
     let push : List Waiting → ℕ → List Waiting = λ ws k. ws ++ record { key = key_of k m.shown.number; picture = m.shown } ∷ [] in
-    let all : push course.waiting (first_or course.first m.shown.number) ≡ waiting ++ waiting_of m ∷ [] = ap₂ push g.waits first in
-    let going : Going t (refs_after refs m) now.waiting mv.course = record {
+    let all : push state.waiting (first_or state.first m.shown.number) ≡ waiting ++ waiting_of m ∷ [] = ap₂ push g.waits first in
+    let going : Going t (refs_after refs m) now.waiting mv.state = record {
       opened = g.opened;
       listed = ap (λ l. committed l m.coded.header.retire (as_reference m.coded.code m.shown)) g.listed;
       waits = ap (λ ws. (delivered ws).waiting) all;
     } in
     let gone : mv.gone ≡ now.gone = ap (λ ws. (delivered ws).gone) all in
-    let others = more (after spot text.info) mv.course going (ap Some first) in
-    let step = outcome_more course spot text units mv moves in
+    let others = more (after unit_place text.info) mv.state going (ap Some first) in
+    let step = outcome_more state unit_place text units mv moves in
     record {
       shown =
           ap (λ (o : Outcome). o.shown) step ∙ ap (λ l. mv.gone ++ l) others.shown ∙ ap (λ l. l ++ flushed_behind now.waiting rest) gone
@@ -191,20 +191,20 @@ shows_one t m refs waiting rest previous spot course units g first is more =
       none = ap (λ (o : Outcome). o.end) step ∙ others.none;
     }
 
-shows_from : (t : Settings) (ms : List Made) (refs : List Picture) (waiting : List Waiting) (previous : ℕ) (spot : Spot) (course : Course) → Going t refs waiting course → course.first ≡ Some 0 → AreMade t refs ms
-    → Shows (outcome course spot (units_from t previous ms) None) (flushed_behind waiting (pushed ms))
+shows_from : (t : Settings) (ms : List Made) (refs : List Picture) (waiting : List Waiting) (previous : ℕ) (unit_place : UnitPlace) (state : StreamState) → Going t refs waiting state → state.first ≡ Some 0 → AreMade t refs ms
+    → Shows (outcome state unit_place (units_from t previous ms) None) (flushed_behind waiting (pushed ms))
 unfolding units_from
-shows_from t [] refs waiting previous spot course g first all = shows_end previous waiting spot course g.waits
-shows_from t (m ∷ ms) refs waiting previous spot course g first all =
+shows_from t [] refs waiting previous unit_place state g first all = shows_end previous waiting unit_place state g.waits
+shows_from t (m ∷ ms) refs waiting previous unit_place state g first all =
     let units = units_from t (picture_length m) ms in
     let now = delivered (waiting ++ waiting_of m ∷ []) in
-    shows_header t previous (is_intra m.coded.code) spot course (picture_text t m previous ∷ units) (flushed_behind waiting (pushed (m ∷ ms))) g.opened
-    (λ next. shows_one t m refs waiting (pushed ms) previous next course units g (ap (λ o. first_or o m.shown.number) first) all.0
+    shows_header t previous (is_intra m.coded.code) unit_place state (picture_text t m previous ∷ units) (flushed_behind waiting (pushed (m ∷ ms))) g.opened
+    (λ next. shows_one t m refs waiting (pushed ms) previous next state units g (ap (λ o. first_or o m.shown.number) first) all.0
     (λ next' later g' first'. shows_from t ms (refs_after refs m) now.waiting (picture_length m) next' later g' first' all.1))
 
 -- ---- the whole stream
 
-first_course : Settings → Course
+first_course : Settings → StreamState
 first_course t = record begun { opened = Some (opened_by t); first = None }
 
 first_going : (t : Settings) → Going t [] [] (first_course t)
@@ -217,7 +217,7 @@ each_unit t refs (m ∷ ms) all = (all.0.fits, each_unit t (refs_after refs m) m
 
 -- behind the first sequence header
 shows_all : (t : Settings) (ms : List Made) (units : List UnitText) → sequence_read (sequence_payload t) ≡ Ok (sequence_of t)
-    → ((next : Spot) → Shows (outcome (first_course t) next units None) (flush (pushed ms))) → Shows (outcome begun start (header_text t 0 ∷ units) None) (flush (pushed ms))
+    → ((next : UnitPlace) → Shows (outcome (first_course t) next units None) (flush (pushed ms))) → Shows (outcome begun start (header_text t 0 ∷ units) None) (flush (pushed ms))
 unfolding first_course header_text
 shows_all t ms units read more =
     let rest = more (after start (header_text t 0).info) in

@@ -14,8 +14,8 @@ use Rattle.dirac_types.specs.Table.{Table}
 use Rattle.dirac_sequence.specs.declared.sequence.Sequence.{Sequence}
 use Rattle.dirac_sequence.specs.Written.{sequence_of}
 use Rattle.dirac_header.specs.declared.header.PictureHeader.{PictureHeader}
-use Rattle.dirac_types.specs.declared.formats.Part.{Part}
-use Rattle.dirac_types.specs.declared.formats.Part.TheVariants as part
+use Rattle.dirac_types.specs.declared.formats.Component.{Component}
+use Rattle.dirac_types.specs.declared.formats.Component.TheVariants as component
 use Rattle.dirac_picture.specs.declared.coded.CodedMotion.{CodedMotion}
 use Rattle.dirac_picture.specs.declared.coded.CodedPicture.{CodedPicture}
 use Rattle.dirac_picture.specs.declared.coded.CodedResidual.{CodedResidual}
@@ -24,7 +24,7 @@ use Rattle.dirac_refs.specs.References.{appended, committed, retire, without}
 use Rattle.dirac_residual.specs.Residual.{clipped, with_prediction}
 use Rattle.dirac_analysis.specs.Fits.{AreSamples}
 use Rattle.dirac_decode.specs.Content.{height_of, named, predicted_among, rebuilt, residual_among, samples_from, width_of}
-use Rattle.dirac_decode.specs.Course.{as_reference}
+use Rattle.dirac_decode.specs.StreamState.{as_reference}
 use Rattle.dirac_header.specs.Codes.{is_reference}
 use Rattle.dirac_plan.specs.declared.planned.Planned.{Planned}
 use Rattle.dirac_stream.specs.Coded.{IsPlane, IsSource}
@@ -50,19 +50,19 @@ clipped_samples t k d l =
     rw (get_or_default (map clip t.values) k d (pos 0) l, get_or-map clip t.values k (pos 0) (pos 0) inside) (clip_again (get_or t.values k (pos 0)))
 
 -- the size of a residual
-left_size : (s : Sequence) (kind : Kind) (r : Option CodedResidual) (p : Part) → ((residual_among s kind p r).width ≡ width_of s p) × ((residual_among s kind p r).height ≡ height_of s p)
+left_size : (s : Sequence) (kind : Kind) (r : Option CodedResidual) (p : Component) → ((residual_among s kind p r).width ≡ width_of s p) × ((residual_among s kind p r).height ≡ height_of s p)
 left_size s kind None p = (refl, refl)
 left_size s kind (Some r) p = (refl, refl)
 
-intra_rebuilt : (s : Sequence) (r : Option CodedResidual) (p : Part) → IsPlane (width_of s p) (height_of s p) (clipped (residual_among s Intra p r))
+intra_rebuilt : (s : Sequence) (r : Option CodedResidual) (p : Component) → IsPlane (width_of s p) (height_of s p) (clipped (residual_among s Intra p r))
 intra_rebuilt s r p = let size = left_size s Intra r p in record { across = size.0; down = size.1; samples = clipped_samples (residual_among s Intra p r) }
 
-inter_rebuilt : (s : Sequence) (r : Option CodedResidual) (predicted : List ℤ) (p : Part) → IsPlane (width_of s p) (height_of s p) (clipped (with_prediction (residual_among s Inter p r) predicted))
+inter_rebuilt : (s : Sequence) (r : Option CodedResidual) (predicted : List ℤ) (p : Component) → IsPlane (width_of s p) (height_of s p) (clipped (with_prediction (residual_among s Inter p r) predicted))
 inter_rebuilt s r predicted p =
     let size = left_size s Inter r p in
     record { across = size.0; down = size.1; samples = clipped_samples (with_prediction (residual_among s Inter p r) predicted) }
 
-plane_rebuilt : (s : Sequence) (refs : List Picture) (head : PictureHeader) (m : Option CodedMotion) (r : Option CodedResidual) (p : Part) → IsPlane (width_of s p) (height_of s p) (samples_from s refs head m r p)
+plane_rebuilt : (s : Sequence) (refs : List Picture) (head : PictureHeader) (m : Option CodedMotion) (r : Option CodedResidual) (p : Component) → IsPlane (width_of s p) (height_of s p) (samples_from s refs head m r p)
 plane_rebuilt s refs head None r p = intra_rebuilt s r p
 plane_rebuilt s refs head (Some m) r p = inter_rebuilt s r (predicted_among s m (named refs head.ref1) (named refs head.ref2) p) p
 
@@ -71,9 +71,9 @@ unfolding sequence_of
 rebuilt_source t refs c =
     let s = sequence_of t in
     record {
-      y = plane_rebuilt s refs c.header c.motion c.residual part.Y;
-      u = plane_rebuilt s refs c.header c.motion c.residual part.U;
-      v = plane_rebuilt s refs c.header c.motion c.residual part.V;
+      y = plane_rebuilt s refs c.header c.motion c.residual component.Y;
+      u = plane_rebuilt s refs c.header c.motion c.residual component.U;
+      v = plane_rebuilt s refs c.header c.motion c.residual component.V;
     }
 
 -- ---- lists of pictures

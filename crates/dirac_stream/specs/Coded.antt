@@ -12,9 +12,9 @@ use Rattle.dirac_header.specs.declared.transform.Transform.{Transform}
 use Rattle.dirac_header.specs.Transform.{band_length}
 use Rattle.dirac_header.specs.Written.{prediction_of}
 use Rattle.dirac_blocks.specs.Tables.{BlockTable}
-use Rattle.dirac_coeffs.specs.declared.spot.CodedBand.{CodedBand}
-use Rattle.dirac_types.specs.declared.formats.Part.{Part}
-use Rattle.dirac_types.specs.declared.formats.Part.TheVariants as part
+use Rattle.dirac_coeffs.specs.declared.layout.CodedBand.{CodedBand}
+use Rattle.dirac_types.specs.declared.formats.Component.{Component}
+use Rattle.dirac_types.specs.declared.formats.Component.TheVariants as component
 use Rattle.dirac_picture.specs.declared.coded.CodedMotion.{CodedMotion}
 use Rattle.dirac_picture.specs.declared.coded.CodedPicture.{CodedPicture}
 use Rattle.dirac_picture.specs.declared.coded.CodedResidual.{CodedResidual}
@@ -73,11 +73,11 @@ less_prediction t predicted = record {
 
 -- the residual of a plane of a source: of an intra picture the plane itself, of an inter picture the plane less what is
 -- predicted for it
-abbrev pub left_of : Settings → List Picture → PictureHeader → Option CodedMotion → Picture → Part → Table
-left_of t refs head None p part = plane_of p part
-left_of t refs head (Some m) p part =
-    less_prediction (plane_of p part)
-    (predicted_among (sequence_of t) m (named refs head.ref1) (named refs head.ref2) part)
+abbrev pub left_of : Settings → List Picture → PictureHeader → Option CodedMotion → Picture → Component → Table
+left_of t refs head None p component = plane_of p component
+left_of t refs head (Some m) p component =
+    less_prediction (plane_of p component)
+    (predicted_among (sequence_of t) m (named refs head.ref1) (named refs head.ref2) component)
 
 -- its quantised bands
 abbrev pub bands_of : Settings → Kind → Table → List CodedBand
@@ -87,9 +87,9 @@ bands_of t kind plane = plane_bands kind t.wavelet t.depth t.index plane
 abbrev pub residual_of : Settings → List Picture → PictureHeader → Option CodedMotion → Picture → CodedResidual
 residual_of t refs head m p = record {
   transform = transform_of t;
-  y = bands_of t (kind_of m) (left_of t refs head m p part.Y);
-  u = bands_of t (kind_of m) (left_of t refs head m p part.U);
-  v = bands_of t (kind_of m) (left_of t refs head m p part.V);
+  y = bands_of t (kind_of m) (left_of t refs head m p component.Y);
+  u = bands_of t (kind_of m) (left_of t refs head m p component.U);
+  v = bands_of t (kind_of m) (left_of t refs head m p component.V);
 }
 
 -- whether all bands of all planes have zeros alone

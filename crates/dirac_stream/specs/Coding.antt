@@ -7,7 +7,7 @@ use Rattle.dirac_refs.specs.declared.waiting.Waiting.{Waiting}
 use Rattle.dirac_refs.specs.References.{committed}
 use Rattle.dirac_picture.specs.declared.coded.CodedPicture.{CodedPicture}
 use Rattle.dirac_decode.specs.Content.{rebuilt}
-use Rattle.dirac_decode.specs.Course.{as_reference}
+use Rattle.dirac_decode.specs.StreamState.{as_reference}
 use Rattle.dirac_plan.specs.declared.planned.Planned.{Planned}
 use Rattle.dirac_stream.specs.Coded.{coded_of}
 use Rattle.dirac_stream.specs.Payload.{payload_of}

@@ -10,12 +10,12 @@ use Rattle.dirac_blocks.specs.Decisions.{block_decisions, least_numbers}
 use Rattle.dirac_blocks.specs.Grammar.{blocks}
 use Rattle.dirac_blocks.specs.Tables.{BlockTable}
 use Rattle.dirac_blocks.specs.Written.{with_lists}
-use Rattle.dirac_coeffs.specs.declared.spot.CodedBand.{CodedBand}
+use Rattle.dirac_coeffs.specs.declared.layout.CodedBand.{CodedBand}
 use Rattle.dirac_coeffs.specs.Written.{SpelledBehind, up_to_byte, with_band}
 use Rattle.dirac_picture.specs.declared.coded.CodedMotion.{CodedMotion}
 use Rattle.dirac_picture.specs.declared.coded.CodedPicture.{CodedPicture}
 use Rattle.dirac_picture.specs.declared.coded.CodedResidual.{CodedResidual}
-use Rattle.dirac_picture.specs.Bands.{parent_values, spot_of}
+use Rattle.dirac_picture.specs.Bands.{parent_values, layout_of}
 use Rattle.dirac_picture.specs.Grammar.{chroma_width, chroma_height, is_intra}
 
 -- the bits with bands of a plane of this size behind them: first come the bands `before`, which are written already
@@ -23,7 +23,7 @@ abbrev pub with_bands : Transform → ℕ → ℕ → List CodedBand → List Co
 with_bands t width height before [] bits = bits
 with_bands t width height before (b ∷ bands) bits =
     with_bands t width height (before ++ b ∷ []) bands
-    (with_band (spot_of t width height (length before)) (parent_values before) b bits)
+    (with_band (layout_of t width height (length before)) (parent_values before) b bits)
 
 -- with all bands of a plane behind them
 abbrev pub with_plane : Transform → ℕ → ℕ → List CodedBand → List Bool → List Bool

@@ -5,7 +5,7 @@ use Rattle.dirac_types.specs.declared.settings.Settings.{Settings}
 use Rattle.dirac_sequence.specs.declared.sequence.Sequence.{Sequence}
 use Rattle.dirac_sequence.specs.Written.{IsWritable}
 use Rattle.dirac_header.specs.Written.{FitFrom, IsTransform}
-use Rattle.dirac_coeffs.specs.declared.spot.CodedBand.{CodedBand}
+use Rattle.dirac_coeffs.specs.declared.layout.CodedBand.{CodedBand}
 use Rattle.dirac_coeffs.specs.Written.{is_zero_band}
 use Rattle.dirac_picture.specs.declared.coded.CodedResidual.{CodedResidual}
 use Rattle.dirac_picture.specs.Fits.{IsResidual}
@@ -19,8 +19,8 @@ pub record IsCodable (t : Settings) : Type 0 where
   pub codeblocks : 1 ≤ t.codeblocks
 
 -- bands of zeros have index 0
-abbrev pub HaveNoughts : List CodedBand → Type 0
-HaveNoughts bands =
+abbrev pub HaveZeros : List CodedBand → Type 0
+HaveZeros bands =
     (n : ℕ) (b : CodedBand) → slice_get bands n ≡ Some b → is_zero_band b.table.values ≡ true → b.index ≡ 0
 
 -- a residual of this sequence whose bands of zeros have index 0
@@ -28,9 +28,9 @@ pub record IsWritten (s : Sequence) (r : CodedResidual) : Type 0 where
   pub lawful : IsResidual s r
   pub transform : IsTransform r.transform
   pub fits : FitFrom s.width s.height r.transform.depth 0 r.transform.counts
-  pub y : HaveNoughts r.y
-  pub u : HaveNoughts r.u
-  pub v : HaveNoughts r.v
+  pub y : HaveZeros r.y
+  pub u : HaveZeros r.u
+  pub v : HaveZeros r.v
 
 -- coefficients stay below 2 ^ 38
 abbrev pub HaveSmall : List CodedBand → Type 0

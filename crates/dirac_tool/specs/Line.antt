@@ -5,7 +5,7 @@ use Rattle.dirac_types.specs.declared.faults.Cause.{Cause}
 use Rattle.dirac_units.specs.declared.info.ParseInfo.{ParseInfo}
 use Rattle.dirac_units.specs.declared.info.UnitKind.{UnitKind}
 use Rattle.dirac_units.specs.declared.info.UnitKind.TheVariants as kind
-use Rattle.dirac_units.specs.declared.spot.Spot.{Spot}
+use Rattle.dirac_units.specs.declared.unit_place.UnitPlace.{UnitPlace}
 use Rattle.dirac_units.specs.Info.{unit_kind}
 use Rattle.dirac_units.specs.Cut.{UnitText, after}
 
@@ -37,6 +37,6 @@ abbrev pub line_text : ℕ → ℕ → ParseInfo → List ℕ
 line_text index at info = line_with index at info (name_of_code info.code)
 
 -- the lines of the units of a cut, of which the first begins there
-abbrev pub lines : Spot → List UnitText → List ℕ
-lines spot [] = []
-lines spot (unit ∷ units) = line_text spot.index spot.at unit.info ++ lines (after spot unit.info) units
+abbrev pub lines : UnitPlace → List UnitText → List ℕ
+lines unit_place [] = []
+lines unit_place (unit ∷ units) = line_text unit_place.index unit_place.at unit.info ++ lines (after unit_place unit.info) units

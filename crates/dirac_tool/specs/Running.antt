@@ -16,50 +16,50 @@ use Rattle.dirac_tool.specs.Listing.{IsListed, IsListAnswer}
 use Rattle.dirac_tool.specs.Making.{AnswersMake, first_bad_for_make}
 
 -- the bytes that the source holds and that the two sinks took, where they tell them
-pub record Told : Type 0 where
+pub record Held : Type 0 where
   pub held : Option (List ℕ)
   pub out : Option (List ℕ)
   pub side : Option (List ℕ)
 
 -- `list`: the lines of the cut of the bytes held, and its end or fault; nothing is said beside them
-pub record Lists (old new : Told) (answer : Ended) : Type 0 where
+pub record Lists (old new : Held) (answer : Ended) : Type 0 where
   pub answers : IsListAnswer answer
   pub listed : IfSome old.held (λ bytes. IsListed bytes answer old.out new.out)
   pub whole : answer ≡ ended.Done → IsAtEnd new.held
   pub side : new.side ≡ old.side
 
 -- `decode`: the pictures that the bytes held show, and their tally
-pub record Decodes (old new : Told) (answer : Ended) : Type 0 where
+pub record Decodes (old new : Held) (answer : Ended) : Type 0 where
   pub answers : IsDecodeAnswer answer
   pub decoded : IfSome old.held (λ bytes. IsDecoded bytes answer old.out new.out old.side new.side)
   pub few : IfSome old.held (TellsFew answer)
   pub whole : answer ≡ ended.Done → IsAtEnd new.held
 
 -- `encode` with accepted settings: the stream of the raw pictures that the bytes held are, and their reconstructions
-pub record Encodes (t : Settings) (old new : Told) (answer : Ended) : Type 0 where
+pub record Encodes (t : Settings) (old new : Held) (answer : Ended) : Type 0 where
   pub answers : IsEncodeAnswer answer
   pub encoded : IfSome old.held (λ bytes. IsEncoded t bytes answer old.out new.out old.side new.side)
   pub whole : answer ≡ ended.Done → IsAtEnd new.held
   pub partial : (n : ℕ) → answer ≡ ended.PartialPicture n → (1 ≤ n) × IsAtEnd new.held
 
 -- `encode`: the first setting that is out of its range is answered and nothing is read or written, or there is none
-abbrev pub EncodesUnless : Option BadSetting → Settings → Told → Told → Ended → Type 0
+abbrev pub EncodesUnless : Option BadSetting → Settings → Held → Held → Ended → Type 0
 EncodesUnless (Some bad) t old new answer = (answer ≡ ended.BadSettings bad) × (new ≡ old)
 EncodesUnless None t old new answer = Encodes t old new answer
 
 -- `make` with accepted settings and number of pictures: nothing is read, and nothing is said beside what comes out
-pub record Makes (t : Settings) (count : ℕ) (old new : Told) (answer : Ended) : Type 0 where
+pub record Makes (t : Settings) (count : ℕ) (old new : Held) (answer : Ended) : Type 0 where
   pub made : AnswersMake answer t count old.out new.out
   pub unread : new.held ≡ old.held
   pub side : new.side ≡ old.side
 
 -- `make`: the first setting that is out of its range, or else the number of pictures, is answered and nothing is written
-abbrev pub MakesUnless : Option BadSetting → Settings → ℕ → Told → Told → Ended → Type 0
+abbrev pub MakesUnless : Option BadSetting → Settings → ℕ → Held → Held → Ended → Type 0
 MakesUnless (Some bad) t count old new answer = (answer ≡ ended.BadSettings bad) × (new ≡ old)
 MakesUnless None t count old new answer = Makes t count old new answer
 
 -- what the words ask for
-abbrev pub RunsTo : Result Command WordsStop → Told → Told → Ended → Type 0
+abbrev pub RunsTo : Result Command WordsStop → Held → Held → Ended → Type 0
 RunsTo (Err (Usage n)) old new answer = (answer ≡ ended.Usage n) × (new ≡ old)
 RunsTo (Ok command.List) old new answer = Lists old new answer
 RunsTo (Ok command.Decode) old new answer = Decodes old new answer

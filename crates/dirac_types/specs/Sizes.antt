@@ -1,7 +1,7 @@
 -- The sizes of the pictures of settings, and of their planes.
 use Rattle.std.specs.Prelude.{ℕ, ◌/◌}
-use Rattle.dirac_types.specs.declared.formats.Part.{Part}
-use Rattle.dirac_types.specs.declared.formats.Part.TheVariants as part
+use Rattle.dirac_types.specs.declared.formats.Component.{Component}
+use Rattle.dirac_types.specs.declared.formats.Component.TheVariants as component
 use Rattle.dirac_types.specs.declared.settings.Settings.{Settings}
 use Rattle.dirac_types.specs.Settings.{step_across, step_down}
 
@@ -10,13 +10,13 @@ abbrev pub picture_height : Settings → ℕ
 picture_height t = t.height
 
 -- the columns of a plane
-abbrev pub plane_width : Settings → Part → ℕ
-plane_width t part.Y = t.width
-plane_width t part.U = t.width / step_across t.chroma
-plane_width t part.V = t.width / step_across t.chroma
+abbrev pub plane_width : Settings → Component → ℕ
+plane_width t component.Y = t.width
+plane_width t component.U = t.width / step_across t.chroma
+plane_width t component.V = t.width / step_across t.chroma
 
 -- its rows
-abbrev pub plane_height : Settings → Part → ℕ
-plane_height t part.Y = picture_height t
-plane_height t part.U = picture_height t / step_down t.chroma
-plane_height t part.V = picture_height t / step_down t.chroma
+abbrev pub plane_height : Settings → Component → ℕ
+plane_height t component.Y = picture_height t
+plane_height t component.U = picture_height t / step_down t.chroma
+plane_height t component.V = picture_height t / step_down t.chroma

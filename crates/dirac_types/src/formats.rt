@@ -17,7 +17,7 @@ pub enum Band {
 
 /// A plane of a picture: luma, or one of the two of chroma.
 #[derive(Clone, Copy, Debug, PartialEq, Eq)]
-pub enum Part {
+pub enum Component {
     Y,
     U,
     V,

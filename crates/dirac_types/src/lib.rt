@@ -17,7 +17,7 @@ mod table;
 
 pub use base_formats::{BaseFormat, base_format};
 pub use faults::{Cause, Fault, Refusal, Stop};
-pub use formats::{Band, BlockGrid, Chroma, Kind, Part, Vector};
+pub use formats::{Band, BlockGrid, Chroma, Kind, Component, Vector};
 pub use memory::NoMemory;
 pub use numbers::with_sign;
 pub use picture::Picture;

@@ -2,7 +2,7 @@
 
 ghost use Rattle.std.specs.Prelude.{◌≡◌};
 
-use crate::formats::Part;
+use crate::formats::Component;
 use crate::ranges::{step_across, step_down};
 use crate::settings::Settings;
 
@@ -17,22 +17,22 @@ impl Settings {
     }
 
     /// The number of columns of a plane of a picture.
-    pub fn plane_width(&self, part: Part) -> u32
-        ensures { result ≡ sizes.plane_width self.now part }
+    pub fn plane_width(&self, component: Component) -> u32
+        ensures { result ≡ sizes.plane_width self.now component }
     {
-        match part {
-            Part::Y => self.width,
-            Part::U | Part::V => self.width / step_across(self.chroma),
+        match component {
+            Component::Y => self.width,
+            Component::U | Component::V => self.width / step_across(self.chroma),
         }
     }
 
     /// The number of rows of a plane of a picture.
-    pub fn plane_height(&self, part: Part) -> u32
-        ensures { result ≡ sizes.plane_height self.now part }
+    pub fn plane_height(&self, component: Component) -> u32
+        ensures { result ≡ sizes.plane_height self.now component }
     {
-        match part {
-            Part::Y => self.picture_height(),
-            Part::U | Part::V => self.picture_height() / step_down(self.chroma),
+        match component {
+            Component::Y => self.picture_height(),
+            Component::U | Component::V => self.picture_height() / step_down(self.chroma),
         }
     }
 }

@@ -5,7 +5,7 @@ use Rattle.std.proofs.lemmas.List.{take-append-le}
 use Rattle.dirac_types.specs.declared.faults.Refusal.{Refusal}
 use Rattle.dirac_types.specs.declared.faults.Fault.{Fault}
 use Rattle.dirac_units.specs.declared.info.ParseInfo.{ParseInfo}
-use Rattle.dirac_units.specs.declared.spot.Spot.{Spot}
+use Rattle.dirac_units.specs.declared.unit_place.UnitPlace.{UnitPlace}
 use Rattle.dirac_units.specs.Info.{IsLawful, refusal_of, unless_refused, info_read, span_of, info_of, prefix}
 use Rattle.dirac_types.specs.declared.faults.Cause.TheVariants.{BadPrefix, MissingEnd, Truncated}
 use Rattle.std.specs.Prelude.{nat_eq}
@@ -40,51 +40,51 @@ info_read-lawful bytes info read =
     ]
 
 -- a unit at the front was read from 13 bytes, and lies in the bytes
-unit_front-whole : (spot : Spot) (bytes : List ℕ) (r : Result ParseInfo Refusal) (info : ParseInfo) → unit_front spot bytes r ≡ Ok info
+unit_front-whole : (unit_place : UnitPlace) (bytes : List ℕ) (r : Result ParseInfo Refusal) (info : ParseInfo) → unit_front unit_place bytes r ≡ Ok info
     → (r ≡ Ok info) × (span_of info ≤ length bytes)
-unit_front-whole spot bytes (Ok i) info is =
-    let short : Option Fault = Some (fault_at spot (length bytes) Truncated) in
+unit_front-whole unit_place bytes (Ok i) info is =
+    let short : Option Fault = Some (fault_at unit_place (length bytes) Truncated) in
     elim (chosen (nat_lt (length bytes) (span_of i)) (Err short) (Ok i) (Ok info) is) [
       | inl p ↦ absurd (err_is_no_ok (Err short) info short refl p.1)
       | inr p ↦
           let same = ok_same (Ok i) i info refl p.1 in
           (ap Ok same, subst (λ (j : ParseInfo). span_of j ≤ length bytes) same (ltb-false (length bytes) (span_of i) p.0))
     ]
-unit_front-whole spot bytes (Err e) info is =
-    absurd (err_is_no_ok (unit_front spot bytes (Err e)) info (Some (fault_at spot e.at e.cause)) refl is)
+unit_front-whole unit_place bytes (Err e) info is =
+    absurd (err_is_no_ok (unit_front unit_place bytes (Err e)) info (Some (fault_at unit_place e.at e.cause)) refl is)
 
-pub front_whole : (spot : Spot) (bytes : List ℕ) (info : ParseInfo) → front_of spot bytes ≡ Ok info
+pub front_whole : (unit_place : UnitPlace) (bytes : List ℕ) (info : ParseInfo) → front_of unit_place bytes ≡ Ok info
     → (13 ≤ length bytes) × (info_read (take 13 bytes) ≡ Ok info) × (span_of info ≤ length bytes)
-front_whole spot bytes info is =
-    let none : Option Fault = if spot.closed then None else Some (fault_at spot 0 MissingEnd) in
-    let few : Option Fault = Some (fault_at spot (length bytes) Truncated) in
-    let whole = unit_front spot bytes (info_read (take 13 bytes)) in
+front_whole unit_place bytes info is =
+    let none : Option Fault = if unit_place.closed then None else Some (fault_at unit_place 0 MissingEnd) in
+    let few : Option Fault = Some (fault_at unit_place (length bytes) Truncated) in
+    let whole = unit_front unit_place bytes (info_read (take 13 bytes)) in
     let longer : Result ParseInfo (Option Fault) = if nat_lt (length bytes) 13 then Err few else whole in
     elim (chosen (length bytes == 0) (Err none) longer (Ok info) is) [
       | inl p ↦ absurd (err_is_no_ok (Err none) info none refl p.1)
       | inr p ↦ elim (chosen (nat_lt (length bytes) 13) (Err few) whole (Ok info) p.1) [
         | inl q ↦ absurd (err_is_no_ok (Err few) info few refl q.1)
         | inr q ↦
-            let read = unit_front-whole spot bytes (info_read (take 13 bytes)) info q.1 in
+            let read = unit_front-whole unit_place bytes (info_read (take 13 bytes)) info q.1 in
             (ltb-false (length bytes) 13 q.0, read.0, read.1)
       ]
     ]
 
 -- what makes a whole unit
-pub front_is : (spot : Spot) (bytes : List ℕ) (info : ParseInfo) → 13 ≤ length bytes → info_read (take 13 bytes) ≡ Ok info → span_of info ≤ length bytes
-    → front_of spot bytes ≡ Ok info
-front_is spot bytes info long read fits =
+pub front_is : (unit_place : UnitPlace) (bytes : List ℕ) (info : ParseInfo) → 13 ≤ length bytes → info_read (take 13 bytes) ≡ Ok info → span_of info ≤ length bytes
+    → front_of unit_place bytes ≡ Ok info
+front_is unit_place bytes info long read fits =
     let some : (length bytes == 0) ≡ false = ne_eqb (length bytes) 0 (λ e. omega arith) in
     let header : nat_lt (length bytes) 13 ≡ false = le-ltb (length bytes) 13 long in
     let whole : nat_lt (length bytes) (span_of info) ≡ false = le-ltb (length bytes) (span_of info) fits in
     not_chosen (length bytes == 0) _ _ some ∙ not_chosen (nat_lt (length bytes) 13) _ _ header
-    ∙ ap (unit_front spot bytes) read ∙ not_chosen (nat_lt (length bytes) (span_of info)) _ _ whole
+    ∙ ap (unit_front unit_place bytes) read ∙ not_chosen (nat_lt (length bytes) (span_of info)) _ _ whole
 
 -- a whole unit is the same with more bytes behind it
-pub front_more : (spot : Spot) (bytes more : List ℕ) (info : ParseInfo) → front_of spot bytes ≡ Ok info → front_of spot (bytes ++ more) ≡ Ok info
-front_more spot bytes more info is =
-    let whole = front_whole spot bytes info is in
+pub front_more : (unit_place : UnitPlace) (bytes more : List ℕ) (info : ParseInfo) → front_of unit_place bytes ≡ Ok info → front_of unit_place (bytes ++ more) ≡ Ok info
+front_more unit_place bytes more info is =
+    let whole = front_whole unit_place bytes info is in
     let longer = length-append bytes more in
-    front_is spot (bytes ++ more) info (omega (arith, longer, whole.0))
+    front_is unit_place (bytes ++ more) info (omega (arith, longer, whole.0))
     (ap info_read (take-append-le 13 bytes more whole.0) ∙ whole.1)
     (omega (arith, longer, whole.2))

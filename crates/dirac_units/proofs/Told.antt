@@ -10,7 +10,7 @@ use Rattle.dirac_types.specs.declared.faults.Cause.TheVariants.{Truncated}
 use Rattle.dirac_types.specs.declared.faults.Fault.{Fault}
 use Rattle.dirac_types.specs.declared.faults.Refusal.{Refusal}
 use Rattle.dirac_units.specs.declared.info.ParseInfo.{ParseInfo}
-use Rattle.dirac_units.specs.declared.spot.Spot.{Spot}
+use Rattle.dirac_units.specs.declared.unit_place.UnitPlace.{UnitPlace}
 use Rattle.dirac_units.specs.declared.unit.Unit.{Unit}
 use Rattle.dirac_units.specs.Info.{info_read, span_of, fields_are_read}
 use Rattle.dirac_units.specs.Cut.{front_of, unit_front, fault_at}
@@ -25,50 +25,50 @@ chosen_so true x y is = refl
 chosen_so false x y is = cc
 
 -- where 13 bytes stand at the front, they decide
-behind_header : (spot : Spot) (all : List ℕ) → 13 ≤ length all → front_of spot all ≡ unit_front spot all (info_read (take 13 all))
-behind_header spot all long =
+behind_header : (unit_place : UnitPlace) (all : List ℕ) → 13 ≤ length all → front_of unit_place all ≡ unit_front unit_place all (info_read (take 13 all))
+behind_header unit_place all long =
     not_chosen (length all == 0) _ _ (ne_eqb (length all) 0 (λ e. omega arith)) ∙ not_chosen (nat_lt (length all) 13) _ _ (le-ltb (length all) 13 long)
 
-short_front : (spot : Spot) (all : List ℕ) (info : ParseInfo) → 13 ≤ length all → info_read (take 13 all) ≡ Ok info → length all < span_of info
-    → front_of spot all ≡ Err (Some (fault_at spot (length all) Truncated))
-short_front spot all info long read short =
-    behind_header spot all long ∙ ap (unit_front spot all) read ∙ chosen_so (nat_lt (length all) (span_of info)) _ _ (lt-ltb (length all) (span_of info) short)
+short_front : (unit_place : UnitPlace) (all : List ℕ) (info : ParseInfo) → 13 ≤ length all → info_read (take 13 all) ≡ Ok info → length all < span_of info
+    → front_of unit_place all ≡ Err (Some (fault_at unit_place (length all) Truncated))
+short_front unit_place all info long read short =
+    behind_header unit_place all long ∙ ap (unit_front unit_place all) read ∙ chosen_so (nat_lt (length all) (span_of info)) _ _ (lt-ltb (length all) (span_of info) short)
 
 -- at the end of the source all was taken
-pub told_end : (spot : Spot) (bytes : List ℕ) (held held' : Option (List ℕ)) (end : Option Fault) → Consumes held held' bytes → IsAtEnd held'
-    → front_of spot bytes ≡ Err end → IfSome held (λ all. front_of spot all ≡ Err end)
-told_end spot bytes None held' end taken at is = tt
-told_end spot bytes (Some xs) None end taken at is = absurd taken
-told_end spot bytes (Some xs) (Some ys) end taken at is =
-    ap (front_of spot) (taken ∙ ap (λ l. bytes ++ l) at ∙ append-nil bytes) ∙ is
+pub told_end : (unit_place : UnitPlace) (bytes : List ℕ) (held held' : Option (List ℕ)) (end : Option Fault) → Consumes held held' bytes → IsAtEnd held'
+    → front_of unit_place bytes ≡ Err end → IfSome held (λ all. front_of unit_place all ≡ Err end)
+told_end unit_place bytes None held' end taken at is = tt
+told_end unit_place bytes (Some xs) None end taken at is = absurd taken
+told_end unit_place bytes (Some xs) (Some ys) end taken at is =
+    ap (front_of unit_place) (taken ∙ ap (λ l. bytes ++ l) at ∙ append-nil bytes) ∙ is
 
 -- a parse info that is refused, whatever follows it
-pub told_refusal : (spot : Spot) (header : List ℕ) (held held' : Option (List ℕ)) (refusal : Refusal) → Consumes held held' header → length header ≡ 13
-    → info_read header ≡ Err refusal → IfSome held (λ all. front_of spot all ≡ Err (Some (fault_at spot refusal.at refusal.cause)))
-told_refusal spot header None held' refusal taken len read = tt
-told_refusal spot header (Some xs) None refusal taken len read = absurd taken
-told_refusal spot header (Some xs) (Some ys) refusal taken len read =
-    ap (front_of spot) taken ∙ behind_header spot (header ++ ys) (omega (arith, length-append header ys))
-    ∙ ap (unit_front spot (header ++ ys)) (ap info_read (take_at header ys 13 len) ∙ read)
+pub told_refusal : (unit_place : UnitPlace) (header : List ℕ) (held held' : Option (List ℕ)) (refusal : Refusal) → Consumes held held' header → length header ≡ 13
+    → info_read header ≡ Err refusal → IfSome held (λ all. front_of unit_place all ≡ Err (Some (fault_at unit_place refusal.at refusal.cause)))
+told_refusal unit_place header None held' refusal taken len read = tt
+told_refusal unit_place header (Some xs) None refusal taken len read = absurd taken
+told_refusal unit_place header (Some xs) (Some ys) refusal taken len read =
+    ap (front_of unit_place) taken ∙ behind_header unit_place (header ++ ys) (omega (arith, length-append header ys))
+    ∙ ap (unit_front unit_place (header ++ ys)) (ap info_read (take_at header ys 13 len) ∙ read)
 
 -- a parse info whose payload is cut
-pub told_cut : (spot : Spot) (info : ParseInfo) (header more : List ℕ) (held mid held' : Option (List ℕ)) → Consumes held mid header → length header ≡ 13
+pub told_cut : (unit_place : UnitPlace) (info : ParseInfo) (header more : List ℕ) (held mid held' : Option (List ℕ)) → Consumes held mid header → length header ≡ 13
     → info_read header ≡ Ok info → Consumes mid held' more → IsAtEnd held' → length more + 13 < span_of info
-    → IfSome held (λ all. front_of spot all ≡ Err (Some (fault_at spot (13 + length more) Truncated)))
-told_cut spot info header more held mid held' first len read rest at short =
+    → IfSome held (λ all. front_of unit_place all ≡ Err (Some (fault_at unit_place (13 + length more) Truncated)))
+told_cut unit_place info header more held mid held' first len read rest at short =
     let size : length (header ++ more) ≡ 13 + length more = length-append header more ∙ omega (arith, len) in
-    subst (λ n. IfSome held (λ all. front_of spot all ≡ Err (Some (fault_at spot n Truncated)))) size
-    (told_end spot (header ++ more) held held' (Some (fault_at spot (length (header ++ more)) Truncated)) (Consumes-trans held mid held' header more first rest) at
-    (short_front spot (header ++ more) info (omega (arith, size)) (ap info_read (take_at header more 13 len) ∙ read) (omega (arith, size, short))))
+    subst (λ n. IfSome held (λ all. front_of unit_place all ≡ Err (Some (fault_at unit_place n Truncated)))) size
+    (told_end unit_place (header ++ more) held held' (Some (fault_at unit_place (length (header ++ more)) Truncated)) (Consumes-trans held mid held' header more first rest) at
+    (short_front unit_place (header ++ more) info (omega (arith, size)) (ap info_read (take_at header more 13 len) ∙ read) (omega (arith, size, short))))
 
 -- a parse info and its payload
-pub told_unit : (keep : Bool) (unit : Unit) (spot : Spot) (header more : List ℕ) (held mid held' : Option (List ℕ)) → Consumes held mid header → length header ≡ 13
+pub told_unit : (keep : Bool) (unit : Unit) (unit_place : UnitPlace) (header more : List ℕ) (held mid held' : Option (List ℕ)) → Consumes held mid header → length header ≡ 13
     → info_read header ≡ Ok unit.info → Consumes mid held' more → length more + 13 ≡ span_of unit.info
-    → unit.payload ≡ (if keep && fields_are_read unit.info.code then more else []) → IfSome held (λ all. IsFirstUnit keep unit spot all held')
-told_unit keep unit spot header more None mid held' first len read rest size is = tt
-told_unit keep unit spot header more (Some xs) None held' first len read rest size is = absurd first
-told_unit keep unit spot header more (Some xs) (Some ys) None first len read rest size is = absurd rest
-told_unit keep unit spot header more (Some xs) (Some ys) (Some zs) first len read rest size is =
+    → unit.payload ≡ (if keep && fields_are_read unit.info.code then more else []) → IfSome held (λ all. IsFirstUnit keep unit unit_place all held')
+told_unit keep unit unit_place header more None mid held' first len read rest size is = tt
+told_unit keep unit unit_place header more (Some xs) None held' first len read rest size is = absurd first
+told_unit keep unit unit_place header more (Some xs) (Some ys) None first len read rest size is = absurd rest
+told_unit keep unit unit_place header more (Some xs) (Some ys) (Some zs) first len read rest size is =
     let span = span_of unit.info in
     let parts : xs ≡ header ++ (more ++ zs) = first ∙ ap (λ l. header ++ l) rest in
     let whole : xs ≡ (header ++ more) ++ zs = parts ∙ sym (append_assoc header more zs) in
@@ -77,17 +77,17 @@ told_unit keep unit spot header more (Some xs) (Some ys) (Some zs) first len rea
     ap (λ l. slice_range l 13 span) parts ∙ ap (take (span - 13)) (ap (λ n. drop n (header ++ (more ++ zs))) (sym len) ∙ drop-append_seam header (more ++ zs))
     ∙ take_at more zs (span - 13) (omega (arith, size)) in
     let reads : info_read (take 13 xs) ≡ Ok unit.info = ap info_read (ap (take 13) parts ∙ take_at header (more ++ zs) 13 len) ∙ read in (
-      front_is spot xs unit.info (omega (arith, ap length whole, length-append (header ++ more) zs, long, size)) reads (omega (arith, ap length whole, length-append (header ++ more) zs, long)),
+      front_is unit_place xs unit.info (omega (arith, ap length whole, length-append (header ++ more) zs, long, size)) reads (omega (arith, ap length whole, length-append (header ++ more) zs, long)),
       is ∙ ap (λ l. if keep && fields_are_read unit.info.code then l else []) (sym part),
       ap Some (sym (ap (drop span) whole ∙ ap (λ n. drop n ((header ++ more) ++ zs)) (sym long) ∙ drop-append_seam (header ++ more) zs)),
     )
 
 -- the unit whose payload was taken
-pub told_taken : (keep kept : Bool) (unit : Unit) (spot : Spot) (held mid held' : Option (List ℕ)) → TakesInfo unit.info held mid
+pub told_taken : (keep kept : Bool) (unit : Unit) (unit_place : UnitPlace) (held mid held' : Option (List ℕ)) → TakesInfo unit.info held mid
     → TakesPayload (span_of unit.info - 13) kept unit.payload mid held' → 13 ≤ span_of unit.info → kept ≡ (keep && fields_are_read unit.info.code)
-    → IfSome held (λ all. IsFirstUnit keep unit spot all held')
-told_taken keep kept unit spot held mid held' info payload long is =
-    told_unit keep unit spot info.0 payload.0 held mid held' info.3 info.1 info.2 payload.3 (omega (arith, payload.1))
+    → IfSome held (λ all. IsFirstUnit keep unit unit_place all held')
+told_taken keep kept unit unit_place held mid held' info payload long is =
+    told_unit keep unit unit_place info.0 payload.0 held mid held' info.3 info.1 info.2 payload.3 (omega (arith, payload.1))
     (payload.2 ∙ ap (λ (b : Bool). if b then payload.0 else []) is)
 
 -- no more is kept than was taken
@@ -96,15 +96,15 @@ payload_fits n true payload held held' so = omega (arith, ap length so.2, so.1)
 payload_fits n false payload held held' so = omega (arith, ap length so.2)
 
 -- and the one whose payload was cut
-pub told_none : (why : NoUnit) (info : ParseInfo) (spot : Spot) (held mid held' : Option (List ℕ)) → TakesInfo info held mid
-    → CutsPayload why spot (span_of info - 13) mid held' → TakesNone why spot held held'
-told_none (none.End end) info spot held mid held' taken cut = (
-  subst (λ (e : Option Fault). IfSome held (λ all. front_of spot all ≡ Err e)) (sym cut.2)
-      (told_cut spot info taken.0 cut.0 held mid held' taken.3 taken.1 taken.2 cut.3 cut.4 (omega (arith, cut.1))),
+pub told_none : (why : NoUnit) (info : ParseInfo) (unit_place : UnitPlace) (held mid held' : Option (List ℕ)) → TakesInfo info held mid
+    → CutsPayload why unit_place (span_of info - 13) mid held' → TakesNone why unit_place held held'
+told_none (none.End end) info unit_place held mid held' taken cut = (
+  subst (λ (e : Option Fault). IfSome held (λ all. front_of unit_place all ≡ Err e)) (sym cut.2)
+      (told_cut unit_place info taken.0 cut.0 held mid held' taken.3 taken.1 taken.2 cut.3 cut.4 (omega (arith, cut.1))),
   λ e. cut.4,
 )
-told_none none.ReadFault info spot held mid held' taken cut = tt
-told_none none.NoMemory info spot held mid held' taken cut = tt
+told_none none.ReadFault info unit_place held mid held' taken cut = tt
+told_none none.NoMemory info unit_place held mid held' taken cut = tt
 
 -- one more piece of a payload
 pub piece_taken : (n k m : ℕ) (keep : Bool) (payload payload' piece : List ℕ) (held mid held' : Option (List ℕ)) → TakesPayload n keep payload held mid
@@ -123,14 +123,14 @@ piece_taken n k m false payload payload' piece held mid held' so got len sum is 
 )
 
 -- the piece in which the input ends
-pub piece_cut : (spot : Spot) (count n k at : ℕ) (keep : Bool) (payload piece : List ℕ) (held mid held' : Option (List ℕ)) (fault : Fault)
+pub piece_cut : (unit_place : UnitPlace) (count n k at : ℕ) (keep : Bool) (payload piece : List ℕ) (held mid held' : Option (List ℕ)) (fault : Fault)
     → TakesPayload n keep payload held mid → Consumes mid held' piece → length piece ≡ k → IsAtEnd held' → n + k < count → at ≡ 13 + n + k
-    → fault ≡ fault_at spot at Truncated → CutsPayload (none.End (Some fault)) spot count held held'
-piece_cut spot count n k at keep payload piece held mid held' fault so got len end few place is =
+    → fault ≡ fault_at unit_place at Truncated → CutsPayload (none.End (Some fault)) unit_place count held held'
+piece_cut unit_place count n k at keep payload piece held mid held' fault so got len end few place is =
     let size : length (so.0 ++ piece) ≡ n + k = length-append so.0 piece ∙ omega (arith, so.1, len) in (
       so.0 ++ piece,
       omega (arith, size, few),
-      ap Some (is ∙ ap (λ a. fault_at spot a Truncated) (omega (arith, place, size))),
+      ap Some (is ∙ ap (λ a. fault_at unit_place a Truncated) (omega (arith, place, size))),
       Consumes-trans held mid held' so.0 piece so.3 got,
       end,
     )

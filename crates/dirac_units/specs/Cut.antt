@@ -6,7 +6,7 @@ use Rattle.dirac_types.specs.declared.faults.Refusal.{Refusal}
 use Rattle.dirac_types.specs.declared.faults.Fault.{Fault}
 use Rattle.dirac_units.specs.declared.codes.TheConstants.{END_OF_SEQUENCE}
 use Rattle.dirac_units.specs.declared.info.ParseInfo.{ParseInfo}
-use Rattle.dirac_units.specs.declared.spot.Spot.{Spot}
+use Rattle.dirac_units.specs.declared.unit_place.UnitPlace.{UnitPlace}
 use Rattle.dirac_units.specs.Info.{info_read, span_of}
 
 -- a unit as it stands in the bytes
@@ -15,44 +15,44 @@ pub record UnitText : Type 0 where
   pub payload : List ℕ
 
 -- where the first unit of an input begins
-abbrev pub start : Spot
+abbrev pub start : UnitPlace
 start = record { index = 0; at = 0; closed = false }
 
 -- where the next unit begins
-abbrev pub after : Spot → ParseInfo → Spot
-after spot info = record { index = spot.index + 1; at = spot.at + span_of info; closed = info.code == END_OF_SEQUENCE }
+abbrev pub after : UnitPlace → ParseInfo → UnitPlace
+after unit_place info = record { index = unit_place.index + 1; at = unit_place.at + span_of info; closed = info.code == END_OF_SEQUENCE }
 
 -- a fault of the unit that begins there, so many bytes behind its first
-abbrev pub fault_at : Spot → ℕ → Cause → Fault
-fault_at spot at cause = record { unit = spot.index; at = spot.at + at; cause = cause }
+abbrev pub fault_at : UnitPlace → ℕ → Cause → Fault
+fault_at unit_place at cause = record { unit = unit_place.index; at = unit_place.at + at; cause = cause }
 
 -- a parse info was read, and the input may end in the payload; or it was refused
-abbrev pub unit_front : Spot → List ℕ → Result ParseInfo Refusal → Result ParseInfo (Option Fault)
-unit_front spot bytes (Err refusal) = Err (Some (fault_at spot refusal.at refusal.cause))
-unit_front spot bytes (Ok info) =
-    if nat_lt (length bytes) (span_of info) then Err (Some (fault_at spot (length bytes) Truncated)) else Ok info
+abbrev pub unit_front : UnitPlace → List ℕ → Result ParseInfo Refusal → Result ParseInfo (Option Fault)
+unit_front unit_place bytes (Err refusal) = Err (Some (fault_at unit_place refusal.at refusal.cause))
+unit_front unit_place bytes (Ok info) =
+    if nat_lt (length bytes) (span_of info) then Err (Some (fault_at unit_place (length bytes) Truncated)) else Ok info
 
 -- what stands at the front: the parse info of a whole unit, else the lawful end (None) or a fault
-abbrev pub front_of : Spot → List ℕ → Result ParseInfo (Option Fault)
-front_of spot bytes =
-    if length bytes == 0 then Err (if spot.closed then None else Some (fault_at spot 0 MissingEnd))
-    else if nat_lt (length bytes) 13 then Err (Some (fault_at spot (length bytes) Truncated))
-    else unit_front spot bytes (info_read (take 13 bytes))
+abbrev pub front_of : UnitPlace → List ℕ → Result ParseInfo (Option Fault)
+front_of unit_place bytes =
+    if length bytes == 0 then Err (if unit_place.closed then None else Some (fault_at unit_place 0 MissingEnd))
+    else if nat_lt (length bytes) 13 then Err (Some (fault_at unit_place (length bytes) Truncated))
+    else unit_front unit_place bytes (info_read (take 13 bytes))
 
 -- from there on the bytes are these units, and then the lawful end or a fault
-abbrev pub IsCut : Spot → List ℕ → List UnitText → Option Fault → Type 0
-IsCut spot bytes [] end = front_of spot bytes ≡ Err end
-IsCut spot bytes (unit ∷ units) end =
-    (front_of spot bytes ≡ Ok unit.info) × (unit.payload ≡ slice_range bytes 13 (span_of unit.info))
-    × IsCut (after spot unit.info) (drop (span_of unit.info) bytes) units end
+abbrev pub IsCut : UnitPlace → List ℕ → List UnitText → Option Fault → Type 0
+IsCut unit_place bytes [] end = front_of unit_place bytes ≡ Err end
+IsCut unit_place bytes (unit ∷ units) end =
+    (front_of unit_place bytes ≡ Ok unit.info) × (unit.payload ≡ slice_range bytes 13 (span_of unit.info))
+    × IsCut (after unit_place unit.info) (drop (span_of unit.info) bytes) units end
 
 -- each list of bytes has a cut, from each place
 abbrev pub EachHasACut : Type 0
 EachHasACut =
-    (spot : Spot) (bytes : List ℕ) → (units : List UnitText) × (end : Option Fault) × IsCut spot bytes units end
+    (unit_place : UnitPlace) (bytes : List ℕ) → (units : List UnitText) × (end : Option Fault) × IsCut unit_place bytes units end
 
 -- no list of bytes has two
 abbrev pub NoneHasTwoCuts : Type 0
 NoneHasTwoCuts =
-    (spot : Spot) (bytes : List ℕ) (units units' : List UnitText) (end end' : Option Fault)
-    → IsCut spot bytes units end → IsCut spot bytes units' end' → (units ≡ units') × (end ≡ end')
+    (unit_place : UnitPlace) (bytes : List ℕ) (units units' : List UnitText) (end end' : Option Fault)
+    → IsCut unit_place bytes units end → IsCut unit_place bytes units' end' → (units ≡ units') × (end ≡ end')

@@ -3,9 +3,9 @@ use Rattle.std.specs.Prelude.{◌≡◌, ℕ, ◌+◌, ◌≤◌, length, Bool, 
 use Rattle.std.specs.Io.KnownBytes.{prepend_known, IsAtEnd}
 use Rattle.dirac_types.specs.declared.faults.Fault.{Fault}
 use Rattle.dirac_units.specs.declared.info.ParseInfo.{ParseInfo}
-use Rattle.dirac_units.specs.declared.spot.Spot.{Spot}
-use Rattle.dirac_units.specs.declared.unit.Met.{Met}
-use Rattle.dirac_units.specs.declared.unit.Met.TheVariants as met
+use Rattle.dirac_units.specs.declared.unit_place.UnitPlace.{UnitPlace}
+use Rattle.dirac_units.specs.declared.unit.StreamEnd.{StreamEnd}
+use Rattle.dirac_units.specs.declared.unit.StreamEnd.TheVariants as stream_end
 use Rattle.dirac_units.specs.declared.unit.Unit.{Unit}
 use Rattle.dirac_units.specs.declared.unit.UnitStep.{UnitStep}
 use Rattle.dirac_units.specs.declared.unit.UnitStep.TheVariants as step
@@ -15,32 +15,32 @@ use Rattle.dirac_units.specs.Cut.{start, after, front_of}
 -- the bytes taken beyond the units given, where the next unit begins, and what later calls answer
 pub record Progress : Type 0 where
   pub ahead : List ℕ
-  pub spot : Spot
-  pub met : Met
+  pub unit_place : UnitPlace
+  pub stream_end : StreamEnd
 
 -- before the first unit
 abbrev pub begun : Progress
-begun = record { ahead = []; spot = start; met = met.Going }
+begun = record { ahead = []; unit_place = start; stream_end = stream_end.Going }
 
 -- the payload of the unit at the front, where it is kept
 abbrev pub kept_payload : Bool → ParseInfo → List ℕ → List ℕ
 kept_payload keep info bytes = if keep && fields_are_read info.code then slice_range bytes 13 (span_of info) else []
 
 -- this unit stands at the front of the bytes, and these are left behind it
-abbrev pub IsFirstUnit : Bool → Unit → Spot → List ℕ → Option (List ℕ) → Type 0
-IsFirstUnit keep unit spot bytes rest =
-    (front_of spot bytes ≡ Ok unit.info) × (unit.payload ≡ kept_payload keep unit.info bytes)
+abbrev pub IsFirstUnit : Bool → Unit → UnitPlace → List ℕ → Option (List ℕ) → Type 0
+IsFirstUnit keep unit unit_place bytes rest =
+    (front_of unit_place bytes ≡ Ok unit.info) × (unit.payload ≡ kept_payload keep unit.info bytes)
     × (rest ≡ Some (drop (span_of unit.info) bytes))
 
 -- the next unit was given: the bytes ahead, then those held, begin with it
 pub record GivesUnit (keep : Bool) (unit : Unit) (old new : Progress) (held held' : Option (List ℕ)) : Type 0 where
-  pub going : old.met ≡ met.Going
-  pub index : unit.index ≡ old.spot.index
-  pub at : unit.at ≡ old.spot.at
+  pub going : old.stream_end ≡ stream_end.Going
+  pub index : unit.index ≡ old.unit_place.index
+  pub at : unit.at ≡ old.unit_place.at
   pub lawful : IsLawful unit.info
   pub short : length unit.payload + 13 ≤ span_of unit.info
-  pub next : new.spot ≡ after old.spot unit.info
-  pub told : IfSome (prepend_known old.ahead held) (λ bytes. IsFirstUnit keep unit old.spot bytes (prepend_known new.ahead held'))
+  pub next : new.unit_place ≡ after old.unit_place unit.info
+  pub told : IfSome (prepend_known old.ahead held) (λ bytes. IsFirstUnit keep unit old.unit_place bytes (prepend_known new.ahead held'))
 
 -- the source holds exactly what follows this unit
 abbrev pub HoldsWhatFollows : Unit → Progress → Option (List ℕ) → Option (List ℕ) → Type 0
@@ -49,7 +49,7 @@ HoldsWhatFollows unit old held held' =
 
 -- no unit is left, but this end or fault; at the lawful end the source was read to its end
 pub record Ends (old : Progress) (held held' : Option (List ℕ)) (end : Option Fault) : Type 0 where
-  pub told : IfSome (prepend_known old.ahead held) (λ bytes. front_of old.spot bytes ≡ Err end)
+  pub told : IfSome (prepend_known old.ahead held) (λ bytes. front_of old.unit_place bytes ≡ Err end)
   pub whole : end ≡ None → IsAtEnd held'
 
 -- a fact on the unit, where one was given
@@ -62,17 +62,17 @@ IfUnit step.NoMemory P = ⊤
 IfUnit step.Stopped P = ⊤
 
 -- what later calls answer after this one
-abbrev pub met_after : UnitStep → Met
-met_after (step.Unit unit) = met.Going
-met_after step.End = met.Ended
-met_after (step.Fault fault) = met.Faulted fault
-met_after step.ReadFault = met.Stopped
-met_after step.NoMemory = met.Stopped
-met_after step.Stopped = met.Stopped
+abbrev pub met_after : UnitStep → StreamEnd
+met_after (step.Unit unit) = stream_end.Going
+met_after step.End = stream_end.Ended
+met_after (step.Fault fault) = stream_end.Faulted fault
+met_after step.ReadFault = stream_end.Stopped
+met_after step.NoMemory = stream_end.Stopped
+met_after step.Stopped = stream_end.Stopped
 
 -- what was met is answered again, and nothing is read
-abbrev pub Repeats : Met → UnitStep → Type 0 → Type 0
-Repeats met.Going answer Same = ⊤
-Repeats met.Ended answer Same = (answer ≡ step.End) × Same
-Repeats (met.Faulted fault) answer Same = (answer ≡ step.Fault fault) × Same
-Repeats met.Stopped answer Same = (answer ≡ step.Stopped) × Same
+abbrev pub Repeats : StreamEnd → UnitStep → Type 0 → Type 0
+Repeats stream_end.Going answer Same = ⊤
+Repeats stream_end.Ended answer Same = (answer ≡ step.End) × Same
+Repeats (stream_end.Faulted fault) answer Same = (answer ≡ step.Fault fault) × Same
+Repeats stream_end.Stopped answer Same = (answer ≡ step.Stopped) × Same

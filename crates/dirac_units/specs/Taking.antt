@@ -4,7 +4,7 @@ use Rattle.std.specs.Prelude.{◌≡◌, ℕ, ◌+◌, ◌<◌, ◌≤◌, Bool,
 use Rattle.std.specs.Io.KnownBytes.{Consumes, IsAtEnd}
 use Rattle.dirac_types.specs.declared.faults.Cause.TheVariants.{Truncated}
 use Rattle.dirac_units.specs.declared.info.ParseInfo.{ParseInfo}
-use Rattle.dirac_units.specs.declared.spot.Spot.{Spot}
+use Rattle.dirac_units.specs.declared.unit_place.UnitPlace.{UnitPlace}
 use Rattle.dirac_units.specs.declared.unit.Unit.{Unit}
 use Rattle.dirac_units.specs.declared.take.NoUnit.{NoUnit}
 use Rattle.dirac_units.specs.declared.take.NoUnit.TheVariants as none
@@ -23,24 +23,24 @@ TakesPayload count keep payload held held' =
     (bytes : List ℕ) × (length bytes ≡ count) × (payload ≡ (if keep then bytes else [])) × Consumes held held' bytes
 
 -- the input ends behind fewer bytes of a payload
-abbrev pub CutsPayload : NoUnit → Spot → ℕ → Option (List ℕ) → Option (List ℕ) → Type 0
-CutsPayload (none.End end) spot count held held' =
-    (bytes : List ℕ) × (length bytes < count) × (end ≡ Some (fault_at spot (13 + length bytes) Truncated))
+abbrev pub CutsPayload : NoUnit → UnitPlace → ℕ → Option (List ℕ) → Option (List ℕ) → Type 0
+CutsPayload (none.End end) unit_place count held held' =
+    (bytes : List ℕ) × (length bytes < count) × (end ≡ Some (fault_at unit_place (13 + length bytes) Truncated))
     × Consumes held held' bytes × IsAtEnd held'
-CutsPayload none.ReadFault spot count held held' = ⊤
-CutsPayload none.NoMemory spot count held held' = ⊤
+CutsPayload none.ReadFault unit_place count held held' = ⊤
+CutsPayload none.NoMemory unit_place count held held' = ⊤
 
 -- the unit that begins there was taken, and exactly what follows it is held
-pub record TakesUnit (keep : Bool) (unit : Unit) (spot : Spot) (held held' : Option (List ℕ)) : Type 0 where
-  pub index : unit.index ≡ spot.index
-  pub at : unit.at ≡ spot.at
+pub record TakesUnit (keep : Bool) (unit : Unit) (unit_place : UnitPlace) (held held' : Option (List ℕ)) : Type 0 where
+  pub index : unit.index ≡ unit_place.index
+  pub at : unit.at ≡ unit_place.at
   pub lawful : IsLawful unit.info
   pub short : length unit.payload + 13 ≤ span_of unit.info
-  pub told : IfSome held (λ bytes. IsFirstUnit keep unit spot bytes held')
+  pub told : IfSome held (λ bytes. IsFirstUnit keep unit unit_place bytes held')
 
 -- no whole unit begins there, but this end or fault does; at the lawful end the source was read to its end
-abbrev pub TakesNone : NoUnit → Spot → Option (List ℕ) → Option (List ℕ) → Type 0
-TakesNone (none.End end) spot held held' =
-    IfSome held (λ bytes. front_of spot bytes ≡ Err end) × (end ≡ None → IsAtEnd held')
-TakesNone none.ReadFault spot held held' = ⊤
-TakesNone none.NoMemory spot held held' = ⊤
+abbrev pub TakesNone : NoUnit → UnitPlace → Option (List ℕ) → Option (List ℕ) → Type 0
+TakesNone (none.End end) unit_place held held' =
+    IfSome held (λ bytes. front_of unit_place bytes ≡ Err end) × (end ≡ None → IsAtEnd held')
+TakesNone none.ReadFault unit_place held held' = ⊤
+TakesNone none.NoMemory unit_place held held' = ⊤

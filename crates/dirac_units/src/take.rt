@@ -5,7 +5,7 @@ ghost use Rattle.dirac_units.specs.Cut.{fault_at, front_of};
 ghost use Rattle.dirac_units.specs.Taking.{CutsPayload, TakesInfo, TakesNone, TakesPayload, TakesUnit};
 
 use crate::info::{PARSE_INFO_LENGTH, ParseInfo, fields_are_read, read_info};
-use crate::spot::Spot;
+use crate::unit_place::UnitPlace;
 use crate::unit::{Payload, Unit};
 use dirac_io::{Filled, Source, fill};
 use dirac_types::{Cause, Fault};
@@ -27,35 +27,35 @@ pub enum NoUnit {
 /// `keep` is true and it is a sequence header or a picture; else it is passed over.
 pub fn take_unit<S: Source>(
     alloc: Global,
-    spot: Spot,
+    unit_place: UnitPlace,
     keep: bool,
     source: &mut S,
 ) -> Result<Unit, NoUnit>
-    requires place { spot.at + S.left source.old < 2 ^ 63 }
-    ensures unit { IfOk result (λ unit. TakesUnit keep unit spot (S.held source.old) (S.held source.new)) }
-    ensures no_unit { IfErr result (λ why. TakesNone why spot (S.held source.old) (S.held source.new)) }
+    requires place { unit_place.at + S.left source.old < 2 ^ 63 }
+    ensures unit { IfOk result (λ unit. TakesUnit keep unit unit_place (S.held source.old) (S.held source.new)) }
+    ensures no_unit { IfErr result (λ why. TakesNone why unit_place (S.held source.old) (S.held source.new)) }
     ensures lowers { IfOk result (λ unit. span_of unit.info + S.left source.new ≤ S.left source.old) }
     ensures never_rises { S.left source.new ≤ S.left source.old }
     ensures read { result ≡ Err NoUnit.ReadFault → Rose (S.faults source.old) (S.faults source.new) }
     ensures count { S.faults source.old ≤ S.faults source.new }
 {
-    let info = take_info(spot, source)?;
+    let info = take_info(unit_place, source)?;
     let kept = keep && fields_are_read(info.code);
     let length = info.span() - PARSE_INFO_LENGTH as u64;
-    let payload = take_payload(alloc, spot, length, kept, source)?;
+    let payload = take_payload(alloc, unit_place, length, kept, source)?;
     Ok(Unit {
-        index: spot.index,
-        at: spot.at,
+        index: unit_place.index,
+        at: unit_place.at,
         info,
         payload,
     })
 }
 
 // Takes the parse info at the front of a source, and no byte beyond it.
-fn take_info<S: Source>(spot: Spot, source: &mut S) -> Result<ParseInfo, NoUnit>
-    requires place { spot.at + S.left source.old < 2 ^ 63 }
+fn take_info<S: Source>(unit_place: UnitPlace, source: &mut S) -> Result<ParseInfo, NoUnit>
+    requires place { unit_place.at + S.left source.old < 2 ^ 63 }
     ensures info { IfOk result (λ info. TakesInfo info (S.held source.old) (S.held source.new)) }
-    ensures no_unit { IfErr result (λ why. TakesNone why spot (S.held source.old) (S.held source.new)) }
+    ensures no_unit { IfErr result (λ why. TakesNone why unit_place (S.held source.old) (S.held source.new)) }
     ensures lowers { IfOk result (λ _. PARSE_INFO_LENGTH + S.left source.new ≤ S.left source.old) }
     ensures never_rises { S.left source.new ≤ S.left source.old }
     ensures read { result ≡ Err NoUnit.ReadFault → Rose (S.faults source.old) (S.faults source.new) }
@@ -64,12 +64,12 @@ fn take_info<S: Source>(spot: Spot, source: &mut S) -> Result<ParseInfo, NoUnit>
     let mut header = [0; PARSE_INFO_LENGTH];
     match fill(source, &mut header) {
         Filled::Whole => {}
-        Filled::Part(n) => return Err(NoUnit::End(end_in_header(spot, &header[..n]))),
+        Filled::Ended(n) => return Err(NoUnit::End(end_in_header(unit_place, &header[..n]))),
         Filled::Failed => return Err(NoUnit::ReadFault),
     }
     match read_info(&header) {
         Ok(info) => Ok(info),
-        Err(refusal) => Err(NoUnit::End(Some(spot.fault(refusal.at, refusal.cause)))),
+        Err(refusal) => Err(NoUnit::End(Some(unit_place.fault(refusal.at, refusal.cause)))),
     }
 }
 
@@ -77,14 +77,14 @@ fn take_info<S: Source>(spot: Spot, source: &mut S) -> Result<ParseInfo, NoUnit>
 // taken for bytes that don't come.
 fn take_payload<S: Source>(
     alloc: Global,
-    spot: Spot,
+    unit_place: UnitPlace,
     count: u64,
     keep: bool,
     source: &mut S,
 ) -> Result<Payload, NoUnit>
-    requires place { spot.at + PARSE_INFO_LENGTH + S.left source.old < 2 ^ 64 }
+    requires place { unit_place.at + PARSE_INFO_LENGTH + S.left source.old < 2 ^ 64 }
     ensures payload { IfOk result (λ payload. TakesPayload count keep payload (S.held source.old) (S.held source.new)) }
-    ensures cut { IfErr result (λ why. CutsPayload why spot count (S.held source.old) (S.held source.new)) }
+    ensures cut { IfErr result (λ why. CutsPayload why unit_place count (S.held source.old) (S.held source.new)) }
     ensures lowers { IfOk result (λ _. count + S.left source.new ≤ S.left source.old) }
     ensures never_rises { S.left source.new ≤ S.left source.old }
     ensures read { result ≡ Err NoUnit.ReadFault → Rose (S.faults source.old) (S.faults source.new) }
@@ -97,9 +97,9 @@ fn take_payload<S: Source>(
         let piece = &mut buf[..rest.min(PIECE_LENGTH as u64) as usize];
         match fill(source, piece) {
             Filled::Whole => {}
-            Filled::Part(n) => {
+            Filled::Ended(n) => {
                 let at = PARSE_INFO_LENGTH as u64 + (count - rest) + n as u64;
-                return Err(NoUnit::End(Some(spot.fault(at, Cause::Truncated))));
+                return Err(NoUnit::End(Some(unit_place.fault(at, Cause::Truncated))));
             }
             Filled::Failed => return Err(NoUnit::ReadFault),
         }
@@ -112,25 +112,25 @@ fn take_payload<S: Source>(
 }
 
 // What it means that the input ends behind these bytes, fewer than a parse info has.
-fn end_in_header(spot: Spot, bytes: &[u8]) -> Option<Fault>
+fn end_in_header(unit_place: UnitPlace, bytes: &[u8]) -> Option<Fault>
     requires cut { length bytes.now < PARSE_INFO_LENGTH }
-    requires place { spot.at + length bytes.now < 2 ^ 63 }
-    ensures { front_of spot bytes.now ≡ Err result }
+    requires place { unit_place.at + length bytes.now < 2 ^ 63 }
+    ensures { front_of unit_place bytes.now ≡ Err result }
 {
     if bytes.is_empty() {
-        return ending(spot);
+        return ending(unit_place);
     }
-    Some(spot.fault(bytes.len() as u64, Cause::Truncated))
+    Some(unit_place.fault(bytes.len() as u64, Cause::Truncated))
 }
 
 // What it means that the input ends where a unit would begin.
-fn ending(spot: Spot) -> Option<Fault>
-    requires { spot.at < 2 ^ 63 }
-    ensures { result ≡ (if spot.closed then None else Some (fault_at spot 0 Cause.MissingEnd)) }
+fn ending(unit_place: UnitPlace) -> Option<Fault>
+    requires { unit_place.at < 2 ^ 63 }
+    ensures { result ≡ (if unit_place.closed then None else Some (fault_at unit_place 0 Cause.MissingEnd)) }
 {
-    if spot.closed {
+    if unit_place.closed {
         None
     } else {
-        Some(spot.fault(0, Cause::MissingEnd))
+        Some(unit_place.fault(0, Cause::MissingEnd))
     }
 }

@@ -65,7 +65,7 @@ pub enum UnitStep {
 
 /// What later calls answer, where something was met.
 #[derive(Clone, Copy, Debug, PartialEq, Eq)]
-pub enum Met {
+pub enum StreamEnd {
     /// Nothing yet: units go on.
     Going,
     Ended,

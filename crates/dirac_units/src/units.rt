@@ -2,9 +2,9 @@ ghost use Rattle.std.specs.Prelude.{◌≡◌, ℕ, ◌+◌, ◌<◌, ◌≤◌,
 ghost use Rattle.dirac_io.specs.Faults.{Rose};
 ghost use Rattle.dirac_units.specs.Progress.{begun, Ends, GivesUnit, HoldsWhatFollows, IfUnit, met_after, Repeats};
 
-use crate::spot::Spot;
+use crate::unit_place::UnitPlace;
 use crate::take::{NoUnit, take_unit};
-use crate::unit::{Met, UnitStep};
+use crate::unit::{StreamEnd, UnitStep};
 use dirac_io::Source;
 use dirac_types::Fault;
 use std::alloc::Global;
@@ -14,8 +14,8 @@ use std::marker::Model;
 #[derive(Drop)]
 pub struct Units {
     alloc: Global,
-    spot: Spot,
-    met: Met,
+    unit_place: UnitPlace,
+    stream_end: StreamEnd,
 }
 
 impl Model for Units {
@@ -24,9 +24,9 @@ impl Model for Units {
 
     ghost Value = { Progress };
 
-    ghost view = { λ u. record { ahead = []; spot = u.spot; met = u.met } };
+    ghost view = { λ u. record { ahead = []; unit_place = u.unit_place; stream_end = u.stream_end } };
 
-    ghost invariant = { λ u. u.spot.index ≤ u.spot.at };
+    ghost invariant = { λ u. u.unit_place.index ≤ u.unit_place.at };
 }
 
 impl Units {
@@ -35,8 +35,8 @@ impl Units {
     {
         Units {
             alloc,
-            spot: Spot::first(),
-            met: Met::Going,
+            unit_place: UnitPlace::first(),
+            stream_end: StreamEnd::Going,
         }
     }
 
@@ -46,50 +46,50 @@ impl Units {
     /// `Fault` each later call answers the same, and after `ReadFault` and `NoMemory` each later call
     /// answers `Stopped`; none of them reads.
     pub fn next<S: Source>(&mut self, source: &mut S, keep: bool) -> UnitStep
-        requires { self.old.spot.at + length self.old.ahead + S.left source.old < 2 ^ 63 }
+        requires { self.old.unit_place.at + length self.old.ahead + S.left source.old < 2 ^ 63 }
         ensures unit { IfUnit result (λ unit. GivesUnit keep unit self.old self.new (S.held source.old) (S.held source.new)) }
         // Behind a unit nothing was taken beyond it.
         ensures rest { IfUnit result (λ unit. HoldsWhatFollows unit self.old (S.held source.old) (S.held source.new)) }
         ensures none_ahead { self.new.ahead ≡ [] }
-        ensures end { self.old.met ≡ Met.Going → result ≡ UnitStep.End
+        ensures end { self.old.stream_end ≡ StreamEnd.Going → result ≡ UnitStep.End
             → Ends self.old (S.held source.old) (S.held source.new) None }
-        ensures fault { (fault : Fault) → self.old.met ≡ Met.Going → result ≡ UnitStep.Fault fault
+        ensures fault { (fault : Fault) → self.old.stream_end ≡ StreamEnd.Going → result ≡ UnitStep.Fault fault
             → Ends self.old (S.held source.old) (S.held source.new) (Some fault) }
-        ensures met { self.new.met ≡ met_after result }
-        ensures repeated { Repeats self.old.met result ((self.new ≡ self.old) × (source.new ≡ source.old)) }
-        ensures stopped { result ≡ UnitStep.Stopped → self.old.met ≡ Met.Stopped }
+        ensures stream_end { self.new.stream_end ≡ met_after result }
+        ensures repeated { Repeats self.old.stream_end result ((self.new ≡ self.old) × (source.new ≡ source.old)) }
+        ensures stopped { result ≡ UnitStep.Stopped → self.old.stream_end ≡ StreamEnd.Stopped }
         ensures read { result ≡ UnitStep.ReadFault → Rose (S.faults source.old) (S.faults source.new) }
         ensures count { S.faults source.old ≤ S.faults source.new }
-        ensures no_overflow { self.new.spot.at + length self.new.ahead + S.left source.new
-            ≤ self.old.spot.at + length self.old.ahead + S.left source.old }
-        ensures index { self.old.spot.index ≤ self.new.spot.index }
-        ensures fits { self.new.spot.index < 2 ^ 64 }
+        ensures no_overflow { self.new.unit_place.at + length self.new.ahead + S.left source.new
+            ≤ self.old.unit_place.at + length self.old.ahead + S.left source.old }
+        ensures index { self.old.unit_place.index ≤ self.new.unit_place.index }
+        ensures fits { self.new.unit_place.index < 2 ^ 64 }
     {
-        match self.met {
-            Met::Going => {}
-            Met::Ended => return UnitStep::End,
-            Met::Faulted(fault) => return UnitStep::Fault(fault),
-            Met::Stopped => return UnitStep::Stopped,
+        match self.stream_end {
+            StreamEnd::Going => {}
+            StreamEnd::Ended => return UnitStep::End,
+            StreamEnd::Faulted(fault) => return UnitStep::Fault(fault),
+            StreamEnd::Stopped => return UnitStep::Stopped,
         }
-        match take_unit(self.alloc, self.spot, keep, source) {
+        match take_unit(self.alloc, self.unit_place, keep, source) {
             Ok(unit) => {
-                self.spot = self.spot.after(&unit.info);
+                self.unit_place = self.unit_place.after(&unit.info);
                 UnitStep::Unit(unit)
             }
             Err(NoUnit::End(None)) => {
-                self.met = Met::Ended;
+                self.stream_end = StreamEnd::Ended;
                 UnitStep::End
             }
             Err(NoUnit::End(Some(fault))) => {
-                self.met = Met::Faulted(fault);
+                self.stream_end = StreamEnd::Faulted(fault);
                 UnitStep::Fault(fault)
             }
             Err(NoUnit::ReadFault) => {
-                self.met = Met::Stopped;
+                self.stream_end = StreamEnd::Stopped;
                 UnitStep::ReadFault
             }
             Err(NoUnit::NoMemory) => {
-                self.met = Met::Stopped;
+                self.stream_end = StreamEnd::Stopped;
                 UnitStep::NoMemory
             }
         }

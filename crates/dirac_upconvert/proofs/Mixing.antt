@@ -83,8 +83,8 @@ weight_is bits rest few r =
     let small : 2 ^ bits ≤ 2 ^ 2 = pow_mono {i = bits} {j = 2} few in
     to_z-of_z w32 (pos (2 ^ bits) -ℤ rest) (fits_signed_from_abs w32 (pos (2 ^ bits) -ℤ rest) (omega (arith, ints, small, r.least, r.most)))
 
-pub after_nought : (x y : ℤ) → (pos 0 +ℤ x) +ℤ y ≡ x +ℤ y
-after_nought x y = omega (arith, ints)
+pub after_zero : (x y : ℤ) → (pos 0 +ℤ x) +ℤ y ≡ x +ℤ y
+after_zero x y = omega (arith, ints)
 
 -- one sample is a sum of one
 pub sample_within : (n : ℕ) (v : ℤ) → 1 ≤ n → IsSample v → IsWithin n v

@@ -20,9 +20,9 @@ total_same f g (suc n) h = rw (total_same f g n (λ k l. h k (omega arith)), h n
 
 -- a sum of two parts
 pub sum_joined : (f : ℕ → ℕ) (n m : ℕ) → sum_below f (n + m) ≡ sum_below f n + sum_below (λ k. f (n + k)) m
-sum_joined f n zero = omega (arith, ap (sum_below f) (plus_nought n)) where
-  plus_nought : (k : ℕ) → k + 0 ≡ k
-  plus_nought k = omega arith
+sum_joined f n zero = omega (arith, ap (sum_below f) (plus_zero n)) where
+  plus_zero : (k : ℕ) → k + 0 ≡ k
+  plus_zero k = omega arith
 sum_joined f n (suc m) =
     omega (arith, sum_joined f n m, ap (sum_below f) (plus_suc n m)) where
       plus_suc : (k j : ℕ) → k + suc j ≡ suc (k + j)
@@ -41,13 +41,13 @@ pub sum_added : (f g : ℕ → ℕ) (n : ℕ) → sum_below (λ k. f k + g k) n 
 sum_added f g zero = refl
 sum_added f g (suc n) = omega (arith, sum_added f g n)
 
-pub sum_noughts : (n : ℕ) → sum_below (λ k. 0) n ≡ 0
-sum_noughts zero = refl
-sum_noughts (suc n) = omega (arith, sum_noughts n)
+pub sum_zeros : (n : ℕ) → sum_below (λ k. 0) n ≡ 0
+sum_zeros zero = refl
+sum_zeros (suc n) = omega (arith, sum_zeros n)
 
 -- rows first or columns first
 pub sum_turned : (f : ℕ → ℕ → ℕ) (n m : ℕ) → sum_below (λ a. sum_below (f a) m) n ≡ sum_below (λ b. sum_below (λ a. f a b) n) m
-sum_turned f zero m = sym (sum_noughts m)
+sum_turned f zero m = sym (sum_zeros m)
 sum_turned f (suc n) m =
     omega (arith, sum_turned f n m, sum_added (λ b. sum_below (λ a. f a b) n) (f n) m)
 

@@ -43,9 +43,9 @@ fn numbers(rt: HostRuntime) {
         Decoder::new(block.as_slice()).signed(follow.as_slice(), 14, 15),
         Ok(1)
     );
-    let noughts = [0u8; 12];
+    let zeros = [0u8; 12];
     assert_eq!(rt;
-        Decoder::new(noughts.as_slice()).number(follow.as_slice(), 14),
+        Decoder::new(zeros.as_slice()).number(follow.as_slice(), 14),
         Err(Cause::NumberTooLong)
     );
 }

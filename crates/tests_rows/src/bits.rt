@@ -1,7 +1,7 @@
 use dirac_bits::BitReader;
 use dirac_types::{Cause, Refusal};
 
-const AT_NOUGHT: u64 = 0;
+const AT_ZERO: u64 = 0;
 
 #[test]
 fn unsigned_numbers(rt: HostRuntime) {
@@ -19,17 +19,17 @@ fn unsigned_numbers(rt: HostRuntime) {
         );
     }
     let too_long = Refusal {
-        at: AT_NOUGHT,
+        at: AT_ZERO,
         cause: Cause::NumberTooLong,
     };
     let short = Refusal {
-        at: AT_NOUGHT,
+        at: AT_ZERO,
         cause: Cause::UnitShort,
     };
-    let noughts = [0u8; 10];
-    assert_eq!(rt; BitReader::new(noughts.as_slice()).uint(), Err(too_long));
-    assert_eq!(rt; BitReader::new(&noughts[..9]).uint(), Err(short));
-    assert_eq!(rt; BitReader::new(&noughts[..0]).uint(), Err(short));
+    let zeros = [0u8; 10];
+    assert_eq!(rt; BitReader::new(zeros.as_slice()).uint(), Err(too_long));
+    assert_eq!(rt; BitReader::new(&zeros[..9]).uint(), Err(short));
+    assert_eq!(rt; BitReader::new(&zeros[..0]).uint(), Err(short));
 }
 
 #[test]
@@ -41,7 +41,7 @@ fn a_signed_number_without_its_sign(rt: HostRuntime) {
     let mut reader = BitReader::new(bytes.as_slice());
     assert_eq!(rt; reader.bit(), Ok(true));
     let short = Refusal {
-        at: AT_NOUGHT,
+        at: AT_ZERO,
         cause: Cause::UnitShort,
     };
     assert_eq!(rt; reader.sint(), Err(short));

@@ -1,5 +1,5 @@
 use dirac_bits::{BitReader, BitWriter};
-use dirac_coeffs::{BandSpot, read_band};
+use dirac_coeffs::{BandLayout, read_band};
 use dirac_header::{read_header, read_prediction, read_transform, write_prediction};
 use dirac_types::{Band, BlockGrid, Cause, Chroma, NoMemory, Refusal, Stop};
 use std::alloc::Global;
@@ -126,14 +126,14 @@ fn transform_parameters(rt: HostRuntime) {
 
 /// The answer of a band of one value, as its index and value, or its refusal.
 fn single(alloc: Global, bytes: &[u8]) -> Result<(u8, i64), Stop> {
-    let spot = BandSpot {
+    let layout = BandLayout {
         band: Band::LL,
         width: 1,
         height: 1,
         across: 1,
         down: 1,
     };
-    let coded = read_band(alloc, &mut BitReader::new(bytes), spot, None)?;
+    let coded = read_band(alloc, &mut BitReader::new(bytes), layout, None)?;
     if coded.table.width() == 1 && coded.table.height() == 1 {
         return Ok((coded.index, coded.table.at(0, 0)));
     }

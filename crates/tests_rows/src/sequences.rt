@@ -21,17 +21,17 @@ fn refused_headers(rt: HostRuntime) {
             Err(Refusal { at, cause })
         );
     }
-    let noughts = [0u8; 10];
+    let zeros = [0u8; 10];
     let at: u64 = 0;
     assert_eq!(rt;
-        read_sequence(noughts.as_slice()),
+        read_sequence(zeros.as_slice()),
         Err(Refusal {
             at,
             cause: Cause::NumberTooLong
         })
     );
     assert_eq!(rt;
-        read_sequence(&noughts[..9]),
+        read_sequence(&zeros[..9]),
         Err(Refusal {
             at,
             cause: Cause::UnitShort

@@ -56,10 +56,10 @@ fn buffers_filled(rt: HostRuntime) -> Result<(), NoMemory> {
     assert!(rt; fill(&mut source, &mut buf[..0]) == Filled::Whole);
     assert!(rt; fill(&mut source, &mut buf) == Filled::Whole);
     assert!(rt; buf == [1, 2, 3, 4, 5]);
-    assert!(rt; fill(&mut source, &mut buf) == Filled::Part(2));
+    assert!(rt; fill(&mut source, &mut buf) == Filled::Ended(2));
     assert!(rt; buf[..2] == [6, 7]);
     assert!(rt; fill(&mut source, &mut buf) == Filled::Failed);
-    assert!(rt; fill(&mut source, &mut buf) == Filled::Part(0));
+    assert!(rt; fill(&mut source, &mut buf) == Filled::Ended(0));
     assert_eq!(rt; source.count(), 1);
     Ok(())
 }

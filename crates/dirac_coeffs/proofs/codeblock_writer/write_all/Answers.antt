@@ -11,9 +11,9 @@ down-init c = refl
 
 pub down-preserved : goal.down-preserved
 down-preserved c =
-    let spot = c.args.spot in
+    let layout = c.args.layout in
     let parent = c.args.parent.now in
     let xs = c.args.values.now in
-    let marks = marks_of spot xs in
+    let marks = marks_of layout xs in
     let n = c.down.cy in
-    narrowed_more _ _ _ (bands_part spot parent xs marks n) (blocks_part spot parent xs (marks n) n spot.across) _ c.down.invariant c.in-Ok.ensures (bands_next spot parent xs marks n)
+    narrowed_more _ _ _ (bands_part layout parent xs marks n) (blocks_part layout parent xs (marks n) n layout.across) _ c.down.invariant c.in-Ok.ensures (bands_next layout parent xs marks n)

@@ -4,4 +4,4 @@ use Rattle.dirac_coeffs.proofs.codeblock_writer.write_block_values.Goals as goal
 
 pub write_rows-requires-clause-inside : goal.write_rows-requires-clause-inside
 write_rows-requires-clause-inside c =
-    rows_inside (c.part_of-rows.result.start + c.part_of-rows.result.length) c.args.spot.width c.args.spot.height (length c.args.values.now) c.part_of-rows.ensures.inside c.requires.len
+    rows_inside (c.codeblock_span-rows.result.start + c.codeblock_span-rows.result.length) c.args.layout.width c.args.layout.height (length c.args.values.now) c.codeblock_span-rows.ensures.inside c.requires.len

@@ -11,10 +11,10 @@ across-init c = refl
 
 pub across-preserved : goal.across-preserved
 across-preserved c =
-    let spot = c.args.spot in
+    let layout = c.args.layout in
     let parent = c.args.parent.now in
     let xs = c.args.values.now in
     let cy = c.args.cy in
-    let marks = marks_of spot xs cy in
+    let marks = marks_of layout xs cy in
     let n = c.across.cx in
-    narrowed_more _ _ _ (blocks_part spot parent xs marks cy n) (block_part spot parent xs cy n (marks n)) _ c.across.invariant c.in-Ok.ensures (blocks_next spot parent xs marks cy n)
+    narrowed_more _ _ _ (blocks_part layout parent xs marks cy n) (block_part layout parent xs cy n (marks n)) _ c.across.invariant c.in-Ok.ensures (blocks_next layout parent xs marks cy n)

@@ -6,7 +6,7 @@ use Rattle.dirac_coeffs.proofs.codeblocks.read_all.Goals as goal
 pub down-init : goal.down-init
 down-init c =
     record {
-      value = repeated_none (λ cy. blocks_step c.args.spot c.args.parent.now cy c.args.spot.across) (progress c.args.values.now c.args.decoder.now);
+      value = repeated_none (λ cy. blocks_step c.args.layout c.args.parent.now cy c.args.layout.across) (progress c.args.values.now c.args.decoder.now);
       len = refl;
       few = omega arith;
     }
@@ -15,11 +15,11 @@ pub down-preserved : goal.down-preserved
 down-preserved c =
     record {
       value =
-          repeated_next (λ cy. blocks_step c.args.spot c.args.parent.now cy c.args.spot.across) c.down.cy (progress c.args.values.now c.args.decoder.now) (progress c.down.values c.down.decoder) _ c.down.invariant.value c.in-Ok.ensures.value;
+          repeated_next (λ cy. blocks_step c.args.layout c.args.parent.now cy c.args.layout.across) c.down.cy (progress c.args.values.now c.args.decoder.now) (progress c.down.values c.down.decoder) _ c.down.invariant.value c.in-Ok.ensures.value;
       len = c.read_codeblocks.ensures.len ∙ c.down.invariant.len;
       few = omega (arith, c.read_codeblocks.ensures.few_doublings, c.down.invariant.few);
     }
 
 pub returns-in-Err-clause-value : goal.returns-in-Err-clause-value
 returns-in-Err-clause-value c =
-    repeated_stops (λ cy. blocks_step c.args.spot c.args.parent.now cy c.args.spot.across) c.down.cy c.args.spot.down (progress c.args.values.now c.args.decoder.now) (progress c.down.values c.down.decoder) c.in-Err.cause (omega arith) c.down.invariant.value c.in-Err.ensures.value
+    repeated_stops (λ cy. blocks_step c.args.layout c.args.parent.now cy c.args.layout.across) c.down.cy c.args.layout.down (progress c.args.values.now c.args.decoder.now) (progress c.down.values c.down.decoder) c.in-Err.cause (omega arith) c.down.invariant.value c.in-Err.ensures.value

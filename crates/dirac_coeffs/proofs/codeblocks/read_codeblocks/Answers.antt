@@ -7,7 +7,7 @@ use Rattle.dirac_coeffs.proofs.codeblocks.read_codeblocks.Goals as goal
 pub across-init : goal.across-init
 across-init c =
     record {
-      value = repeated_none (block_step c.args.spot c.args.parent.now c.args.cy) (progress c.args.values.now c.args.decoder.now);
+      value = repeated_none (block_step c.args.layout c.args.parent.now c.args.cy) (progress c.args.values.now c.args.decoder.now);
       len = refl;
       few = omega arith;
     }
@@ -16,20 +16,20 @@ pub across-preserved : goal.across-preserved
 across-preserved c =
     record {
       value =
-          repeated_next (block_step c.args.spot c.args.parent.now c.args.cy) c.across.cx (progress c.args.values.now c.args.decoder.now) (progress c.across.values c.across.decoder) _ c.across.invariant.value c.in-Ok.ensures.value;
+          repeated_next (block_step c.args.layout c.args.parent.now c.args.cy) c.across.cx (progress c.args.values.now c.args.decoder.now) (progress c.across.values c.across.decoder) _ c.across.invariant.value c.in-Ok.ensures.value;
       len = c.read_codeblock.ensures.len ∙ c.across.invariant.len;
-      few = omega (arith, c.read_codeblock.ensures.few_doublings, c.across.invariant.few, span_end c.args.spot.width c.args.spot.across c.across.cx (omega arith));
+      few = omega (arith, c.read_codeblock.ensures.few_doublings, c.across.invariant.few, span_end c.args.layout.width c.args.layout.across c.across.cx (omega arith));
     }
 
 pub returns-in-Err-clause-value : goal.returns-in-Err-clause-value
 returns-in-Err-clause-value c =
-    repeated_stops (block_step c.args.spot c.args.parent.now c.args.cy) c.across.cx c.args.spot.across (progress c.args.values.now c.args.decoder.now) (progress c.across.values c.across.decoder) c.in-Err.cause (omega arith) c.across.invariant.value c.in-Err.ensures.value
+    repeated_stops (block_step c.args.layout c.args.parent.now c.args.cy) c.across.cx c.args.layout.across (progress c.args.values.now c.args.decoder.now) (progress c.across.values c.across.decoder) c.in-Err.cause (omega arith) c.across.invariant.value c.in-Err.ensures.value
 
 pub returns-in-Err-clause-few_doublings : goal.returns-in-Err-clause-few_doublings
 returns-in-Err-clause-few_doublings c =
-    let w = c.args.spot.width in
+    let w = c.args.layout.width in
     let n = c.across.cx in
-    omega (arith, c.read_codeblock.ensures.few_doublings, c.across.invariant.few, span_end w c.args.spot.across n (omega arith), edge_most w c.args.spot.across (n + 1) (omega arith) (omega arith))
+    omega (arith, c.read_codeblock.ensures.few_doublings, c.across.invariant.few, span_end w c.args.layout.across n (omega arith), edge_most w c.args.layout.across (n + 1) (omega arith) (omega arith))
 
 pub returns-clause-few_doublings : goal.returns-clause-few_doublings
-returns-clause-few_doublings c = omega (arith, c.across.invariant.few, edge_most c.args.spot.width c.args.spot.across c.across.cx (omega arith) (omega arith))
+returns-clause-few_doublings c = omega (arith, c.across.invariant.few, edge_most c.args.layout.width c.args.layout.across c.across.cx (omega arith) (omega arith))

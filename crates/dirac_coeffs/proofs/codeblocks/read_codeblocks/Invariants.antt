@@ -6,7 +6,7 @@ use Rattle.dirac_coeffs.proofs.codeblocks.read_codeblocks.Given as goal
 abbrev pub invariant-across : goal.invariant-across
 invariant-across l =
     record {
-      value : blocks_step l.spot l.parent l.cy l.cx (progress l.fn.values l.fn.decoder) ≡ Ok (progress l.values l.decoder);
+      value : blocks_step l.layout l.parent l.cy l.cx (progress l.fn.values l.fn.decoder) ≡ Ok (progress l.values l.decoder);
       len : length l.values ≡ length l.fn.values;
-      few : l.decoder.at.doublings ≤ l.fn.decoder.at.doublings + 9 * l.cx + 702 * 8192 * edge_of l.spot.width l.spot.across l.cx;
+      few : l.decoder.at.doublings ≤ l.fn.decoder.at.doublings + 9 * l.cx + 702 * 8192 * edge_of l.layout.width l.layout.across l.cx;
     }

@@ -10,7 +10,7 @@ values-init c = refl
 
 pub values-preserved : goal.values-preserved
 values-preserved c =
-    let f = frame_of c.args.spot c.args.parent.now in
+    let f = frame_of c.args.layout c.args.parent.now in
     let xs = c.args.values.now in
     let from = c.args.from in
     let y = c.args.y in

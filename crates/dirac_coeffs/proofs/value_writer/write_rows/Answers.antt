@@ -10,7 +10,7 @@ rows-init c = refl
 
 pub rows-preserved : goal.rows-preserved
 rows-preserved c =
-    let f = frame_of c.args.spot c.args.parent.now in
+    let f = frame_of c.args.layout c.args.parent.now in
     let xs = c.args.values.now in
     let top = c.args.top in
     let from = c.args.from in

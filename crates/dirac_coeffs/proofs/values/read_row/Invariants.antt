@@ -6,7 +6,7 @@ use Rattle.dirac_coeffs.proofs.values.read_row.Given as goal
 abbrev pub invariant-values : goal.invariant-values
 invariant-values l =
     record {
-      value : row_step (frame_of l.spot l.parent) l.y l.from l.i (progress l.fn.values l.fn.decoder) ≡ Ok (progress l.values l.decoder);
+      value : row_step (frame_of l.layout l.parent) l.y l.from l.i (progress l.fn.values l.fn.decoder) ≡ Ok (progress l.values l.decoder);
       len : length l.values ≡ length l.fn.values;
       few : l.decoder.at.doublings ≤ l.fn.decoder.at.doublings + 702 * l.i;
     }

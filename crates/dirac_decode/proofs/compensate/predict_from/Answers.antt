@@ -5,7 +5,7 @@ use Rattle.dirac_decode.proofs.compensate.predict_from.Goals as goal
 
 pub predict_with-requires-clause-first : goal.predict_with-requires-clause-first
 predict_with-requires-clause-first c =
-    up_size c.args.sequence.now c.args.first.now c.args.part c.in_ok-first.first c.requires.first c.in_ok-first.ensures
+    up_size c.args.sequence.now c.args.first.now c.args.component c.in_ok-first.first c.requires.first c.in_ok-first.ensures
 
 pub predict_with-requires-clause-second : goal.predict_with-requires-clause-second
 predict_with-requires-clause-second c u e = absurd cc
@@ -18,11 +18,11 @@ up_plane-requires-in-Some-clause-picture c = c.requires.second c.in-Some.second.
 
 pub predict_with-requires-in-Some-clause-first : goal.predict_with-requires-in-Some-clause-first
 predict_with-requires-in-Some-clause-first c =
-    up_size c.args.sequence.now c.args.first.now c.args.part c.in_ok-first.first c.requires.first c.in_ok-first.ensures
+    up_size c.args.sequence.now c.args.first.now c.args.component c.in_ok-first.first c.requires.first c.in_ok-first.ensures
 
 pub predict_with-requires-in-Some-clause-second : goal.predict_with-requires-in-Some-clause-second
 predict_with-requires-in-Some-clause-second c x e =
-    lent_size c.args.sequence.now c.in-Some.second.now c.args.part c.in_ok-second-in-Some.second x
+    lent_size c.args.sequence.now c.in-Some.second.now c.args.component c.in_ok-second-in-Some.second x
     (c.requires.second c.in-Some.second.now (ap option_copied c.in-Some.is)) c.in_ok-second-in-Some.ensures e
 
 pub predict_with-requires-in-Some-clause-two : goal.predict_with-requires-in-Some-clause-two

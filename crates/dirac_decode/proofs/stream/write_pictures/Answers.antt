@@ -1,6 +1,6 @@
 use Rattle.std.proofs.Common.{◌≡◌, ◌<◌, ◌^◌, ap, arith, refl, subst, sym}
 use Rattle.std.specs.Prelude.{IfSome}
-use Rattle.dirac_units.specs.declared.unit.Met.TheVariants as met
+use Rattle.dirac_units.specs.declared.unit.StreamEnd.TheVariants as stream_end
 use Rattle.dirac_decode.specs.declared.answers.Decoded.TheVariants as decoded
 use Rattle.dirac_decode.specs.declared.answers.Tally.{Tally}
 use Rattle.dirac_decode.specs.Decoded.{IsDecoded}
@@ -14,8 +14,8 @@ pictures-init g c =
     let same : c.args.decoder.now ≡ begun = c.requires in
     record {
       streamed = streamed_none c.args.decoder.now (g.S.Source.held c.args.source.now) (g.K.Sink.taken c.args.out.now) same;
-      moving = λ e. let going : c.args.decoder.now.met ≡ met.Going = ap (λ (d : Decoding). d.met) same in cc;
-      whole = λ e. let going : c.args.decoder.now.met ≡ met.Going = ap (λ (d : Decoding). d.met) same in cc;
+      moving = λ e. let going : c.args.decoder.now.stream_end ≡ stream_end.Going = ap (λ (d : Decoding). d.stream_end) same in cc;
+      whole = λ e. let going : c.args.decoder.now.stream_end ≡ stream_end.Going = ap (λ (d : Decoding). d.stream_end) same in cc;
       room = rw same (omega arith);
       reads = omega arith;
       writes = omega arith;

@@ -43,8 +43,8 @@ returns-in-Err-clause-encoded g c =
     let t = c.args.coder.now.settings.now in
     let first = g.S.Source.held c.args.source.now in
     let ends = part_ends t first c.pictures.planner (so_far c.pictures.coding) (g.S.Source.held c.pictures.source) (g.S.Source.held c.fill.new.source) (g.K.Sink.taken c.args.out.now) (g.K.Sink.taken c.pictures.out) (g.N.Sink.taken c.args.side.now) (g.N.Sink.taken c.pictures.side)
-    c.fill.new.buf c.in-Part.n c.pictures.invariant.runs (c.in-Part.ensures.part c.in-Part.n refl) (c.in-Part.ensures.end c.in-Part.n refl)
-    (omega (arith, c.in-Part.ensures.short c.in-Part.n refl, c.fill.ensures.size)) (c.fill.ensures.size ∙ c.pictures.invariant.size) c.pictures.invariant.in_range in
+    c.fill.new.buf c.in-Ended.n c.pictures.invariant.runs (c.in-Ended.ensures.part c.in-Ended.n refl) (c.in-Ended.ensures.end c.in-Ended.n refl)
+    (omega (arith, c.in-Ended.ensures.short c.in-Ended.n refl, c.fill.ensures.size)) (c.fill.ensures.size ∙ c.pictures.invariant.size) c.pictures.invariant.in_range in
     end_stops c.plans_can_be_coded.ensures t first c.pictures.planner (so_far c.pictures.coding) _ c.in-Err.answer (g.K.Sink.taken c.args.out.now) (g.K.Sink.taken c.pictures.out) (g.K.Sink.taken c.put_planned.new.out)
     (g.N.Sink.taken c.args.side.now) (g.N.Sink.taken c.pictures.side) (g.N.Sink.taken c.put_planned.new.side) c.requires.accepted ends c.in-Err.ensures.stopped
 
@@ -61,8 +61,8 @@ returns-in-Err-put_last-clause-encoded g c =
     let t = c.args.coder.now.settings.now in
     let first = g.S.Source.held c.args.source.now in
     let ends = part_ends t first c.pictures.planner (so_far c.pictures.coding) (g.S.Source.held c.pictures.source) (g.S.Source.held c.fill.new.source) (g.K.Sink.taken c.args.out.now) (g.K.Sink.taken c.pictures.out) (g.N.Sink.taken c.args.side.now) (g.N.Sink.taken c.pictures.side)
-    c.fill.new.buf c.in-Part.n c.pictures.invariant.runs (c.in-Part.ensures.part c.in-Part.n refl) (c.in-Part.ensures.end c.in-Part.n refl)
-    (omega (arith, c.in-Part.ensures.short c.in-Part.n refl, c.fill.ensures.size)) (c.fill.ensures.size ∙ c.pictures.invariant.size) c.pictures.invariant.in_range in
+    c.fill.new.buf c.in-Ended.n c.pictures.invariant.runs (c.in-Ended.ensures.part c.in-Ended.n refl) (c.in-Ended.ensures.end c.in-Ended.n refl)
+    (omega (arith, c.in-Ended.ensures.short c.in-Ended.n refl, c.fill.ensures.size)) (c.fill.ensures.size ∙ c.pictures.invariant.size) c.pictures.invariant.in_range in
     end_early c.plans_can_be_coded.ensures t first c.pictures.planner c.put_planned.new.planner (so_far c.pictures.coding) (so_far c.put_planned.new.coding) _ c.in-Err-put_last.fault
     (g.K.Sink.taken c.args.out.now) (g.K.Sink.taken c.pictures.out) (g.K.Sink.taken c.put_planned.new.out) (g.K.Sink.taken c.put_last.new.out)
     (g.N.Sink.taken c.args.side.now) (g.N.Sink.taken c.pictures.side) (g.N.Sink.taken c.put_planned.new.side) (g.N.Sink.taken c.put_last.new.side)
@@ -76,33 +76,33 @@ pub returns-in-Err-put_last-clause-partial : goal.returns-in-Err-put_last-clause
 returns-in-Err-put_last-clause-partial g c =
     λ n is. absurd (stop_no_part c.in-Err-put_last.fault n (fault_stops_coding c.in-Err-put_last.fault c.in-Err-put_last.ensures.stopped) is)
 
-pub returns-in-Part-clause-encoded : goal.returns-in-Part-clause-encoded
-returns-in-Part-clause-encoded g c =
+pub returns-in-Ended-clause-encoded : goal.returns-in-Ended-clause-encoded
+returns-in-Ended-clause-encoded g c =
     let t = c.args.coder.now.settings.now in
     let first = g.S.Source.held c.args.source.now in
     let ends = part_ends t first c.pictures.planner (so_far c.pictures.coding) (g.S.Source.held c.pictures.source) (g.S.Source.held c.fill.new.source) (g.K.Sink.taken c.args.out.now) (g.K.Sink.taken c.pictures.out) (g.N.Sink.taken c.args.side.now) (g.N.Sink.taken c.pictures.side)
-    c.fill.new.buf c.in-Part.n c.pictures.invariant.runs (c.in-Part.ensures.part c.in-Part.n refl) (c.in-Part.ensures.end c.in-Part.n refl)
-    (omega (arith, c.in-Part.ensures.short c.in-Part.n refl, c.fill.ensures.size)) (c.fill.ensures.size ∙ c.pictures.invariant.size) c.pictures.invariant.in_range in
-    let is = part_ended c.plans_can_be_coded.ensures t first c.pictures.planner c.put_planned.new.planner (so_far c.pictures.coding) (so_far c.put_planned.new.coding) c.in-Part.n
+    c.fill.new.buf c.in-Ended.n c.pictures.invariant.runs (c.in-Ended.ensures.part c.in-Ended.n refl) (c.in-Ended.ensures.end c.in-Ended.n refl)
+    (omega (arith, c.in-Ended.ensures.short c.in-Ended.n refl, c.fill.ensures.size)) (c.fill.ensures.size ∙ c.pictures.invariant.size) c.pictures.invariant.in_range in
+    let is = part_ended c.plans_can_be_coded.ensures t first c.pictures.planner c.put_planned.new.planner (so_far c.pictures.coding) (so_far c.put_planned.new.coding) c.in-Ended.n
     (g.K.Sink.taken c.args.out.now) (g.K.Sink.taken c.pictures.out) (g.K.Sink.taken c.put_planned.new.out) (g.K.Sink.taken c.put_last.new.out)
     (g.N.Sink.taken c.args.side.now) (g.N.Sink.taken c.pictures.side) (g.N.Sink.taken c.put_planned.new.side) (g.N.Sink.taken c.put_last.new.side)
     c.requires.accepted ends c.in_default.ensures.led (c.in_default.ensures.all_given refl) c.in_default.ensures.accepted c.in_default-put_last.ensures.ended in
     subst (λ (a : Encoded). IfSome first (λ bytes. AnswersEncode a (encoding t bytes) (g.K.Sink.taken c.args.out.now) (g.K.Sink.taken c.put_last.new.out) (g.N.Sink.taken c.args.side.now) (g.N.Sink.taken c.put_last.new.side))) (sym c.behind_whole.ensures) is
 
-pub returns-in-Part-clause-recovered : goal.returns-in-Part-clause-recovered
-returns-in-Part-clause-recovered g c =
+pub returns-in-Ended-clause-recovered : goal.returns-in-Ended-clause-recovered
+returns-in-Ended-clause-recovered g c =
     let t = c.args.coder.now.settings.now in
     let first = g.S.Source.held c.args.source.now in
     let ends = part_ends t first c.pictures.planner (so_far c.pictures.coding) (g.S.Source.held c.pictures.source) (g.S.Source.held c.fill.new.source) (g.K.Sink.taken c.args.out.now) (g.K.Sink.taken c.pictures.out) (g.N.Sink.taken c.args.side.now) (g.N.Sink.taken c.pictures.side)
-    c.fill.new.buf c.in-Part.n c.pictures.invariant.runs (c.in-Part.ensures.part c.in-Part.n refl) (c.in-Part.ensures.end c.in-Part.n refl)
-    (omega (arith, c.in-Part.ensures.short c.in-Part.n refl, c.fill.ensures.size)) (c.fill.ensures.size ∙ c.pictures.invariant.size) c.pictures.invariant.in_range in
+    c.fill.new.buf c.in-Ended.n c.pictures.invariant.runs (c.in-Ended.ensures.part c.in-Ended.n refl) (c.in-Ended.ensures.end c.in-Ended.n refl)
+    (omega (arith, c.in-Ended.ensures.short c.in-Ended.n refl, c.fill.ensures.size)) (c.fill.ensures.size ∙ c.pictures.invariant.size) c.pictures.invariant.in_range in
     ends_recovered c.streams_show_their_pictures.ensures.shown c.streams_show_their_pictures.ensures.cut c.plans_can_be_coded.ensures c.streams_show_their_pictures.ensures.tables t first c.pictures.planner c.put_planned.new.planner (so_far c.pictures.coding) (so_far c.put_planned.new.coding) _ c.behind_whole.result
     (g.K.Sink.taken c.args.out.now) (g.K.Sink.taken c.pictures.out) (g.K.Sink.taken c.put_planned.new.out) (g.N.Sink.taken c.args.side.now) (g.N.Sink.taken c.pictures.side) (g.N.Sink.taken c.put_planned.new.side)
     c.requires.accepted (omega (arith, c.pictures.invariant.in_range)) ends c.in_default.ensures.led (c.in_default.ensures.all_given refl) c.in_default.ensures.accepted
 
-pub returns-in-Part-clause-partial : goal.returns-in-Part-clause-partial
-returns-in-Part-clause-partial g c =
-    λ n is. (behind_some c.in-Part.n n (sym c.behind_whole.ensures ∙ is), c.in-Part.ensures.end c.in-Part.n refl)
+pub returns-in-Ended-clause-partial : goal.returns-in-Ended-clause-partial
+returns-in-Ended-clause-partial g c =
+    λ n is. (behind_some c.in-Ended.n n (sym c.behind_whole.ensures ∙ is), c.in-Ended.ensures.end c.in-Ended.n refl)
 
 pub returns-in-Err-put_planned-clause-encoded : goal.returns-in-Err-put_planned-clause-encoded
 returns-in-Err-put_planned-clause-encoded g c =

@@ -1,7 +1,7 @@
 use Rattle.std.proofs.Common.{◌^◌, arith, refl, sym, ◌∙◌}
 use Rattle.dirac_obmc.specs.Compensation.{blocks_across, term, total}
 use Rattle.dirac_obmc.specs.Given.{given}
-use Rattle.dirac_obmc.proofs.AddLemmas.{adds_none, adds_more, adds_bounded, noughts_small}
+use Rattle.dirac_obmc.proofs.AddLemmas.{adds_none, adds_more, adds_bounded, zeros_small}
 use Rattle.dirac_obmc.proofs.Bounds.{rows_small}
 use Rattle.dirac_obmc.proofs.RowsAdded.{added_alone, first_within, nothing_above, nothing_below, share_down}
 use Rattle.dirac_obmc.proofs.rows.add_rows.Goals as goal
@@ -18,7 +18,7 @@ add_blocks-requires-clause-down c =
 
 pub add_blocks-requires-clause-sums : goal.add_blocks-requires-clause-sums
 add_blocks-requires-clause-sums c =
-    adds_bounded (λ x. total (λ j. total (term (given c.args.motion.now) x c.args.y j) (blocks_across (given c.args.motion.now))) c.loop-j.j) c.args.motion.now.width 0 (2 ^ 21) (2 ^ 21) _ _ c.loop-j.invariant.sums c.requires.len (noughts_small _ c.requires.sums)
+    adds_bounded (λ x. total (λ j. total (term (given c.args.motion.now) x c.args.y j) (blocks_across (given c.args.motion.now))) c.loop-j.j) c.args.motion.now.width 0 (2 ^ 21) (2 ^ 21) _ _ c.loop-j.invariant.sums c.requires.len (zeros_small _ c.requires.sums)
     (λ x l. rows_small (given c.args.motion.now) x c.args.y c.loop-j.j c.requires.motion c.requires.sound l c.requires.inside c.loop-j.invariant.within) (omega arith)
 
 pub loop-j-preserved : goal.loop-j-preserved
@@ -35,5 +35,5 @@ returns-clause-value c =
 
 pub returns-clause-magnitudes_at_most_2_21 : goal.returns-clause-magnitudes_at_most_2_21
 returns-clause-magnitudes_at_most_2_21 c =
-    adds_bounded (λ x. total (λ j. total (term (given c.args.motion.now) x c.args.y j) (blocks_across (given c.args.motion.now))) c.loop-j.j) c.args.motion.now.width 0 (2 ^ 21) (2 ^ 21) _ _ c.loop-j.invariant.sums c.requires.len (noughts_small _ c.requires.sums)
+    adds_bounded (λ x. total (λ j. total (term (given c.args.motion.now) x c.args.y j) (blocks_across (given c.args.motion.now))) c.loop-j.j) c.args.motion.now.width 0 (2 ^ 21) (2 ^ 21) _ _ c.loop-j.invariant.sums c.requires.len (zeros_small _ c.requires.sums)
     (λ x l. rows_small (given c.args.motion.now) x c.args.y c.loop-j.j c.requires.motion c.requires.sound l c.requires.inside c.loop-j.invariant.within) (omega arith)

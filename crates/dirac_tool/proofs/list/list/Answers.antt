@@ -9,17 +9,17 @@ use Rattle.dirac_tool.specs.declared.ended.Ended.TheVariants.{ReadFault, WriteFa
 use Rattle.dirac_tool.proofs.list.list.Goals as goal
 
 each_has_a_cut : EachHasACut
-each_has_a_cut spot bytes = cut_by (length bytes) spot bytes (front_of spot bytes) refl (omega arith)
+each_has_a_cut unit_place bytes = cut_by (length bytes) unit_place bytes (front_of unit_place bytes) refl (omega arith)
 
 pub units-init : goal.units-init
 units-init g c =
     let first = g.S.Source.held c.args.source.now in
     let out = g.K.Sink.taken c.args.out.now in (
       subst (λ (p : Progress). ListsSoFar p first first out out) (sym c.new-units.ensures) (begins first out),
-      ap (λ (p : Progress). p.met) c.new-units.ensures,
+      ap (λ (p : Progress). p.stream_end) c.new-units.ensures,
       omega (
         arith,
-        ap (λ (p : Progress). p.spot.at) c.new-units.ensures,
+        ap (λ (p : Progress). p.unit_place.at) c.new-units.ensures,
         ap (λ (p : Progress). length p.ahead) c.new-units.ensures,
         g.met.S.Source.left_fits c.args.source.now,
       ),
@@ -47,7 +47,7 @@ pub units-preserved : goal.units-preserved
 units-preserved g c = (
   goes_on c.in-Unit.unit c.units.units c.next.new.self _ _ _ _ (g.K.Sink.taken c.units.out) _ c.units.invariant.0 c.in-Unit.ensures.unit
       (subst (Appends _ _) (c.as_bytes.ensures.value ∙ c.in-Ok.ensures) (c.in-All.ensures.all refl)),
-  c.in-Unit.ensures.met,
+  c.in-Unit.ensures.stream_end,
   omega (arith, c.in-Unit.ensures.no_overflow),
   omega (arith, c.in-Unit.ensures.count),
   omega (arith, c.put_all.ensures.count),

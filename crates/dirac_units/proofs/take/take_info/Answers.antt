@@ -4,18 +4,18 @@ use Rattle.dirac_units.specs.Cut.{front_of}
 use Rattle.dirac_units.proofs.Told.{told_end, told_refusal}
 use Rattle.dirac_units.proofs.take.take_info.Goals as goal
 
-pub returns-in-Part-clause-no_unit : goal.returns-in-Part-clause-no_unit
-returns-in-Part-clause-no_unit g c =
-    let at = c.in-Part.ensures.end c.in-Part.n refl in (
-      told_end c.args.spot (take c.in-Part.n c.fill.new.buf) (g.S.Source.held c.args.source.now) (g.S.Source.held c.fill.new.source) c.end_in_header.result
-          (c.in-Part.ensures.part c.in-Part.n refl) at c.end_in_header.ensures,
+pub returns-in-Ended-clause-no_unit : goal.returns-in-Ended-clause-no_unit
+returns-in-Ended-clause-no_unit g c =
+    let at = c.in-Ended.ensures.end c.in-Ended.n refl in (
+      told_end c.args.unit_place (take c.in-Ended.n c.fill.new.buf) (g.S.Source.held c.args.source.now) (g.S.Source.held c.fill.new.source) c.end_in_header.result
+          (c.in-Ended.ensures.part c.in-Ended.n refl) at c.end_in_header.ensures,
       λ e. at,
     )
 
 pub returns-in-Err-clause-no_unit : goal.returns-in-Err-clause-no_unit
 returns-in-Err-clause-no_unit g c = (
-  subst (λ (fault : Fault). IfSome (g.S.Source.held c.args.source.now) (λ all. front_of c.args.spot all ≡ Err (Some fault))) (sym c.fault.ensures)
-      (told_refusal c.args.spot c.fill.new.buf (g.S.Source.held c.args.source.now) (g.S.Source.held c.fill.new.source) c.in-Err.refusal
+  subst (λ (fault : Fault). IfSome (g.S.Source.held c.args.source.now) (λ all. front_of c.args.unit_place all ≡ Err (Some fault))) (sym c.fault.ensures)
+      (told_refusal c.args.unit_place c.fill.new.buf (g.S.Source.held c.args.source.now) (g.S.Source.held c.fill.new.source) c.in-Err.refusal
       (c.in-Whole.ensures.whole refl) (omega (arith, c.fill.ensures.size)) (sym c.read_info.ensures.read ∙ c.in-Err.is)),
   λ e. cc,
 )

@@ -4,15 +4,15 @@ use Rattle.dirac_units.proofs.Told.{piece_cut, piece_taken}
 use Rattle.dirac_units.proofs.take.take_payload.Goals.{else-keep-via-then-keep+else-is_err, else-keep-via-else-keep}
 use Rattle.dirac_units.proofs.take.take_payload.Goals as goal
 
-pub returns-in-Part-clause-cut : goal.returns-in-Part-clause-cut
-returns-in-Part-clause-cut g c =
-    let n = c.in-Part.n in
+pub returns-in-Ended-clause-cut : goal.returns-in-Ended-clause-cut
+returns-in-Ended-clause-cut g c =
+    let n = c.in-Ended.n in
     let room : length (take c.min.result c.pieces.buf) ≡ c.min.result = length-take-le c.min.result c.pieces.buf (omega (arith, c.min.ensures, c.min.array_long)) in
-    let short = c.in-Part.ensures.short n refl in
+    let short = c.in-Ended.ensures.short n refl in
     let fits : n < c.min.result = omega (arith, short, room) in
-    piece_cut c.args.spot c.args.count (c.args.count - c.pieces.rest) n (13 + (c.args.count - c.pieces.rest) + n) c.args.keep c.pieces.payload.items (take n c.fill.new.buf)
+    piece_cut c.args.unit_place c.args.count (c.args.count - c.pieces.rest) n (13 + (c.args.count - c.pieces.rest) + n) c.args.keep c.pieces.payload.items (take n c.fill.new.buf)
     (g.S.Source.held c.args.source.now) (g.S.Source.held c.pieces.source) (g.S.Source.held c.fill.new.source) c.fault.result c.pieces.invariant.taken
-    (c.in-Part.ensures.part n refl) (length-take-le n c.fill.new.buf (omega (arith, c.in-Part.ensures.size, room, fits))) (c.in-Part.ensures.end n refl)
+    (c.in-Ended.ensures.part n refl) (length-take-le n c.fill.new.buf (omega (arith, c.in-Ended.ensures.size, room, fits))) (c.in-Ended.ensures.end n refl)
     (omega (arith, fits, c.min.ensures, c.pieces.invariant.rest)) refl c.fault.ensures
 
 pub pieces-preserved : goal.pieces-preserved

@@ -9,7 +9,7 @@ use Rattle.dirac_units.proofs.take.take_unit.Goals as goal
 pub returns-in_err-payload-clause-no_unit : goal.returns-in_err-payload-clause-no_unit
 returns-in_err-payload-clause-no_unit g c =
     let p = err_from_is_err_and c.from_residual-in_err-payload.result c.from_residual-in_err-payload.ensures.1 in
-    rw (p.1, p.2) (told_none c.in_err-payload.field-0.0 c.in_ok-info.info c.args.spot (g.S.Source.held c.args.source.now) (g.S.Source.held c.take_info.new.source)
+    rw (p.1, p.2) (told_none c.in_err-payload.field-0.0 c.in_ok-info.info c.args.unit_place (g.S.Source.held c.args.source.now) (g.S.Source.held c.take_info.new.source)
     (g.S.Source.held c.take_payload.new.source) c.in_ok-info.ensures.info (rw c.span.ensures.span at c.in_err-payload.ensures.cut))
 
 pub returns-clause-unit : goal.returns-clause-unit
@@ -27,7 +27,7 @@ returns-clause-unit g c =
       at = refl;
       lawful = info_read-lawful c.in_ok-info.ensures.info.0 info c.in_ok-info.ensures.info.2;
       short = omega (arith, payload_fits (span_of info - 13) c.if-keep.kept c.in_ok-payload.payload (g.S.Source.held c.take_info.new.source) (g.S.Source.held c.take_payload.new.source) payload, long);
-      told = told_taken c.args.keep c.if-keep.kept (record { index = c.args.spot.index; at = c.args.spot.at; info = info; payload = c.in_ok-payload.payload }) c.args.spot
+      told = told_taken c.args.keep c.if-keep.kept (record { index = c.args.unit_place.index; at = c.args.unit_place.at; info = info; payload = c.in_ok-payload.payload }) c.args.unit_place
           (g.S.Source.held c.args.source.now) (g.S.Source.held c.take_info.new.source) (g.S.Source.held c.take_payload.new.source) c.in_ok-info.ensures.info payload
           long kept;
     }

@@ -2,7 +2,7 @@ use Rattle.std.proofs.Common.{◌≡◌, ◌^◌, ◌+ℤ◌, ◌-ℤ◌, ◌*�
 use Rattle.std.specs.Int.{w32}
 use Rattle.std.proofs.lemmas.Int.{to_z-of_z}
 use Rattle.dirac_upconvert.specs.SubSamples.{mixed}
-use Rattle.dirac_upconvert.proofs.Mixing.{left_fits, right_fits, weight_is, after_nought, mixed_within}
+use Rattle.dirac_upconvert.proofs.Mixing.{left_fits, right_fits, weight_is, after_zero, mixed_within}
 use Rattle.dirac_upconvert.proofs.parts.mix.Goals as goal
 
 pub multiply_add-requires : goal.multiply_add-requires
@@ -28,7 +28,7 @@ returns-clause-value c =
     ∙ rw (scale, to_z-of_z w32 c.args.rest c.ranges.rest, weight_is c.args.bits c.args.rest c.requires.bits c.requires.rest, to_z-of_z w32 c.args.a c.ranges.a) refl in
     to_z-of_z w32 _ (record { sfits = c.multiply_add-2.type_inv }) ∙ c.multiply_add-2.ensures.value
     ∙ rw (first, to_z-of_z w32 c.args.rest c.ranges.rest, to_z-of_z w32 c.args.b c.ranges.b)
-    (after_nought ((pos (2 ^ c.args.bits) -ℤ c.args.rest) *ℤ c.args.a) (c.args.rest *ℤ c.args.b))
+    (after_zero ((pos (2 ^ c.args.bits) -ℤ c.args.rest) *ℤ c.args.a) (c.args.rest *ℤ c.args.b))
 
 pub returns-clause-within : goal.returns-clause-within
 returns-clause-within c m p q =
@@ -39,5 +39,5 @@ returns-clause-within c m p q =
     let value : to_z w32 (of_z w32 c.multiply_add-2.result) ≡ mixed (2 ^ c.args.bits) c.args.rest c.args.a c.args.b =
     to_z-of_z w32 _ (record { sfits = c.multiply_add-2.type_inv }) ∙ c.multiply_add-2.ensures.value
     ∙ rw (first, to_z-of_z w32 c.args.rest c.ranges.rest, to_z-of_z w32 c.args.b c.ranges.b)
-    (after_nought ((pos (2 ^ c.args.bits) -ℤ c.args.rest) *ℤ c.args.a) (c.args.rest *ℤ c.args.b)) in
+    (after_zero ((pos (2 ^ c.args.bits) -ℤ c.args.rest) *ℤ c.args.a) (c.args.rest *ℤ c.args.b)) in
     rw value (mixed_within c.args.bits m c.args.rest c.args.a c.args.b c.requires.bits c.requires.rest p q)

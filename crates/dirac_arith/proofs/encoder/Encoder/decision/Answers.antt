@@ -23,8 +23,8 @@ advance-requires-clause-amount c =
     let sound = c.self.invariant in
     let settled = c.in_ok-settle.ensures in
     let kept = settled.register c.self.inside.range sound.narrow sound.register in
-    let parts = c.part_after-part.ensures in
-    let some = part_some (part_of c.self.inside.range (c.self.inside.range * slice_index c.self.inside.contexts c.args.ctx / 65536) c.args.truth) _ c.part_after-part.result.range parts.wide parts.range in
+    let parts = c.sub_interval_after-part.ensures in
+    let some = part_some (part_of c.self.inside.range (c.self.inside.range * slice_index c.self.inside.contexts c.args.ctx / 65536) c.args.truth) _ c.sub_interval_after-part.result.range parts.wide parts.range in
     omega (arith, parts.within)
 
 pub invariant_of-self-2 : goal.invariant_of-self-2
@@ -32,8 +32,8 @@ invariant_of-self-2 c =
     let a = c.self.inside in
     let sound = c.self.invariant in
     let settled = c.in_ok-settle.ensures in
-    let parts = c.part_after-part.ensures in
-    let result = c.part_after-part.result in
+    let parts = c.sub_interval_after-part.ensures in
+    let result = c.sub_interval_after-part.result in
     let part = part_of a.range (a.range * slice_index a.contexts c.args.ctx / 65536) c.args.truth in
     let tail = c.settle.new.self in
     let range_is : result.range ≡ part * 2 ^ result.doublings = parts.range ∙ ap (λ k. part * 2 ^ k) (sym parts.doublings) in

@@ -1,5 +1,5 @@
 use Rattle.std.proofs.Common.{◌≡◌, ◌+◌, ◌∙◌, ap, arith, false, sym, true, [], ◌∷◌}
-use Rattle.dirac_units.specs.declared.unit.Met.TheVariants as met
+use Rattle.dirac_units.specs.declared.unit.StreamEnd.TheVariants as stream_end
 use Rattle.dirac_refs.specs.Delivery.{flushed}
 use Rattle.dirac_decode.specs.Decoding.{decoding}
 use Rattle.dirac_decode.proofs.Leading.{most_of, answers_any, answers_shown, going_before, leads_going, leads_on, leads_unit}
@@ -12,15 +12,15 @@ pub returns-in-Some : goal.returns-in-Some
 returns-in-Some g c = record {
   gives = (
     leads_on c.args.self.now
-        (decoding c.units.self-inside.units c.units.self-inside.state c.units.self-inside.draining c.units.self-inside.given c.units.self-inside.met)
-        (decoding c.units.self-inside.units c.next_due.new.state c.units.self-inside.draining (c.units.self-inside.given + 1) c.units.self-inside.met)
+        (decoding c.units.self-inside.units c.units.self-inside.state c.units.self-inside.draining c.units.self-inside.given c.units.self-inside.stream_end)
+        (decoding c.units.self-inside.units c.next_due.new.state c.units.self-inside.draining (c.units.self-inside.given + 1) c.units.self-inside.stream_end)
         (g.S.Source.held c.args.source.now) (g.S.Source.held c.units.source) (g.S.Source.held c.units.source) (c.in-Some.picture ∷ [])
         c.units.invariant.leads
-        (c.in-Some.ensures.settles c.units.self-inside.units c.units.self-inside.given (c.units.self-inside.given + 1) c.units.self-inside.met (g.S.Source.held c.units.source)),
+        (c.in-Some.ensures.settles c.units.self-inside.units c.units.self-inside.given (c.units.self-inside.given + 1) c.units.self-inside.stream_end (g.S.Source.held c.units.source)),
     ap (λ n. n + 1) c.units.invariant.given,
     λ e. absurd (c.units.invariant.moving e),
   );
-  repeated = answers_shown c.args.self.now.met c.args.self.now.due c.in-Some.picture (flushed c.next_due.new.state.waiting) (λ e. c.in_default.not-Stopped (ap (λ d. d.met) c.self.view_is ∙ e))
+  repeated = answers_shown c.args.self.now.stream_end c.args.self.now.due c.in-Some.picture (flushed c.next_due.new.state.waiting) (λ e. c.in_default.not-Stopped (ap (λ d. d.stream_end) c.self.view_is ∙ e))
       (λ ne. sym (ap (λ d. d.due) (c.units.invariant.still ne).1) ∙ c.in-Some.ensures.due);
   repeats_without_reading = λ ne. (c.units.invariant.still ne).0;
   whole = c.units.invariant.whole;
@@ -33,10 +33,10 @@ returns-in-Some g c = record {
 
 pub units-preserved-in-On : goal.units-preserved-in-On
 units-preserved-in-On g c =
-    let before : c.args.self.now.met ≡ met.Going = going_before c.args.self.now.met c.units.self-inside.met (λ ne. ap (λ d. d.met) (c.units.invariant.still ne).1) c.in-Going.is in
+    let before : c.args.self.now.stream_end ≡ stream_end.Going = going_before c.args.self.now.stream_end c.units.self-inside.stream_end (λ ne. ap (λ d. d.stream_end) (c.units.invariant.still ne).1) c.in-Going.is in
     record {
       leads = leads_going c.args.self.now c.units.self-inside.units c.advance_by_unit.new.units c.units.self-inside.state c.next_due.new.state c.advance_by_unit.new.state
-          c.units.self-inside.draining false c.units.self-inside.given c.units.self-inside.given c.units.self-inside.met
+          c.units.self-inside.draining false c.units.self-inside.given c.units.self-inside.given c.units.self-inside.stream_end
           (g.S.Source.held c.args.source.now) (g.S.Source.held c.units.source) (g.S.Source.held c.advance_by_unit.new.source) []
           c.units.invariant.leads c.in-None.ensures.settles c.in-Going.is c.in-On.ensures.advances;
       given = c.units.invariant.given;
@@ -53,10 +53,10 @@ units-preserved-in-On g c =
 
 pub units-preserved-in-Drains : goal.units-preserved-in-Drains
 units-preserved-in-Drains g c =
-    let before : c.args.self.now.met ≡ met.Going = going_before c.args.self.now.met c.units.self-inside.met (λ ne. ap (λ d. d.met) (c.units.invariant.still ne).1) c.in-Going.is in
+    let before : c.args.self.now.stream_end ≡ stream_end.Going = going_before c.args.self.now.stream_end c.units.self-inside.stream_end (λ ne. ap (λ d. d.stream_end) (c.units.invariant.still ne).1) c.in-Going.is in
     record {
       leads = leads_going c.args.self.now c.units.self-inside.units c.advance_by_unit.new.units c.units.self-inside.state c.next_due.new.state c.advance_by_unit.new.state
-          c.units.self-inside.draining true c.units.self-inside.given c.units.self-inside.given c.units.self-inside.met
+          c.units.self-inside.draining true c.units.self-inside.given c.units.self-inside.given c.units.self-inside.stream_end
           (g.S.Source.held c.args.source.now) (g.S.Source.held c.units.source) (g.S.Source.held c.advance_by_unit.new.source) []
           c.units.invariant.leads c.in-None.ensures.settles c.in-Going.is c.in-Drains.ensures.advances;
       given = c.units.invariant.given;
@@ -73,10 +73,10 @@ units-preserved-in-Drains g c =
 
 pub units-preserved-in-End : goal.units-preserved-in-End
 units-preserved-in-End g c =
-    let before : c.args.self.now.met ≡ met.Going = going_before c.args.self.now.met c.units.self-inside.met (λ ne. ap (λ d. d.met) (c.units.invariant.still ne).1) c.in-Going.is in
+    let before : c.args.self.now.stream_end ≡ stream_end.Going = going_before c.args.self.now.stream_end c.units.self-inside.stream_end (λ ne. ap (λ d. d.stream_end) (c.units.invariant.still ne).1) c.in-Going.is in
     record {
       leads = leads_unit c.args.self.now c.units.self-inside.units c.advance_by_unit.new.units c.units.self-inside.state c.next_due.new.state c.advance_by_unit.new.state
-          c.units.self-inside.draining true c.units.self-inside.given c.units.self-inside.given c.units.self-inside.met met.Ended
+          c.units.self-inside.draining true c.units.self-inside.given c.units.self-inside.given c.units.self-inside.stream_end stream_end.Ended
           (g.S.Source.held c.args.source.now) (g.S.Source.held c.units.source) (g.S.Source.held c.advance_by_unit.new.source) []
           c.units.invariant.leads c.in-None.ensures.settles c.in-Going.is c.in-End.ensures.advances;
       given = c.units.invariant.given;
@@ -93,10 +93,10 @@ units-preserved-in-End g c =
 
 pub units-preserved : goal.units-preserved
 units-preserved g c =
-    let before : c.args.self.now.met ≡ met.Going = going_before c.args.self.now.met c.units.self-inside.met (λ ne. ap (λ d. d.met) (c.units.invariant.still ne).1) c.in-Going.is in
+    let before : c.args.self.now.stream_end ≡ stream_end.Going = going_before c.args.self.now.stream_end c.units.self-inside.stream_end (λ ne. ap (λ d. d.stream_end) (c.units.invariant.still ne).1) c.in-Going.is in
     record {
       leads = leads_unit c.args.self.now c.units.self-inside.units c.advance_by_unit.new.units c.units.self-inside.state c.next_due.new.state c.advance_by_unit.new.state
-          c.units.self-inside.draining true c.units.self-inside.given c.units.self-inside.given c.units.self-inside.met (met.Faulted c.in-Fault.fault)
+          c.units.self-inside.draining true c.units.self-inside.given c.units.self-inside.given c.units.self-inside.stream_end (stream_end.Faulted c.in-Fault.fault)
           (g.S.Source.held c.args.source.now) (g.S.Source.held c.units.source) (g.S.Source.held c.advance_by_unit.new.source) []
           c.units.invariant.leads c.in-None.ensures.settles c.in-Going.is c.in-Fault.ensures.advances;
       given = c.units.invariant.given;
@@ -113,17 +113,17 @@ units-preserved g c =
 
 pub returns-in-Shown : goal.returns-in-Shown
 returns-in-Shown g c =
-    let before : c.args.self.now.met ≡ met.Going = going_before c.args.self.now.met c.units.self-inside.met (λ ne. ap (λ d. d.met) (c.units.invariant.still ne).1) c.in-Going.is in
+    let before : c.args.self.now.stream_end ≡ stream_end.Going = going_before c.args.self.now.stream_end c.units.self-inside.stream_end (λ ne. ap (λ d. d.stream_end) (c.units.invariant.still ne).1) c.in-Going.is in
     record {
       gives = (
         leads_going c.args.self.now c.units.self-inside.units c.advance_by_unit.new.units c.units.self-inside.state c.next_due.new.state c.advance_by_unit.new.state
-            c.units.self-inside.draining false c.units.self-inside.given (c.units.self-inside.given + 1) c.units.self-inside.met
+            c.units.self-inside.draining false c.units.self-inside.given (c.units.self-inside.given + 1) c.units.self-inside.stream_end
             (g.S.Source.held c.args.source.now) (g.S.Source.held c.units.source) (g.S.Source.held c.advance_by_unit.new.source) (c.in-Shown.picture ∷ [])
             c.units.invariant.leads c.in-None.ensures.settles c.in-Going.is c.in-Shown.ensures.advances,
         ap (λ n. n + 1) c.units.invariant.given,
         λ e. absurd (c.units.invariant.moving e),
       );
-      repeated = answers_any c.args.self.now.met c.args.self.now.due _ before;
+      repeated = answers_any c.args.self.now.stream_end c.args.self.now.due _ before;
       repeats_without_reading = λ ne. absurd (ne before);
       whole = λ a e. cc;
       read = λ e. cc;

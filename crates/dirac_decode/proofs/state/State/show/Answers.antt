@@ -1,12 +1,12 @@
 use Rattle.std.proofs.Common.{◌≡◌, ap, arith, subst, sym}
-use Rattle.dirac_decode.specs.Course.{Course}
+use Rattle.dirac_decode.specs.StreamState.{StreamState}
 use Rattle.dirac_decode.specs.Taking.{IsOfOpen}
 use Rattle.dirac_decode.proofs.Listing.{open_still}
 use Rattle.dirac_decode.proofs.state.State.show.Goals as goal
 
 pub invariant_of-self : goal.invariant_of-self
 invariant_of-self c =
-    let opened : c.self.inside.opened ≡ c.args.self.now.opened = ap (λ (x : Course). x.opened) c.self.view_is in
+    let opened : c.self.inside.opened ≡ c.args.self.now.opened = ap (λ (x : StreamState). x.opened) c.self.view_is in
     let one : IsOfOpen c.self.inside.opened c.args.made.picture = subst (λ o. IsOfOpen o c.args.made.picture) (sym opened) c.requires.fits in (
       rw (c.commit.ensures.list, c.requires.reference)
           (open_still c.self.inside.opened c.self.inside.refs c.args.made.coded.header.retire c.args.made.coded.code c.args.made.picture c.self.invariant.0 one),
@@ -15,7 +15,7 @@ invariant_of-self c =
 
 pub invariant_of-self-2 : goal.invariant_of-self-2
 invariant_of-self-2 c =
-    let opened : c.self.inside.opened ≡ c.args.self.now.opened = ap (λ (x : Course). x.opened) c.self.view_is in
+    let opened : c.self.inside.opened ≡ c.args.self.now.opened = ap (λ (x : StreamState). x.opened) c.self.view_is in
     let one : IsOfOpen c.self.inside.opened c.args.made.picture = subst (λ o. IsOfOpen o c.args.made.picture) (sym opened) c.requires.fits in (
       rw (c.commit.ensures.list, c.requires.reference)
           (open_still c.self.inside.opened c.self.inside.refs c.args.made.coded.header.retire c.args.made.coded.code c.args.made.picture c.self.invariant.0 one),

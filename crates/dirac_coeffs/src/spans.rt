@@ -1,19 +1,19 @@
 ghost use Rattle.std.specs.Prelude.{◌≡◌, ◌+◌, ◌≤◌, ◌<◌};
 ghost use Rattle.dirac_bands.specs.Geometry.{edge_of};
-ghost use Rattle.dirac_coeffs.specs.Spots.{span_of, is_flagged};
+ghost use Rattle.dirac_coeffs.specs.Layouts.{span_of, is_flagged};
 
-use crate::spot::BandSpot;
+use crate::layout::BandLayout;
 use dirac_bands::edge;
 
 /// Where a codeblock begins, across or down, and how long it is there.
 #[derive(Clone, Copy)]
-pub struct Part {
+pub struct Span {
     pub start: usize,
     pub length: usize,
 }
 
 /// The columns or rows of codeblock `c`.
-pub fn part_of(size: u32, count: u32, c: u32) -> Part
+pub fn codeblock_span(size: u32, count: u32, c: u32) -> Span
     requires size { size ≤ 8192 }
     requires c { c < count }
     ensures start { result.start ≡ edge_of size count c }
@@ -23,15 +23,15 @@ pub fn part_of(size: u32, count: u32, c: u32) -> Part
 {
     let start = edge(size, count, c);
     let end = edge(size, count, c + 1);
-    Part {
+    Span {
         start: start as usize,
         length: (end - start) as usize,
     }
 }
 
 /// Whether each codeblock begins with a zero flag.
-pub fn has_flags(spot: BandSpot) -> bool
-    ensures { result ≡ is_flagged spot }
+pub fn has_flags(layout: BandLayout) -> bool
+    ensures { result ≡ is_flagged layout }
 {
-    !(spot.across == 1 && spot.down == 1)
+    !(layout.across == 1 && layout.down == 1)
 }

@@ -1,7 +1,7 @@
 use Rattle.std.proofs.Common.{◌-◌, ◌*◌, ◌/◌, arith}
 use Rattle.dirac_arith.proofs.Doublings.{split_bounds}
 use Rattle.dirac_arith.proofs.Tails.{part_widens}
-use Rattle.dirac_arith.proofs.encoder.part_after.Goals as goal
+use Rattle.dirac_arith.proofs.encoder.sub_interval_after.Goals as goal
 
 pub returns-then-truth-clause-wide : goal.returns-then-truth-clause-wide
 returns-then-truth-clause-wide c =

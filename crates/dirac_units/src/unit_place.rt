@@ -8,20 +8,20 @@ use dirac_types::{Cause, Fault};
 /// Where a unit begins: its number, from 0, its first byte's number, and whether the unit before is
 /// an end unit.
 #[derive(Clone, Copy, Debug, PartialEq, Eq)]
-pub struct Spot {
+pub struct UnitPlace {
     pub index: u64,
     pub at: u64,
     pub closed: bool,
 }
 
-impl Spot {
+impl UnitPlace {
     ghost use Rattle.dirac_units.specs.Cut.{start, after, fault_at};
 
     /// Where the first unit of an input begins.
-    pub fn first() -> Spot
+    pub fn first() -> UnitPlace
         ensures { result ≡ start }
     {
-        Spot {
+        UnitPlace {
             index: 0,
             at: 0,
             closed: false,
@@ -29,12 +29,12 @@ impl Spot {
     }
 
     /// Where the unit behind this one begins.
-    pub fn after(self, info: &ParseInfo) -> Spot
+    pub fn after(self, info: &ParseInfo) -> UnitPlace
         requires index { self.index + 1 < 2 ^ 64 }
         requires at { self.at + span_of info.now < 2 ^ 64 }
         ensures { result ≡ after self info.now }
     {
-        Spot {
+        UnitPlace {
             index: self.index + 1,
             at: self.at + info.span(),
             closed: info.code == END_OF_SEQUENCE,

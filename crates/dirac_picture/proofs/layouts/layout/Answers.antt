@@ -2,7 +2,7 @@ use Rattle.std.proofs.Common.{◌+◌, ◌≤◌, ◌/◌, arith, subst, ℕ, Op
 use Rattle.dirac_picture.specs.Bands.{counts_among}
 use Rattle.dirac_picture.specs.Fits.{IsCount}
 use Rattle.dirac_picture.proofs.Lengths.{band_some}
-use Rattle.dirac_picture.proofs.spots.spot.Goals as goal
+use Rattle.dirac_picture.proofs.layouts.layout.Goals as goal
 
 pub returns-clause-lawful : goal.returns-clause-lawful
 returns-clause-lawful c =

@@ -3,7 +3,7 @@ use dirac_types::{Band, BandTable};
 /// Which subband of a level a block holds: its orientation, its size in coefficients, and the number of
 /// codeblocks that it is divided into, across and down.
 #[derive(Clone, Copy, Debug, PartialEq, Eq)]
-pub struct BandSpot {
+pub struct BandLayout {
     pub band: Band,
     pub width: u32,
     pub height: u32,

@@ -1,0 +1,19 @@
+-- Where a subband's codeblocks lie.
+use Rattle.std.specs.Prelude.{ℕ, ◌+◌, ◌-◌, ◌≤◌, ◌==◌, Bool, not, ◌&&◌}
+use Rattle.dirac_bands.specs.Geometry.{edge_of}
+use Rattle.dirac_coeffs.specs.declared.layout.BandLayout.{BandLayout}
+
+-- sizes and counts are from 1 to 8,192
+pub record IsBandLayout (layout : BandLayout) : Type 0 where
+  pub width : (1 ≤ layout.width) × (layout.width ≤ 8192)
+  pub height : (1 ≤ layout.height) × (layout.height ≤ 8192)
+  pub across : (1 ≤ layout.across) × (layout.across ≤ 8192)
+  pub down : (1 ≤ layout.down) × (layout.down ≤ 8192)
+
+-- how many columns or rows codeblock c of these has
+abbrev pub span_of : ℕ → ℕ → ℕ → ℕ
+span_of size count c = edge_of size count (c + 1) - edge_of size count c
+
+-- whether each codeblock begins with a zero flag: where there is more than one
+abbrev pub is_flagged : BandLayout → Bool
+is_flagged layout = not (layout.across == 1 && layout.down == 1)
