@@ -1,6 +1,7 @@
 -- What the subbands of an analysed plane are, whatever their values.
 use Rattle.std.specs.Prelude.{◌≡◌, ℕ, ℤ, zero, suc, ◌+◌, ◌-◌, ◌*◌, ◌/◌, ◌^◌, ◌<◌, ◌≤◌, List, length, true, Some, slice_get, unsigned_abs}
 use Rattle.std.specs.List.{All}
+use Rattle.dirac_types.specs.Limits.{IsIndex}
 use Rattle.dirac_types.specs.Table.{Table}
 use Rattle.dirac_types.specs.Samples.{clip}
 pub use Rattle.dirac_bands.specs.Geometry.{lowest_size}
@@ -30,7 +31,7 @@ pub record IsDivisible (depth : ℕ) (t : Table) : Type 0 where
 
 -- a coded band of these sizes
 pub record IsLevelBand (width height : ℕ) (b : CodedBand) : Type 0 where
-  pub index : b.index ≤ 99
+  pub index : IsIndex b.index
   pub across : b.table.width ≡ width
   pub down : b.table.height ≡ height
   pub len : length b.table.values ≡ width * height

@@ -1,5 +1,6 @@
 -- What holds of the subbands of all planes.
 use Rattle.std.specs.Prelude.{◌≡◌, ℕ, ◌*◌, ◌≤◌, length}
+use Rattle.dirac_types.specs.Limits.{IsIndex, IsWavelet}
 use Rattle.dirac_types.specs.declared.formats.Kind.{Kind}
 use Rattle.dirac_types.specs.Table.{Table}
 use Rattle.dirac_bands.specs.Geometry.{lowest_size}
@@ -11,11 +12,11 @@ use Rattle.dirac_analysis.specs.Fits.{AreDifferences, AreLevelBands}
 -- stay below 2^38
 abbrev pub PlanesFit : Type 0
 PlanesFit =
-    (kind : Kind) (wavelet depth index : ℕ) (t : Table) → wavelet ≤ 6 → depth ≤ 4 → index ≤ 99 → AreDifferences t.values
+    (kind : Kind) (wavelet depth index : ℕ) (t : Table) → IsWavelet wavelet → depth ≤ 4 → IsIndex index → AreDifferences t.values
     → AreLevelBands (lowest_size t.width depth) (lowest_size t.height depth) depth (plane_bands kind wavelet depth index t)
 
 -- at index 0 nothing is lost
 abbrev pub PlanesAreKept : Type 0
 PlanesAreKept =
-    (kind : Kind) (wavelet depth : ℕ) (t : Table) → wavelet ≤ 6 → length t.values ≡ t.width * t.height
+    (kind : Kind) (wavelet depth : ℕ) (t : Table) → IsWavelet wavelet → length t.values ≡ t.width * t.height
     → residual wavelet depth kind (plane_bands kind wavelet depth 0 t) t.width t.height ≡ t

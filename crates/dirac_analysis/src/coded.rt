@@ -1,5 +1,6 @@
 ghost use Rattle.std.specs.Prelude.{◌≡◌, ◌-◌, ◌+◌, ◌*◌, ◌≤◌, ◌<◌, ◌^◌, length, map, unsigned_abs, IfOk, true};
 ghost use Rattle.std.specs.List.{All};
+ghost use Rattle.dirac_types.specs.Limits.{IsIndex};
 ghost use Rattle.dirac_quant.specs.Quantiser.{reduced};
 ghost use Rattle.dirac_coeffs.specs.Contexts as contexts;
 ghost use Rattle.dirac_coeffs.specs.Written.{is_zero_band};
@@ -7,13 +8,13 @@ ghost use Rattle.dirac_analysis.specs.Analysis.{coded};
 
 use dirac_coeffs::CodedBand;
 use dirac_quant::reduce;
-use dirac_types::{BandTable, NoMemory, Wide};
+use dirac_types::{BandTable, LARGEST_TABLE_SIDE, NoMemory, Wide};
 use std::alloc::Global;
 
 #[inline(always)]
 fn reduce_value(value: i128, index: u8) -> i64
     requires below_2_38 { unsigned_abs value < 2 ^ 38 }
-    requires index { index ≤ 99 }
+    requires index { IsIndex index }
     ensures { result ≡ reduced value index }
 {
     reduce(value as i64, index)
@@ -22,7 +23,7 @@ fn reduce_value(value: i128, index: u8) -> i64
 /// Writes the number that codes each value.
 fn reduce_values(values: &[i128], index: u8, coded: &mut [i64])
     requires len { length coded.old ≡ length values.now }
-    requires index { index ≤ 99 }
+    requires index { IsIndex index }
     requires magnitudes_below_2_38 { All (λ v. unsigned_abs v < 2 ^ 38) values.now }
     ensures { coded.new ≡ map (λ v. reduced v index) values.now }
 {
@@ -45,9 +46,9 @@ fn are_all_zeros(values: &[i64]) -> bool
 
 /// A table of coefficients coded at this quantiser index; a band of zeros has index 0.
 pub(crate) fn code_band(alloc: Global, table: &Wide, index: u8) -> Result<CodedBand, NoMemory>
-    requires index { index ≤ 99 }
-    requires across { table.now.width ≤ 8192 }
-    requires down { table.now.height ≤ 8192 }
+    requires index { IsIndex index }
+    requires across { table.now.width ≤ LARGEST_TABLE_SIDE }
+    requires down { table.now.height ≤ LARGEST_TABLE_SIDE }
     requires magnitudes_below_2_38 { All (λ v. unsigned_abs v < 2 ^ 38) table.now.values }
     ensures { IfOk result (λ b. b ≡ coded index table.now) }
 {

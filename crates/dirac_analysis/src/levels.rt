@@ -1,5 +1,6 @@
 ghost use Rattle.std.specs.Prelude.{◌≡◌, ◌-◌, ◌%◌, ◌≤◌, ◌^◌, [], ◌∷◌, ◌++◌, unsigned_abs, IfOk};
 ghost use Rattle.std.specs.List.{All};
+ghost use Rattle.dirac_types.specs.Limits.{IsIndex, IsWavelet};
 ghost use Rattle.dirac_bands.specs.Interleaving.{band_of};
 ghost use Rattle.dirac_lift.specs.Level.{analysed};
 ghost use Rattle.dirac_analysis.specs.Analysis.{coded, coded_bands, coded_lowest, differences};
@@ -10,7 +11,7 @@ use dirac_bands::{dc_subtract, split_bands};
 use dirac_coeffs::CodedBand;
 use dirac_lift::analyse_level;
 use dirac_picture::PlaneBands;
-use dirac_types::{Kind, NoMemory, Wide};
+use dirac_types::{Kind, LARGEST_TABLE_SIDE, NoMemory, Wide};
 use std::alloc::Global;
 
 /// One level of an analysis: its LL band, and the other three coded.
@@ -24,9 +25,9 @@ struct Level {
 
 /// The last LL band. An intra picture's is coded at index 0, less its predictions.
 fn code_lowest(alloc: Global, kind: Kind, low: Wide, index: u8) -> Result<CodedBand, NoMemory>
-    requires index { index ≤ 99 }
-    requires across { low.width ≤ 8192 }
-    requires down { low.height ≤ 8192 }
+    requires index { IsIndex index }
+    requires across { low.width ≤ LARGEST_TABLE_SIDE }
+    requires down { low.height ≤ LARGEST_TABLE_SIDE }
     requires magnitudes_at_most_2_36 { All (λ v. unsigned_abs v ≤ 2 ^ 36) low.values }
     ensures { IfOk result (λ b. b ≡ coded_lowest kind index low) }
 {
@@ -38,8 +39,8 @@ fn code_lowest(alloc: Global, kind: Kind, low: Wide, index: u8) -> Result<CodedB
 
 /// A table less the predictions of its values, coded at index 0.
 fn code_differences(alloc: Global, mut low: Wide) -> Result<CodedBand, NoMemory>
-    requires across { low.width ≤ 8192 }
-    requires down { low.height ≤ 8192 }
+    requires across { low.width ≤ LARGEST_TABLE_SIDE }
+    requires down { low.height ≤ LARGEST_TABLE_SIDE }
     requires magnitudes_at_most_2_36 { All (λ v. unsigned_abs v ≤ 2 ^ 36) low.values }
     ensures { IfOk result (λ b. b ≡ coded 0 (differences low)) }
 {
@@ -50,10 +51,10 @@ fn code_differences(alloc: Global, mut low: Wide) -> Result<CodedBand, NoMemory>
 
 /// Analyses one level.
 fn split_level(alloc: Global, mut plane: Wide, wavelet: u8, index: u8) -> Result<Level, NoMemory>
-    requires wavelet { wavelet ≤ 6 }
-    requires index { index ≤ 99 }
-    requires across { (plane.width % 2 ≡ 0) × (plane.width ≤ 8192) }
-    requires down { (plane.height % 2 ≡ 0) × (plane.height ≤ 8192) }
+    requires wavelet { IsWavelet wavelet }
+    requires index { IsIndex index }
+    requires across { (plane.width % 2 ≡ 0) × (plane.width ≤ LARGEST_TABLE_SIDE) }
+    requires down { (plane.height % 2 ≡ 0) × (plane.height ≤ LARGEST_TABLE_SIDE) }
     requires magnitudes_at_most_2_29 { All (λ v. unsigned_abs v ≤ 2 ^ 29) plane.values }
     ensures low { IfOk result (λ l. l.low ≡ band_of (analysed wavelet plane) 0 0) }
     ensures hl { IfOk result (λ l. l.hl ≡ coded index (band_of (analysed wavelet plane) 1 0)) }
@@ -82,11 +83,11 @@ pub(crate) fn code_levels(
     index: u8,
     depth: u8,
 ) -> Result<PlaneBands, NoMemory>
-    requires wavelet { wavelet ≤ 6 }
-    requires index { index ≤ 99 }
+    requires wavelet { IsWavelet wavelet }
+    requires index { IsIndex index }
     requires depth { depth ≤ 4 }
-    requires across { plane.width ≤ 8192 }
-    requires down { plane.height ≤ 8192 }
+    requires across { plane.width ≤ LARGEST_TABLE_SIDE }
+    requires down { plane.height ≤ LARGEST_TABLE_SIDE }
     requires whole { IsDivisible depth plane }
     requires magnitudes_bounded { All (λ v. unsigned_abs v ≤ grown (4 - depth)) plane.values }
     ensures { IfOk result (λ b. b ≡ coded_bands kind wavelet index plane depth) }

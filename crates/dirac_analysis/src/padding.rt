@@ -1,10 +1,11 @@
 ghost use Rattle.std.specs.Prelude.{◌≡◌, ℕ, ◌-◌, ◌≤◌, ◌<◌, length, min, slice_index, unsigned_abs, IfOk, slice_index_or, pos};
 ghost use Rattle.std.specs.List.{All};
+ghost use Rattle.dirac_types.specs.Limits.{IsEncodedDepth};
 ghost use Rattle.dirac_analysis.specs.Analysis.{padded as padded_table};
 ghost use Rattle.dirac_analysis.specs.Fits.{AreSamples, IsDivisible};
 
 use dirac_bands::padded;
-use dirac_types::{NoMemory, Plane, Wide};
+use dirac_types::{LARGEST_SIDE, NoMemory, Plane, Wide};
 use std::alloc::Global;
 
 /// Writes a row of samples, and its last one again up to the end of the line.
@@ -21,9 +22,9 @@ fn pad_row(samples: &[i16], line: &mut [i128])
 /// A plane padded up to multiples of 2 to the power of the transform's depth: the last sample of each row again, then the
 /// last row again.
 pub(crate) fn pad(alloc: Global, plane: &Plane, depth: u8) -> Result<Wide, NoMemory>
-    requires depth { (1 ≤ depth) × (depth ≤ 4) }
-    requires across { plane.now.width ≤ 4096 }
-    requires down { plane.now.height ≤ 4096 }
+    requires depth { IsEncodedDepth depth }
+    requires across { plane.now.width ≤ LARGEST_SIDE }
+    requires down { plane.now.height ≤ LARGEST_SIDE }
     ensures { IfOk result (λ t. t ≡ padded_table depth plane.now) }
 {
     let width = padded(plane.width(), depth);

@@ -1,4 +1,5 @@
 ghost use Rattle.std.specs.Prelude.{◌≡◌, ◌-◌, ◌+◌, ◌*◌, ◌≤◌, ◌<◌, ◌^◌, unsigned_abs, IfOk};
+ghost use Rattle.dirac_types.specs.Limits.{IsEncodedDepth, IsIndex, IsWavelet};
 ghost use Rattle.dirac_bands.specs.Geometry.{lowest_size};
 ghost use Rattle.dirac_residual.specs.Residual.{residual};
 ghost use Rattle.dirac_analysis.specs.Analysis.{plane_bands};
@@ -7,7 +8,7 @@ ghost use Rattle.dirac_analysis.specs.Fits.{AreDifferences, AreLevelBands};
 use crate::levels::code_levels;
 use crate::padding::pad;
 use dirac_picture::PlaneBands;
-use dirac_types::{Kind, NoMemory, Plane};
+use dirac_types::{Kind, LARGEST_SIDE, NoMemory, Plane};
 use std::alloc::Global;
 
 /// The subbands of a plane of values, quantised at `index` (forward wavelet transform): the plane is padded and analysed
@@ -21,11 +22,11 @@ pub fn analyse_plane(
     depth: u8,
     index: u8,
 ) -> Result<PlaneBands, NoMemory>
-    requires wavelet { wavelet ≤ 6 }
-    requires depth { (1 ≤ depth) × (depth ≤ 4) }
-    requires index { index ≤ 99 }
-    requires across { plane.now.width ≤ 4096 }
-    requires down { plane.now.height ≤ 4096 }
+    requires wavelet { IsWavelet wavelet }
+    requires depth { IsEncodedDepth depth }
+    requires index { IsIndex index }
+    requires across { plane.now.width ≤ LARGEST_SIDE }
+    requires down { plane.now.height ≤ LARGEST_SIDE }
     requires magnitudes_bounded { AreDifferences plane.now.values }
     ensures value { IfOk result (λ b. b ≡ plane_bands kind wavelet depth index plane.now) }
     // Each band has the sizes of its level, and its coefficients stay below 2^38.

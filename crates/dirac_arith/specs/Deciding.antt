@@ -1,6 +1,7 @@
 -- What a block reads to, decision by decision: a decision is true where the front of the block lies in the part of the
 -- interval that true keeps. Each step gives its value and the reading behind it, or why there is none.
 use Rattle.std.specs.Prelude.{◌≡◌, ℕ, zero, suc, ℤ, pos, ◌+◌, ◌-◌, ◌*◌, ◌==◌, if◌then◌else◌, Bool, true, List, Result, Ok, Err}
+use Rattle.dirac_types.specs.declared.limits.TheConstants.{MOST_DIGITS}
 use Rattle.dirac_types.specs.declared.faults.Cause.{Cause}
 use Rattle.dirac_types.specs.declared.faults.Cause.TheVariants.{CodeWord, NumberTooLong}
 use Rattle.dirac_types.specs.Bits.{bit_value}
@@ -44,7 +45,7 @@ number_from_digit follow bits i (suc left) value r = do
 
 -- an unsigned number
 unfoldable pub number_read : List ℕ → ℕ → Reading → Result (ℕ × Reading) Cause
-number_read follow bits r = number_from_digit follow bits 0 38 1 r
+number_read follow bits r = number_from_digit follow bits 0 MOST_DIGITS 1 r
 
 -- the sign of this number, where it isn't 0
 unfoldable pub sign_read : ℕ → ℕ × Reading → Result (ℤ × Reading) Cause

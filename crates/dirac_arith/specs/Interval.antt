@@ -1,6 +1,7 @@
 -- The exact interval of a list of decisions. Its low end is never masked.
 use Rattle.std.specs.Prelude.{ℕ, zero, suc, ◌+◌, ◌-◌, ◌*◌, ◌/◌, ◌^◌, ◌<◌, Bool, true, false, nat_lt, if◌then◌else◌, List, [], ◌∷◌, slice_index, slice_set, replicate}
 use Rattle.std.specs.List.{AllByRecursion}
+use Rattle.dirac_arith.specs.declared.contexts.TheConstants.{CONTEXTS}
 use Rattle.dirac_arith.specs.StepTable.{step_of}
 
 -- a decision: the number of its context, and its truth
@@ -70,7 +71,7 @@ narrowed_by s (d ∷ ds) = narrowed_by (narrowed s d) ds
 
 -- the interval before any decision
 abbrev pub whole : Interval
-whole = record { low = 0; range = 0xFFFF; doublings = 0; contexts = replicate 38 0x8000 }
+whole = record { low = 0; range = 0xFFFF; doublings = 0; contexts = replicate CONTEXTS 0x8000 }
 
 -- the interval of a list of decisions
 abbrev pub interval_of : List Decision → Interval
@@ -78,4 +79,4 @@ interval_of ds = narrowed_by whole ds
 
 -- decisions of the 38 contexts
 abbrev pub InContexts : List Decision → Type 0
-InContexts ds = AllByRecursion (λ (d : Decision). d.0 < 38) ds
+InContexts ds = AllByRecursion (λ (d : Decision). d.0 < CONTEXTS) ds

@@ -1,5 +1,6 @@
 -- What holds of all blocks and decisions.
 use Rattle.std.specs.Prelude.{◌≡◌, ◌≢◌, ◌↔◌, ◌⊎◌, ◌-◌, ◌^◌, ◌<◌, ℕ, ℤ, Bool, true, false, List, [], ◌∷◌, ◌++◌, length, map, nat_abs, Ok, Err}
+use Rattle.dirac_types.specs.declared.limits.TheConstants.{MOST_DIGITS}
 use Rattle.dirac_types.specs.Numbers.{uint, sint}
 use Rattle.dirac_arith.specs.Interval.{Decision, InContexts}
 use Rattle.dirac_types.specs.declared.faults.Cause.TheVariants.{CodeWord, NumberTooLong}
@@ -61,14 +62,14 @@ abbrev pub CarriesSomeNumber : Type 0
 CarriesSomeNumber =
     (block : List ℕ) (common : List Decision) (follow : List ℕ) (bits : ℕ) → front block 16 ≢ 0xFFFF → Carries block common
     → ((v : ℕ) × (v < 2 ^ 39 - 1) × Carries block (common ++ spelling follow bits v))
-    ⊎ ((digits : List Bool) × (length digits ≡ 38) × Carries block (common ++ spelt follow bits digits false))
+    ⊎ ((digits : List Bool) × (length digits ≡ MOST_DIGITS) × Carries block (common ++ spelt follow bits digits false))
 
 -- the same of signed numbers
 abbrev pub CarriesSomeSigned : Type 0
 CarriesSomeSigned =
     (block : List ℕ) (common : List Decision) (follow : List ℕ) (bits sign : ℕ) → front block 16 ≢ 0xFFFF → Carries block common
     → ((v : ℤ) × (nat_abs v < 2 ^ 39 - 1) × Carries block (common ++ signed_spelling follow bits sign v))
-    ⊎ ((digits : List Bool) × (length digits ≡ 38) × Carries block (common ++ spelt follow bits digits false))
+    ⊎ ((digits : List Bool) × (length digits ≡ MOST_DIGITS) × Carries block (common ++ spelt follow bits digits false))
 
 -- behind decisions that were read, the next one reads to the truth that the block allows
 abbrev pub DecisionIsRead : Type 0
@@ -86,7 +87,7 @@ NumberIsRead =
 abbrev pub LongNumberIsRefused : Type 0
 LongNumberIsRefused =
     (block : List ℕ) (common : List Decision) (old : Reading) (follow : List ℕ) (bits : ℕ) → Reads (begin block) common old
-    → (number_read follow bits old ≡ Err NumberTooLong) ↔ ((digits : List Bool) × (length digits ≡ 38) × ((new : Reading) × Reads old (spelt follow bits digits false) new))
+    → (number_read follow bits old ≡ Err NumberTooLong) ↔ ((digits : List Bool) × (length digits ≡ MOST_DIGITS) × ((new : Reading) × Reads old (spelt follow bits digits false) new))
 
 -- the same of signed numbers
 abbrev pub SignedIsRead : Type 0
@@ -98,7 +99,7 @@ SignedIsRead =
 abbrev pub LongSignedIsRefused : Type 0
 LongSignedIsRefused =
     (block : List ℕ) (common : List Decision) (old : Reading) (follow : List ℕ) (bits sign : ℕ) → Reads (begin block) common old
-    → (signed_read follow bits sign old ≡ Err NumberTooLong) ↔ ((digits : List Bool) × (length digits ≡ 38) × ((new : Reading) × Reads old (spelt follow bits digits false) new))
+    → (signed_read follow bits sign old ≡ Err NumberTooLong) ↔ ((digits : List Bool) × (length digits ≡ MOST_DIGITS) × ((new : Reading) × Reads old (spelt follow bits digits false) new))
 
 -- decisions and numbers are refused for the block's first bits exactly where sixteen of them are ones
 abbrev pub OnesReadToNothing : Type 0

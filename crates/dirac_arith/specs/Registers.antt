@@ -1,5 +1,6 @@
 -- The registers of a decoder, and the interval that they stand for.
 use Rattle.std.specs.Prelude.{◌≡◌, ◌+◌, ◌-◌, ◌*◌, ◌/◌, ◌^◌, ◌<◌, ◌≤◌, ℕ, Bool, true, false, List, slice_index}
+use Rattle.dirac_arith.specs.declared.contexts.TheConstants.{CONTEXTS}
 use Rattle.dirac_arith.specs.declared.registers.Registers.{Registers}
 use Rattle.dirac_arith.specs.Front.{front}
 
@@ -18,7 +19,7 @@ doublings_of r = 8 * r.next - 16 - r.ahead
 
 -- the probabilities of the contexts stay within these bounds, so each part of a range is above 32
 abbrev pub AreProbabilities : List ℕ → Type 0
-AreProbabilities contexts = (i : ℕ) → i < 38 → (254 ≤ slice_index contexts i) × (slice_index contexts i ≤ 65281)
+AreProbabilities contexts = (i : ℕ) → i < CONTEXTS → (254 ≤ slice_index contexts i) × (slice_index contexts i ≤ 65281)
 
 -- how wide the part is that a decision keeps
 abbrev pub part_of : ℕ → ℕ → Bool → ℕ

@@ -1,12 +1,13 @@
 -- How decisions spell a number: its digits each behind a false follow decision, then a true one.
 use Rattle.std.specs.Prelude.{ℕ, zero, suc, ℤ, pos, negsuc, ◌+◌, ◌-◌, min, Bool, true, false, List, [], ◌∷◌, ◌++◌, length, slice_index, nat_lt, IsTrue}
 use Rattle.std.specs.List.{list_all}
+use Rattle.dirac_arith.specs.declared.contexts.TheConstants.{CONTEXTS}
 use Rattle.dirac_types.specs.Numbers.{digits_of}
 use Rattle.dirac_arith.specs.Interval.{Decision}
 
 -- a list of numbers of contexts
 abbrev pub AreContexts : List ℕ → Type 0
-AreContexts contexts = IsTrue (list_all (λ c. nat_lt c 38) contexts)
+AreContexts contexts = IsTrue (list_all (λ c. nat_lt c CONTEXTS) contexts)
 
 -- the context of a follow decision: the last one of the list repeats
 abbrev pub follow_at : List ℕ → ℕ → ℕ

@@ -7,10 +7,11 @@ ghost use Rattle.dirac_arith.specs.Interval.{narrowed, narrowed_by, whole};
 ghost use Rattle.dirac_arith.specs.Reading.{Reads};
 ghost use Rattle.dirac_arith.specs.Spelling.{AreContexts, signed_spelling, spelling, spelt};
 
+use crate::contexts::CONTEXTS;
 use crate::follow::follow_context;
 use crate::probabilities::adapt;
 use crate::registers::{Registers, begin, decide, fill, is_past};
-use dirac_types::{Cause, with_sign};
+use dirac_types::{Cause, MOST_DIGITS, with_sign};
 use std::marker::Model;
 
 /// Reads the decisions of a block, each under the number of its context (arithmetic decoding, Dirac specification).
@@ -19,7 +20,7 @@ use std::marker::Model;
 pub struct Decoder<'a> {
     block: &'a [u8],
     registers: Registers,
-    contexts: [u16; 38],
+    contexts: [u16; CONTEXTS],
     refused: bool,
 }
 
@@ -45,14 +46,14 @@ impl<'a> Decoder<'a> {
         Decoder {
             block,
             registers,
-            contexts: [0x8000; 38],
+            contexts: [0x8000; CONTEXTS],
             refused,
         }
     }
 
     /// The probability of a context, as a part of 0x10000, that its next decision is false.
     pub fn context(&self, ctx: u8) -> u16
-        requires { ctx < 38 }
+        requires { ctx < CONTEXTS }
         ensures { result ≡ slice_index self.now.at.contexts ctx }
     {
         self.contexts[ctx as usize]
@@ -60,7 +61,7 @@ impl<'a> Decoder<'a> {
 
     /// One decision in a context. A block that begins with sixteen ones, as an empty one does, has none: `CodeWord`.
     pub fn decision(&mut self, ctx: u8) -> Result<bool, Cause>
-        requires context { ctx < 38 }
+        requires context { ctx < CONTEXTS }
         requires no_overflow { self.old.at.doublings < 2 ^ 62 }
         ensures read { Gives result self.new (decided ctx self.old) }
         ensures narrows { IfOk result (λ truth. self.new ≡ record { block = self.old.block; at = narrowed self.old.at (ctx, truth) }) }
@@ -87,16 +88,16 @@ impl<'a> Decoder<'a> {
     pub fn number(&mut self, follow: &[u8], bits: u8) -> Result<u64, Cause>
         requires not_empty { 0 < length follow.now }
         requires follow { AreContexts follow.now }
-        requires bits { bits < 38 }
+        requires bits { bits < CONTEXTS }
         requires no_overflow { self.old.at.doublings < 2 ^ 61 }
         ensures read { Gives result self.new (number_read follow.now bits self.old) }
         ensures found { IfOk result (λ v. Reads self.old (spelling follow.now bits v) self.new) }
         ensures below_2_39 { IfOk result (λ v. v < 2 ^ 39 - 1) }
         ensures long { result ≡ Err Cause.NumberTooLong →
-            (digits : List Bool) × (length digits ≡ 38) × Reads self.old (spelt follow.now bits digits false) self.new }
+            (digits : List Bool) × (length digits ≡ MOST_DIGITS) × Reads self.old (spelt follow.now bits digits false) self.new }
         ensures number { (v : ℕ) → v < 2 ^ 39 - 1 → Lies self.old.block (narrowed_by self.old.at (spelling follow.now bits v)) →
             result ≡ Ok v }
-        ensures no_number { (digits : List Bool) → length digits ≡ 38 →
+        ensures no_number { (digits : List Bool) → length digits ≡ MOST_DIGITS →
             Lies self.old.block (narrowed_by self.old.at (spelt follow.now bits digits false)) →
             result ≡ Err Cause.NumberTooLong }
         ensures refused { (result ≡ Err Cause.CodeWord) ↔ (front self.old.block 16 ≡ 0xFFFF) }
@@ -112,12 +113,12 @@ impl<'a> Decoder<'a> {
     fn read_number(&mut self, follow: &[u8], bits: u8) -> Result<u64, Cause>
         requires not_empty { 0 < length follow.now }
         requires follow { AreContexts follow.now }
-        requires bits { bits < 38 }
+        requires bits { bits < CONTEXTS }
         requires no_overflow { self.old.at.doublings < 2 ^ 61 }
         ensures found { IfOk result (λ v. Reads self.old (spelling follow.now bits v) self.new) }
         ensures below_2_39 { IfOk result (λ v. v < 2 ^ 39 - 1) }
         ensures long { result ≡ Err Cause.NumberTooLong →
-            (digits : List Bool) × (length digits ≡ 38) × Reads self.old (spelt follow.now bits digits false) self.new }
+            (digits : List Bool) × (length digits ≡ MOST_DIGITS) × Reads self.old (spelt follow.now bits digits false) self.new }
         ensures refused { (result ≡ Err Cause.CodeWord) ↔ (front self.old.block 16 ≡ 0xFFFF) }
         ensures no_other_cause { IfErr result (λ e. (e ≡ Cause.CodeWord) ⊎ (e ≡ Cause.NumberTooLong)) }
         ensures unchanged { result ≡ Err Cause.CodeWord → self.new ≡ self.old }
@@ -132,7 +133,7 @@ impl<'a> Decoder<'a> {
             let digit = self.decision(bits)?;
             value = value * 2 + u64::from(digit);
         }
-        let end = self.decision(follow_context(follow, 38))?;
+        let end = self.decision(follow_context(follow, MOST_DIGITS))?;
         if end {
             return Ok(value - 1);
         }
@@ -143,17 +144,17 @@ impl<'a> Decoder<'a> {
     pub fn signed(&mut self, follow: &[u8], bits: u8, sign: u8) -> Result<i64, Cause>
         requires not_empty { 0 < length follow.now }
         requires follow { AreContexts follow.now }
-        requires bits { bits < 38 }
-        requires sign { sign < 38 }
+        requires bits { bits < CONTEXTS }
+        requires sign { sign < CONTEXTS }
         requires no_overflow { self.old.at.doublings < 2 ^ 61 }
         ensures read { Gives result self.new (signed_read follow.now bits sign self.old) }
         ensures found { IfOk result (λ v. Reads self.old (signed_spelling follow.now bits sign v) self.new) }
         ensures below_2_39 { IfOk result (λ v. nat_abs v < 2 ^ 39 - 1) }
         ensures long { result ≡ Err Cause.NumberTooLong →
-            (digits : List Bool) × (length digits ≡ 38) × Reads self.old (spelt follow.now bits digits false) self.new }
+            (digits : List Bool) × (length digits ≡ MOST_DIGITS) × Reads self.old (spelt follow.now bits digits false) self.new }
         ensures number { (v : ℤ) → nat_abs v < 2 ^ 39 - 1 → Lies self.old.block (narrowed_by self.old.at (signed_spelling follow.now bits sign v)) →
             result ≡ Ok v }
-        ensures no_number { (digits : List Bool) → length digits ≡ 38 →
+        ensures no_number { (digits : List Bool) → length digits ≡ MOST_DIGITS →
             Lies self.old.block (narrowed_by self.old.at (spelt follow.now bits digits false)) →
             result ≡ Err Cause.NumberTooLong }
         ensures refused { (result ≡ Err Cause.CodeWord) ↔ (front self.old.block 16 ≡ 0xFFFF) }
@@ -169,13 +170,13 @@ impl<'a> Decoder<'a> {
     fn read_signed(&mut self, follow: &[u8], bits: u8, sign: u8) -> Result<i64, Cause>
         requires not_empty { 0 < length follow.now }
         requires follow { AreContexts follow.now }
-        requires bits { bits < 38 }
-        requires sign { sign < 38 }
+        requires bits { bits < CONTEXTS }
+        requires sign { sign < CONTEXTS }
         requires no_overflow { self.old.at.doublings < 2 ^ 61 }
         ensures found { IfOk result (λ v. Reads self.old (signed_spelling follow.now bits sign v) self.new) }
         ensures below_2_39 { IfOk result (λ v. nat_abs v < 2 ^ 39 - 1) }
         ensures long { result ≡ Err Cause.NumberTooLong →
-            (digits : List Bool) × (length digits ≡ 38) × Reads self.old (spelt follow.now bits digits false) self.new }
+            (digits : List Bool) × (length digits ≡ MOST_DIGITS) × Reads self.old (spelt follow.now bits digits false) self.new }
         ensures refused { (result ≡ Err Cause.CodeWord) ↔ (front self.old.block 16 ≡ 0xFFFF) }
         ensures no_other_cause { IfErr result (λ e. (e ≡ Cause.CodeWord) ⊎ (e ≡ Cause.NumberTooLong)) }
         ensures unchanged { result ≡ Err Cause.CodeWord → self.new ≡ self.old }

@@ -5,6 +5,7 @@ ghost use Rattle.dirac_arith.specs.Registers.{part_of, lift_of};
 ghost use Rattle.dirac_arith.specs.Spelling.{AreContexts, signed_spelling, spelling};
 ghost use Rattle.dirac_arith.specs.Written.{flush};
 
+use crate::contexts::CONTEXTS;
 use crate::follow::follow_context;
 use crate::probabilities::adapt;
 use crate::registers::doublings;
@@ -19,7 +20,7 @@ use std::marker::Model;
 pub struct Encoder {
     tail: Tail,
     range: u32,
-    contexts: [u16; 38],
+    contexts: [u16; CONTEXTS],
 }
 
 impl Model for Encoder {
@@ -83,13 +84,13 @@ impl Encoder {
         Encoder {
             tail: Tail::new(alloc),
             range: 0xFFFF,
-            contexts: [0x8000; 38],
+            contexts: [0x8000; CONTEXTS],
         }
     }
 
     /// The probability of a context, as a part of 0x10000, that its next decision is false.
     pub fn context(&self, ctx: u8) -> u16
-        requires { ctx < 38 }
+        requires { ctx < CONTEXTS }
         ensures { result ≡ slice_index self.now.contexts ctx }
     {
         self.contexts[ctx as usize]
@@ -97,7 +98,7 @@ impl Encoder {
 
     /// One decision in a context.
     pub fn decision(&mut self, ctx: u8, truth: bool) -> Result<(), NoMemory>
-        requires { ctx < 38 }
+        requires { ctx < CONTEXTS }
         ensures taken { OnOk result (self.new ≡ narrowed self.old (ctx, truth)) }
         ensures unchanged { OnErr result (self.new ≡ self.old) }
     {
@@ -115,7 +116,7 @@ impl Encoder {
     pub fn number(&mut self, follow: &[u8], bits: u8, value: u64) -> Result<(), NoMemory>
         requires not_empty { 0 < length follow.now }
         requires follow { AreContexts follow.now }
-        requires bits { bits < 38 }
+        requires bits { bits < CONTEXTS }
         requires value { value < 2 ^ 39 - 1 }
         ensures { OnOk result (self.new ≡ narrowed_by self.old (spelling follow.now bits value)) }
     {
@@ -134,8 +135,8 @@ impl Encoder {
     pub fn signed(&mut self, follow: &[u8], bits: u8, sign: u8, value: i64) -> Result<(), NoMemory>
         requires not_empty { 0 < length follow.now }
         requires follow { AreContexts follow.now }
-        requires bits { bits < 38 }
-        requires sign { sign < 38 }
+        requires bits { bits < CONTEXTS }
+        requires sign { sign < CONTEXTS }
         requires value { nat_abs value < 2 ^ 39 - 1 }
         ensures { OnOk result (self.new ≡ narrowed_by self.old (signed_spelling follow.now bits sign value)) }
     {

@@ -1,7 +1,7 @@
 ghost use Rattle.std.specs.Prelude.{◌≡◌, ◌+◌, ◌*◌, ◌%◌, ◌≤◌, ◌<◌, length, IfOk};
 ghost use Rattle.dirac_bands.specs.Interleaving.{band_of, every_other, interleaved, joined};
 
-use dirac_types::{NoMemory, Wide};
+use dirac_types::{LARGEST_SIDE, LARGEST_TABLE_SIDE, NoMemory, Wide};
 use std::alloc::Global;
 
 /// The four subbands of one level, all of one size.
@@ -48,8 +48,8 @@ pub fn join_bands(
     lh: &Wide,
     hh: &Wide,
 ) -> Result<Wide, NoMemory>
-    requires across { ll.now.width ≤ 4096 }
-    requires down { ll.now.height ≤ 4096 }
+    requires across { ll.now.width ≤ LARGEST_SIDE }
+    requires down { ll.now.height ≤ LARGEST_SIDE }
     requires hl { (hl.now.width ≡ ll.now.width) × (hl.now.height ≡ ll.now.height) }
     requires lh { (lh.now.width ≡ ll.now.width) × (lh.now.height ≡ ll.now.height) }
     requires hh { (hh.now.width ≡ ll.now.width) × (hh.now.height ≡ ll.now.height) }
@@ -74,8 +74,8 @@ pub fn join_bands(
 
 /// The subband of a plane's columns 2n + `right` and rows 2n + `below`.
 fn split_band(alloc: Global, plane: &Wide, right: usize, below: u32) -> Result<Wide, NoMemory>
-    requires across { (plane.now.width % 2 ≡ 0) × (plane.now.width ≤ 8192) }
-    requires down { (plane.now.height % 2 ≡ 0) × (plane.now.height ≤ 8192) }
+    requires across { (plane.now.width % 2 ≡ 0) × (plane.now.width ≤ LARGEST_TABLE_SIDE) }
+    requires down { (plane.now.height % 2 ≡ 0) × (plane.now.height ≤ LARGEST_TABLE_SIDE) }
     requires right { right ≤ 1 }
     requires below { below ≤ 1 }
     ensures { IfOk result (λ band. band ≡ band_of plane.now right below) }
@@ -91,8 +91,8 @@ fn split_band(alloc: Global, plane: &Wide, right: usize, below: u32) -> Result<W
 
 /// The four subbands that interleave to a plane of even width and height, at most 8,192 each.
 pub fn split_bands(alloc: Global, plane: &Wide) -> Result<FourBands, NoMemory>
-    requires across { (plane.now.width % 2 ≡ 0) × (plane.now.width ≤ 8192) }
-    requires down { (plane.now.height % 2 ≡ 0) × (plane.now.height ≤ 8192) }
+    requires across { (plane.now.width % 2 ≡ 0) × (plane.now.width ≤ LARGEST_TABLE_SIDE) }
+    requires down { (plane.now.height % 2 ≡ 0) × (plane.now.height ≤ LARGEST_TABLE_SIDE) }
     ensures ll { IfOk result (λ bands. bands.ll ≡ band_of plane.now 0 0) }
     ensures hl { IfOk result (λ bands. bands.hl ≡ band_of plane.now 1 0) }
     ensures lh { IfOk result (λ bands. bands.lh ≡ band_of plane.now 0 1) }

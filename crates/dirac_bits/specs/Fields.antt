@@ -1,5 +1,6 @@
 -- The fields of the bitstream, read: a value and the place behind it, or why there is none.
 use Rattle.std.specs.Prelude.{ℕ, zero, suc, ℤ, pos, ◌+◌, ◌-◌, ◌*◌, ◌==◌, if◌then◌else◌, Bool, List, [], ◌∷◌, Result, Ok, Err}
+use Rattle.dirac_types.specs.declared.limits.TheConstants.{MOST_DIGITS}
 use Rattle.dirac_types.specs.declared.faults.Cause.{Cause}
 use Rattle.dirac_types.specs.declared.faults.Cause.TheVariants.{NumberTooLong}
 use Rattle.dirac_types.specs.declared.faults.Refusal.{Refusal}
@@ -27,7 +28,7 @@ sign_on n = if n.0 == 0 then Ok (pos 0, n.1) else (bit_next n.1 >>= with_sign n.
 
 -- a number and its sign
 abbrev pub signed_on : Cursor → Result (ℤ × Cursor) Cause
-signed_on c = number_on 38 1 c >>= sign_on
+signed_on c = number_on MOST_DIGITS 1 c >>= sign_on
 
 -- so many bits
 unfoldable pub bits_on : ℕ → Cursor → Result (List Bool × Cursor) Cause
@@ -48,7 +49,7 @@ flag_at c = from c (bit_next c)
 
 -- an unsigned number
 unfoldable pub uint_at : Cursor → Result (ℕ × Cursor) Refusal
-uint_at c = from c (number_on 38 1 c)
+uint_at c = from c (number_on MOST_DIGITS 1 c)
 
 -- a signed number
 unfoldable pub sint_at : Cursor → Result (ℤ × Cursor) Refusal

@@ -4,11 +4,11 @@
 //! a header's value, and the laws in `laws` join that to what is read.
 #![tactic(auto)]
 
+mod bit_place;
 mod laws;
 mod numbers;
 mod reader;
 mod spelling;
-mod bit_place;
 mod writer;
 
 pub use laws::{headers_are_read_as_spelled, numbers_end_themselves};

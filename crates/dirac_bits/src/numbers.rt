@@ -4,7 +4,7 @@ ghost use Rattle.dirac_bits.specs.Fields.{number_on, signed_on, literal_on, byte
 ghost use Rattle.dirac_bits.specs.BitPlaces.{cursor_at, bit_number, Steps, StepsBy};
 
 use crate::bit_place::BitPlace;
-use dirac_types::{Cause, with_sign};
+use dirac_types::{Cause, MOST_DIGITS, with_sign};
 
 /// The bit at `spot`, and the spot behind it.
 pub fn next_bit(bytes: &[u8], bit_place: BitPlace) -> Result<(bool, BitPlace), Cause>
@@ -21,7 +21,7 @@ pub fn next_bit(bytes: &[u8], bit_place: BitPlace) -> Result<(bool, BitPlace), C
 
 /// The unsigned number at `first`, and the spot behind it.
 pub fn next_number(bytes: &[u8], first: BitPlace) -> Result<(u64, BitPlace), Cause>
-    ensures value { Steps bytes.now result (number_on 38 1 (cursor_at bytes.now first)) }
+    ensures value { Steps bytes.now result (number_on MOST_DIGITS 1 (cursor_at bytes.now first)) }
     ensures inside { IfOk result (λ x. bit_number x.1 ≤ 8 * length bytes.now) }
     ensures below_2_39 { IfOk result (λ x. x.0 + 1 < 2 ^ 39) }
 {

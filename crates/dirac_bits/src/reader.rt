@@ -4,8 +4,8 @@ ghost use Rattle.dirac_bits.specs.Fields.{flag_at, uint_at, sint_at, literal_at,
 ghost use Rattle.dirac_bits.specs.Syntax.{between, field, read};
 ghost use Rattle.dirac_bits.specs.Answers.{Reads, Takes};
 
-use crate::numbers::{next_bit, next_block, next_literal, next_number, next_signed};
 use crate::bit_place::BitPlace;
+use crate::numbers::{next_bit, next_block, next_literal, next_number, next_signed};
 use dirac_types::{Cause, Refusal};
 use std::marker::Model;
 

@@ -1,6 +1,7 @@
 -- The decisions that a block table is coded by, told from the finished table: nine lists with two references, seven
 -- with one. Predictions are read off the values of the whole, and nothing is said of the order in which a reader fills them in.
 use Rattle.std.specs.Prelude.{◌≡◌, ℕ, zero, suc, ℤ, ◌+◌, ◌-◌, ◌-ℤ◌, ◌*◌, ◌%◌, ◌^◌, ◌<◌, ◌==◌, Bool, true, false, not, ◌||◌, if◌then◌else◌, List, [], ◌∷◌, ◌++◌, Option, Some, None, option_map}
+use Rattle.dirac_arith.specs.declared.contexts.TheConstants.{DC_DIGITS, DC_FOLLOW, DC_SIGN, REFERENCE_1, REFERENCE_2, SPLIT_DIGITS, SPLIT_FOLLOW, VECTOR_DIGITS, VECTOR_FOLLOW, VECTOR_SIGN}
 use Rattle.dirac_types.specs.declared.formats.Vector.{Vector}
 use Rattle.dirac_arith.specs.Interval.{Decision}
 use Rattle.dirac_arith.specs.Spelling.{spelling, signed_spelling}
@@ -85,7 +86,7 @@ least_numbers t sy sx = (split_at t sx sy + 3 - predicted_split t sx sy) % 3
 -- the numbers of the first n superblocks of row sy
 unfoldable pub split_row : Numbers → ℕ → ℕ → List Decision
 split_row numbers sy zero = []
-split_row numbers sy (suc n) = split_row numbers sy n ++ spelling (22 ∷ 23 ∷ []) 24 (numbers sy n)
+split_row numbers sy (suc n) = split_row numbers sy n ++ spelling SPLIT_FOLLOW SPLIT_DIGITS (numbers sy n)
 
 -- the numbers of the first n rows of superblocks
 unfoldable pub split_rows : ℕ → Numbers → ℕ → List Decision
@@ -124,8 +125,8 @@ superblock_rows part t (suc n) = superblock_rows part t n ++ superblock_row part
 -- which references a unit uses, each bit against its prediction
 abbrev pub mode_part : BlockTable → UnitPart
 mode_part t i j =
-    (25, differ (block_at t i j).ref1 (predicted mode_of (ref1_at t) i j))
-    ∷ (if t.refs == 2 then (26, differ (block_at t i j).ref2 (predicted mode_of (ref2_at t) i j)) ∷ [] else [])
+    (REFERENCE_1, differ (block_at t i j).ref1 (predicted mode_of (ref1_at t) i j))
+    ∷ (if t.refs == 2 then (REFERENCE_2, differ (block_at t i j).ref2 (predicted mode_of (ref2_at t) i j)) ∷ [] else [])
 
 -- a value, where the unit has it, less its prediction
 abbrev pub less_prediction : List ℕ → ℕ → ℕ → ℤ → Option ℤ → List Decision
@@ -135,11 +136,11 @@ less_prediction follow bits sign prediction (Some v) = signed_spelling follow bi
 -- a component of a unit's vector
 abbrev pub vector_part : (ℕ → ℕ → Option Vector) → (Vector → ℤ) → UnitPart
 vector_part at component i j =
-    less_prediction (27 ∷ 28 ∷ 29 ∷ 30 ∷ 31 ∷ []) 32 33 (component (predicted vector_of at i j)) (option_map component (at i j))
+    less_prediction VECTOR_FOLLOW VECTOR_DIGITS VECTOR_SIGN (component (predicted vector_of at i j)) (option_map component (at i j))
 
 -- a DC value of a unit
 abbrev pub dc_part : (ℕ → ℕ → Option ℤ) → UnitPart
-dc_part at i j = less_prediction (34 ∷ 35 ∷ []) 36 37 (predicted dc_of at i j) (at i j)
+dc_part at i j = less_prediction DC_FOLLOW DC_DIGITS DC_SIGN (predicted dc_of at i j) (at i j)
 
 -- a list for the whole table, units by superblock
 abbrev pub unit_decisions : BlockTable → UnitPart → List Decision

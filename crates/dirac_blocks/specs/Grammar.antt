@@ -1,6 +1,7 @@
 -- A block table in a payload: for each of its lists a length and an arithmetic block, which is read over the table that
 -- the lists before gave. Superblocks are read by rows, the units of one by rows, and what a unit has holds for all its blocks.
 use Rattle.std.specs.Prelude.{ℕ, zero, suc, ℤ, pos, negsuc, ◌+◌, ◌+ℤ◌, ◌*◌, ◌%◌, ◌^◌, ◌==◌, int_le, if◌then◌else◌, Bool, true, false, not, ◌||◌, ◌&&◌, List, [], ◌∷◌, replicate, slice_set, Result, Ok, Err}
+use Rattle.dirac_arith.specs.declared.contexts.TheConstants.{DC_DIGITS, DC_FOLLOW, DC_SIGN, REFERENCE_1, REFERENCE_2, SPLIT_DIGITS, SPLIT_FOLLOW, VECTOR_DIGITS, VECTOR_FOLLOW, VECTOR_SIGN}
 use Rattle.dirac_types.specs.declared.faults.Cause.{Cause}
 use Rattle.dirac_types.specs.declared.faults.Cause.TheVariants.{VectorRange, DcRange}
 use Rattle.dirac_types.specs.Chain.{◌>>=◌ as ◌>>◌}
@@ -45,7 +46,7 @@ with_split t sx sy split = record t { splits = slice_set t.splits (sy * t.across
 -- the split of superblock sx of row sy: the sum modulo 3 of a number and the prediction
 unfoldable pub split_step : ℕ → ℕ → Step
 split_step sy sx x =
-    number_read (22 ∷ 23 ∷ []) 24 x.reading
+    number_read SPLIT_FOLLOW SPLIT_DIGITS x.reading
     >> λ number. Ok (record { table = with_split x.table sx sy ((number.0 + predicted_split x.table sx sy) % 3); reading = number.1 })
 
 -- the splits of all superblocks
@@ -73,12 +74,12 @@ block_using first second = record grey { ref1 = first; ref2 = second }
 -- whether a unit uses reference 2, where there is one
 abbrev pub second_use_read : BlockTable → ℕ → ℕ → Reading → Result (Bool × Reading) Cause
 second_use_read t i j r =
-    if t.refs == 2 then (decided 26 r >> λ bit. Ok (differ bit.0 (predicted mode_of (ref2_at t) i j), bit.1)) else Ok (false, r)
+    if t.refs == 2 then (decided REFERENCE_2 r >> λ bit. Ok (differ bit.0 (predicted mode_of (ref2_at t) i j), bit.1)) else Ok (false, r)
 
 -- which references a unit uses, each bit against its prediction
 abbrev pub mode_read : BlockTable → ℕ → ℕ → Reading → Result (Block × Reading) Cause
 mode_read t i j r =
-    decided 25 r
+    decided REFERENCE_1 r
     >> λ first. second_use_read t i j first.1
     >> λ second. Ok (block_using (differ first.0 (predicted mode_of (ref1_at t) i j)) second.0, second.1)
 
@@ -97,7 +98,7 @@ value_read cause follow bits sign prediction r = signed_read follow bits sign r 
 
 -- a component of a vector that is predicted
 abbrev pub component_read : ℤ → Reading → Result (ℤ × Reading) Cause
-component_read prediction r = value_read VectorRange (27 ∷ 28 ∷ 29 ∷ 30 ∷ 31 ∷ []) 32 33 prediction r
+component_read prediction r = value_read VectorRange VECTOR_FOLLOW VECTOR_DIGITS VECTOR_SIGN prediction r
 
 -- whether a block uses a reference
 abbrev pub uses : Reference → Block → Bool
@@ -137,7 +138,7 @@ unit_read (parts.Across k) t i j r =
 unit_read (parts.Down k) t i j r =
     read_into (uses k (block_at t i j)) (block_at t i j) (with_down k) (component_read (predicted vector_of (vector_at k t) i j).y) r
 unit_read (parts.Dc c) t i j r =
-    read_into (is_dc (block_at t i j)) (block_at t i j) (with_dc c) (value_read DcRange (34 ∷ 35 ∷ []) 36 37 (predicted dc_of (dc_at c t) i j)) r
+    read_into (is_dc (block_at t i j)) (block_at t i j) (with_dc c) (value_read DcRange DC_FOLLOW DC_DIGITS DC_SIGN (predicted dc_of (dc_at c t) i j)) r
 
 -- a unit
 unfoldable pub unit_step : ListKind → ℕ → ℕ → ℕ → Step

@@ -1,5 +1,7 @@
 -- Why a list is refused, told of a table that is known up to some unit.
 use Rattle.std.specs.Prelude.{◌≡◌, ℕ, ℤ, ◌+◌, ◌-◌, ◌+ℤ◌, ◌*◌, ◌%◌, ◌^◌, ◌<◌, Bool, false, if◌then◌else◌, List, [], ◌∷◌, ◌++◌, length, nat_abs, Option, Some, None}
+use Rattle.dirac_types.specs.declared.limits.TheConstants.{MOST_DIGITS}
+use Rattle.dirac_arith.specs.declared.contexts.TheConstants.{DC_DIGITS, DC_FOLLOW, DC_SIGN, SPLIT_DIGITS, SPLIT_FOLLOW, VECTOR_DIGITS, VECTOR_FOLLOW, VECTOR_SIGN}
 use Rattle.dirac_types.specs.declared.faults.Cause.{Cause}
 use Rattle.dirac_types.specs.declared.faults.Cause.TheVariants.{NumberTooLong, VectorRange, DcRange}
 use Rattle.dirac_arith.specs.Carried.{Carries}
@@ -25,11 +27,11 @@ pub record ByDifference : Type 0 where
 
 -- a component of a vector
 abbrev pub component_told : ℤ → ByDifference
-component_told p = record { follow = 27 ∷ 28 ∷ 29 ∷ 30 ∷ 31 ∷ []; bits = 32; sign = 33; prediction = p; range = VectorRange }
+component_told p = record { follow = VECTOR_FOLLOW; bits = VECTOR_DIGITS; sign = VECTOR_SIGN; prediction = p; range = VectorRange }
 
 -- a DC value
 abbrev pub dc_told : ℤ → ByDifference
-dc_told p = record { follow = 34 ∷ 35 ∷ []; bits = 36; sign = 37; prediction = p; range = DcRange }
+dc_told p = record { follow = DC_FOLLOW; bits = DC_DIGITS; sign = DC_SIGN; prediction = p; range = DcRange }
 
 -- the value that a list tells of a unit, where the unit has it
 abbrev pub value_told : ListKind → BlockTable → ℕ → ℕ → Option ByDifference
@@ -45,7 +47,7 @@ pub data Break : Type 0 where
 
 -- as many digits as no number has, or a number that can be spelt and is out of range
 abbrev pub IsBreak : ByDifference → Break → Type 0
-IsBreak v (long digits) = length digits ≡ 38
+IsBreak v (long digits) = length digits ≡ MOST_DIGITS
 IsBreak v (beyond z) = (nat_abs z < 2 ^ 39 - 1) × (is_short (z +ℤ v.prediction) ≡ false)
 
 -- its decisions
@@ -101,5 +103,5 @@ pub record CarriesSplitBreak (former : BlockTable) (block : List ℕ) : Type 0 w
   pub rows_small : (x y : ℕ) → x < table.across → y < sy → numbers y x < 2 ^ 39 - 1
   pub row_small : (x : ℕ) → x < sx → numbers sy x < 2 ^ 39 - 1
   pub digits : List Bool
-  pub long : length digits ≡ 38
-  pub carried : Carries block ((split_rows table.across numbers sy ++ split_row numbers sy sx) ++ spelt (22 ∷ 23 ∷ []) 24 digits false)
+  pub long : length digits ≡ MOST_DIGITS
+  pub carried : Carries block ((split_rows table.across numbers sy ++ split_row numbers sy sx) ++ spelt SPLIT_FOLLOW SPLIT_DIGITS digits false)

@@ -7,8 +7,8 @@ ghost use Rattle.dirac_blocks.specs.Parts.{use_at, vector_at, dc_at};
 ghost use Rattle.dirac_blocks.specs.Tables.{split_at};
 
 use crate::parts::Reference;
-use dirac_types::{Component, Vector};
 use crate::table::BlockData;
+use dirac_types::{Component, Vector};
 use dirac_vectors::{predict_dc, predict_mode, predict_split, predict_vector};
 
 /// Whether the reference is used of block `i` of row `j`.

@@ -3,9 +3,8 @@ ghost use Rattle.dirac_blocks.specs.Grammar.{repeated, split_step, splits_step};
 ghost use Rattle.dirac_blocks.specs.Reached.{AllGrey, Moves, SameBlocks, progress};
 
 use crate::neighbours::predict_split_at;
-use crate::split_writer::SPLIT_FOLLOW;
 use crate::table::BlockData;
-use dirac_arith::Decoder;
+use dirac_arith::{Decoder, SPLIT_DIGITS, SPLIT_FOLLOW};
 use dirac_types::Cause;
 
 /// Reads how superblock `sx` of row `sy` is split: the sum modulo 3 of a number and the prediction.
@@ -24,7 +23,7 @@ fn read_split(
     ensures blocks { SameBlocks table.old table.new }
     ensures few_doublings { decoder.new.at.doublings ≤ decoder.old.at.doublings + 693 }
 {
-    match decoder.number(&SPLIT_FOLLOW, 24) {
+    match decoder.number(&SPLIT_FOLLOW, SPLIT_DIGITS) {
         Ok(number) => {
             let prediction = predict_split_at(table, sx, sy);
             let split = (number + u64::from(prediction)) % 3;

@@ -5,22 +5,19 @@ ghost use Rattle.dirac_blocks.specs.Decisions.{least_numbers, split_row, split_r
 
 use crate::neighbours::predict_split_at;
 use crate::table::BlockData;
-use dirac_arith::Encoder;
+use dirac_arith::{Encoder, SPLIT_DIGITS, SPLIT_FOLLOW};
 use dirac_types::NoMemory;
-
-/// The contexts of follow decisions of a split number.
-pub const SPLIT_FOLLOW: [u8; 2] = [22, 23];
 
 /// Writes the number of superblock `sx` of row `sy`: its split less its prediction, modulo 3.
 fn write_split(encoder: &mut Encoder, table: &BlockData, sx: u32, sy: u32) -> Result<(), NoMemory>
     requires column { sx < table.now.across }
     requires row { sy < table.now.down }
-    ensures { OnOk result (encoder.new ≡ narrowed_by encoder.old (spelling (22 ∷ 23 ∷ []) 24 (least_numbers table.now sy sx))) }
+    ensures { OnOk result (encoder.new ≡ narrowed_by encoder.old (spelling SPLIT_FOLLOW SPLIT_DIGITS (least_numbers table.now sy sx))) }
 {
     let split = table.split(sx, sy);
     let prediction = predict_split_at(table, sx, sy);
     let number = (split + 3 - prediction) % 3;
-    encoder.number(&SPLIT_FOLLOW, 24, u64::from(number))
+    encoder.number(&SPLIT_FOLLOW, SPLIT_DIGITS, u64::from(number))
 }
 
 /// Writes the numbers of the first `count` superblocks of row `sy`.

@@ -8,10 +8,13 @@ ghost use Rattle.dirac_blocks.specs.Tables.{IsBlock};
 use crate::block::Block;
 use crate::neighbours::{predicted_dc, predicted_use_bit, predicted_vector};
 use crate::parts::{ListKind, Reference};
-use dirac_types::{Cause, Component, Vector};
 use crate::table::BlockData;
-use crate::unit_writer::{DC_FOLLOW, VECTOR_FOLLOW, differs};
-use dirac_arith::Decoder;
+use crate::unit_writer::differs;
+use dirac_arith::{
+    CONTEXTS, DC_DIGITS, DC_FOLLOW, DC_SIGN, Decoder, REFERENCE_1, REFERENCE_2, VECTOR_DIGITS,
+    VECTOR_FOLLOW, VECTOR_SIGN,
+};
+use dirac_types::{Cause, Component, Vector};
 
 /// Whether a value has 16 bits.
 fn fits(value: i64) -> bool
@@ -32,8 +35,8 @@ fn read_value(
 ) -> Result<i32, Cause>
     requires not_empty { 0 < length follow.now }
     requires follow { AreContexts follow.now }
-    requires bits { bits < 38 }
-    requires sign { sign < 38 }
+    requires bits { bits < CONTEXTS }
+    requires sign { sign < CONTEXTS }
     requires prediction { IsShort prediction }
     requires no_overflow { decoder.old.at.doublings < 2 ^ 61 }
     ensures value { Gives result decoder.new (value_read cause follow.now bits sign prediction decoder.old) }
@@ -65,8 +68,8 @@ fn read_component(decoder: &mut Decoder<'_>, prediction: i32) -> Result<i32, Cau
         decoder,
         Cause::VectorRange,
         &VECTOR_FOLLOW,
-        32,
-        33,
+        VECTOR_DIGITS,
+        VECTOR_SIGN,
         prediction,
     )
 }
@@ -88,7 +91,7 @@ fn read_second_use(
     if table.refs() != 2 {
         return Ok(false);
     }
-    match decoder.decision(26) {
+    match decoder.decision(REFERENCE_2) {
         Ok(bit) => {
             let prediction = predicted_use_bit(table, Reference::Second, i, j);
             Ok(differs(bit, prediction))
@@ -122,7 +125,7 @@ fn read_mode(decoder: &mut Decoder<'_>, table: &BlockData, i: u32, j: u32) -> Re
     ensures block { IfOk result (IsBlock table.now.refs) }
     ensures few_doublings { decoder.new.at.doublings ≤ decoder.old.at.doublings + 18 }
 {
-    match decoder.decision(25) {
+    match decoder.decision(REFERENCE_1) {
         Ok(bit) => {
             let prediction = predicted_use_bit(table, Reference::First, i, j);
             let first = differs(bit, prediction);
@@ -251,7 +254,14 @@ fn read_dc(
         return Ok(block);
     }
     let prediction = predicted_dc(table, component, i, j);
-    match read_value(decoder, Cause::DcRange, &DC_FOLLOW, 36, 37, prediction) {
+    match read_value(
+        decoder,
+        Cause::DcRange,
+        &DC_FOLLOW,
+        DC_DIGITS,
+        DC_SIGN,
+        prediction,
+    ) {
         Ok(value) => Ok(set_dc(block, component, value)),
         Err(e) => Err(e),
     }

@@ -175,7 +175,11 @@ fn read_superblock_rows(
 }
 
 /// Reads what this list tells of all units.
-pub fn read_units(decoder: &mut Decoder<'_>, table: &mut BlockData, part: ListKind) -> Result<(), Cause>
+pub fn read_units(
+    decoder: &mut Decoder<'_>,
+    table: &mut BlockData,
+    part: ListKind,
+) -> Result<(), Cause>
     requires at_the_start { decoder.old.at.doublings ≡ 0 }
     ensures value { Moves result table.new decoder.new (units_step part (progress table.old decoder.old)) }
     ensures shape { SameShape table.old table.new }

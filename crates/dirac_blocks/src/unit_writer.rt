@@ -9,15 +9,12 @@ ghost use Rattle.dirac_blocks.specs.Parts.{part_at};
 
 use crate::neighbours::{dc, predicted_dc, predicted_use_bit, predicted_vector, vector};
 use crate::parts::{ListKind, Reference};
-use dirac_types::{Component, NoMemory, Vector};
 use crate::table::BlockData;
-use dirac_arith::Encoder;
-
-/// The contexts of follow decisions of a vector's component.
-pub const VECTOR_FOLLOW: [u8; 5] = [27, 28, 29, 30, 31];
-
-/// The contexts of follow decisions of a DC value.
-pub const DC_FOLLOW: [u8; 2] = [34, 35];
+use dirac_arith::{
+    CONTEXTS, DC_DIGITS, DC_FOLLOW, DC_SIGN, Encoder, REFERENCE_1, REFERENCE_2, VECTOR_DIGITS,
+    VECTOR_FOLLOW, VECTOR_SIGN,
+};
+use dirac_types::{Component, NoMemory, Vector};
 
 /// Whether two bits differ.
 pub fn differs(a: bool, b: bool) -> bool
@@ -64,8 +61,8 @@ fn write_less(
 ) -> Result<(), NoMemory>
     requires not_empty { 0 < length follow.now }
     requires follow { AreContexts follow.now }
-    requires bits { bits < 38 }
-    requires sign { sign < 38 }
+    requires bits { bits < CONTEXTS }
+    requires sign { sign < CONTEXTS }
     requires prediction { IsShort prediction }
     requires value { IsShort value }
     ensures { OnOk result (encoder.new ≡ narrowed_by encoder.old (signed_spelling follow.now bits sign (value -ℤ prediction))) }
@@ -84,8 +81,8 @@ fn write_difference(
 ) -> Result<(), NoMemory>
     requires not_empty { 0 < length follow.now }
     requires follow { AreContexts follow.now }
-    requires bits { bits < 38 }
-    requires sign { sign < 38 }
+    requires bits { bits < CONTEXTS }
+    requires sign { sign < CONTEXTS }
     requires prediction { IsShort prediction }
     requires value { ForSome value IsShort }
     ensures { OnOk result (encoder.new ≡ narrowed_by encoder.old (less_prediction follow.now bits sign prediction value)) }
@@ -104,10 +101,10 @@ fn write_modes(encoder: &mut Encoder, table: &BlockData, i: u32, j: u32) -> Resu
 {
     let block = table.at(i, j);
     let first = predicted_use_bit(table, Reference::First, i, j);
-    encoder.decision(25, differs(block.ref1, first))?;
+    encoder.decision(REFERENCE_1, differs(block.ref1, first))?;
     if table.refs() == 2 {
         let second = predicted_use_bit(table, Reference::Second, i, j);
-        encoder.decision(26, differs(block.ref2, second))?;
+        encoder.decision(REFERENCE_2, differs(block.ref2, second))?;
     }
     Ok(())
 }
@@ -126,7 +123,14 @@ fn write_across(
 {
     let prediction = predicted_vector(table, reference, i, j);
     let value = x_of(vector(table, reference, i, j));
-    write_difference(encoder, &VECTOR_FOLLOW, 32, 33, prediction.x, value)
+    write_difference(
+        encoder,
+        &VECTOR_FOLLOW,
+        VECTOR_DIGITS,
+        VECTOR_SIGN,
+        prediction.x,
+        value,
+    )
 }
 
 /// Writes the vertical component of a unit's vector, by its first block.
@@ -143,7 +147,14 @@ fn write_down(
 {
     let prediction = predicted_vector(table, reference, i, j);
     let value = y_of(vector(table, reference, i, j));
-    write_difference(encoder, &VECTOR_FOLLOW, 32, 33, prediction.y, value)
+    write_difference(
+        encoder,
+        &VECTOR_FOLLOW,
+        VECTOR_DIGITS,
+        VECTOR_SIGN,
+        prediction.y,
+        value,
+    )
 }
 
 /// Writes a DC value of a unit, by its first block.
@@ -160,7 +171,7 @@ fn write_dc(
 {
     let prediction = predicted_dc(table, component, i, j);
     let value = dc(table, component, i, j);
-    write_difference(encoder, &DC_FOLLOW, 36, 37, prediction, value)
+    write_difference(encoder, &DC_FOLLOW, DC_DIGITS, DC_SIGN, prediction, value)
 }
 
 /// Writes what this list tells of a unit, by its first block.

@@ -10,9 +10,9 @@ ghost use Rattle.dirac_blocks.specs.Written.{AreShort, with_block, with_lists};
 
 use crate::list_writer::{part_block, split_block};
 use crate::parts::{ListKind, Reference};
-use dirac_types::{Component, NoMemory};
 use crate::table::BlockData;
 use dirac_bits::BitWriter;
+use dirac_types::{Component, NoMemory};
 use std::alloc::Global;
 
 /// No block is as long as this in bytes: its length couldn't be spelt.

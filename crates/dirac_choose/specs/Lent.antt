@@ -2,6 +2,7 @@
 use Rattle.std.specs.Prelude.{◌≡◌, ◌≤◌, List, Option, Some, option_map}
 use Rattle.std.specs.List.{All}
 use Rattle.std.specs.Option.{ForSome}
+use Rattle.dirac_types.specs.declared.limits.TheConstants.{LARGEST_SIDE}
 use Rattle.dirac_types.specs.declared.picture.Picture.{Picture}
 use Rattle.dirac_sequence.specs.declared.sequence.Sequence.{Sequence}
 use Rattle.dirac_upconvert.specs.HalfSamples.{IsSample}
@@ -13,8 +14,8 @@ use Rattle.dirac_choose.specs.declared.lent.References.{References}
 
 -- a picture whose luma can be upconverted
 pub record HasLuma (p : Picture) : Type 0 where
-  pub across : p.y.width ≤ 4096
-  pub down : p.y.height ≤ 4096
+  pub across : p.y.width ≤ LARGEST_SIDE
+  pub down : p.y.height ≤ LARGEST_SIDE
   pub samples : All IsSample p.y.values
 
 -- the luma of these pictures with half samples

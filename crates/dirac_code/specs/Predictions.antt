@@ -1,6 +1,7 @@
 -- The predictions of the planes of an inter picture, and what is made of them.
 use Rattle.std.specs.Prelude.{◌≡◌, ℤ, ◌*◌, ◌≤◌, List, length, Option}
 use Rattle.std.specs.List.{All}
+use Rattle.dirac_types.specs.declared.limits.TheConstants.{LARGEST_SIDE}
 use Rattle.dirac_types.specs.declared.formats.Kind.TheVariants.{Intra, Inter}
 use Rattle.dirac_types.specs.declared.picture.Picture.{Picture}
 use Rattle.dirac_types.specs.declared.settings.Settings.{Settings}
@@ -33,8 +34,8 @@ pub record ArePredictions (s : Sequence) (first second : Option Picture) (m : Co
 
 -- a plane of samples, of a size that can be analysed
 pub record IsCodablePlane (plane : Table) : Type 0 where
-  pub across : plane.width ≤ 4096
-  pub down : plane.height ≤ 4096
+  pub across : plane.width ≤ LARGEST_SIDE
+  pub down : plane.height ≤ LARGEST_SIDE
   pub samples : AreSamples plane.values
 
 -- a picture of such planes

@@ -16,7 +16,7 @@ use dirac_blocks::{BlockData, write_blocks};
 use dirac_header::{write_header, write_prediction, write_transform};
 use dirac_picture::{CodedMotion, CodedPicture, CodedResidual, is_intra};
 use dirac_sequence::Sequence;
-use dirac_types::{NoMemory, Component, Settings};
+use dirac_types::{Component, NoMemory, Settings};
 use std::alloc::Global;
 
 /// Writes the bands of Y, U and V.

@@ -17,7 +17,7 @@ use crate::transform::transform_of;
 use dirac_analysis::analyse_plane;
 use dirac_coeffs::CodedBand;
 use dirac_picture::{CodedResidual, PlaneBands};
-use dirac_types::{Kind, NoMemory, Picture, Plane, Settings};
+use dirac_types::{Kind, LARGEST_SIDE, NoMemory, Picture, Plane, Settings};
 use std::alloc::Global;
 
 /// The subbands of a plane of values.
@@ -28,8 +28,8 @@ fn code_plane(
     plane: &Plane,
 ) -> Result<PlaneBands, NoMemory>
     requires codable { IsCodable settings.now }
-    requires across { plane.now.width ≤ 4096 }
-    requires down { plane.now.height ≤ 4096 }
+    requires across { plane.now.width ≤ LARGEST_SIDE }
+    requires down { plane.now.height ≤ LARGEST_SIDE }
     requires magnitudes_bounded { AreDifferences plane.now.values }
     ensures value { IfOk result (λ b. b ≡ coding.bands_of settings.now kind plane.now) }
 {

@@ -30,9 +30,27 @@ pub(crate) fn show_predicted(
     ensures value { IfOk result (λ p. p ≡ picture_from sequence.now coded.now predictions.now) }
 {
     let residual = &coded.residual;
-    let y = predicted_samples(alloc, sequence, residual, predictions.y.values(), Component::Y)?;
-    let u = predicted_samples(alloc, sequence, residual, predictions.u.values(), Component::U)?;
-    let v = predicted_samples(alloc, sequence, residual, predictions.v.values(), Component::V)?;
+    let y = predicted_samples(
+        alloc,
+        sequence,
+        residual,
+        predictions.y.values(),
+        Component::Y,
+    )?;
+    let u = predicted_samples(
+        alloc,
+        sequence,
+        residual,
+        predictions.u.values(),
+        Component::U,
+    )?;
+    let v = predicted_samples(
+        alloc,
+        sequence,
+        residual,
+        predictions.v.values(),
+        Component::V,
+    )?;
     Ok(Picture {
         number: coded.header.number,
         y,

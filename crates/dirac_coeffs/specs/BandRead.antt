@@ -1,5 +1,6 @@
 -- What a block reads to, decision by decision: codeblocks by rows, in each its zero flag and its values by rows.
 use Rattle.std.specs.Prelude.{ℕ, zero, suc, ℤ, pos, ◌+◌, ◌*◌, ◌==◌, if◌then◌else◌, Bool, true, false, List, replicate, slice_set, Result, Ok, Err}
+use Rattle.dirac_arith.specs.declared.contexts.TheConstants.{ZERO_FLAG}
 use Rattle.dirac_types.specs.declared.faults.Cause.{Cause}
 use Rattle.dirac_types.specs.declared.faults.Cause.TheVariants.{CodeWord}
 use Rattle.dirac_types.specs.Chain.{◌>>=◌ as ◌>>◌}
@@ -63,7 +64,7 @@ unless false step p = step p
 -- a step behind a zero flag, where there is one
 abbrev pub flagged_step : Bool → Step → Step
 flagged_step false step p = step p
-flagged_step true step p = decided 18 p.reading >> λ flag. unless flag.0 step (record p { reading = flag.1 })
+flagged_step true step p = decided ZERO_FLAG p.reading >> λ flag. unless flag.0 step (record p { reading = flag.1 })
 
 -- codeblock cx of row cy; a skipped one keeps the zeros that stand there
 unfoldable pub block_step : BandLayout → List ℤ → ℕ → ℕ → Step

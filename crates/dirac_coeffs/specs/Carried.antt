@@ -1,5 +1,6 @@
 -- What a block carries: a band, or a number that is too long.
 use Rattle.std.specs.Prelude.{◌≡◌, ℕ, ℤ, pos, ◌+◌, ◌-◌, ◌*◌, ◌^◌, ◌<◌, Bool, true, false, List, ◌++◌, length, All, unsigned_abs}
+use Rattle.dirac_types.specs.declared.limits.TheConstants.{MOST_DIGITS}
 use Rattle.dirac_arith.specs.Carried.{Carries}
 use Rattle.dirac_arith.specs.Interval.{Decision}
 use Rattle.dirac_arith.specs.Spelling.{spelt}
@@ -46,7 +47,7 @@ pub record IsLongAt (layout : BandLayout) (at : LongAt) : Type 0 where
   pub across : at.across < layout.across
   pub row : at.row < span_of layout.height layout.down at.down
   pub column : at.column < span_of layout.width layout.across at.across
-  pub digits : length at.digits ≡ 38
+  pub digits : length at.digits ≡ MOST_DIGITS
 
 -- digits in column x of row y, and one more follow decision that is false
 abbrev pub long_part : Frame → List ℤ → ℕ → ℕ → List Bool → List Decision

@@ -1,5 +1,6 @@
 -- Which contexts a coefficient is coded under, by the coefficients around it.
 use Rattle.std.specs.Prelude.{ℕ, zero, suc, ℤ, pos, negsuc, ◌+◌, ◌-◌, ◌*◌, ◌/◌, ◌==◌, if◌then◌else◌, Bool, true, false, ◌&&◌, List, [], ◌∷◌, slice_index_or}
+use Rattle.dirac_arith.specs.declared.contexts.TheConstants.{COEFFICIENT_DIGITS, PARENT_VALUES, PARENT_ZEROS, SIGN_OF_NEGATIVE, SIGN_OF_POSITIVE, SIGN_OF_ZERO, ZERO_PARENT_VALUES, ZERO_PARENT_ZEROS}
 use Rattle.dirac_types.specs.declared.formats.Band.{Band}
 use Rattle.dirac_types.specs.declared.formats.Band.TheVariants as bands
 use Rattle.dirac_arith.specs.Interval.{Decision}
@@ -33,20 +34,20 @@ is_zero (negsuc n) = false
 
 -- the follow contexts of a magnitude, by whether the parent is zero and whether all neighbours are
 abbrev pub follow_of : Bool → Bool → List ℕ
-follow_of true true = 0 ∷ 4 ∷ 5 ∷ 6 ∷ 7 ∷ 8 ∷ []
-follow_of true false = 1 ∷ 4 ∷ 5 ∷ 6 ∷ 7 ∷ 8 ∷ []
-follow_of false true = 2 ∷ 9 ∷ 10 ∷ 11 ∷ 12 ∷ 13 ∷ []
-follow_of false false = 3 ∷ 9 ∷ 10 ∷ 11 ∷ 12 ∷ 13 ∷ []
+follow_of true true = ZERO_PARENT_ZEROS
+follow_of true false = ZERO_PARENT_VALUES
+follow_of false true = PARENT_ZEROS
+follow_of false false = PARENT_VALUES
 
 -- the context of the bits of a magnitude
 abbrev pub bits_context : ℕ
-bits_context = 14
+bits_context = COEFFICIENT_DIGITS
 
 -- the context of a sign, by the sign neighbour: zero, positive, negative
 abbrev pub sign_of : ℤ → ℕ
-sign_of (pos zero) = 15
-sign_of (pos (suc n)) = 17
-sign_of (negsuc n) = 16
+sign_of (pos zero) = SIGN_OF_ZERO
+sign_of (pos (suc n)) = SIGN_OF_POSITIVE
+sign_of (negsuc n) = SIGN_OF_NEGATIVE
 
 -- the sign neighbour: above in an HL band, left in an LH band, else none
 abbrev pub sign_neighbour : Band → ℤ → ℤ → ℤ

@@ -1,6 +1,7 @@
 -- The decisions that a subband is coded by, told from the finished band: contexts are read off the values
 -- of the whole, and nothing is said of the order in which a reader fills them in.
 use Rattle.std.specs.Prelude.{ℕ, zero, suc, ℤ, ◌+◌, Bool, true, false, List, [], ◌∷◌, ◌++◌}
+use Rattle.dirac_arith.specs.declared.contexts.TheConstants.{ZERO_FLAG}
 use Rattle.dirac_types.specs.declared.formats.Band.{Band}
 use Rattle.dirac_arith.specs.Interval.{Decision}
 use Rattle.dirac_bands.specs.Geometry.{edge_of}
@@ -63,8 +64,8 @@ rows_part f xs x count y (suc n) = rows_part f xs x count y n ++ row_part f xs (
 -- a codeblock's decisions behind its zero flag, where it has one; true skips them
 abbrev pub flagged_part : Bool → Bool → List Decision → List Decision
 flagged_part false skipped ds = ds
-flagged_part true true ds = (18, true) ∷ []
-flagged_part true false ds = (18, false) ∷ ds
+flagged_part true true ds = (ZERO_FLAG, true) ∷ []
+flagged_part true false ds = (ZERO_FLAG, false) ∷ ds
 
 -- codeblock cx of row cy of codeblocks
 abbrev pub block_part : BandLayout → List ℤ → List ℤ → ℕ → ℕ → Mark → List Decision

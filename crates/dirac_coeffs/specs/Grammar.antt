@@ -1,6 +1,8 @@
 -- A subband in a payload: the length of its block, and where that isn't 0 its quantiser index and the block.
 use Rattle.std.specs.Prelude.{◌≡◌, ℕ, ℤ, pos, ◌*◌, ◌≤◌, ◌==◌, if◌then◌else◌, List, [], length, replicate, Option, Some, None, Result, Ok, Err}
 use Rattle.std.specs.Borrow.{Bor}
+use Rattle.dirac_types.specs.declared.limits.TheConstants.{LARGEST_INDEX}
+use Rattle.dirac_types.specs.Limits.{IsIndex}
 use Rattle.dirac_types.specs.declared.faults.Cause.{Cause}
 use Rattle.dirac_types.specs.declared.faults.Cause.TheVariants.{QuantIndex}
 use Rattle.dirac_types.specs.Table.{Table}
@@ -26,7 +28,7 @@ band_from layout index at (Err cause) = refuse at cause
 -- a band with a block of this length
 unfoldable pub coded_band : BandLayout → List ℤ → ℕ → Syntax CodedBand
 coded_band layout parent len = do
-  index ← field QuantIndex (between 0 99)
+  index ← field QuantIndex (between 0 LARGEST_INDEX)
   gap ← align
   at ← here
   block_then len (λ block. band_from layout index at (band_read layout parent block))
@@ -49,7 +51,7 @@ IsParentOf layout t = (layout.width ≡ 2 * t.now.width) × (layout.height ≡ 2
 
 -- what a coded band is: an index of a quantiser, and a table of the spot's sizes whose values can be spelt
 pub record IsCodedBand (layout : BandLayout) (b : CodedBand) : Type 0 where
-  pub index : b.index ≤ 99
+  pub index : IsIndex b.index
   pub width : b.table.width ≡ layout.width
   pub height : b.table.height ≡ layout.height
   pub len : length b.table.values ≡ layout.width * layout.height

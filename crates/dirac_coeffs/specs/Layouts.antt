@@ -1,14 +1,15 @@
 -- Where a subband's codeblocks lie.
 use Rattle.std.specs.Prelude.{ℕ, ◌+◌, ◌-◌, ◌≤◌, ◌==◌, Bool, not, ◌&&◌}
+use Rattle.dirac_types.specs.declared.limits.TheConstants.{LARGEST_TABLE_SIDE, MOST_CODEBLOCKS}
 use Rattle.dirac_bands.specs.Geometry.{edge_of}
 use Rattle.dirac_coeffs.specs.declared.layout.BandLayout.{BandLayout}
 
 -- sizes and counts are from 1 to 8,192
 pub record IsBandLayout (layout : BandLayout) : Type 0 where
-  pub width : (1 ≤ layout.width) × (layout.width ≤ 8192)
-  pub height : (1 ≤ layout.height) × (layout.height ≤ 8192)
-  pub across : (1 ≤ layout.across) × (layout.across ≤ 8192)
-  pub down : (1 ≤ layout.down) × (layout.down ≤ 8192)
+  pub width : (1 ≤ layout.width) × (layout.width ≤ LARGEST_TABLE_SIDE)
+  pub height : (1 ≤ layout.height) × (layout.height ≤ LARGEST_TABLE_SIDE)
+  pub across : (1 ≤ layout.across) × (layout.across ≤ MOST_CODEBLOCKS)
+  pub down : (1 ≤ layout.down) × (layout.down ≤ MOST_CODEBLOCKS)
 
 -- how many columns or rows codeblock c of these has
 abbrev pub span_of : ℕ → ℕ → ℕ → ℕ

@@ -8,7 +8,7 @@ ghost use Rattle.dirac_coeffs.specs.Layouts.{IsBandLayout};
 use crate::block::read_block;
 use crate::layout::{BandLayout, CodedBand};
 use dirac_bits::BitReader;
-use dirac_types::{BandTable, Cause, Refusal, Stop};
+use dirac_types::{BandTable, Cause, LARGEST_INDEX, Refusal, Stop};
 use std::alloc::Global;
 
 /// The values of the parent.
@@ -38,7 +38,7 @@ fn read_coded(
 {
     let place = r.place();
     let index = r.uint()?;
-    if index > 99 {
+    if index > LARGEST_INDEX as u64 {
         return Err(Stop::Refused(Refusal {
             at: place,
             cause: Cause::QuantIndex,

@@ -6,11 +6,11 @@ ghost use Rattle.dirac_coeffs.specs.Decisions.{frame_of, rows_part, block_part, 
 ghost use Rattle.dirac_coeffs.specs.Layouts.{IsBandLayout, span_of};
 ghost use Rattle.dirac_coeffs.specs.Written.{marks_of};
 
-use crate::spans::{has_flags, codeblock_span};
 use crate::layout::BandLayout;
+use crate::spans::{codeblock_span, has_flags};
 use crate::value_writer::write_rows;
 use crate::zeros::has_zeros_alone;
-use dirac_arith::Encoder;
+use dirac_arith::{Encoder, ZERO_FLAG};
 use dirac_types::NoMemory;
 
 /// Writes the values of codeblock `cx` of row `cy`.
@@ -63,9 +63,9 @@ fn write_codeblock(
         return write_block_values(encoder, values, layout, parent, cy, cx);
     }
     if has_zeros_alone(values, layout, cy, cx) {
-        return encoder.decision(18, true);
+        return encoder.decision(ZERO_FLAG, true);
     }
-    match encoder.decision(18, false) {
+    match encoder.decision(ZERO_FLAG, false) {
         Ok(()) => write_block_values(encoder, values, layout, parent, cy, cx),
         Err(e) => Err(e),
     }

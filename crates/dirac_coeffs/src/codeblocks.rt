@@ -3,11 +3,11 @@ ghost use Rattle.dirac_coeffs.specs.Answers.{Moves};
 ghost use Rattle.dirac_coeffs.specs.BandRead.{progress, filled_step, block_step, blocks_step, block_rows_step};
 ghost use Rattle.dirac_coeffs.specs.Layouts.{IsBandLayout, span_of};
 
-use crate::spans::{has_flags, codeblock_span};
 use crate::layout::BandLayout;
+use crate::spans::{codeblock_span, has_flags};
 use crate::values::read_rows;
-use dirac_arith::Decoder;
-use dirac_types::Cause;
+use dirac_arith::{Decoder, ZERO_FLAG};
+use dirac_types::{Cause, LARGEST_TABLE_SIDE};
 
 /// Reads the values of codeblock `cx` of row `cy`.
 fn read_block_values(
@@ -25,7 +25,7 @@ fn read_block_values(
     requires no_overflow { decoder.old.at.doublings < 2 ^ 58 }
     ensures value { Moves result values.new decoder.new (filled_step layout parent.now cy cx (progress values.old decoder.old)) }
     ensures len { length values.new ≡ length values.old }
-    ensures few_doublings { decoder.new.at.doublings ≤ decoder.old.at.doublings + 702 * 8192 * span_of layout.width layout.across cx }
+    ensures few_doublings { decoder.new.at.doublings ≤ decoder.old.at.doublings + 702 * LARGEST_TABLE_SIDE * span_of layout.width layout.across cx }
 {
     let columns = codeblock_span(layout.width, layout.across, cx);
     let rows = codeblock_span(layout.height, layout.down, cy);
@@ -58,12 +58,12 @@ fn read_codeblock(
     requires no_overflow { decoder.old.at.doublings < 2 ^ 57 }
     ensures value { Moves result values.new decoder.new (block_step layout parent.now cy cx (progress values.old decoder.old)) }
     ensures len { length values.new ≡ length values.old }
-    ensures few_doublings { decoder.new.at.doublings ≤ decoder.old.at.doublings + 9 + 702 * 8192 * span_of layout.width layout.across cx }
+    ensures few_doublings { decoder.new.at.doublings ≤ decoder.old.at.doublings + 9 + 702 * LARGEST_TABLE_SIDE * span_of layout.width layout.across cx }
 {
     if !has_flags(layout) {
         return read_block_values(decoder, values, layout, parent, cy, cx);
     }
-    match decoder.decision(18) {
+    match decoder.decision(ZERO_FLAG) {
         Ok(true) => Ok(()),
         Ok(false) => read_block_values(decoder, values, layout, parent, cy, cx),
         Err(cause) => Err(cause),
@@ -84,7 +84,7 @@ fn read_codeblocks(
     requires no_overflow { decoder.old.at.doublings < 2 ^ 56 }
     ensures value { Moves result values.new decoder.new (blocks_step layout parent.now cy layout.across (progress values.old decoder.old)) }
     ensures len { length values.new ≡ length values.old }
-    ensures few_doublings { decoder.new.at.doublings ≤ decoder.old.at.doublings + 9 * 8192 + 702 * 8192 * 8192 }
+    ensures few_doublings { decoder.new.at.doublings ≤ decoder.old.at.doublings + 9 * LARGEST_TABLE_SIDE + 702 * LARGEST_TABLE_SIDE * LARGEST_TABLE_SIDE }
 {
     'across: for cx in 0..layout.across {
         match read_codeblock(decoder, values, layout, parent, cy, cx) {

@@ -2,14 +2,18 @@ ghost use Rattle.std.specs.Prelude.{◌≡◌, ◌+◌, ◌*◌, ◌<◌, ◌≤
 ghost use Rattle.dirac_arith.specs.Spelling.{AreContexts};
 ghost use Rattle.dirac_coeffs.specs.Contexts.{left_of, above_of, corner_of, parent_of, is_zero, follow_of, sign_of, sign_neighbour};
 
-use dirac_types::Band;
+use dirac_arith::{
+    CONTEXTS, PARENT_VALUES, PARENT_ZEROS, SIGN_OF_NEGATIVE, SIGN_OF_POSITIVE, SIGN_OF_ZERO,
+    ZERO_PARENT_VALUES, ZERO_PARENT_ZEROS,
+};
+use dirac_types::{Band, LARGEST_TABLE_SIDE};
 
 /// The value to the left, 0 in the first column.
 #[inline(always)]
 pub fn left_value(values: &[i64], width: usize, x: usize, y: usize) -> i64
     requires column { x < width }
-    requires width { width ≤ 8192 }
-    requires row { y < 8192 }
+    requires width { width ≤ LARGEST_TABLE_SIDE }
+    requires row { y < LARGEST_TABLE_SIDE }
     requires inside { (y + 1) * width ≤ length values.now }
     ensures { result ≡ left_of width values.now x y }
 {
@@ -24,8 +28,8 @@ pub fn left_value(values: &[i64], width: usize, x: usize, y: usize) -> i64
 #[inline(always)]
 pub fn above_value(values: &[i64], width: usize, x: usize, y: usize) -> i64
     requires column { x < width }
-    requires width { width ≤ 8192 }
-    requires row { y < 8192 }
+    requires width { width ≤ LARGEST_TABLE_SIDE }
+    requires row { y < LARGEST_TABLE_SIDE }
     requires inside { (y + 1) * width ≤ length values.now }
     ensures { result ≡ above_of width values.now x y }
 {
@@ -40,8 +44,8 @@ pub fn above_value(values: &[i64], width: usize, x: usize, y: usize) -> i64
 #[inline(always)]
 pub fn corner_value(values: &[i64], width: usize, x: usize, y: usize) -> i64
     requires column { x < width }
-    requires width { width ≤ 8192 }
-    requires row { y < 8192 }
+    requires width { width ≤ LARGEST_TABLE_SIDE }
+    requires row { y < LARGEST_TABLE_SIDE }
     requires inside { (y + 1) * width ≤ length values.now }
     ensures { result ≡ corner_of width values.now x y }
 {
@@ -58,8 +62,8 @@ pub fn corner_value(values: &[i64], width: usize, x: usize, y: usize) -> i64
 #[inline(always)]
 pub fn parent_value(parent: &[i64], width: usize, x: usize, y: usize) -> i64
     requires column { x < width }
-    requires width { width ≤ 8192 }
-    requires row { y < 8192 }
+    requires width { width ≤ LARGEST_TABLE_SIDE }
+    requires row { y < LARGEST_TABLE_SIDE }
     ensures { result ≡ parent_of width parent.now x y }
 {
     let at = y / 2 * (width / 2) + x / 2;
@@ -89,10 +93,10 @@ pub fn follow_contexts(parent_is_zero: bool, neighbours_are_zero: bool) -> &'sta
     ensures contexts { AreContexts result.now }
 {
     match (parent_is_zero, neighbours_are_zero) {
-        (true, true) => &[0, 4, 5, 6, 7, 8],
-        (true, false) => &[1, 4, 5, 6, 7, 8],
-        (false, true) => &[2, 9, 10, 11, 12, 13],
-        (false, false) => &[3, 9, 10, 11, 12, 13],
+        (true, true) => &ZERO_PARENT_ZEROS,
+        (true, false) => &ZERO_PARENT_VALUES,
+        (false, true) => &PARENT_ZEROS,
+        (false, false) => &PARENT_VALUES,
     }
 }
 
@@ -121,7 +125,7 @@ fn neighbour(band: Band, left: i64, above: i64) -> i64
 #[inline(always)]
 pub fn sign_context(band: Band, left: i64, above: i64) -> u8
     ensures exact { result ≡ sign_of (sign_neighbour band left above) }
-    ensures context { result < 38 }
+    ensures context { result < CONTEXTS }
 {
     context_of_sign(neighbour(band, left, above))
 }
@@ -130,13 +134,13 @@ pub fn sign_context(band: Band, left: i64, above: i64) -> u8
 #[inline(always)]
 fn context_of_sign(neighbour: i64) -> u8
     ensures exact { result ≡ sign_of neighbour }
-    ensures context { result < 38 }
+    ensures context { result < CONTEXTS }
 {
     if neighbour == 0 {
-        15
+        SIGN_OF_ZERO
     } else if neighbour < 0 {
-        16
+        SIGN_OF_NEGATIVE
     } else {
-        17
+        SIGN_OF_POSITIVE
     }
 }

@@ -4,6 +4,7 @@ ghost use Rattle.dirac_coeffs.specs.Layouts.{span_of, is_flagged};
 
 use crate::layout::BandLayout;
 use dirac_bands::edge;
+use dirac_types::LARGEST_TABLE_SIDE;
 
 /// Where a codeblock begins, across or down, and how long it is there.
 #[derive(Clone, Copy)]
@@ -14,7 +15,7 @@ pub struct Span {
 
 /// The columns or rows of codeblock `c`.
 pub fn codeblock_span(size: u32, count: u32, c: u32) -> Span
-    requires size { size ≤ 8192 }
+    requires size { size ≤ LARGEST_TABLE_SIDE }
     requires c { c < count }
     ensures start { result.start ≡ edge_of size count c }
     ensures length { result.length ≡ span_of size count c }

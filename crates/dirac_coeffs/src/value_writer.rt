@@ -6,8 +6,8 @@ ghost use Rattle.dirac_coeffs.specs.Decisions.{frame_of, value_part, row_part, r
 
 use crate::contexts;
 use crate::layout::BandLayout;
-use dirac_arith::Encoder;
-use dirac_types::{Band, NoMemory};
+use dirac_arith::{COEFFICIENT_DIGITS, Encoder};
+use dirac_types::{Band, LARGEST_TABLE_SIDE, NoMemory};
 
 /// Writes a value among these neighbours.
 #[inline(always)]
@@ -25,7 +25,7 @@ fn write_value(
 {
     let follow = contexts::follow_among(left, above, corner, parent);
     let sign = contexts::sign_context(band, left, above);
-    encoder.signed(follow, 14, sign, value)
+    encoder.signed(follow, COEFFICIENT_DIGITS, sign, value)
 }
 
 /// Writes the value in column `x` of row `y`.
@@ -39,8 +39,8 @@ fn write_at(
     y: usize,
 ) -> Result<(), NoMemory>
     requires column { x < layout.width }
-    requires width { layout.width ≤ 8192 }
-    requires row { y < 8192 }
+    requires width { layout.width ≤ LARGEST_TABLE_SIDE }
+    requires row { y < LARGEST_TABLE_SIDE }
     requires inside { (y + 1) * layout.width ≤ length values.now }
     requires magnitudes_bounded { AreSmall values.now }
     ensures { OnOk result (encoder.new ≡ narrowed_by encoder.old (value_part (frame_of layout parent.now) values.now x y)) }
@@ -72,8 +72,8 @@ fn write_row(
     count: usize,
 ) -> Result<(), NoMemory>
     requires columns { from + count ≤ layout.width }
-    requires width { layout.width ≤ 8192 }
-    requires row { y < 8192 }
+    requires width { layout.width ≤ LARGEST_TABLE_SIDE }
+    requires row { y < LARGEST_TABLE_SIDE }
     requires inside { (y + 1) * layout.width ≤ length values.now }
     requires magnitudes_bounded { AreSmall values.now }
     ensures { OnOk result (encoder.new ≡ narrowed_by encoder.old (row_part (frame_of layout parent.now) values.now y from count)) }
@@ -99,8 +99,8 @@ pub fn write_rows(
     count: usize,
 ) -> Result<(), NoMemory>
     requires columns { from + count ≤ layout.width }
-    requires width { layout.width ≤ 8192 }
-    requires rows { top + rows ≤ 8192 }
+    requires width { layout.width ≤ LARGEST_TABLE_SIDE }
+    requires rows { top + rows ≤ LARGEST_TABLE_SIDE }
     requires inside { (top + rows) * layout.width ≤ length values.now }
     requires magnitudes_bounded { AreSmall values.now }
     ensures { OnOk result (encoder.new ≡ narrowed_by encoder.old (rows_part (frame_of layout parent.now) values.now from count top rows)) }

@@ -7,8 +7,8 @@ ghost use Rattle.dirac_coeffs.specs.Decisions.{frame_of};
 
 use crate::contexts;
 use crate::layout::BandLayout;
-use dirac_arith::Decoder;
-use dirac_types::{Band, Cause};
+use dirac_arith::{COEFFICIENT_DIGITS, Decoder};
+use dirac_types::{Band, Cause, LARGEST_TABLE_SIDE};
 
 /// Reads a value among these neighbours.
 #[inline(always)]
@@ -26,7 +26,7 @@ fn read_value(
 {
     let follow = contexts::follow_among(left, above, corner, parent);
     let sign = contexts::sign_context(band, left, above);
-    decoder.signed(follow, 14, sign)
+    decoder.signed(follow, COEFFICIENT_DIGITS, sign)
 }
 
 /// Reads the value in column `x` of row `y`.
@@ -41,8 +41,8 @@ fn read_at(
     y: usize,
 ) -> Result<(), Cause>
     requires column { x < layout.width }
-    requires width { layout.width ≤ 8192 }
-    requires row { y < 8192 }
+    requires width { layout.width ≤ LARGEST_TABLE_SIDE }
+    requires row { y < LARGEST_TABLE_SIDE }
     requires inside { (y + 1) * layout.width ≤ length values.old }
     requires no_overflow { decoder.old.at.doublings < 2 ^ 61 }
     ensures value { Moves result values.new decoder.new (value_step (frame_of layout parent.now) x y (progress values.old decoder.old)) }
@@ -74,8 +74,8 @@ fn read_row(
     count: usize,
 ) -> Result<(), Cause>
     requires columns { from + count ≤ layout.width }
-    requires width { layout.width ≤ 8192 }
-    requires row { y < 8192 }
+    requires width { layout.width ≤ LARGEST_TABLE_SIDE }
+    requires row { y < LARGEST_TABLE_SIDE }
     requires inside { (y + 1) * layout.width ≤ length values.old }
     requires no_overflow { decoder.old.at.doublings < 2 ^ 60 }
     ensures value { Moves result values.new decoder.new (row_step (frame_of layout parent.now) y from count (progress values.old decoder.old)) }
@@ -103,13 +103,13 @@ pub fn read_rows(
     count: usize,
 ) -> Result<(), Cause>
     requires columns { from + count ≤ layout.width }
-    requires width { layout.width ≤ 8192 }
-    requires rows { top + rows ≤ 8192 }
+    requires width { layout.width ≤ LARGEST_TABLE_SIDE }
+    requires rows { top + rows ≤ LARGEST_TABLE_SIDE }
     requires inside { (top + rows) * layout.width ≤ length values.old }
     requires no_overflow { decoder.old.at.doublings < 2 ^ 59 }
     ensures value { Moves result values.new decoder.new (rows_step (frame_of layout parent.now) from count top rows (progress values.old decoder.old)) }
     ensures len { length values.new ≡ length values.old }
-    ensures few_doublings { decoder.new.at.doublings ≤ decoder.old.at.doublings + 702 * 8192 * count }
+    ensures few_doublings { decoder.new.at.doublings ≤ decoder.old.at.doublings + 702 * LARGEST_TABLE_SIDE * count }
 {
     'rows: for j in 0..rows {
         match read_row(decoder, values, layout, parent, top + j, from, count) {

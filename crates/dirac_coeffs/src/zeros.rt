@@ -5,14 +5,15 @@ ghost use Rattle.dirac_coeffs.specs.Contexts.{value_at};
 ghost use Rattle.dirac_coeffs.specs.Layouts.{IsBandLayout, span_of};
 
 use crate::contexts::is_zero_value;
-use crate::spans::codeblock_span;
 use crate::layout::BandLayout;
+use crate::spans::codeblock_span;
+use dirac_types::LARGEST_TABLE_SIDE;
 
 /// Whether `count` values of row `y` from column `from` on are zeros.
 fn is_zero_row(values: &[i64], width: usize, y: usize, from: usize, count: usize) -> bool
     requires columns { from + count ≤ width }
-    requires width { width ≤ 8192 }
-    requires row { y < 8192 }
+    requires width { width ≤ LARGEST_TABLE_SIDE }
+    requires row { y < LARGEST_TABLE_SIDE }
     requires inside { (y + 1) * width ≤ length values.now }
     ensures zeros { result ≡ true → (i : ℕ) → i < count → value_at width values.now (from + i) y ≡ pos 0 }
     ensures others { result ≡ false → ((i : ℕ) → i < count → value_at width values.now (from + i) y ≡ pos 0) → ⊥ }
@@ -35,8 +36,8 @@ fn are_zero_rows(
     count: usize,
 ) -> bool
     requires columns { from + count ≤ width }
-    requires width { width ≤ 8192 }
-    requires rows { top + rows ≤ 8192 }
+    requires width { width ≤ LARGEST_TABLE_SIDE }
+    requires rows { top + rows ≤ LARGEST_TABLE_SIDE }
     requires inside { (top + rows) * width ≤ length values.now }
     ensures zeros { result ≡ true → (i j : ℕ) → i < count → j < rows → value_at width values.now (from + i) (top + j) ≡ pos 0 }
     ensures others { result ≡ false → ((i j : ℕ) → i < count → j < rows → value_at width values.now (from + i) (top + j) ≡ pos 0) → ⊥ }

@@ -75,8 +75,16 @@ fn inter_samples(
     ensures value { IfOk result (λ t. t ≡ inter_plane sequence.now (Some first.now) (option_copied second.entry)
         motion.now coded.now.residual component) }
 {
-    let predicted = predict_from(alloc, coded.code, sequence, motion, first, second, component)?;
-    predicted_samples(alloc, sequence, &coded.residual, predicted.values(), component)
+    let predicted = predict_from(
+        alloc, coded.code, sequence, motion, first, second, component,
+    )?;
+    predicted_samples(
+        alloc,
+        sequence,
+        &coded.residual,
+        predicted.values(),
+        component,
+    )
 }
 
 /// An inter picture, from its references.

@@ -8,7 +8,7 @@ use dirac_obmc::Component;
 use dirac_picture::{CodedResidual, PlaneBands};
 use dirac_residual::plane_residual;
 use dirac_sequence::Sequence;
-use dirac_types::{Kind, NoMemory, Picture, Plane, Wide};
+use dirac_types::{Kind, LARGEST_SIDE, NoMemory, Picture, Plane, Wide};
 use std::alloc::Global;
 
 /// The number of columns of a plane.
@@ -16,7 +16,7 @@ pub fn width_of(sequence: &Sequence, component: Component) -> u32
     requires { IsSequence sequence.now }
     ensures value { result ≡ content.width_of sequence.now component }
     ensures at_least_1 { 1 ≤ result }
-    ensures at_most_4096 { result ≤ 4096 }
+    ensures at_most_4096 { result ≤ LARGEST_SIDE }
 {
     sequence.plane_width(component)
 }
@@ -26,7 +26,7 @@ pub fn height_of(sequence: &Sequence, component: Component) -> u32
     requires { IsSequence sequence.now }
     ensures value { result ≡ content.height_of sequence.now component }
     ensures at_least_1 { 1 ≤ result }
-    ensures at_most_4096 { result ≤ 4096 }
+    ensures at_most_4096 { result ≤ LARGEST_SIDE }
 {
     sequence.plane_height(component)
 }

@@ -12,7 +12,7 @@ ghost use Rattle.dirac_stream.specs.Coded.{IsSource};
 ghost use Rattle.dirac_stream.specs.Raw.{picture_from, picture_in, plane_from, raw_length as length_of, sample_of};
 
 use dirac_sequence::{Sequence, sequence_of};
-use dirac_types::{NoMemory, Component, Picture, Plane, Settings};
+use dirac_types::{Component, LARGEST_SIDE, NoMemory, Picture, Plane, Settings};
 use std::alloc::Global;
 
 /// The sample of a byte.
@@ -37,8 +37,8 @@ fn fill_samples(bytes: &[u8], samples: &mut [i16])
 
 /// A plane of `width` by `height` samples from its bytes, by rows.
 fn plane_of(alloc: Global, width: u32, height: u32, bytes: &[u8]) -> Result<Plane, NoMemory>
-    requires across { (1 ≤ width) × (width ≤ 4096) }
-    requires down { (1 ≤ height) × (height ≤ 4096) }
+    requires across { (1 ≤ width) × (width ≤ LARGEST_SIDE) }
+    requires down { (1 ≤ height) × (height ≤ LARGEST_SIDE) }
     requires bytes { length bytes.now ≡ width * height }
     ensures value { IfOk result (λ t. t ≡ plane_from width height bytes.now) }
     ensures fits { IfOk result (λ t. AreSamples t.values) }
@@ -109,7 +109,12 @@ fn planes_of(
     let chroma = width as usize * height as usize;
     Ok(Picture {
         number,
-        y: plane_of(alloc, settings.width, settings.picture_height(), &bytes[..luma])?,
+        y: plane_of(
+            alloc,
+            settings.width,
+            settings.picture_height(),
+            &bytes[..luma],
+        )?,
         u: plane_of(alloc, width, height, &bytes[luma..luma + chroma])?,
         v: plane_of(alloc, width, height, &bytes[luma + chroma..])?,
     })

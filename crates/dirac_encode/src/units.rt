@@ -12,9 +12,7 @@ ghost use Rattle.dirac_stream.specs.Stream.{end_unit, header_unit, unit};
 use dirac_io::{Put, Sink, put_all};
 use dirac_picture::is_intra;
 use dirac_types::Settings;
-use dirac_units::{
-    END_OF_SEQUENCE, PARSE_INFO_LENGTH, ParseInfo, SEQUENCE_HEADER, write_info,
-};
+use dirac_units::{END_OF_SEQUENCE, PARSE_INFO_LENGTH, ParseInfo, SEQUENCE_HEADER, write_info};
 
 /// Writes a unit with this parse code behind a unit of `previous` bytes.
 pub(crate) fn put_unit<K: Sink>(out: &mut K, code: u8, previous: u32, payload: &[u8]) -> Put

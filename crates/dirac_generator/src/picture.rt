@@ -4,7 +4,7 @@ ghost use Rattle.dirac_types.specs.Sizes.{picture_height};
 ghost use Rattle.dirac_generator.specs.Generated.{generated_byte, generated_rows, generated as bytes_of};
 ghost use Rattle.dirac_generator.specs.Generated.{chroma_across, chroma_down, picture_count};
 
-use dirac_types::{Component, Settings};
+use dirac_types::{Component, LARGEST_SIDE, MOST_SAMPLES, Settings};
 
 /// How many bytes a plane of luma has, and one of chroma, and how wide one of chroma is.
 #[derive(Clone, Copy)]
@@ -19,9 +19,9 @@ fn sizes_of(settings: &Settings) -> Sizes
     ensures luma { result.luma ≡ settings.now.width * picture_height settings.now }
     ensures chroma { result.chroma ≡ chroma_across settings.now * chroma_down settings.now }
     ensures chroma_width { result.chroma_width ≡ chroma_across settings.now }
-    ensures some_chroma { (1 ≤ result.chroma_width) × (result.chroma_width ≤ 4096) }
-    ensures some_luma { (1 ≤ settings.now.width) × (settings.now.width ≤ 4096) × (1 ≤ result.luma) }
-    ensures bounded { result.luma + (result.chroma + result.chroma) ≤ 28311552 }
+    ensures some_chroma { (1 ≤ result.chroma_width) × (result.chroma_width ≤ LARGEST_SIDE) }
+    ensures some_luma { (1 ≤ settings.now.width) × (settings.now.width ≤ LARGEST_SIDE) × (1 ≤ result.luma) }
+    ensures bounded { result.luma + (result.chroma + result.chroma) ≤ MOST_SAMPLES }
 {
     let across = settings.plane_width(Component::U);
     let down = settings.plane_height(Component::U);
@@ -37,7 +37,7 @@ pub fn picture_length(settings: &Settings) -> usize
     requires { IsAccepted settings.now }
     ensures value { result ≡ picture_count settings.now }
     ensures at_least_1 { 1 ≤ result }
-    ensures bounded { result ≤ 28311552 }
+    ensures bounded { result ≤ MOST_SAMPLES }
 {
     let sizes = sizes_of(settings);
     sizes.luma + (sizes.chroma + sizes.chroma)
@@ -54,8 +54,8 @@ fn byte_at(number: u32, plane: u8, x: u32, y: u32) -> u8
 
 /// Writes rows of this width of a plane of a picture.
 fn fill_rows(number: u32, plane: u8, width: usize, bytes: &mut [u8])
-    requires width { (1 ≤ width) × (width ≤ 4096) }
-    requires at_most_28311552 { length bytes.old ≤ 28311552 }
+    requires width { (1 ≤ width) × (width ≤ LARGEST_SIDE) }
+    requires at_most_28311552 { length bytes.old ≤ MOST_SAMPLES }
     ensures { bytes.new ≡ generated_rows number plane width (length bytes.old) }
 {
     'bytes: for place in 0..bytes.len() {

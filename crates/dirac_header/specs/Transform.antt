@@ -1,5 +1,6 @@
 -- The transform parameters, field after field: transform parameters, Dirac specification.
 use Rattle.std.specs.Prelude.{ℕ, zero, suc, ◌+◌, if◌then◌else◌, List, [], ◌∷◌, ◌++◌, length, replicate}
+use Rattle.dirac_types.specs.declared.limits.TheConstants.{LARGEST_DEPTH, LARGEST_WAVELET}
 use Rattle.dirac_types.specs.declared.faults.Cause.TheVariants.{Wavelet, Depth, Codeblocks, CodeblockMode}
 use Rattle.dirac_bits.specs.Syntax.{Syntax, done, ◌>>=◌, flag, field, between}
 pub use Rattle.dirac_bands.specs.Geometry.{band_length}
@@ -35,7 +36,7 @@ codeblocks width height depth = do
 -- the transform parameters of a picture of this size in luma samples
 unfoldable pub transform : ℕ → ℕ → Syntax Transform
 transform width height = do
-  wavelet ← field Wavelet (between 0 6)
-  depth ← field Depth (between 1 5)
+  wavelet ← field Wavelet (between 0 LARGEST_WAVELET)
+  depth ← field Depth (between 1 LARGEST_DEPTH)
   counts ← codeblocks width height depth
   done (record { wavelet = wavelet; depth = depth; counts = counts })

@@ -1,6 +1,7 @@
 -- How headers and parameters are written.
 use Rattle.std.specs.Prelude.{◌≡◌, ℕ, ℤ, pos, ◌+◌, ◌-◌, ◌-ℤ◌, ◌%◌, ◌^◌, nat_lt, nat_le, if◌then◌else◌, Bool, List, [], ◌∷◌, ◌++◌, length, Option, Some, None, is_some, IsTrue, ◌≢◌, ⊤, IfSome, ◌<◌, ◌≤◌, ◌||◌, false}
 use Rattle.std.specs.List.{AllByRecursion}
+use Rattle.dirac_types.specs.Limits.{IsWavelet}
 use Rattle.dirac_types.specs.declared.formats.Chroma.{Chroma}
 use Rattle.dirac_types.specs.Numbers as numbers
 use Rattle.dirac_bits.specs.Writing.{gap}
@@ -86,7 +87,7 @@ transform_bits t = numbers.uint t.wavelet ++ numbers.uint t.depth ++ codeblock_b
 
 -- transform parameters that can be written
 pub record IsTransform (t : Transform) : Type 0 where
-  pub wavelet : t.wavelet ≤ 6
+  pub wavelet : IsWavelet t.wavelet
   pub some : 1 ≤ t.depth
   pub few : t.depth ≤ 5
   pub levels : length t.counts ≡ t.depth + 1

@@ -1,4 +1,5 @@
 ghost use Rattle.std.specs.Prelude.{◌≡◌, ℕ, ◌+◌, ◌≤◌, ◌<◌, ◌^◌, ◌-◌, IfOk, IfErr, Ok, [], ◌∷◌, length, replicate};
+ghost use Rattle.dirac_types.specs.Limits.{IsDepth, IsWavelet};
 ghost use Rattle.dirac_bits.specs.Cursor.{Cursor};
 ghost use Rattle.dirac_bits.specs.Syntax.{read};
 ghost use Rattle.dirac_bits.specs.Answers.{Reads};
@@ -8,7 +9,7 @@ ghost use Rattle.dirac_header.specs.Transform as grammar;
 
 use crate::counts::Counts;
 use dirac_bits::BitReader;
-use dirac_types::{Cause, Refusal};
+use dirac_types::{Cause, LARGEST_DEPTH, LARGEST_WAVELET, Refusal};
 
 /// How a picture's coefficients are laid out.
 #[derive(Drop)]
@@ -30,8 +31,8 @@ pub fn read_transform(r: &mut BitReader<'_>, width: u32, height: u32) -> Result<
     ensures no_other_reading { (t : TheTransform) (d : Cursor) → BeginsWith (grammar.transform width height) t r.old d → (result ≡ Ok t) × (r.new ≡ d) }
     ensures place_inside { IfErr result (λ e. e.at ≤ length r.old.bytes) }
     ensures kept { r.new.bytes ≡ r.old.bytes }
-    ensures wavelet { IfOk result (λ t. t.wavelet ≤ 6) }
-    ensures depth { IfOk result (λ t. (1 ≤ t.depth) × (t.depth ≤ 5)) }
+    ensures wavelet { IfOk result (λ t. IsWavelet t.wavelet) }
+    ensures depth { IfOk result (λ t. IsDepth t.depth) }
     ensures levels { IfOk result (λ t. length t.counts ≡ t.depth + 1) }
 {
     let _at = r.place();
@@ -43,12 +44,12 @@ fn read_fields(r: &mut BitReader<'_>, width: u32, height: u32) -> Result<Transfo
     ensures value { Reads (λ t. t) result r.new (read (grammar.transform width height) r.old) }
     ensures place_inside { IfErr result (λ e. e.at ≤ length r.old.bytes) }
     ensures kept { r.new.bytes ≡ r.old.bytes }
-    ensures wavelet { IfOk result (λ t. t.wavelet ≤ 6) }
-    ensures depth { IfOk result (λ t. (1 ≤ t.depth) × (t.depth ≤ 5)) }
+    ensures wavelet { IfOk result (λ t. IsWavelet t.wavelet) }
+    ensures depth { IfOk result (λ t. IsDepth t.depth) }
     ensures levels { IfOk result (λ t. length t.counts ≡ t.depth + 1) }
 {
-    let wavelet = r.field(Cause::Wavelet, 0, 6)?;
-    let depth = r.field(Cause::Depth, 1, 5)?;
+    let wavelet = r.field(Cause::Wavelet, 0, LARGEST_WAVELET as u64)?;
+    let depth = r.field(Cause::Depth, 1, LARGEST_DEPTH as u64)?;
     let counts = read_codeblocks(r, width, height, depth as u8)?;
     Ok(Transform {
         wavelet: wavelet as u8,
@@ -64,7 +65,7 @@ fn read_codeblocks(
     height: u32,
     depth: u8,
 ) -> Result<Counts, Refusal>
-    requires { (1 ≤ depth) × (depth ≤ 5) }
+    requires { IsDepth depth }
     ensures value { Reads (λ c. c) result r.new (read (grammar.codeblocks width height depth) r.old) }
     ensures place_inside { IfErr result (λ e. e.at ≤ length r.old.bytes) }
     ensures kept { r.new.bytes ≡ r.old.bytes }
@@ -96,7 +97,7 @@ fn read_partition(
     height: u32,
     depth: u8,
 ) -> Result<Counts, Refusal>
-    requires { (1 ≤ depth) × (depth ≤ 5) }
+    requires { IsDepth depth }
     ensures value { Reads (λ c. c) result r.new (read (grammar.partition width height depth) r.old) }
     ensures place_inside { IfErr result (λ e. e.at ≤ length r.old.bytes) }
     ensures kept { r.new.bytes ≡ r.old.bytes }
@@ -108,7 +109,7 @@ fn read_partition(
 }
 
 fn read_counts(r: &mut BitReader<'_>, width: u32, height: u32, depth: u8) -> Result<Counts, Refusal>
-    requires { (1 ≤ depth) × (depth ≤ 5) }
+    requires { IsDepth depth }
     ensures value { Reads (λ c. c) result r.new (read (grammar.counts_behind width height depth [] (depth + 1)) r.old) }
     ensures place_inside { IfErr result (λ e. e.at ≤ length r.old.bytes) }
     ensures kept { r.new.bytes ≡ r.old.bytes }
@@ -130,7 +131,7 @@ fn read_level_counts(
     depth: u8,
     level: u8,
 ) -> Result<(u32, u32), Refusal>
-    requires depth { (1 ≤ depth) × (depth ≤ 5) }
+    requires depth { IsDepth depth }
     requires level { level ≤ depth }
     ensures value { Reads (λ x. x) result r.new (read (grammar.level_counts width height depth level) r.old) }
     ensures place_inside { IfErr result (λ e. e.at ≤ length r.old.bytes) }
@@ -143,7 +144,7 @@ fn read_level_counts(
 
 /// The columns or rows of a band of this level in a plane of `size` columns or rows.
 fn band_length(size: u32, depth: u8, level: u8) -> u64
-    requires depth { (1 ≤ depth) × (depth ≤ 5) }
+    requires depth { IsDepth depth }
     requires level { level ≤ depth }
     ensures value { result ≡ grammar.band_length size depth level }
     ensures below_2_32 { result < 2 ^ 32 }

@@ -1,5 +1,6 @@
 ghost use Rattle.std.specs.Prelude.{◌≡◌, ℕ, pos, ◌+◌, ◌-◌, ◌*◌, ◌/◌, ◌%◌, ◌^◌, ◌<◌, ◌≤◌, unsigned_abs, length, slice_index_or, slice_set};
 ghost use Rattle.std.specs.List.{sum_by};
+ghost use Rattle.dirac_types.specs.Limits.{IsWavelet};
 ghost use Rattle.dirac_lift.specs.Changes.{is_minus, parity_of};
 ghost use Rattle.dirac_lift.specs.Level.{column};
 ghost use Rattle.dirac_lift.specs.Lifting.{PlacesWithin, lift, new_at, own, value_read, weighted};
@@ -295,7 +296,7 @@ fn analyse_daubechies_9_7(values: &mut [i128], width: usize, height: usize)
 /// Synthesis of all columns of a plane.
 #[inline(always)]
 pub fn synth_columns(wavelet: u8, values: &mut [i128], width: usize, height: usize)
-    requires wavelet { wavelet ≤ 6 }
+    requires wavelet { IsWavelet wavelet }
     requires len { length values.old ≡ width * height }
     requires even { height % 2 ≡ 0 }
     requires safe { ColumnsSafe (steps_of wavelet) width height values.old }
@@ -315,7 +316,7 @@ pub fn synth_columns(wavelet: u8, values: &mut [i128], width: usize, height: usi
 /// Analysis of all columns of a plane.
 #[inline(always)]
 pub fn analyse_columns(wavelet: u8, values: &mut [i128], width: usize, height: usize)
-    requires wavelet { wavelet ≤ 6 }
+    requires wavelet { IsWavelet wavelet }
     requires len { length values.old ≡ width * height }
     requires even { height % 2 ≡ 0 }
     requires safe { ColumnsSafe (taken_back (steps_of wavelet)) width height values.old }

@@ -1,5 +1,6 @@
 ghost use Rattle.std.specs.Prelude.{◌≡◌, ℕ, ◌+◌, ◌*◌, ◌%◌, ◌^◌, ◌<◌, ◌≤◌, ◌+ℤ◌, Bool, unsigned_abs, length, map};
 ghost use Rattle.std.specs.List.{All};
+ghost use Rattle.dirac_types.specs.Limits.{IsWavelet};
 ghost use Rattle.dirac_bands.specs.DcSum.{by_rows};
 ghost use Rattle.dirac_lift.specs.Level.{analysed, begun, doubled, ended, halved, synthesised};
 ghost use Rattle.dirac_lift.specs.Places.{RowsBecome};
@@ -18,7 +19,7 @@ fn halves(wavelet: u8) -> bool
 }
 
 fn synth_rows(wavelet: u8, values: &mut [i128], width: usize, height: usize)
-    requires wavelet { wavelet ≤ 6 }
+    requires wavelet { IsWavelet wavelet }
     requires len { length values.old ≡ width * height }
     requires even { width % 2 ≡ 0 }
     requires magnitudes_at_most_2_108 { All (λ v. unsigned_abs v ≤ 2 ^ 108) values.old }
@@ -31,7 +32,7 @@ fn synth_rows(wavelet: u8, values: &mut [i128], width: usize, height: usize)
 }
 
 fn analyse_rows(wavelet: u8, values: &mut [i128], width: usize, height: usize)
-    requires wavelet { wavelet ≤ 6 }
+    requires wavelet { IsWavelet wavelet }
     requires len { length values.old ≡ width * height }
     requires even { width % 2 ≡ 0 }
     requires magnitudes_at_most_2_108 { All (λ v. unsigned_abs v ≤ 2 ^ 108) values.old }
@@ -90,7 +91,7 @@ fn begin_level(wavelet: u8, values: &mut [i128])
 }
 
 fn synth_values(wavelet: u8, values: &mut [i128], width: usize, height: usize)
-    requires wavelet { wavelet ≤ 6 }
+    requires wavelet { IsWavelet wavelet }
     requires len { length values.old ≡ width * height }
     requires at_least_1 { 1 ≤ width }
     requires across { width % 2 ≡ 0 }
@@ -105,7 +106,7 @@ fn synth_values(wavelet: u8, values: &mut [i128], width: usize, height: usize)
 }
 
 fn analyse_values(wavelet: u8, values: &mut [i128], width: usize, height: usize)
-    requires wavelet { wavelet ≤ 6 }
+    requires wavelet { IsWavelet wavelet }
     requires len { length values.old ≡ width * height }
     requires at_least_1 { 1 ≤ width }
     requires across { width % 2 ≡ 0 }
@@ -124,7 +125,7 @@ fn analyse_values(wavelet: u8, values: &mut [i128], width: usize, height: usize)
 /// column, then every row, then, where the wavelet's shift is 1, each value is halved, rounding halves up
 /// (inverse discrete wavelet transform, Dirac specification).
 pub fn synth_level(wavelet: u8, plane: &mut Wide)
-    requires wavelet { wavelet ≤ 6 }
+    requires wavelet { IsWavelet wavelet }
     requires across { plane.old.width % 2 ≡ 0 }
     requires down { plane.old.height % 2 ≡ 0 }
     requires magnitudes_at_most_2_103 { All (λ v. unsigned_abs v ≤ 2 ^ 103) plane.old.values }
@@ -139,7 +140,7 @@ pub fn synth_level(wavelet: u8, plane: &mut Wide)
 /// The analysis of one level in place, which leaves four bands interleaved: where the wavelet's shift is 1 each
 /// value is doubled, then every row is analysed, then every column.
 pub fn analyse_level(wavelet: u8, plane: &mut Wide)
-    requires wavelet { wavelet ≤ 6 }
+    requires wavelet { IsWavelet wavelet }
     requires across { plane.old.width % 2 ≡ 0 }
     requires down { plane.old.height % 2 ≡ 0 }
     requires magnitudes_at_most_2_103 { All (λ v. unsigned_abs v ≤ 2 ^ 103) plane.old.values }

@@ -1,5 +1,6 @@
 ghost use Rattle.std.specs.Prelude.{◌≡◌, ℕ, ◌%◌, ◌^◌, ◌≤◌, unsigned_abs, length};
 ghost use Rattle.std.specs.List.{All};
+ghost use Rattle.dirac_types.specs.Limits.{IsWavelet};
 ghost use Rattle.dirac_lift.specs.Safety.{Safe};
 ghost use Rattle.dirac_lift.specs.Wavelets.{analyse, analyse_bound, daubechies_9_7, deslauriers_dubuc_13_7, deslauriers_dubuc_9_7, fidelity, haar, legall_5_3, run, steps_of, synth, synth_bound, taken_back};
 
@@ -145,7 +146,7 @@ fn analyse_daubechies_9_7(line: &mut [i128])
 
 #[inline(always)]
 fn run_synthesis(wavelet: u8, line: &mut [i128])
-    requires wavelet { wavelet ≤ 6 }
+    requires wavelet { IsWavelet wavelet }
     requires even { length line.old % 2 ≡ 0 }
     requires safe { Safe (steps_of wavelet) line.old }
     ensures { line.new ≡ run (steps_of wavelet) line.old }
@@ -163,7 +164,7 @@ fn run_synthesis(wavelet: u8, line: &mut [i128])
 
 #[inline(always)]
 fn run_analysis(wavelet: u8, line: &mut [i128])
-    requires wavelet { wavelet ≤ 6 }
+    requires wavelet { IsWavelet wavelet }
     requires even { length line.old % 2 ≡ 0 }
     requires safe { Safe (taken_back (steps_of wavelet)) line.old }
     ensures { line.new ≡ run (taken_back (steps_of wavelet)) line.old }
@@ -183,7 +184,7 @@ fn run_analysis(wavelet: u8, line: &mut [i128])
 /// named by their index: 0 Deslauriers-Dubuc (9,7), 1 LeGall (5,3), 2 Deslauriers-Dubuc (13,7), 3 and 4 Haar without and
 /// with shift, 5 Fidelity, 6 Daubechies (9,7).
 pub fn synth_line(wavelet: u8, line: &mut [i128])
-    requires wavelet { wavelet ≤ 6 }
+    requires wavelet { IsWavelet wavelet }
     requires even { length line.old % 2 ≡ 0 }
     requires magnitudes_at_most_2_108 { All (λ v. unsigned_abs v ≤ 2 ^ 108) line.old }
     ensures value { line.new ≡ synth wavelet line.old }
@@ -195,7 +196,7 @@ pub fn synth_line(wavelet: u8, line: &mut [i128])
 
 /// The analysis of a line of even length in place: the steps of the synthesis backwards, each with the opposite sign.
 pub fn analyse_line(wavelet: u8, line: &mut [i128])
-    requires wavelet { wavelet ≤ 6 }
+    requires wavelet { IsWavelet wavelet }
     requires even { length line.old % 2 ≡ 0 }
     requires magnitudes_at_most_2_108 { All (λ v. unsigned_abs v ≤ 2 ^ 108) line.old }
     ensures value { line.new ≡ analyse wavelet line.old }

@@ -2,6 +2,7 @@
 use Rattle.std.specs.Prelude.{◌≡◌, ℕ, zero, suc, ℤ, pos, ◌+◌, ◌-◌, ◌*◌, ◌/◌, ◌^◌, ◌<◌, ◌≤◌, ◌+ℤ◌, ◌*ℤ◌, false, if◌then◌else◌, Option, Some, None, IsSome, IsTrue, unsigned_abs}
 use Rattle.std.specs.Int.{int_div_euclid, int_shr}
 use Rattle.std.specs.Option.{ForSome}
+use Rattle.dirac_types.specs.declared.limits.TheConstants.{LARGEST_SIDE}
 use Rattle.dirac_types.specs.Table.{Table, table_of}
 use Rattle.dirac_types.specs.declared.formats.Chroma.{Chroma}
 use Rattle.dirac_types.specs.declared.formats.Vector.{Vector}
@@ -154,9 +155,9 @@ pub record IsMotion (m : Compensation) : Type 0 where
   pub weight1 : unsigned_abs m.prediction.weight1 ≤ 255
   pub weight2 : unsigned_abs m.prediction.weight2 ≤ 255
   pub some_across : 1 ≤ m.width
-  pub most_across : m.width ≤ 4096
+  pub most_across : m.width ≤ LARGEST_SIDE
   pub some_down : 1 ≤ m.height
-  pub most_down : m.height ≤ 4096
+  pub most_down : m.height ≤ LARGEST_SIDE
   pub covers_across : m.width ≤ blocks_across m * x_separation m
   pub covers_down : m.height ≤ blocks_down m * y_separation m
   pub first : (m.up1.width ≡ m.width) × (m.up1.height ≡ m.height)

@@ -2,6 +2,7 @@
 use Rattle.std.specs.Prelude.{◌≡◌, ℕ, ◌+◌, ◌*◌, ◌<◌, ◌≤◌, List, length, slice_index}
 use Rattle.std.specs.List.{All}
 use Rattle.std.specs.Option.{ForSome}
+use Rattle.dirac_types.specs.declared.limits.TheConstants.{LARGEST_SIDE}
 use Rattle.dirac_blocks.specs.Tables.{IsBlockTable}
 use Rattle.dirac_upconvert.specs.HalfSamples.{IsSample}
 use Rattle.dirac_obmc.specs.declared.rows.Columns.{Columns}
@@ -16,7 +17,7 @@ pub record IsDirection (count length separation size : ℕ) (d : Direction) : Ty
   pub separation_is : d.separation ≡ separation
   pub overlap : IsOverlap d.length d.separation
   pub covers : size ≤ d.count * d.separation
-  pub few : d.count ≤ 4096
+  pub few : d.count ≤ LARGEST_SIDE
 
 -- the blocks of a plane from left to right
 abbrev pub IsAcross : Compensation → Direction → Type 0

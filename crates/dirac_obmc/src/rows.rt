@@ -11,6 +11,7 @@ use crate::motion::Motion;
 use crate::sums::{add_values, clear_sums, divide_sums};
 use crate::values::block_values;
 use crate::weights::share;
+use dirac_types::LARGEST_SIDE;
 
 /// The blocks of a plane from left to right, with the weights of each.
 #[derive(Clone, Copy)]
@@ -99,7 +100,7 @@ fn add_blocks(
 /// The first row of blocks that doesn't end above place `y`.
 fn first_row(rows: Direction, y: u32) -> u32
     requires rows { Rattle.dirac_obmc.specs.Weights.IsOverlap rows.length rows.separation }
-    requires place { y ≤ 4096 }
+    requires place { y ≤ LARGEST_SIDE }
     ensures { (j : ℕ) → j < result → j * rows.separation + rows.length ≤ y + margin rows.length rows.separation }
 {
     let place = y + (rows.length - rows.separation) / 2;
@@ -113,7 +114,7 @@ fn first_row(rows: Direction, y: u32) -> u32
 /// The first row of blocks that begins below place `y`.
 fn end_row(rows: Direction, y: u32) -> u32
     requires rows { Rattle.dirac_obmc.specs.Weights.IsOverlap rows.length rows.separation }
-    requires place { y ≤ 4096 }
+    requires place { y ≤ LARGEST_SIDE }
     ensures behind { (j : ℕ) → result ≤ j → j < rows.count → y + margin rows.length rows.separation < j * rows.separation }
     ensures within { result ≤ rows.count }
 {

@@ -13,13 +13,13 @@ use crate::direction::{across_ratio, down_ratio};
 use crate::motion::Motion;
 use dirac_blocks::Block;
 use dirac_header::Prediction;
-use dirac_types::{Component, Vector};
+use dirac_types::{Component, LARGEST_SIDE, LARGEST_TABLE_SIDE, Vector};
 use dirac_upconvert::UpPlane;
 
 /// A place in parts of a sample.
 fn in_parts(precision: u8, place: u32) -> i64
     requires precision { precision ≤ 3 }
-    requires place { place ≤ 8192 }
+    requires place { place ≤ LARGEST_TABLE_SIDE }
     ensures value { result ≡ pos (2 ^ precision * place) }
     ensures at_most_2_16 { unsigned_abs result ≤ 2 ^ 16 }
 {
@@ -51,7 +51,7 @@ fn divided(vector: i32, ratio: u32) -> i64
 fn position(precision: u8, ratio: u32, place: u32, vector: i32) -> i64
     requires precision { precision ≤ 3 }
     requires ratio { (1 ≤ ratio) × (ratio ≤ 2) }
-    requires place { place ≤ 8192 }
+    requires place { place ≤ LARGEST_TABLE_SIDE }
     requires vector { IsShort vector }
     ensures value { result ≡ Rattle.dirac_obmc.specs.Compensation.position precision ratio place vector }
     ensures at_most_2_17 { unsigned_abs result ≤ 2 ^ 17 }
@@ -63,8 +63,8 @@ fn position(precision: u8, ratio: u32, place: u32, vector: i32) -> i64
 fn moved_row(motion: &Motion<'_>, up: &UpPlane, vector: Vector, x: u32, y: u32, out: &mut [i16])
     requires motion { IsMotion (given motion.now) }
     requires vector { IsShortVector vector }
-    requires x { x ≤ 4096 }
-    requires y { y ≤ 4096 }
+    requires x { x ≤ LARGEST_SIDE }
+    requires y { y ≤ LARGEST_SIDE }
     requires at_most_64 { length out.old ≤ 64 }
     ensures value { (k : ℕ) → k < length out.old → slice_index_or out.new k (pos 0) ≡ moved_sample (given motion.now) up.now vector (x + k) y }
     ensures samples { All IsSample out.new }
@@ -79,8 +79,8 @@ fn moved_row(motion: &Motion<'_>, up: &UpPlane, vector: Vector, x: u32, y: u32, 
 fn second_row(motion: &Motion<'_>, vector: Vector, x: u32, y: u32, out: &mut [i16])
     requires motion { IsMotion (given motion.now) }
     requires vector { IsShortVector vector }
-    requires x { x ≤ 4096 }
-    requires y { y ≤ 4096 }
+    requires x { x ≤ LARGEST_SIDE }
+    requires y { y ≤ LARGEST_SIDE }
     requires at_most_64 { length out.old ≤ 64 }
     ensures value { (k : ℕ) → k < length out.old → slice_index_or out.new k (pos 0) ≡ second_sample (given motion.now) (given motion.now).up2 vector (x + k) y }
     ensures samples { All IsSample out.new }
@@ -239,8 +239,8 @@ pub fn block_values(
 )
     requires motion { IsMotion (given motion.now) }
     requires block { IsBlock motion.now.blocks.now.refs block.now }
-    requires x { x ≤ 4096 }
-    requires y { y ≤ 4096 }
+    requires x { x ≤ LARGEST_SIDE }
+    requires y { y ≤ LARGEST_SIDE }
     requires at_most_64 { length out.old ≤ 64 }
     requires lens { (length first.old ≡ length out.old) × (length second.old ≡ length out.old) }
     ensures { (k : ℕ) → k < length out.old → slice_index_or out.new k (pos 0) ≡ predicts (given motion.now) block.now (x + k) y }

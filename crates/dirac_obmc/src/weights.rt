@@ -4,7 +4,7 @@ ghost use Rattle.dirac_obmc.specs.Compensation.{Compensation, IsFlat, IsMotion, 
 ghost use Rattle.dirac_obmc.specs.Directions.{IsWeights};
 
 use crate::direction::Direction;
-use dirac_types::NoMemory;
+use dirac_types::{LARGEST_SIDE, NoMemory};
 use std::alloc::Global;
 
 /// The weight of a block at its place `t`, where `count` blocks stand side by side (overlapped blocks, Dirac
@@ -51,8 +51,8 @@ fn ramp(margin: u32, t: u32) -> u32
 pub fn share(blocks: Direction, block: u32, place: u32) -> u8
     requires sizes { IsOverlap blocks.length blocks.separation }
     requires block { block < blocks.count }
-    requires count { blocks.count ≤ 4096 }
-    requires place { place ≤ 4096 }
+    requires count { blocks.count ≤ LARGEST_SIDE }
+    requires place { place ≤ LARGEST_SIDE }
     ensures value { result ≡ Rattle.dirac_obmc.specs.Weights.share block blocks.count blocks.length blocks.separation place }
     ensures at_most_8 { result ≤ 8 }
 {
@@ -97,7 +97,7 @@ fn no_weights(alloc: Global, count: usize) -> Result<Vec<u8>, NoMemory>
 /// The weights of all blocks of a direction, block after block.
 pub fn weight_table(alloc: Global, blocks: Direction) -> Result<Vec<u8>, NoMemory>
     requires sizes { IsOverlap blocks.length blocks.separation }
-    requires count { blocks.count ≤ 4096 }
+    requires count { blocks.count ≤ LARGEST_SIDE }
     ensures { IfOk result (λ ws. IsWeights blocks.count blocks.length blocks.separation ws.items) }
 {
     let count = blocks.count * blocks.length;

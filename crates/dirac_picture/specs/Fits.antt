@@ -1,5 +1,7 @@
 -- What every coded picture of a sequence has.
 use Rattle.std.specs.Prelude.{◌≡◌, ℕ, ◌+◌, ◌≤◌, true, false, IsTrue, List, length, nat_le, slice_get, unsigned_abs, Option, None, Some, is_some}
+use Rattle.dirac_types.specs.declared.limits.TheConstants.{LARGEST_SIDE, MOST_CODEBLOCKS}
+use Rattle.dirac_types.specs.Limits.{IsDepth, IsWavelet}
 use Rattle.dirac_types.specs.declared.formats.Chroma.{Chroma}
 use Rattle.dirac_bands.specs.Geometry.{band_length}
 use Rattle.dirac_sequence.specs.declared.sequence.Sequence.{Sequence}
@@ -24,23 +26,23 @@ IsCount count most = (1 ≤ count) × (count ≤ most)
 
 -- transform parameters of a picture of this size: at each level at most as many codeblocks as luma's bands have columns and rows
 pub record IsTransform (width height : ℕ) (t : Transform) : Type 0 where
-  pub wavelet : t.wavelet ≤ 6
-  pub depth : (1 ≤ t.depth) × (t.depth ≤ 5)
+  pub wavelet : IsWavelet t.wavelet
+  pub depth : IsDepth t.depth
   pub levels : length t.counts ≡ t.depth + 1
   pub across : (level : ℕ) → level ≤ t.depth → IsCount (counts_at t.counts level).0 (band_length width t.depth level)
   pub down : (level : ℕ) → level ≤ t.depth → IsCount (counts_at t.counts level).1 (band_length height t.depth level)
 
 -- a layout of bands: its levels, and at each from 1 to 8,192 codeblocks across and down
 pub record IsLayout (t : Transform) : Type 0 where
-  pub depth : (1 ≤ t.depth) × (t.depth ≤ 5)
+  pub depth : IsDepth t.depth
   pub levels : length t.counts ≡ t.depth + 1
-  pub across : (level : ℕ) → level ≤ t.depth → IsCount (counts_at t.counts level).0 8192
-  pub down : (level : ℕ) → level ≤ t.depth → IsCount (counts_at t.counts level).1 8192
+  pub across : (level : ℕ) → level ≤ t.depth → IsCount (counts_at t.counts level).0 MOST_CODEBLOCKS
+  pub down : (level : ℕ) → level ≤ t.depth → IsCount (counts_at t.counts level).1 MOST_CODEBLOCKS
 
 -- a plane's size
 pub record IsPlaneSize (width height : ℕ) : Type 0 where
-  pub across : (1 ≤ width) × (width ≤ 4096)
-  pub down : (1 ≤ height) × (height ≤ 4096)
+  pub across : (1 ≤ width) × (width ≤ LARGEST_SIDE)
+  pub down : (1 ≤ height) × (height ≤ LARGEST_SIDE)
 
 -- each of these bands is what its place in a plane of this size asks for
 abbrev pub AreBands : Transform → ℕ → ℕ → List CodedBand → Type 0

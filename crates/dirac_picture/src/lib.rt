@@ -5,16 +5,16 @@
 #![tactic(auto)]
 
 mod coded;
+mod layouts;
 mod motion;
 mod picture;
 mod plane;
 mod plane_bands;
 mod shared;
-mod layouts;
 
 pub use coded::{CodedMotion, CodedPicture, CodedResidual};
 pub use dirac_units::is_intra;
+pub use layouts::layout;
 pub use motion::superblocks_over;
 pub use picture::read_picture;
 pub use plane_bands::PlaneBands;
-pub use layouts::layout;

@@ -10,14 +10,14 @@ use dirac_bits::BitReader;
 use dirac_blocks::read_blocks;
 use dirac_header::read_prediction;
 use dirac_sequence::Sequence;
-use dirac_types::Stop;
+use dirac_types::{LARGEST_SIDE, Stop};
 use dirac_units::{is_intra, references};
 use std::alloc::Global;
 
 /// How many superblocks cover so many luma samples, each four block separations long.
 pub fn superblocks_over(size: u32, separation: u32) -> u32
     requires at_least_1 { 1 ≤ size }
-    requires at_most_4096 { size ≤ 4096 }
+    requires at_most_4096 { size ≤ LARGEST_SIDE }
     requires separation { 1 ≤ separation }
     requires short { separation ≤ 64 }
     ensures value { result ≡ grammar.superblocks_over size separation }

@@ -7,8 +7,8 @@ ghost use Rattle.dirac_picture.specs.Bands as places;
 ghost use Rattle.dirac_picture.specs.Grammar as grammar;
 ghost use Rattle.dirac_picture.specs.Fits.{AreBands, AreBandsOf, IsLayout, IsPlaneSize};
 
-use crate::plane_bands::PlaneBands;
 use crate::layouts::layout;
+use crate::plane_bands::PlaneBands;
 use dirac_bits::BitReader;
 use dirac_coeffs::{CodedBand, read_band};
 use dirac_header::Transform;

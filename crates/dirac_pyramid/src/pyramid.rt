@@ -2,7 +2,7 @@ ghost use Rattle.std.specs.Prelude.{◌≡◌, ◌+◌, ◌<◌, ◌≤◌, leng
 ghost use Rattle.dirac_pyramid.specs.Pyramid.{no_plane, pyramid_of};
 
 use crate::shrink::shrink;
-use dirac_types::{NoMemory, Plane};
+use dirac_types::{LARGEST_TABLE_SIDE, NoMemory, Plane};
 use std::alloc::Global;
 use std::marker::Model;
 
@@ -27,8 +27,8 @@ impl Pyramid {
     /// The pyramid of `plane`, with `levels` levels above it.
     pub fn build(alloc: Global, plane: &Plane, levels: u8) -> Result<Pyramid, NoMemory>
         requires at_most_4_levels { levels ≤ 4 }
-        requires at_most_8192_across { plane.now.width ≤ 8192 }
-        requires at_most_8192_down { plane.now.height ≤ 8192 }
+        requires at_most_8192_across { plane.now.width ≤ LARGEST_TABLE_SIDE }
+        requires at_most_8192_down { plane.now.height ≤ LARGEST_TABLE_SIDE }
         ensures value { IfOk result (λ p. p ≡ pyramid_of plane.now levels) }
         ensures number_of_levels { IfOk result (λ p. length p ≡ levels + 1) }
     {

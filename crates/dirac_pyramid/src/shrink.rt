@@ -2,7 +2,7 @@ ghost use Rattle.std.specs.Prelude.{◌≡◌, ℕ, pos, negsuc, ◌+◌, ◌*�
 ghost use Rattle.std.specs.Int.{int_shr};
 ghost use Rattle.dirac_pyramid.specs.Pyramid.{half_row, mean_at, mean_of_four, shrunk};
 
-use dirac_types::{NoMemory, Plane};
+use dirac_types::{LARGEST_TABLE_SIDE, NoMemory, Plane};
 use std::alloc::Global;
 
 /// The sum of two samples.
@@ -85,8 +85,8 @@ fn shrink_rows(above: &[i16], below: &[i16], out: &mut [i16])
 
 /// The next level of a plane's pyramid: half the size, rounded up.
 pub fn shrink(alloc: Global, plane: &Plane) -> Result<Plane, NoMemory>
-    requires at_most_8192_across { plane.now.width ≤ 8192 }
-    requires at_most_8192_down { plane.now.height ≤ 8192 }
+    requires at_most_8192_across { plane.now.width ≤ LARGEST_TABLE_SIDE }
+    requires at_most_8192_down { plane.now.height ≤ LARGEST_TABLE_SIDE }
     ensures { IfOk result (λ t. t ≡ shrunk plane.now) }
 {
     let last = plane.height() - 1;

@@ -1,4 +1,5 @@
 ghost use Rattle.std.specs.Prelude.{◌≡◌, ◌^◌, ◌<◌, ◌≤◌, ◌-◌, unsigned_abs};
+ghost use Rattle.dirac_types.specs.Limits.{IsIndex};
 ghost use Rattle.dirac_quant.specs.Quantiser.{factor_of, offset_of, restored, reduced};
 
 use dirac_types::Kind;
@@ -6,7 +7,7 @@ use dirac_types::Kind;
 /// Four times the step of the quantiser at an index (quantisation factors, Dirac specification).
 #[tactic(auto, using(crate::proofs::Powers::power_bound))]
 pub fn factor(index: u8) -> u64
-    requires { index ≤ 99 }
+    requires { IsIndex index }
     ensures value { result ≡ factor_of index }
     ensures least { 4 ≤ result }
     ensures below { result < 2 ^ 27 }
@@ -23,7 +24,7 @@ pub fn factor(index: u8) -> u64
 /// Four times what the quantiser adds to a restored magnitude (quantisation offsets, Dirac specification).
 /// An inter picture's lies nearer to zero than an intra picture's.
 pub fn offset(index: u8, kind: Kind) -> u64
-    requires { index ≤ 99 }
+    requires { IsIndex index }
     ensures value { result ≡ offset_of index kind }
     ensures below { result < 2 ^ 27 }
 {
@@ -40,7 +41,7 @@ pub fn offset(index: u8, kind: Kind) -> u64
 /// The coefficient that a coded number stands for (inverse quantisation, Dirac specification).
 pub fn restore(value: i64, index: u8, kind: Kind) -> i128
     requires value { unsigned_abs value ≤ 2 ^ 39 - 2 }
-    requires index { index ≤ 99 }
+    requires index { IsIndex index }
     ensures value { result ≡ restored value index kind }
     ensures below { unsigned_abs result < 2 ^ 64 }
 {
@@ -57,7 +58,7 @@ pub fn restore(value: i64, index: u8, kind: Kind) -> i128
 /// The number that codes a coefficient: its magnitude in steps, rounded towards zero, with its sign.
 pub fn reduce(value: i64, index: u8) -> i64
     requires value { unsigned_abs value ≤ 2 ^ 39 - 2 }
-    requires index { index ≤ 99 }
+    requires index { IsIndex index }
     ensures value { result ≡ reduced value index }
     ensures no_larger { unsigned_abs result ≤ unsigned_abs value }
 {

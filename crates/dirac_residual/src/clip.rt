@@ -3,7 +3,7 @@ ghost use Rattle.std.specs.List.{All};
 ghost use Rattle.dirac_types.specs.Samples.{clip};
 ghost use Rattle.dirac_residual.specs.Residual.{clipped, summed_with, with_prediction};
 
-use dirac_types::{NoMemory, Plane, Wide};
+use dirac_types::{LARGEST_TABLE_SIDE, NoMemory, Plane, Wide};
 use std::alloc::Global;
 
 /// A value clipped to the range of samples, -128 to 127.
@@ -25,8 +25,8 @@ fn clip_values(values: &[i128], samples: &mut [i16])
 
 /// The plane whose samples are these values, each clipped to -128 to 127 (clipping, Dirac specification).
 pub fn clipped(alloc: Global, values: &Wide) -> Result<Plane, NoMemory>
-    requires across { values.now.width ≤ 8192 }
-    requires down { values.now.height ≤ 8192 }
+    requires across { values.now.width ≤ LARGEST_TABLE_SIDE }
+    requires down { values.now.height ≤ LARGEST_TABLE_SIDE }
     ensures { IfOk result (λ plane. plane ≡ clipped values.now) }
 {
     let mut plane = Plane::try_new(alloc, values.width(), values.height(), 0)?;
@@ -69,8 +69,8 @@ fn clip_sums(residual: &[i128], predicted: &[i32], samples: &mut [i16])
 /// The plane whose samples are the values of a residual plus their predictions, which stand by rows, each sum
 /// clipped to -128 to 127 (picture decoding, Dirac specification).
 pub fn clipped_sum(alloc: Global, residual: &Wide, predicted: &[i32]) -> Result<Plane, NoMemory>
-    requires across { residual.now.width ≤ 8192 }
-    requires down { residual.now.height ≤ 8192 }
+    requires across { residual.now.width ≤ LARGEST_TABLE_SIDE }
+    requires down { residual.now.height ≤ LARGEST_TABLE_SIDE }
     requires predicted { length predicted.now ≡ length residual.now.values }
     requires bound { All (λ v. unsigned_abs v ≤ 2 ^ 108) residual.now.values }
     ensures { IfOk result (λ plane. plane ≡ clipped (with_prediction residual.now predicted.now)) }

@@ -1,5 +1,6 @@
 ghost use Rattle.std.specs.Prelude.{◌≡◌, ◌≢◌, ℕ, pos, ◌-◌, ◌*◌, ◌%◌, ◌^◌, ◌<◌, ◌≤◌, length, map, slice_index_or, unsigned_abs, IfOk};
 ghost use Rattle.std.specs.List.{All};
+ghost use Rattle.dirac_types.specs.Limits.{IsIndex};
 ghost use Rattle.dirac_quant.specs.Quantiser.{restored};
 ghost use Rattle.dirac_bands.specs.Interleaving.{interleaved, joined};
 ghost use Rattle.dirac_residual.specs.Fits.{IsBesides};
@@ -7,7 +8,7 @@ ghost use Rattle.dirac_residual.specs.Residual.{restored_band};
 
 use crate::restore::restore_into;
 use dirac_coeffs::CodedBand;
-use dirac_types::{Kind, NoMemory, Wide};
+use dirac_types::{Kind, LARGEST_SIDE, NoMemory, Wide};
 use std::alloc::Global;
 
 /// Copies values to the places 2n of a line of twice the length.
@@ -26,7 +27,7 @@ fn copy_into(values: &[i128], line: &mut [i128])
 fn even_row(low: &[i128], right: &[i64], index: u8, kind: Kind, line: &mut [i128])
     requires right { length right.now ≡ length low.now }
     requires line { length line.old ≡ 2 * length low.now }
-    requires index { index ≤ 99 }
+    requires index { IsIndex index }
     requires magnitudes_below_2_39 { All (λ v. unsigned_abs v < 2 ^ 39 - 1) right.now }
     ensures { line.new ≡ interleaved low.now (map (λ v. restored v index kind) right.now) }
 {
@@ -46,8 +47,8 @@ fn odd_row(
 )
     requires right { length right.now ≡ length left.now }
     requires line { length line.old ≡ 2 * length left.now }
-    requires left_index { left_index ≤ 99 }
-    requires right_index { right_index ≤ 99 }
+    requires left_index { IsIndex left_index }
+    requires right_index { IsIndex right_index }
     requires left_small { All (λ v. unsigned_abs v < 2 ^ 39 - 1) left.now }
     requires right_small { All (λ v. unsigned_abs v < 2 ^ 39 - 1) right.now }
     ensures { line.new ≡ interleaved (map (λ v. restored v left_index kind) left.now) (map (λ v. restored v right_index kind) right.now) }
@@ -66,8 +67,8 @@ pub fn join_restored(
     hh: &CodedBand,
     kind: Kind,
 ) -> Result<Wide, NoMemory>
-    requires across { low.now.width ≤ 4096 }
-    requires down { low.now.height ≤ 4096 }
+    requires across { low.now.width ≤ LARGEST_SIDE }
+    requires down { low.now.height ≤ LARGEST_SIDE }
     requires hl { IsBesides low.now hl.now }
     requires lh { IsBesides low.now lh.now }
     requires hh { IsBesides low.now hh.now }

@@ -1,5 +1,6 @@
 ghost use Rattle.std.specs.Prelude.{◌≡◌, ℕ, ◌+◌, ◌-◌, ◌*◌, ◌^◌, ◌<◌, ◌≤◌, length, unsigned_abs, IfOk};
 ghost use Rattle.std.specs.List.{All};
+ghost use Rattle.dirac_types.specs.Limits.{IsDepth, IsIndex, IsWavelet};
 ghost use Rattle.dirac_lift.specs.Level.{level};
 ghost use Rattle.dirac_residual.specs.Fits.{AreBandsOf, IsBesides};
 ghost use Rattle.dirac_residual.specs.Residual.{after_levels, residual, restored_band, summed};
@@ -10,14 +11,14 @@ use crate::restore::restore_band;
 use dirac_bands::dc_add;
 use dirac_coeffs::CodedBand;
 use dirac_lift::synth_level;
-use dirac_types::{Kind, NoMemory, Wide};
+use dirac_types::{Kind, LARGEST_SIDE, LARGEST_TABLE_SIDE, NoMemory, Wide};
 use std::alloc::Global;
 
 /// The LL band of level 0, whose values an intra picture codes as differences from their predictions.
 fn lowest_band(alloc: Global, band: &CodedBand, kind: Kind) -> Result<Wide, NoMemory>
-    requires index { band.now.index ≤ 99 }
-    requires across { band.now.table.width ≤ 4096 }
-    requires down { band.now.table.height ≤ 4096 }
+    requires index { IsIndex band.now.index }
+    requires across { band.now.table.width ≤ LARGEST_SIDE }
+    requires down { band.now.table.height ≤ LARGEST_SIDE }
     requires magnitudes_below_2_39 { All (λ v. unsigned_abs v < 2 ^ 39 - 1) band.now.table.values }
     ensures value { IfOk result (λ t. t ≡ summed kind (restored_band kind band.now)) }
     ensures bound { IfOk result (λ t. All (λ v. unsigned_abs v ≤ 2 ^ 77) t.values) }
@@ -40,9 +41,9 @@ fn next_level(
     lh: &CodedBand,
     hh: &CodedBand,
 ) -> Result<Wide, NoMemory>
-    requires wavelet { wavelet ≤ 6 }
-    requires across { low.now.width ≤ 4096 }
-    requires down { low.now.height ≤ 4096 }
+    requires wavelet { IsWavelet wavelet }
+    requires across { low.now.width ≤ LARGEST_SIDE }
+    requires down { low.now.height ≤ LARGEST_SIDE }
     requires hl { IsBesides low.now hl.now }
     requires lh { IsBesides low.now lh.now }
     requires hh { IsBesides low.now hh.now }
@@ -67,10 +68,10 @@ pub fn plane_residual(
     width: u32,
     height: u32,
 ) -> Result<Wide, NoMemory>
-    requires wavelet { wavelet ≤ 6 }
-    requires depth { (1 ≤ depth) × (depth ≤ 5) }
-    requires across { (1 ≤ width) × (width ≤ 8192) }
-    requires down { (1 ≤ height) × (height ≤ 8192) }
+    requires wavelet { IsWavelet wavelet }
+    requires depth { IsDepth depth }
+    requires across { (1 ≤ width) × (width ≤ LARGEST_TABLE_SIDE) }
+    requires down { (1 ≤ height) × (height ≤ LARGEST_TABLE_SIDE) }
     requires bands { AreBandsOf depth width height bands.now }
     ensures value { IfOk result (λ t. t ≡ residual wavelet depth kind bands.now width height) }
     ensures bound { IfOk result (λ t. All (λ v. unsigned_abs v ≤ 2 ^ 108) t.values) }

@@ -1,11 +1,12 @@
 ghost use Rattle.std.specs.Prelude.{◌≡◌, ◌≢◌, ℕ, pos, ◌+◌, ◌-◌, ◌*◌, ◌%◌, ◌^◌, ◌<◌, ◌≤◌, length, map, slice_index_or, unsigned_abs, IfOk};
 ghost use Rattle.std.specs.List.{All};
+ghost use Rattle.dirac_types.specs.Limits.{IsIndex};
 ghost use Rattle.dirac_quant.specs.Quantiser.{restored};
 ghost use Rattle.dirac_residual.specs.Residual.{restored_band};
 
 use dirac_coeffs::CodedBand;
 use dirac_quant::restore;
-use dirac_types::{Kind, NoMemory, Wide};
+use dirac_types::{Kind, LARGEST_TABLE_SIDE, NoMemory, Wide};
 use std::alloc::Global;
 
 /// Writes the coefficient that each coded number stands for to the places n * `step` + `first` of a line; its other
@@ -20,7 +21,7 @@ pub fn restore_into(
 )
     requires line { length line.old ≡ length coded.now * step }
     requires first { first < step }
-    requires index { index ≤ 99 }
+    requires index { IsIndex index }
     requires magnitudes_below_2_39 { All (λ v. unsigned_abs v < 2 ^ 39 - 1) coded.now }
     ensures written { (n : ℕ) → n < length coded.now → slice_index_or line.new (n * step + first) (pos 0) ≡ restored (slice_index_or coded.now n (pos 0)) index kind }
     ensures others { (x : ℕ) → x % step ≢ first → slice_index_or line.new x (pos 0) ≡ slice_index_or line.old x (pos 0) }
@@ -33,7 +34,7 @@ pub fn restore_into(
 /// Writes the coefficient that each coded number stands for.
 fn restore_values(coded: &[i64], index: u8, kind: Kind, values: &mut [i128])
     requires len { length values.old ≡ length coded.now }
-    requires index { index ≤ 99 }
+    requires index { IsIndex index }
     requires magnitudes_below_2_39 { All (λ v. unsigned_abs v < 2 ^ 39 - 1) coded.now }
     ensures value { values.new ≡ map (λ v. restored v index kind) coded.now }
     ensures bound { All (λ v. unsigned_abs v < 2 ^ 64) values.new }
@@ -43,9 +44,9 @@ fn restore_values(coded: &[i64], index: u8, kind: Kind, values: &mut [i128])
 
 /// The coefficients that a coded band stands for (inverse quantisation, Dirac specification).
 pub fn restore_band(alloc: Global, band: &CodedBand, kind: Kind) -> Result<Wide, NoMemory>
-    requires index { band.now.index ≤ 99 }
-    requires across { band.now.table.width ≤ 8192 }
-    requires down { band.now.table.height ≤ 8192 }
+    requires index { IsIndex band.now.index }
+    requires across { band.now.table.width ≤ LARGEST_TABLE_SIDE }
+    requires down { band.now.table.height ≤ LARGEST_TABLE_SIDE }
     requires magnitudes_below_2_39 { All (λ v. unsigned_abs v < 2 ^ 39 - 1) band.now.table.values }
     ensures value { IfOk result (λ t. t ≡ restored_band kind band.now) }
     ensures bound { IfOk result (λ t. All (λ v. unsigned_abs v < 2 ^ 64) t.values) }

@@ -1,5 +1,6 @@
 -- The sequence header, field after field: sequence header, Dirac specification.
 use Rattle.std.specs.Prelude.{ℕ, ◌+◌, ◌-◌, ◌%◌, ◌^◌, ◌==◌, nat_le, nat_lt, ◌&&◌, if◌then◌else◌, Bool, List, Result}
+use Rattle.dirac_types.specs.declared.limits.TheConstants.{LARGEST_HEIGHT, LARGEST_WIDTH}
 use Rattle.dirac_types.specs.declared.faults.Cause.TheVariants.{Version, Preset, Size, ChromaFormat, Sampling, RateIndex, AspectIndex, SignalRange as SignalIndex, Depth8, Fields}
 use Rattle.dirac_types.specs.declared.faults.Refusal.{Refusal}
 use Rattle.dirac_types.specs.declared.formats.Chroma.{Chroma}
@@ -25,8 +26,8 @@ base_format = do
 -- the frame size in luma samples
 unfoldable pub size : ℕ × ℕ → Syntax (ℕ × ℕ)
 size default = custom default (do
-  width ← field Size (between 1 4096)
-  height ← field Size (between 1 2304)
+  width ← field Size (between 1 LARGEST_WIDTH)
+  height ← field Size (between 1 LARGEST_HEIGHT)
   done (width, height))
 
 -- a chroma format by its index

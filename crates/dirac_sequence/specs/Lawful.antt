@@ -1,11 +1,12 @@
 -- What every sequence that can be read has.
 use Rattle.std.specs.Prelude.{◌≡◌, ℕ, ◌%◌, ◌≤◌}
+use Rattle.dirac_types.specs.declared.limits.TheConstants.{LARGEST_HEIGHT, LARGEST_WIDTH}
 use Rattle.dirac_sequence.specs.declared.sequence.Sequence.{Sequence}
 use Rattle.dirac_sequence.specs.Ratios.{ratio_across, ratio_down}
 
 -- a size within the limits
 abbrev pub IsSize : ℕ → ℕ → Type 0
-IsSize width height = (1 ≤ width) × (width ≤ 4096) × (1 ≤ height) × (height ≤ 2304)
+IsSize width height = (1 ≤ width) × (width ≤ LARGEST_WIDTH) × (1 ≤ height) × (height ≤ LARGEST_HEIGHT)
 
 -- a sequence that a header can have: a size within the limits, and whole chroma samples
 pub record IsSequence (s : Sequence) : Type 0 where

@@ -10,7 +10,7 @@ ghost use Rattle.dirac_sequence.specs.Lawful.{IsSize, IsSequence};
 use crate::sequence::{Sequence, ratio_across, ratio_down};
 use crate::tables;
 use dirac_bits::BitReader;
-use dirac_types::{Cause, Chroma, Refusal};
+use dirac_types::{Cause, Chroma, LARGEST_HEIGHT, LARGEST_WIDTH, Refusal};
 
 #[tactic(auto, unfolding(crate::specs::Grammar::frames), using(dirac_bits::specs::Then::read_then))]
 pub fn read_frames(r: &mut BitReader<'_>, s: Sequence) -> Result<Sequence, Refusal>
@@ -45,8 +45,8 @@ fn read_size(r: &mut BitReader<'_>, default: (u32, u32)) -> Result<(u32, u32), R
     if !r.bit()? {
         return Ok(default);
     }
-    let width = r.field(Cause::Size, 1, 4096)?;
-    let height = r.field(Cause::Size, 1, 2304)?;
+    let width = r.field(Cause::Size, 1, LARGEST_WIDTH as u64)?;
+    let height = r.field(Cause::Size, 1, LARGEST_HEIGHT as u64)?;
     Ok((width as u32, height as u32))
 }
 

@@ -1,6 +1,7 @@
 -- What can be written.
 use Rattle.std.specs.Prelude.{◌≡◌, ℕ, ◌≤◌, ◌<◌, ◌^◌, List, true, Some, slice_get, unsigned_abs}
 use Rattle.std.specs.List.{All}
+use Rattle.dirac_types.specs.Limits.{IsEncodedDepth, IsIndex, IsWavelet}
 use Rattle.dirac_types.specs.declared.settings.Settings.{Settings}
 use Rattle.dirac_sequence.specs.declared.sequence.Sequence.{Sequence}
 use Rattle.dirac_sequence.specs.Written.{IsWritable}
@@ -13,9 +14,9 @@ use Rattle.dirac_picture.specs.Fits.{IsResidual}
 -- settings with which a picture can be coded
 pub record IsCodable (t : Settings) : Type 0 where
   pub sequence : IsWritable t
-  pub wavelet : t.wavelet ≤ 6
-  pub depth : (1 ≤ t.depth) × (t.depth ≤ 4)
-  pub index : t.index ≤ 99
+  pub wavelet : IsWavelet t.wavelet
+  pub depth : IsEncodedDepth t.depth
+  pub index : IsIndex t.index
   pub codeblocks : 1 ≤ t.codeblocks
 
 -- bands of zeros have index 0

@@ -4,6 +4,7 @@ pub mod Bytes
 pub mod Causes
 pub mod Chain
 pub mod Lending
+pub mod Limits
 pub mod Names
 pub mod Numbers
 pub mod Samples

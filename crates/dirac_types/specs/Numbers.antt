@@ -1,5 +1,6 @@
 -- How the standard spells numbers: interleaved exp-Golomb, and literals of four bytes.
 use Rattle.std.specs.Prelude.{ℕ, zero, suc, ℤ, pos, negsuc, ◌+◌, ◌/◌, ◌%◌, ◌==◌, nat_lt, if◌then◌else◌, Bool, true, false, List, [], ◌∷◌, ◌++◌}
+use Rattle.dirac_types.specs.declared.limits.TheConstants.{MOST_DIGITS}
 use Rattle.dirac_types.specs.Bits.{byte_bits}
 
 -- the binary digits behind the leading one, at most so many
@@ -9,7 +10,7 @@ digits_within (suc most) n = if nat_lt n 2 then [] else digits_within most (n / 
 
 -- the binary digits of v + 1 behind its leading one; a number has at most 38
 unfoldable pub digits_of : ℕ → List Bool
-digits_of v = digits_within 38 (v + 1)
+digits_of v = digits_within MOST_DIGITS (v + 1)
 
 -- digits, each behind a follow bit 0
 abbrev pub followed : List Bool → List Bool

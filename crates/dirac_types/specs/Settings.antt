@@ -1,6 +1,7 @@
 -- The settings of the encoder: their ranges and defaults, and which of them is out of its range.
 use Rattle.std.specs.Prelude.{◌≡◌, ℕ, ◌≤◌, ◌%◌, ◌==◌, nat_le, ◌&&◌, if◌then◌else◌, Bool, List, [], ◌∷◌, map, slice_index_or, Option, Some, None, Result, Ok, Err}
 use Rattle.std.specs.List.{AllByRecursion}
+use Rattle.dirac_types.specs.declared.limits.TheConstants.{LARGEST_ENCODED_DEPTH, LARGEST_HEIGHT, LARGEST_INDEX, LARGEST_WAVELET, LARGEST_WIDTH}
 use Rattle.dirac_types.specs.BaseFormats.{base_formats}
 use Rattle.dirac_types.specs.declared.base_formats.BaseFormat.{BaseFormat}
 use Rattle.dirac_types.specs.declared.formats.Chroma.{Chroma}
@@ -29,15 +30,15 @@ unfoldable pub table : Settings → List Ranged
 table s =
     setting name.Base s.base 0 16 1
     ∷ setting name.Chroma s.chroma 0 2 1
-    ∷ setting name.Width s.width 1 4096 (step_across s.chroma)
-    ∷ setting name.Height s.height 1 2304 (step_down s.chroma)
+    ∷ setting name.Width s.width 1 LARGEST_WIDTH (step_across s.chroma)
+    ∷ setting name.Height s.height 1 LARGEST_HEIGHT (step_down s.chroma)
     ∷ setting name.Rate s.rate 1 10 1
     ∷ setting name.Signal s.signal 1 2 1
     ∷ setting name.Profile s.profile 0 255 1
     ∷ setting name.Level s.level 0 255 1
-    ∷ setting name.Wavelet s.wavelet 0 6 1
-    ∷ setting name.Depth s.depth 1 4 1
-    ∷ setting name.Index s.index 0 99 1
+    ∷ setting name.Wavelet s.wavelet 0 LARGEST_WAVELET 1
+    ∷ setting name.Depth s.depth 1 LARGEST_ENCODED_DEPTH 1
+    ∷ setting name.Index s.index 0 LARGEST_INDEX 1
     ∷ setting name.Codeblocks s.codeblocks 1 8 1
     ∷ setting name.Blocks s.blocks 2 4 1
     ∷ setting name.Precision s.precision 0 3 1

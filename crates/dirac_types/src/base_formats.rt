@@ -5,6 +5,7 @@ ghost use Rattle.dirac_types.specs.BaseFormats as formats;
 
 use crate::formats::Chroma;
 use crate::formats::Chroma::{C420, C422, C444};
+use crate::limits::{LARGEST_HEIGHT, LARGEST_WIDTH};
 
 const P: bool = false;
 
@@ -32,8 +33,8 @@ pub struct BaseFormat {
 pub fn base_format(number: u32) -> BaseFormat
     requires { number ≤ 16 }
     ensures value { result ≡ formats.base_format number }
-    ensures across { (1 ≤ result.size.0) × (result.size.0 ≤ 4096) }
-    ensures down { (1 ≤ result.size.1) × (result.size.1 ≤ 2304) }
+    ensures across { (1 ≤ result.size.0) × (result.size.0 ≤ LARGEST_WIDTH) }
+    ensures down { (1 ≤ result.size.1) × (result.size.1 ≤ LARGEST_HEIGHT) }
     ensures rate { (1 ≤ result.rate) × (result.rate ≤ 10) }
     ensures aspect { (1 ≤ result.aspect) × (result.aspect ≤ 6) }
     ensures signal { (1 ≤ result.signal) × (result.signal ≤ 4) }

@@ -6,6 +6,7 @@ mod base_formats;
 mod element;
 mod faults;
 mod formats;
+mod limits;
 mod memory;
 mod numbers;
 mod picture;
@@ -17,7 +18,11 @@ mod table;
 
 pub use base_formats::{BaseFormat, base_format};
 pub use faults::{Cause, Fault, Refusal, Stop};
-pub use formats::{Band, BlockGrid, Chroma, Kind, Component, Vector};
+pub use formats::{Band, BlockGrid, Chroma, Component, Kind, Vector};
+pub use limits::{
+    LARGEST_DEPTH, LARGEST_ENCODED_DEPTH, LARGEST_HEIGHT, LARGEST_INDEX, LARGEST_SIDE,
+    LARGEST_TABLE_SIDE, LARGEST_WAVELET, LARGEST_WIDTH, MOST_CODEBLOCKS, MOST_DIGITS, MOST_SAMPLES,
+};
 pub use memory::NoMemory;
 pub use numbers::with_sign;
 pub use picture::Picture;

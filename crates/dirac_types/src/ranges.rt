@@ -5,6 +5,9 @@ ghost use Rattle.dirac_types.specs.Settings as settings;
 
 use crate::base_formats::{BaseFormat, base_format};
 use crate::formats::Chroma;
+use crate::limits::{
+    LARGEST_ENCODED_DEPTH, LARGEST_HEIGHT, LARGEST_INDEX, LARGEST_WAVELET, LARGEST_WIDTH,
+};
 use crate::settings::{BadSetting, Name, Settings};
 
 /// A setting with its value and its range: from `least` to `most`, and a multiple of `step`.
@@ -36,15 +39,27 @@ pub fn table(s: &Settings) -> [Ranged; 23]
     [
         setting(Name::Base, s.base, 0, 16, 1),
         setting(Name::Chroma, s.chroma, 0, 2, 1),
-        setting(Name::Width, s.width, 1, 4096, step_across(s.chroma)),
-        setting(Name::Height, s.height, 1, 2304, step_down(s.chroma)),
+        setting(
+            Name::Width,
+            s.width,
+            1,
+            LARGEST_WIDTH,
+            step_across(s.chroma),
+        ),
+        setting(
+            Name::Height,
+            s.height,
+            1,
+            LARGEST_HEIGHT,
+            step_down(s.chroma),
+        ),
         setting(Name::Rate, s.rate, 1, 10, 1),
         setting(Name::Signal, s.signal, 1, 2, 1),
         setting(Name::Profile, s.profile, 0, 255, 1),
         setting(Name::Level, s.level, 0, 255, 1),
-        setting(Name::Wavelet, s.wavelet, 0, 6, 1),
-        setting(Name::Depth, s.depth, 1, 4, 1),
-        setting(Name::Index, s.index, 0, 99, 1),
+        setting(Name::Wavelet, s.wavelet, 0, LARGEST_WAVELET, 1),
+        setting(Name::Depth, s.depth, 1, LARGEST_ENCODED_DEPTH, 1),
+        setting(Name::Index, s.index, 0, LARGEST_INDEX, 1),
         setting(Name::Codeblocks, s.codeblocks, 1, 8, 1),
         setting(Name::Blocks, s.blocks, 2, 4, 1),
         setting(Name::Precision, s.precision, 0, 3, 1),

@@ -4,6 +4,7 @@ ghost use Rattle.dirac_types.specs.Table.{Cells, cell_at, clamped_at, clamped_to
 ghost use Rattle.dirac_types.specs.Lending.{LendsRow, LendsValues};
 
 use crate::element::Element;
+use crate::limits::LARGEST_TABLE_SIDE;
 use crate::memory::NoMemory;
 use std::alloc::Global;
 use std::marker::Model;
@@ -39,8 +40,8 @@ impl<T> Model for Table<T> {
 impl<T: Element> Table<T> {
     /// A table of `width` columns by `height` rows, all of whose values are `value`.
     pub fn try_new(alloc: Global, width: u32, height: u32, value: T) -> Result<Table<T>, NoMemory>
-        requires across { (1 ≤ width) × (width ≤ 8192) }
-        requires down { (1 ≤ height) × (height ≤ 8192) }
+        requires across { (1 ≤ width) × (width ≤ LARGEST_TABLE_SIDE) }
+        requires down { (1 ≤ height) × (height ≤ LARGEST_TABLE_SIDE) }
         ensures { IfOk result (λ t. t ≡ record { width = width; height = height; values = replicate (width * height) value }) }
     {
         let count = width as usize * height as usize;

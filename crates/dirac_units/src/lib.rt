@@ -4,9 +4,9 @@
 mod codes;
 mod info;
 mod law;
-mod unit_place;
 mod take;
 mod unit;
+mod unit_place;
 mod units;
 mod write;
 
@@ -17,7 +17,7 @@ pub use codes::{
 };
 pub use info::{PARSE_INFO_LENGTH, ParseInfo, UnitKind, fields_are_read, kind_of, read_info};
 pub use law::bytes_have_one_cut;
+pub use unit::{Payload, StreamEnd, Unit, UnitStep};
 pub use unit_place::UnitPlace;
-pub use unit::{StreamEnd, Payload, Unit, UnitStep};
 pub use units::Units;
 pub use write::{infos_are_read_as_written, write_info};

@@ -5,8 +5,8 @@ ghost use Rattle.dirac_units.specs.Cut.{fault_at, front_of};
 ghost use Rattle.dirac_units.specs.Taking.{CutsPayload, TakesInfo, TakesNone, TakesPayload, TakesUnit};
 
 use crate::info::{PARSE_INFO_LENGTH, ParseInfo, fields_are_read, read_info};
-use crate::unit_place::UnitPlace;
 use crate::unit::{Payload, Unit};
+use crate::unit_place::UnitPlace;
 use dirac_io::{Filled, Source, fill};
 use dirac_types::{Cause, Fault};
 use std::alloc::Global;

@@ -2,9 +2,9 @@ ghost use Rattle.std.specs.Prelude.{◌≡◌, ℕ, ◌+◌, ◌<◌, ◌≤◌,
 ghost use Rattle.dirac_io.specs.Faults.{Rose};
 ghost use Rattle.dirac_units.specs.Progress.{begun, Ends, GivesUnit, HoldsWhatFollows, IfUnit, met_after, Repeats};
 
-use crate::unit_place::UnitPlace;
 use crate::take::{NoUnit, take_unit};
 use crate::unit::{StreamEnd, UnitStep};
+use crate::unit_place::UnitPlace;
 use dirac_io::Source;
 use dirac_types::Fault;
 use std::alloc::Global;

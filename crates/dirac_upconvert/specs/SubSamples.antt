@@ -2,6 +2,7 @@
 use Rattle.std.specs.Prelude.{◌≡◌, ℕ, ℤ, pos, ◌-◌, ◌*◌, ◌/◌, ◌^◌, ◌<◌, ◌≤◌, ◌==◌, List, length, slice_index_or, ◌≤ℤ◌, ◌<ℤ◌, ◌+ℤ◌, ◌-ℤ◌, ◌*ℤ◌, if◌then◌else◌}
 use Rattle.std.specs.Int.{int_shr}
 use Rattle.std.specs.List.{All}
+use Rattle.dirac_types.specs.declared.limits.TheConstants.{LARGEST_SIDE}
 use Rattle.dirac_types.specs.Table.{Table, clamped_at}
 use Rattle.dirac_upconvert.specs.HalfSamples.{IsSample}
 
@@ -14,9 +15,9 @@ pub record Up : Type 0 where
 -- its table has one half sample between any two samples
 pub record IsUp (width height : ℕ) (table : Table) : Type 0 where
   pub some_across : 1 ≤ width
-  pub most_across : width ≤ 4096
+  pub most_across : width ≤ LARGEST_SIDE
   pub some_down : 1 ≤ height
-  pub most_down : height ≤ 4096
+  pub most_down : height ≤ LARGEST_SIDE
   pub across : table.width ≡ 2 * width - 1
   pub down : table.height ≡ 2 * height - 1
   pub samples : All IsSample table.values

@@ -7,7 +7,7 @@ ghost use Rattle.dirac_upconvert.specs.SubSamples.{IsUp, Up, sub_sample};
 use crate::lines::{double_line, half_of_rows};
 use crate::parts::{part, twice, whole_sample};
 use crate::rows::{parts, places};
-use dirac_types::{NoMemory, Plane};
+use dirac_types::{LARGEST_SIDE, NoMemory, Plane};
 use std::alloc::Global;
 use std::marker::Model;
 
@@ -44,7 +44,7 @@ fn row_of_samples(plane: &Plane, y: u32) -> &[i16]
 /// The half samples between row `y` and the next; rows beyond the plane are its last ones.
 fn half_row(plane: &Plane, y: u32, line: &mut [i16])
     requires inside { y < plane.now.height }
-    requires at_most_4096 { plane.now.height ≤ 4096 }
+    requires at_most_4096 { plane.now.height ≤ LARGEST_SIDE }
     requires len { length line.old ≡ plane.now.width }
     requires samples { All IsSample plane.now.values }
     ensures value { (x : ℕ) → x < plane.now.width → slice_index_or line.new x (pos 0) ≡ half_behind (λ j. table_at plane.now x j) (plane.now.height - 1) y }
@@ -68,7 +68,7 @@ fn half_row(plane: &Plane, y: u32, line: &mut [i16])
 fn double_row(plane: &Plane, y: u32, line: &mut [i16], out: &mut [i16])
     requires inside { y + 1 < 2 * plane.now.height }
     requires at_least_1 { 1 ≤ plane.now.width }
-    requires at_most_4096 { plane.now.height ≤ 4096 }
+    requires at_most_4096 { plane.now.height ≤ LARGEST_SIDE }
     requires line { length line.old ≡ plane.now.width }
     requires out { length out.old + 1 ≡ 2 * plane.now.width }
     requires samples { All IsSample plane.now.values }
@@ -85,8 +85,8 @@ fn double_row(plane: &Plane, y: u32, line: &mut [i16], out: &mut [i16])
 /// The plane with its half samples, first between its rows and then between the columns of that result
 /// (half-pixel upconversion, Dirac specification).
 pub fn upconvert(alloc: Global, plane: &Plane) -> Result<UpPlane, NoMemory>
-    requires across { plane.now.width ≤ 4096 }
-    requires down { plane.now.height ≤ 4096 }
+    requires across { plane.now.width ≤ LARGEST_SIDE }
+    requires down { plane.now.height ≤ LARGEST_SIDE }
     requires samples { All IsSample plane.now.values }
     ensures value { IfOk result (λ u. u ≡ record { width = plane.now.width; height = plane.now.height; table = half plane.now }) }
     ensures whole { IfOk result (λ u. (x y : ℤ) → sub_sample u 0 x y ≡ clamped_at plane.now x y) }
@@ -144,7 +144,7 @@ impl UpPlane {
         requires precision { precision ≤ 3 }
         requires x { unsigned_abs x < 2 ^ 31 }
         requires y { unsigned_abs y < 2 ^ 32 }
-        requires at_most_4096 { length out.old ≤ 4096 }
+        requires at_most_4096 { length out.old ≤ LARGEST_SIDE }
         ensures value { (k : ℕ) → k < length out.old → slice_index_or out.new k (pos 0) ≡ sub_sample self.now precision (x +ℤ pos (2 ^ precision * k)) y }
         ensures samples { All IsSample out.new }
     {

@@ -5,13 +5,13 @@ ghost use Rattle.dirac_upconvert.specs.HalfSamples.{IsSample};
 ghost use Rattle.dirac_upconvert.specs.SubSamples.{AreParts, ArePlaces, IsRest, IsWithin, bilinear, four, mixed, place_at, rest_at, rounded};
 
 use crate::parts::{mix, place, rest, rounded_sum, to_sample};
-use dirac_types::Plane;
+use dirac_types::{LARGEST_SIDE, Plane};
 
 /// The place `count` whole samples behind another one.
 #[inline(always)]
 fn ahead(place: i64, count: usize) -> i64
     requires place { unsigned_abs place ≤ 2 ^ 34 }
-    requires count { count ≤ 4096 }
+    requires count { count ≤ LARGEST_SIDE }
     ensures value { result ≡ place +ℤ pos (2 * count) }
     ensures at_most_2_35 { unsigned_abs result ≤ 2 ^ 35 }
 {
@@ -29,7 +29,7 @@ fn beside(place: i64) -> i64
 /// Whether so many samples from a place of a row on, and the places behind them, lie inside the row.
 fn is_inside(place: i64, count: usize, width: u32) -> bool
     requires place { unsigned_abs place ≤ 2 ^ 34 }
-    requires count { count ≤ 4096 }
+    requires count { count ≤ LARGEST_SIDE }
     ensures { IsTrue result → (pos 0 ≤ℤ place) × ((place +ℤ pos (2 * count)) ≤ℤ pos width) }
 {
     0 <= place && ahead(place, count) <= i64::from(width)
@@ -167,7 +167,7 @@ fn every_second(row: &[i16], at: usize, out: &mut [i16])
 /// The samples at every second place of row `down`, from a place on that may lie outside.
 fn clamped_places(table: &Plane, across: i64, down: i64, out: &mut [i16])
     requires across { unsigned_abs across ≤ 2 ^ 34 }
-    requires at_most_4096 { length out.old ≤ 4096 }
+    requires at_most_4096 { length out.old ≤ LARGEST_SIDE }
     ensures { ArePlaces table.now across down out.new }
 {
     for k in 0..out.len() {
@@ -197,7 +197,7 @@ fn inner_places(table: &Plane, across: i64, down: i64, out: &mut [i16])
 pub fn places(table: &Plane, across: i64, down: i64, out: &mut [i16])
     requires samples { All IsSample table.now.values }
     requires across { unsigned_abs across ≤ 2 ^ 34 }
-    requires at_most_4096 { length out.old ≤ 4096 }
+    requires at_most_4096 { length out.old ≤ LARGEST_SIDE }
     ensures { ArePlaces table.now across down out.new }
 {
     if is_inside(across, out.len(), table.width()) {
@@ -256,7 +256,7 @@ fn clamped_parts(
     requires down { unsigned_abs down ≤ 2 ^ 34 }
     requires right { IsRest bits right }
     requires below { IsRest bits below }
-    requires at_most_4096 { length out.old ≤ 4096 }
+    requires at_most_4096 { length out.old ≤ LARGEST_SIDE }
     ensures { AreParts table.now bits across down right below out.new }
 {
     for k in 0..out.len() {
@@ -300,7 +300,7 @@ pub fn parts(table: &Plane, bits: u32, x: i64, y: i64, out: &mut [i16])
     requires bits { bits ≤ 2 }
     requires x { unsigned_abs x < 2 ^ 34 }
     requires y { unsigned_abs y < 2 ^ 34 }
-    requires at_most_4096 { length out.old ≤ 4096 }
+    requires at_most_4096 { length out.old ≤ LARGEST_SIDE }
     ensures { AreParts table.now bits (place_at x bits) (place_at y bits) (rest_at x bits) (rest_at y bits) out.new }
 {
     let across = place(x, bits);
