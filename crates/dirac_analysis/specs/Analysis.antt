@@ -14,7 +14,8 @@ use Rattle.dirac_lift.specs.Level.{analysed}
 -- a plane padded up to multiples of 2 ^ depth: the last sample of each row again, then the last row again
 abbrev pub padded : ℕ → Table → Table
 padded depth t =
-    table_of (padded_size t.width depth) (padded_size t.height depth) (λ x y. table_at t (min x (t.width - 1)) (min y (t.height - 1)))
+    table_of (padded_size t.width depth) (padded_size t.height depth)
+    (λ x y. table_at t (min x (t.width - 1)) (min y (t.height - 1)))
 
 -- a table less the predictions of its values
 abbrev pub differences : Table → Table

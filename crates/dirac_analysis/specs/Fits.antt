@@ -41,4 +41,5 @@ pub record IsLevelBand (width height : ℕ) (b : CodedBand) : Type 0 where
 -- the bands of an analysis whose LL band has these sizes: those of a level are twice those of the level below
 pub record AreLevelBands (across down depth : ℕ) (bands : List CodedBand) : Type 0 where
   pub count : length bands ≡ 3 * depth + 1
-  pub each : (n : ℕ) (b : CodedBand) → slice_get bands n ≡ Some b → IsLevelBand (across * 2 ^ ((n - 1) / 3)) (down * 2 ^ ((n - 1) / 3)) b
+  pub each : (n : ℕ) (b : CodedBand) → slice_get bands n ≡ Some b
+      → IsLevelBand (across * 2 ^ ((n - 1) / 3)) (down * 2 ^ ((n - 1) / 3)) b

@@ -12,8 +12,10 @@ use Rattle.dirac_analysis.specs.Fits.{AreDifferences, AreLevelBands}
 -- stay below 2^38
 abbrev pub PlanesFit : Type 0
 PlanesFit =
-    (kind : Kind) (wavelet depth index : ℕ) (t : Table) → IsWavelet wavelet → depth ≤ 4 → IsIndex index → AreDifferences t.values
-    → AreLevelBands (lowest_size t.width depth) (lowest_size t.height depth) depth (plane_bands kind wavelet depth index t)
+    (kind : Kind) (wavelet depth index : ℕ) (t : Table) → IsWavelet wavelet → depth ≤ 4 → IsIndex index
+    → AreDifferences t.values
+    → AreLevelBands (lowest_size t.width depth) (lowest_size t.height depth) depth
+    (plane_bands kind wavelet depth index t)
 
 -- at index 0 nothing is lost
 abbrev pub PlanesAreKept : Type 0

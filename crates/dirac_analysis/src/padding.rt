@@ -11,7 +11,8 @@ use std::alloc::Global;
 /// Writes a row of samples, and its last one again up to the end of the line.
 fn pad_row(samples: &[i16], line: &mut [i128])
     requires not_empty { 1 ≤ length samples.now }
-    ensures { (x : ℕ) → x < length line.new → slice_index_or line.new x (pos 0) ≡ slice_index_or samples.now (min x (length samples.now - 1)) (pos 0) }
+    ensures { (x : ℕ) → x < length line.new → slice_index_or line.new x (pos 0)
+        ≡ slice_index_or samples.now (min x (length samples.now - 1)) (pos 0) }
 {
     let last = samples.len() - 1;
     for x in 0..line.len() {

@@ -30,9 +30,11 @@ pub fn analyse_plane(
     requires magnitudes_bounded { AreDifferences plane.now.values }
     ensures value { IfOk result (λ b. b ≡ plane_bands kind wavelet depth index plane.now) }
     // Each band has the sizes of its level, and its coefficients stay below 2^38.
-    ensures fits { IfOk result (AreLevelBands (lowest_size plane.now.width depth) (lowest_size plane.now.height depth) depth) }
+    ensures fits { IfOk result (AreLevelBands (lowest_size plane.now.width depth) (lowest_size plane.now.height depth)
+        depth) }
     // At index 0 nothing is lost.
-    ensures lossless { IfOk result (λ b. index ≡ 0 → residual wavelet depth kind b plane.now.width plane.now.height ≡ plane.now) }
+    ensures lossless { IfOk result (λ b. index ≡ 0 → residual wavelet depth kind b plane.now.width plane.now.height
+        ≡ plane.now) }
 {
     prove!(plane.width() >= 1);
     let table = pad(alloc, plane, depth)?;

@@ -10,7 +10,8 @@ pub record Lies (block : List ℕ) (s : Interval) : Type 0 where
 
 -- whether it does
 abbrev pub lies_in : List ℕ → Interval → Bool
-lies_in block s = nat_le s.low (front block (16 + s.doublings)) && nat_lt (front block (16 + s.doublings)) (s.low + s.range)
+lies_in block s =
+    nat_le s.low (front block (16 + s.doublings)) && nat_lt (front block (16 + s.doublings)) (s.low + s.range)
 
 -- a block carries decisions where its front lies in their interval; no decision needs no block
 abbrev pub Carries : List ℕ → List Decision → Type 0

@@ -41,7 +41,8 @@ number_from_digit follow bits i zero value r = do
   if last.0 then Ok (value - 1, last.1) else Err NumberTooLong
 number_from_digit follow bits i (suc left) value r = do
   last ← decided (follow_at follow i) r
-  if last.0 then Ok (value - 1, last.1) else (decided bits last.1 >>= λ digit. number_from_digit follow bits (i + 1) left (2 * value + bit_value digit.0) digit.1)
+  if last.0 then Ok (value - 1, last.1) else (decided bits last.1
+      >>= λ digit. number_from_digit follow bits (i + 1) left (2 * value + bit_value digit.0) digit.1)
 
 -- an unsigned number
 unfoldable pub number_read : List ℕ → ℕ → Reading → Result (ℕ × Reading) Cause
@@ -49,7 +50,11 @@ number_read follow bits r = number_from_digit follow bits 0 MOST_DIGITS 1 r
 
 -- the sign of this number, where it isn't 0
 unfoldable pub sign_read : ℕ → ℕ × Reading → Result (ℤ × Reading) Cause
-sign_read sign n = if n.0 == 0 then Ok (pos 0, n.1) else (decided sign n.1 >>= λ negative. Ok (signed_value n.0 negative.0, negative.1))
+sign_read sign n =
+    if n.0 == 0 then Ok (pos 0, n.1) else (decided sign n.1 >>= λ negative. Ok (
+      signed_value n.0 negative.0,
+      negative.1,
+    ))
 
 -- a signed number: a magnitude and its sign
 unfoldable pub signed_read : List ℕ → ℕ → ℕ → Reading → Result (ℤ × Reading) Cause

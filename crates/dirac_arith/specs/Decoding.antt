@@ -25,6 +25,8 @@ pub record IsSound (a : Inside) : Type 0 where
   pub narrow : a.registers.range ≤ 0xFFFF
   pub some_ahead : 9 ≤ a.registers.ahead
   pub most_ahead : a.registers.ahead ≤ 48
-  pub refused : a.refused ≡ true → (front a.block.now 16 ≡ 0xFFFF) × (a.registers.range * 2 ^ a.registers.ahead ≤ a.registers.window)
-  pub inside : a.refused ≡ false → (front a.block.now 16 ≢ 0xFFFF) × (a.registers.window < a.registers.range * 2 ^ a.registers.ahead)
+  pub refused : a.refused ≡ true → (front a.block.now 16 ≡ 0xFFFF)
+      × (a.registers.range * 2 ^ a.registers.ahead ≤ a.registers.window)
+  pub inside : a.refused ≡ false → (front a.block.now 16 ≢ 0xFFFF)
+      × (a.registers.window < a.registers.range * 2 ^ a.registers.ahead)
   pub probabilities : AreProbabilities a.contexts

@@ -27,13 +27,16 @@ CarriesOneOfEqualLength =
 abbrev pub CarriesOneNumber : Type 0
 CarriesOneNumber =
     (block : List ℕ) (common ds es : List Decision) (follow : List ℕ) (bits v w : ℕ) → v < 2 ^ 39 - 1 → w < 2 ^ 39 - 1
-    → Carries block (common ++ (spelling follow bits v ++ ds)) → Carries block (common ++ (spelling follow bits w ++ es)) → v ≡ w
+    → Carries block (common ++ (spelling follow bits v ++ ds))
+    → Carries block (common ++ (spelling follow bits w ++ es)) → v ≡ w
 
 -- and at most one signed number
 abbrev pub CarriesOneSigned : Type 0
 CarriesOneSigned =
-    (block : List ℕ) (common ds es : List Decision) (follow : List ℕ) (bits sign : ℕ) (v w : ℤ) → nat_abs v < 2 ^ 39 - 1 → nat_abs w < 2 ^ 39 - 1
-    → Carries block (common ++ (signed_spelling follow bits sign v ++ ds)) → Carries block (common ++ (signed_spelling follow bits sign w ++ es)) → v ≡ w
+    (block : List ℕ) (common ds es : List Decision) (follow : List ℕ) (bits sign : ℕ) (v w : ℤ) → nat_abs v < 2 ^ 39 - 1
+    → nat_abs w < 2 ^ 39 - 1
+    → Carries block (common ++ (signed_spelling follow bits sign v ++ ds))
+    → Carries block (common ++ (signed_spelling follow bits sign w ++ es)) → v ≡ w
 
 -- the truths that spell a number are the bits that spell it
 abbrev pub TruthsAreBits : Type 0
@@ -41,7 +44,9 @@ TruthsAreBits = (follow : List ℕ) (bits v : ℕ) → map (λ (d : Decision). d
 
 -- the same of a signed number
 abbrev pub SignedTruthsAreBits : Type 0
-SignedTruthsAreBits = (follow : List ℕ) (bits sign : ℕ) (v : ℤ) → map (λ (d : Decision). d.1) (signed_spelling follow bits sign v) ≡ sint v
+SignedTruthsAreBits =
+    (follow : List ℕ) (bits sign : ℕ) (v : ℤ) → map (λ (d : Decision). d.1) (signed_spelling follow bits sign v)
+    ≡ sint v
 
 -- reading some decisions and then more is reading both
 abbrev pub ReadingComposes : Type 0
@@ -60,46 +65,56 @@ CarriesSomeTruth =
 -- and a number, or the begin of one that is too long
 abbrev pub CarriesSomeNumber : Type 0
 CarriesSomeNumber =
-    (block : List ℕ) (common : List Decision) (follow : List ℕ) (bits : ℕ) → front block 16 ≢ 0xFFFF → Carries block common
+    (block : List ℕ) (common : List Decision) (follow : List ℕ) (bits : ℕ) → front block 16 ≢ 0xFFFF
+    → Carries block common
     → ((v : ℕ) × (v < 2 ^ 39 - 1) × Carries block (common ++ spelling follow bits v))
     ⊎ ((digits : List Bool) × (length digits ≡ MOST_DIGITS) × Carries block (common ++ spelt follow bits digits false))
 
 -- the same of signed numbers
 abbrev pub CarriesSomeSigned : Type 0
 CarriesSomeSigned =
-    (block : List ℕ) (common : List Decision) (follow : List ℕ) (bits sign : ℕ) → front block 16 ≢ 0xFFFF → Carries block common
+    (block : List ℕ) (common : List Decision) (follow : List ℕ) (bits sign : ℕ) → front block 16 ≢ 0xFFFF
+    → Carries block common
     → ((v : ℤ) × (nat_abs v < 2 ^ 39 - 1) × Carries block (common ++ signed_spelling follow bits sign v))
     ⊎ ((digits : List Bool) × (length digits ≡ MOST_DIGITS) × Carries block (common ++ spelt follow bits digits false))
 
 -- behind decisions that were read, the next one reads to the truth that the block allows
 abbrev pub DecisionIsRead : Type 0
 DecisionIsRead =
-    (block : List ℕ) (common : List Decision) (old new : Reading) (context : ℕ) (truth : Bool) → front block 16 ≢ 0xFFFF → Reads (begin block) common old
+    (block : List ℕ) (common : List Decision) (old new : Reading) (context : ℕ) (truth : Bool) → front block 16 ≢ 0xFFFF
+    → Reads (begin block) common old
     → (decided context old ≡ Ok (truth, new)) ↔ Reads old ((context, truth) ∷ []) new
 
 -- a number reads to the one that the block carries
 abbrev pub NumberIsRead : Type 0
 NumberIsRead =
-    (block : List ℕ) (common : List Decision) (old new : Reading) (follow : List ℕ) (bits v : ℕ) → Reads (begin block) common old
+    (block : List ℕ) (common : List Decision) (old new : Reading) (follow : List ℕ) (bits v : ℕ)
+    → Reads (begin block) common old
     → (number_read follow bits old ≡ Ok (v, new)) ↔ ((v < 2 ^ 39 - 1) × Reads old (spelling follow bits v) new)
 
 -- it is refused where it is too long
 abbrev pub LongNumberIsRefused : Type 0
 LongNumberIsRefused =
-    (block : List ℕ) (common : List Decision) (old : Reading) (follow : List ℕ) (bits : ℕ) → Reads (begin block) common old
-    → (number_read follow bits old ≡ Err NumberTooLong) ↔ ((digits : List Bool) × (length digits ≡ MOST_DIGITS) × ((new : Reading) × Reads old (spelt follow bits digits false) new))
+    (block : List ℕ) (common : List Decision) (old : Reading) (follow : List ℕ) (bits : ℕ)
+    → Reads (begin block) common old
+    → (number_read follow bits old ≡ Err NumberTooLong) ↔ ((digits : List Bool) × (length digits ≡ MOST_DIGITS)
+    × ((new : Reading) × Reads old (spelt follow bits digits false) new))
 
 -- the same of signed numbers
 abbrev pub SignedIsRead : Type 0
 SignedIsRead =
-    (block : List ℕ) (common : List Decision) (old new : Reading) (follow : List ℕ) (bits sign : ℕ) (v : ℤ) → Reads (begin block) common old
-    → (signed_read follow bits sign old ≡ Ok (v, new)) ↔ ((nat_abs v < 2 ^ 39 - 1) × Reads old (signed_spelling follow bits sign v) new)
+    (block : List ℕ) (common : List Decision) (old new : Reading) (follow : List ℕ) (bits sign : ℕ) (v : ℤ)
+    → Reads (begin block) common old
+    → (signed_read follow bits sign old ≡ Ok (v, new)) ↔ ((nat_abs v < 2 ^ 39 - 1)
+    × Reads old (signed_spelling follow bits sign v) new)
 
 -- it is refused where its magnitude is too long
 abbrev pub LongSignedIsRefused : Type 0
 LongSignedIsRefused =
-    (block : List ℕ) (common : List Decision) (old : Reading) (follow : List ℕ) (bits sign : ℕ) → Reads (begin block) common old
-    → (signed_read follow bits sign old ≡ Err NumberTooLong) ↔ ((digits : List Bool) × (length digits ≡ MOST_DIGITS) × ((new : Reading) × Reads old (spelt follow bits digits false) new))
+    (block : List ℕ) (common : List Decision) (old : Reading) (follow : List ℕ) (bits sign : ℕ)
+    → Reads (begin block) common old
+    → (signed_read follow bits sign old ≡ Err NumberTooLong) ↔ ((digits : List Bool) × (length digits ≡ MOST_DIGITS)
+    × ((new : Reading) × Reads old (spelt follow bits digits false) new))
 
 -- decisions and numbers are refused for the block's first bits exactly where sixteen of them are ones
 abbrev pub OnesReadToNothing : Type 0

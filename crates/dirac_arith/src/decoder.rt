@@ -64,9 +64,13 @@ impl<'a> Decoder<'a> {
         requires context { ctx < CONTEXTS }
         requires no_overflow { self.old.at.doublings < 2 ^ 62 }
         ensures read { Gives result self.new (decided ctx self.old) }
-        ensures narrows { IfOk result (λ truth. self.new ≡ record { block = self.old.block; at = narrowed self.old.at (ctx, truth) }) }
+        ensures narrows { IfOk result (λ truth. self.new ≡ record {
+          block = self.old.block;
+          at = narrowed self.old.at (ctx, truth);
+        }) }
         ensures lies_inside { IfOk result (λ truth. Lies self.old.block (narrowed self.old.at (ctx, truth))) }
-        ensures no_other_truth { (truth : Bool) → Lies self.old.block (narrowed self.old.at (ctx, truth)) → result ≡ Ok truth }
+        ensures no_other_truth { (truth : Bool) → Lies self.old.block (narrowed self.old.at (ctx, truth)) → result
+            ≡ Ok truth }
         ensures few_doublings { self.new.at.doublings ≤ self.old.at.doublings + 9 }
         ensures refused { (result ≡ Err Cause.CodeWord) ↔ (front self.old.block 16 ≡ 0xFFFF) }
         ensures no_other_cause { OnErr result (result ≡ Err Cause.CodeWord) }
@@ -94,8 +98,10 @@ impl<'a> Decoder<'a> {
         ensures found { IfOk result (λ v. Reads self.old (spelling follow.now bits v) self.new) }
         ensures below_2_39 { IfOk result (λ v. v < 2 ^ 39 - 1) }
         ensures long { result ≡ Err Cause.NumberTooLong →
-            (digits : List Bool) × (length digits ≡ MOST_DIGITS) × Reads self.old (spelt follow.now bits digits false) self.new }
-        ensures number { (v : ℕ) → v < 2 ^ 39 - 1 → Lies self.old.block (narrowed_by self.old.at (spelling follow.now bits v)) →
+            (digits : List Bool) × (length digits ≡ MOST_DIGITS)
+            × Reads self.old (spelt follow.now bits digits false) self.new }
+        ensures number { (v : ℕ) → v < 2 ^ 39 - 1 → Lies self.old.block
+            (narrowed_by self.old.at (spelling follow.now bits v)) →
             result ≡ Ok v }
         ensures no_number { (digits : List Bool) → length digits ≡ MOST_DIGITS →
             Lies self.old.block (narrowed_by self.old.at (spelt follow.now bits digits false)) →
@@ -118,7 +124,8 @@ impl<'a> Decoder<'a> {
         ensures found { IfOk result (λ v. Reads self.old (spelling follow.now bits v) self.new) }
         ensures below_2_39 { IfOk result (λ v. v < 2 ^ 39 - 1) }
         ensures long { result ≡ Err Cause.NumberTooLong →
-            (digits : List Bool) × (length digits ≡ MOST_DIGITS) × Reads self.old (spelt follow.now bits digits false) self.new }
+            (digits : List Bool) × (length digits ≡ MOST_DIGITS)
+            × Reads self.old (spelt follow.now bits digits false) self.new }
         ensures refused { (result ≡ Err Cause.CodeWord) ↔ (front self.old.block 16 ≡ 0xFFFF) }
         ensures no_other_cause { IfErr result (λ e. (e ≡ Cause.CodeWord) ⊎ (e ≡ Cause.NumberTooLong)) }
         ensures unchanged { result ≡ Err Cause.CodeWord → self.new ≡ self.old }
@@ -151,8 +158,10 @@ impl<'a> Decoder<'a> {
         ensures found { IfOk result (λ v. Reads self.old (signed_spelling follow.now bits sign v) self.new) }
         ensures below_2_39 { IfOk result (λ v. nat_abs v < 2 ^ 39 - 1) }
         ensures long { result ≡ Err Cause.NumberTooLong →
-            (digits : List Bool) × (length digits ≡ MOST_DIGITS) × Reads self.old (spelt follow.now bits digits false) self.new }
-        ensures number { (v : ℤ) → nat_abs v < 2 ^ 39 - 1 → Lies self.old.block (narrowed_by self.old.at (signed_spelling follow.now bits sign v)) →
+            (digits : List Bool) × (length digits ≡ MOST_DIGITS)
+            × Reads self.old (spelt follow.now bits digits false) self.new }
+        ensures number { (v : ℤ) → nat_abs v < 2 ^ 39 - 1 → Lies self.old.block
+            (narrowed_by self.old.at (signed_spelling follow.now bits sign v)) →
             result ≡ Ok v }
         ensures no_number { (digits : List Bool) → length digits ≡ MOST_DIGITS →
             Lies self.old.block (narrowed_by self.old.at (spelt follow.now bits digits false)) →
@@ -176,7 +185,8 @@ impl<'a> Decoder<'a> {
         ensures found { IfOk result (λ v. Reads self.old (signed_spelling follow.now bits sign v) self.new) }
         ensures below_2_39 { IfOk result (λ v. nat_abs v < 2 ^ 39 - 1) }
         ensures long { result ≡ Err Cause.NumberTooLong →
-            (digits : List Bool) × (length digits ≡ MOST_DIGITS) × Reads self.old (spelt follow.now bits digits false) self.new }
+            (digits : List Bool) × (length digits ≡ MOST_DIGITS)
+            × Reads self.old (spelt follow.now bits digits false) self.new }
         ensures refused { (result ≡ Err Cause.CodeWord) ↔ (front self.old.block 16 ≡ 0xFFFF) }
         ensures no_other_cause { IfErr result (λ e. (e ≡ Cause.CodeWord) ⊎ (e ≡ Cause.NumberTooLong)) }
         ensures unchanged { result ≡ Err Cause.CodeWord → self.new ≡ self.old }

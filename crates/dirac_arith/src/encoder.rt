@@ -150,7 +150,8 @@ impl Encoder {
 
     /// The block of all decisions.
     pub fn finish(self) -> Result<Vec<u8>, NoMemory>
-        ensures { (ds : List Decision) → InContexts ds → self ≡ interval_of ds → IfOk result (λ block. block.items ≡ flush ds) }
+        ensures { (ds : List Decision) → InContexts ds → self ≡ interval_of ds
+            → IfOk result (λ block. block.items ≡ flush ds) }
     {
         let Encoder {
             mut tail,

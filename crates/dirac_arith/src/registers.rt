@@ -35,12 +35,15 @@ pub fn refill(block: &[u8], mut registers: Registers) -> Registers
     requires narrow { registers.window < 65536 * 2 ^ registers.ahead }
     requires no_overflow { registers.next < 2 ^ 60 }
     requires ahead { registers.ahead ≤ 48 }
-    ensures stands { (low doublings : ℕ) → Stands block.now registers low doublings → Stands block.now result low doublings }
+    ensures stands { (low doublings : ℕ) → Stands block.now registers low doublings
+        → Stands block.now result low doublings }
     ensures range { result.range ≡ registers.range }
     ensures some_ahead { 9 ≤ result.ahead }
     ensures most_ahead { result.ahead ≤ 48 }
-    ensures inside { (range : ℕ) → registers.window < range * 2 ^ registers.ahead → result.window < range * 2 ^ result.ahead }
-    ensures outside { (range : ℕ) → range * 2 ^ registers.ahead ≤ registers.window → range * 2 ^ result.ahead ≤ result.window }
+    ensures inside { (range : ℕ) → registers.window < range * 2 ^ registers.ahead → result.window
+        < range * 2 ^ result.ahead }
+    ensures outside { (range : ℕ) → range * 2 ^ registers.ahead ≤ registers.window → range * 2 ^ result.ahead
+        ≤ result.window }
 {
     'reading: while registers.ahead <= 40 {
         registers.window = registers.window * 256 + u64::from(byte_at(block, registers.next));
@@ -55,11 +58,13 @@ pub fn fill(block: &[u8], registers: Registers) -> Registers
     requires narrow { registers.window < 65536 * 2 ^ registers.ahead }
     requires no_overflow { registers.next < 2 ^ 60 }
     requires ahead { registers.ahead ≤ 48 }
-    ensures stands { (low doublings : ℕ) → Stands block.now registers low doublings → Stands block.now result low doublings }
+    ensures stands { (low doublings : ℕ) → Stands block.now registers low doublings
+        → Stands block.now result low doublings }
     ensures range { result.range ≡ registers.range }
     ensures some_ahead { 9 ≤ result.ahead }
     ensures most_ahead { result.ahead ≤ 48 }
-    ensures inside { (range : ℕ) → registers.window < range * 2 ^ registers.ahead → result.window < range * 2 ^ result.ahead }
+    ensures inside { (range : ℕ) → registers.window < range * 2 ^ registers.ahead → result.window
+        < range * 2 ^ result.ahead }
 {
     if registers.ahead >= 9 {
         return registers;

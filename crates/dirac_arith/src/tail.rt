@@ -48,7 +48,8 @@ fn carried(bytes: &mut [u8], register: u64, pending: u32) -> u64
     requires pending { pending ≤ 47 }
     requires fits { register < 2 ^ (17 + pending) }
     requires no_overflow { 2 ^ (16 + pending) ≤ register → bytes_from 0 bytes.old + 1 < 2 ^ (8 * length bytes.old) }
-    ensures value { bytes_from 0 bytes.new * 2 ^ (16 + pending) + result ≡ bytes_from 0 bytes.old * 2 ^ (16 + pending) + register }
+    ensures value { bytes_from 0 bytes.new * 2 ^ (16 + pending) + result
+        ≡ bytes_from 0 bytes.old * 2 ^ (16 + pending) + register }
     ensures fits { result < 2 ^ (16 + pending) }
 {
     let top = 1 << (16 + pending);

@@ -30,7 +30,8 @@ pub record IsDcSum (differences sums : Table) : Type 0 where
   pub width : sums.width ≡ differences.width
   pub height : sums.height ≡ differences.height
   pub len : length sums.values ≡ length differences.values
-  pub each : (x y : ℕ) → x < sums.width → y < sums.height → table_at sums x y ≡ table_at differences x y +ℤ prediction sums x y
+  pub each : (x y : ℕ) → x < sums.width → y < sums.height → table_at sums x y
+      ≡ table_at differences x y +ℤ prediction sums x y
 
 -- the sums of the first differences, by rows: each place's prediction is read off the sums before it
 unfoldable pub sums_up_to : List ℤ → ℕ → ℕ → List ℤ

@@ -57,7 +57,8 @@ fn add_predictions(values: &mut [i128], width: usize, height: usize)
     requires sizes { width + height ≤ 2 ^ 33 }
     requires magnitudes_at_most_2_64 { All (λ v. unsigned_abs v ≤ 2 ^ 64) values.old }
     ensures value { IsDcSum (by_rows width height values.old) (by_rows width height values.new) }
-    ensures growth { (b : ℕ) → All (λ v. unsigned_abs v ≤ b) values.old → All (λ v. unsigned_abs v ≤ (width + height) * b) values.new }
+    ensures growth { (b : ℕ) → All (λ v. unsigned_abs v ≤ b) values.old
+        → All (λ v. unsigned_abs v ≤ (width + height) * b) values.new }
 {
     for y in 0..height {
         for x in 0..width {
@@ -90,7 +91,8 @@ pub fn dc_add(ll: &mut Wide)
     ensures sums { IsDcSum ll.old ll.new }
     ensures no_other_sums { (sums : Table) → IsDcSum ll.old sums → sums ≡ ll.new }
     ensures value { ll.new ≡ dc_sum ll.old }
-    ensures growth { (b : ℕ) → All (λ v. unsigned_abs v ≤ b) ll.old.values → All (λ v. unsigned_abs v ≤ (ll.old.width + ll.old.height) * b) ll.new.values }
+    ensures growth { (b : ℕ) → All (λ v. unsigned_abs v ≤ b) ll.old.values
+        → All (λ v. unsigned_abs v ≤ (ll.old.width + ll.old.height) * b) ll.new.values }
 {
     let width = ll.width() as usize;
     let height = ll.height() as usize;
@@ -101,7 +103,8 @@ pub fn dc_add(ll: &mut Wide)
 pub fn dc_subtract(ll: &mut Wide)
     requires { All (λ v. unsigned_abs v < 2 ^ 64) ll.old.values }
     ensures sums { IsDcSum ll.new ll.old }
-    ensures growth { (b : ℕ) → All (λ v. unsigned_abs v ≤ b) ll.old.values → All (λ v. unsigned_abs v ≤ 2 * b) ll.new.values }
+    ensures growth { (b : ℕ) → All (λ v. unsigned_abs v ≤ b) ll.old.values
+        → All (λ v. unsigned_abs v ≤ 2 * b) ll.new.values }
 {
     let width = ll.width() as usize;
     let height = ll.height() as usize;

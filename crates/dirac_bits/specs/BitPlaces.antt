@@ -18,6 +18,7 @@ Steps bytes (Ok x) read = read ≡ Ok (x.0, cursor_at bytes x.1)
 Steps bytes (Err cause) read = read ≡ Err cause
 
 -- the same of a value seen by `view`
-abbrev pub StepsBy : {X Y : Type 0} → (X → Y) → List ℕ → Result (X × BitPlace) Cause → Result (Y × Cursor) Cause → Type 0
+abbrev pub StepsBy : {X Y : Type 0} → (X → Y) → List ℕ → Result (X × BitPlace) Cause → Result (Y × Cursor) Cause
+    → Type 0
 StepsBy view bytes (Ok x) read = read ≡ Ok (view x.0, cursor_at bytes x.1)
 StepsBy view bytes (Err cause) read = read ≡ Err cause

@@ -16,7 +16,8 @@ number_on zero value c = do
   if follow.0 then Ok (value - 1, follow.1) else Err NumberTooLong
 number_on (suc left) value c = do
   follow ← bit_next c
-  if follow.0 then Ok (value - 1, follow.1) else (bit_next follow.1 >>= λ digit. number_on left (2 * value + bit_value digit.0) digit.1)
+  if follow.0 then Ok (value - 1, follow.1) else (bit_next follow.1
+      >>= λ digit. number_on left (2 * value + bit_value digit.0) digit.1)
 
 -- this number with a sign that was read
 abbrev pub with_sign : ℕ → Bool × Cursor → Result (ℤ × Cursor) Cause

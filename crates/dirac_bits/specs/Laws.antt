@@ -31,9 +31,11 @@ IsSpelledAsRead A =
 -- no spelling of a number begins with that of another
 abbrev pub UnsignedEndsItself : Type 0
 UnsignedEndsItself =
-    (v w : ℕ) (more rest : List Bool) → v + 1 < 2 ^ 39 → w + 1 < 2 ^ 39 → uint v ++ more ≡ uint w ++ rest → (v ≡ w) × (more ≡ rest)
+    (v w : ℕ) (more rest : List Bool) → v + 1 < 2 ^ 39 → w + 1 < 2 ^ 39 → uint v ++ more ≡ uint w ++ rest → (v ≡ w)
+    × (more ≡ rest)
 
 -- nor that of a signed number
 abbrev pub SignedEndsItself : Type 0
 SignedEndsItself =
-    (v w : ℤ) (more rest : List Bool) → unsigned_abs v + 1 < 2 ^ 39 → unsigned_abs w + 1 < 2 ^ 39 → sint v ++ more ≡ sint w ++ rest → (v ≡ w) × (more ≡ rest)
+    (v w : ℤ) (more rest : List Bool) → unsigned_abs v + 1 < 2 ^ 39 → unsigned_abs w + 1 < 2 ^ 39 → sint v ++ more
+    ≡ sint w ++ rest → (v ≡ w) × (more ≡ rest)

@@ -11,15 +11,19 @@ Spells (done y) x k bits = (y ≡ x) × (bits ≡ [])
 Spells (flag_then f) x k bits =
     (b : Bool) × (rest : List Bool) × (bits ≡ b ∷ rest) × Spells (f b) x (k + 1) rest
 Spells (uint_then f) x k bits =
-    (v : ℕ) × (rest : List Bool) × (v + 1 < 2 ^ 39) × (bits ≡ numbers.uint v ++ rest) × Spells (f v) x (k + length (numbers.uint v)) rest
+    (v : ℕ) × (rest : List Bool) × (v + 1 < 2 ^ 39) × (bits ≡ numbers.uint v ++ rest)
+    × Spells (f v) x (k + length (numbers.uint v)) rest
 Spells (sint_then f) x k bits =
-    (v : ℤ) × (rest : List Bool) × (unsigned_abs v + 1 < 2 ^ 39) × (bits ≡ numbers.sint v ++ rest) × Spells (f v) x (k + length (numbers.sint v)) rest
+    (v : ℤ) × (rest : List Bool) × (unsigned_abs v + 1 < 2 ^ 39) × (bits ≡ numbers.sint v ++ rest)
+    × Spells (f v) x (k + length (numbers.sint v)) rest
 Spells (literal_then f) x k bits =
     (v : ℕ) × (rest : List Bool) × (v < 2 ^ 32) × (bits ≡ numbers.literal v ++ rest) × Spells (f v) x (k + 32) rest
 Spells (block_then len f) x k bits =
-    (bytes : List ℕ) × (rest : List Bool) × ((length bytes ≡ len) × AllByRecursion (λ b. b < 2 ^ 8) bytes) × (bits ≡ bits_of bytes ++ rest) × Spells (f bytes) x (k + length (bits_of bytes)) rest
+    (bytes : List ℕ) × (rest : List Bool) × ((length bytes ≡ len) × AllByRecursion (λ b. b < 2 ^ 8) bytes)
+    × (bits ≡ bits_of bytes ++ rest) × Spells (f bytes) x (k + length (bits_of bytes)) rest
 Spells (align_then s) x k bits =
-    (gap : List Bool) × (rest : List Bool) × (k + length gap ≡ 8 * ((k + 7) / 8)) × (bits ≡ gap ++ rest) × Spells s x (k + length gap) rest
+    (gap : List Bool) × (rest : List Bool) × (k + length gap ≡ 8 * ((k + 7) / 8)) × (bits ≡ gap ++ rest)
+    × Spells s x (k + length gap) rest
 Spells (here_then f) x k bits = Spells (f (k / 8)) x k bits
 Spells (refuse at cause) x k bits = ⊥
 

@@ -92,7 +92,8 @@ pub fn joined(pending: u8, used: u8, run: Run) -> Run
 /// The whole bytes of a run, from its first bit on, and the bits behind them.
 pub fn whole_bytes(run: Run) -> ([u8; 11], u8)
     requires { run.count ≤ 87 }
-    ensures bits { bits_of (take (run.count / 8) result.0) ++ bits_below (run.count % 8) result.1 ≡ bits_below run.count run.number }
+    ensures bits { bits_of (take (run.count / 8) result.0) ++ bits_below (run.count % 8) result.1
+        ≡ bits_below run.count run.number }
     ensures rest { result.1 < 2 ^ (run.count % 8) }
 {
     let mut bytes = [0; 11];

@@ -29,7 +29,8 @@ with_part (parts.Dc components.V) b c = with_dc components.V b c.dc_v
 -- the second table is the first one but for what this list tells
 pub record IsWithPart (part : ListKind) (t u : BlockTable) : Type 0 where
   pub shape : SameShape t u
-  pub blocks : (i j : ℕ) → i < 4 * t.across → j < 4 * t.down → with_part part (block_at t i j) (block_at u i j) ≡ block_at u i j
+  pub blocks : (i j : ℕ) → i < 4 * t.across → j < 4 * t.down → with_part part (block_at t i j) (block_at u i j)
+      ≡ block_at u i j
 
 -- the block carries what this list tells of a lawful table, which but for that is the former one
 pub record CarriesPart (part : ListKind) (former : BlockTable) (block : List ℕ) (t : BlockTable) : Type 0 where

@@ -136,7 +136,8 @@ less_prediction follow bits sign prediction (Some v) = signed_spelling follow bi
 -- a component of a unit's vector
 abbrev pub vector_part : (ℕ → ℕ → Option Vector) → (Vector → ℤ) → UnitPart
 vector_part at component i j =
-    less_prediction VECTOR_FOLLOW VECTOR_DIGITS VECTOR_SIGN (component (predicted vector_of at i j)) (option_map component (at i j))
+    less_prediction VECTOR_FOLLOW VECTOR_DIGITS VECTOR_SIGN (component (predicted vector_of at i j))
+    (option_map component (at i j))
 
 -- a DC value of a unit
 abbrev pub dc_part : (ℕ → ℕ → Option ℤ) → UnitPart

@@ -23,7 +23,13 @@ use Rattle.dirac_blocks.specs.Parts.{vector_at, dc_at}
 -- a table of which nothing is read: no superblock is split, and all blocks are DC blocks of value 0
 abbrev pub empty_table : ℕ → ℕ → ℕ → BlockTable
 empty_table across down refs =
-    record { across = across; down = down; refs = refs; splits = replicate (down * across) 0; blocks = replicate (4 * down * (4 * across)) grey }
+    record {
+      across = across;
+      down = down;
+      refs = refs;
+      splits = replicate (down * across) 0;
+      blocks = replicate (4 * down * (4 * across)) grey;
+    }
 
 -- the table so far, and the reading of a list's block
 pub record Progress : Type 0 where
@@ -47,7 +53,10 @@ with_split t sx sy split = record t { splits = slice_set t.splits (sy * t.across
 unfoldable pub split_step : ℕ → ℕ → Step
 split_step sy sx x =
     number_read SPLIT_FOLLOW SPLIT_DIGITS x.reading
-    >> λ number. Ok (record { table = with_split x.table sx sy ((number.0 + predicted_split x.table sx sy) % 3); reading = number.1 })
+    >> λ number. Ok (record {
+      table = with_split x.table sx sy ((number.0 + predicted_split x.table sx sy) % 3);
+      reading = number.1;
+    })
 
 -- the splits of all superblocks
 abbrev pub splits_step : Step
@@ -61,7 +70,8 @@ row_filled blocks start b (suc n) = slice_set (row_filled blocks start b n) (sta
 -- n rows of so many blocks are b, from column i of row j on
 unfoldable pub rows_filled : ℕ → List Block → ℕ → ℕ → ℕ → Block → ℕ → List Block
 rows_filled width blocks size i j b zero = blocks
-rows_filled width blocks size i j b (suc n) = row_filled (rows_filled width blocks size i j b n) ((j + n) * width + i) b size
+rows_filled width blocks size i j b (suc n) =
+    row_filled (rows_filled width blocks size i j b n) ((j + n) * width + i) b size
 
 -- the table with all blocks of a unit b; the first of them is block i of row j
 abbrev pub with_unit : BlockTable → ℕ → ℕ → ℕ → Block → BlockTable
@@ -74,7 +84,8 @@ block_using first second = record grey { ref1 = first; ref2 = second }
 -- whether a unit uses reference 2, where there is one
 abbrev pub second_use_read : BlockTable → ℕ → ℕ → Reading → Result (Bool × Reading) Cause
 second_use_read t i j r =
-    if t.refs == 2 then (decided REFERENCE_2 r >> λ bit. Ok (differ bit.0 (predicted mode_of (ref2_at t) i j), bit.1)) else Ok (false, r)
+    if t.refs == 2 then (decided REFERENCE_2 r >> λ bit. Ok (differ bit.0 (predicted mode_of (ref2_at t) i j), bit.1))
+    else Ok (false, r)
 
 -- which references a unit uses, each bit against its prediction
 abbrev pub mode_read : BlockTable → ℕ → ℕ → Reading → Result (Block × Reading) Cause
@@ -126,7 +137,8 @@ with_dc components.U b v = record b { dc_u = v }
 with_dc components.V b v = record b { dc_v = v }
 
 -- a block with a value that is read, where it has it
-abbrev pub read_into : Bool → Block → (Block → ℤ → Block) → (Reading → Result (ℤ × Reading) Cause) → Reading → Result (Block × Reading) Cause
+abbrev pub read_into : Bool → Block → (Block → ℤ → Block) → (Reading → Result (ℤ × Reading) Cause) → Reading
+    → Result (Block × Reading) Cause
 read_into true b put value r = value r >> λ v. Ok (put b v.0, v.1)
 read_into false b put value r = Ok (b, r)
 
@@ -134,11 +146,14 @@ read_into false b put value r = Ok (b, r)
 abbrev pub unit_read : ListKind → BlockTable → ℕ → ℕ → Reading → Result (Block × Reading) Cause
 unit_read parts.Modes t i j r = mode_read t i j r
 unit_read (parts.Across k) t i j r =
-    read_into (uses k (block_at t i j)) (block_at t i j) (with_across k) (component_read (predicted vector_of (vector_at k t) i j).x) r
+    read_into (uses k (block_at t i j)) (block_at t i j) (with_across k)
+    (component_read (predicted vector_of (vector_at k t) i j).x) r
 unit_read (parts.Down k) t i j r =
-    read_into (uses k (block_at t i j)) (block_at t i j) (with_down k) (component_read (predicted vector_of (vector_at k t) i j).y) r
+    read_into (uses k (block_at t i j)) (block_at t i j) (with_down k)
+    (component_read (predicted vector_of (vector_at k t) i j).y) r
 unit_read (parts.Dc c) t i j r =
-    read_into (is_dc (block_at t i j)) (block_at t i j) (with_dc c) (value_read DcRange DC_FOLLOW DC_DIGITS DC_SIGN (predicted dc_of (dc_at c t) i j)) r
+    read_into (is_dc (block_at t i j)) (block_at t i j) (with_dc c)
+    (value_read DcRange DC_FOLLOW DC_DIGITS DC_SIGN (predicted dc_of (dc_at c t) i j)) r
 
 -- a unit
 unfoldable pub unit_step : ListKind → ℕ → ℕ → ℕ → Step

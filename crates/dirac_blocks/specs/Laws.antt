@@ -74,7 +74,8 @@ OnesAreRefused =
 -- and splits always need one
 abbrev pub OnesRefuseSplits : Type 0
 OnesRefuseSplits =
-    (former : BlockTable) (block : List ℕ) → IsBlockTable former → front block 16 ≡ 65535 → IsRefused splits_step former block CodeWord
+    (former : BlockTable) (block : List ℕ) → IsBlockTable former → front block 16 ≡ 65535
+    → IsRefused splits_step former block CodeWord
 
 -- splits are refused, but for ones, as one of their numbers is too long
 abbrev pub RefusedSplitsAreBroken : Type 0
@@ -89,4 +90,5 @@ RefusedSplitsAreBroken =
 -- and where a number is too long the splits are refused
 abbrev pub BrokenSplitsAreRefused : Type 0
 BrokenSplitsAreRefused =
-    (former : BlockTable) (block : List ℕ) → IsBlockTable former → CarriesSplitBreak former block → IsRefused splits_step former block NumberTooLong
+    (former : BlockTable) (block : List ℕ) → IsBlockTable former → CarriesSplitBreak former block
+    → IsRefused splits_step former block NumberTooLong

@@ -27,7 +27,8 @@ pub record ByDifference : Type 0 where
 
 -- a component of a vector
 abbrev pub component_told : ℤ → ByDifference
-component_told p = record { follow = VECTOR_FOLLOW; bits = VECTOR_DIGITS; sign = VECTOR_SIGN; prediction = p; range = VectorRange }
+component_told p =
+    record { follow = VECTOR_FOLLOW; bits = VECTOR_DIGITS; sign = VECTOR_SIGN; prediction = p; range = VectorRange }
 
 -- a DC value
 abbrev pub dc_told : ℤ → ByDifference
@@ -36,9 +37,12 @@ dc_told p = record { follow = DC_FOLLOW; bits = DC_DIGITS; sign = DC_SIGN; predi
 -- the value that a list tells of a unit, where the unit has it
 abbrev pub value_told : ListKind → BlockTable → ℕ → ℕ → Option ByDifference
 value_told parts.Modes t i j = None
-value_told (parts.Across k) t i j = if uses k (block_at t i j) then Some (component_told (predicted vector_of (vector_at k t) i j).x) else None
-value_told (parts.Down k) t i j = if uses k (block_at t i j) then Some (component_told (predicted vector_of (vector_at k t) i j).y) else None
-value_told (parts.Dc c) t i j = if is_dc (block_at t i j) then Some (dc_told (predicted dc_of (dc_at c t) i j)) else None
+value_told (parts.Across k) t i j =
+    if uses k (block_at t i j) then Some (component_told (predicted vector_of (vector_at k t) i j).x) else None
+value_told (parts.Down k) t i j =
+    if uses k (block_at t i j) then Some (component_told (predicted vector_of (vector_at k t) i j).y) else None
+value_told (parts.Dc c) t i j =
+    if is_dc (block_at t i j) then Some (dc_told (predicted dc_of (dc_at c t) i j)) else None
 
 -- what a list breaks off in: digits and one more follow decision that is false, or a number whose sum with the prediction hasn't 16 bits
 pub data Break : Type 0 where
@@ -66,7 +70,8 @@ list_until part t sx sy u v =
     let p = part_at part t in
     let s = split_at t sx sy in
     let size = unit_size s in
-    superblock_rows p t sy ++ (superblock_row p t sy sx ++ (unit_rows p size (2 ^ s) (4 * sx) (4 * sy) v ++ unit_row p size (4 * sx) (4 * sy + v * size) u))
+    superblock_rows p t sy ++ (superblock_row p t sy sx ++ (unit_rows p size (2 ^ s) (4 * sx) (4 * sy) v
+    ++ unit_row p size (4 * sx) (4 * sy + v * size) u))
 
 -- the block carries the list of a table up to some unit, and then breaks off for this cause
 pub record CarriesBreak (part : ListKind) (former : BlockTable) (block : List ℕ) (cause : Cause) : Type 0 where
@@ -82,7 +87,8 @@ pub record CarriesBreak (part : ListKind) (former : BlockTable) (block : List �
   pub some : u < 2 ^ split_at table sx sy
   pub few : v < 2 ^ split_at table sx sy
   pub told : ByDifference
-  pub is : (let size = unit_size (split_at table sx sy) in value_told part table (4 * sx + u * size) (4 * sy + v * size) ≡ Some told)
+  pub is : (let size = unit_size (split_at table sx sy) in value_told part table (4 * sx + u * size) (4 * sy + v * size)
+      ≡ Some told)
   pub breaks : Break
   pub breaks_so : IsBreak told breaks
   pub cause_is : cause ≡ cause_of told breaks
@@ -98,10 +104,12 @@ pub record CarriesSplitBreak (former : BlockTable) (block : List ℕ) : Type 0 w
   pub column : sx < table.across
   pub row : sy < table.down
   pub numbers : Numbers
-  pub rows_are : (x y : ℕ) → x < table.across → y < sy → (numbers y x + predicted_split table x y) % 3 ≡ split_at table x y
+  pub rows_are : (x y : ℕ) → x < table.across → y < sy → (numbers y x + predicted_split table x y) % 3
+      ≡ split_at table x y
   pub row_is : (x : ℕ) → x < sx → (numbers sy x + predicted_split table x sy) % 3 ≡ split_at table x sy
   pub rows_small : (x y : ℕ) → x < table.across → y < sy → numbers y x < 2 ^ 39 - 1
   pub row_small : (x : ℕ) → x < sx → numbers sy x < 2 ^ 39 - 1
   pub digits : List Bool
   pub long : length digits ≡ MOST_DIGITS
-  pub carried : Carries block ((split_rows table.across numbers sy ++ split_row numbers sy sx) ++ spelt SPLIT_FOLLOW SPLIT_DIGITS digits false)
+  pub carried : Carries block ((split_rows table.across numbers sy ++ split_row numbers sy sx)
+      ++ spelt SPLIT_FOLLOW SPLIT_DIGITS digits false)

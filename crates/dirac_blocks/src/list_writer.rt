@@ -13,7 +13,8 @@ use std::alloc::Global;
 
 /// The arithmetic block of the split numbers.
 pub fn split_block(alloc: Global, table: &BlockData) -> Result<Vec<u8>, NoMemory>
-    ensures { IfOk result (λ block. block.items ≡ flush (split_rows table.now.across (least_numbers table.now) table.now.down)) }
+    ensures { IfOk result (λ block. block.items ≡ flush (split_rows table.now.across (least_numbers table.now)
+        table.now.down)) }
 {
     let mut encoder = Encoder::new(alloc);
     let across = table.across();

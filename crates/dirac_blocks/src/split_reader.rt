@@ -72,7 +72,8 @@ fn read_split_rows(
     requires most_down { table.old.down ≤ 1024 }
     requires grey { AllGrey table.old.blocks }
     requires at_the_start { decoder.old.at.doublings ≡ 0 }
-    ensures value { Moves result table.new decoder.new (repeated (λ sy. repeated (split_step sy) across) count (progress table.old decoder.old)) }
+    ensures value { Moves result table.new decoder.new (repeated (λ sy. repeated (split_step sy) across) count
+        (progress table.old decoder.old)) }
     ensures blocks { SameBlocks table.old table.new }
 {
     'rows: for n in 0..count {

@@ -12,7 +12,8 @@ use dirac_types::NoMemory;
 fn write_split(encoder: &mut Encoder, table: &BlockData, sx: u32, sy: u32) -> Result<(), NoMemory>
     requires column { sx < table.now.across }
     requires row { sy < table.now.down }
-    ensures { OnOk result (encoder.new ≡ narrowed_by encoder.old (spelling SPLIT_FOLLOW SPLIT_DIGITS (least_numbers table.now sy sx))) }
+    ensures { OnOk result (encoder.new ≡ narrowed_by encoder.old
+        (spelling SPLIT_FOLLOW SPLIT_DIGITS (least_numbers table.now sy sx))) }
 {
     let split = table.split(sx, sy);
     let prediction = predict_split_at(table, sx, sy);
@@ -49,7 +50,8 @@ pub fn write_split_rows(
 ) -> Result<(), NoMemory>
     requires column { across ≡ table.now.across }
     requires row { count ≤ table.now.down }
-    ensures { OnOk result (encoder.new ≡ narrowed_by encoder.old (split_rows table.now.across (least_numbers table.now) count)) }
+    ensures { OnOk result (encoder.new ≡ narrowed_by encoder.old
+        (split_rows table.now.across (least_numbers table.now) count)) }
 {
     'rows: for n in 0..count {
         match write_split_row(encoder, table, n, across) {

@@ -61,7 +61,8 @@ pub fn put_superblock(
     requires at_most_2_24 { length blocks.old ≤ 2 ^ 24 }
     requires units { length units.now ≡ 4 ^ split }
     ensures rows { RowsPut width left top split units.now 4 blocks.old blocks.new }
-    ensures lawful { (refs : ℕ) → All (IsBlock refs) units.now → All (IsBlock refs) blocks.old → All (IsBlock refs) blocks.new }
+    ensures lawful { (refs : ℕ) → All (IsBlock refs) units.now → All (IsBlock refs) blocks.old
+        → All (IsBlock refs) blocks.new }
 {
     let size = unit_blocks(split);
     let across = units_across(split);

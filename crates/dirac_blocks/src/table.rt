@@ -38,7 +38,13 @@ impl BlockData {
     /// are DC blocks of value 0.
     pub fn try_new(alloc: Global, across: u32, down: u32, refs: u8) -> Result<BlockData, NoMemory>
         requires { IsSize across down refs }
-        ensures { IfOk result (λ t. t ≡ record { across = across; down = down; refs = refs; splits = replicate (down * across) 0; blocks = replicate (4 * down * (4 * across)) grey }) }
+        ensures { IfOk result (λ t. t ≡ record {
+          across = across;
+          down = down;
+          refs = refs;
+          splits = replicate (down * across) 0;
+          blocks = replicate (4 * down * (4 * across)) grey;
+        }) }
     {
         let columns = across as usize;
         let rows = down as usize;

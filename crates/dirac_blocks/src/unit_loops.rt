@@ -51,7 +51,8 @@ fn write_unit_rows(
     requires row { j + count * size ≤ 4 * table.now.down }
     requires most_across { table.now.across ≤ 1024 }
     requires most_down { table.now.down ≤ 1024 }
-    ensures { OnOk result (encoder.new ≡ narrowed_by encoder.old (unit_rows (part_at part table.now) size across i j count)) }
+    ensures { OnOk result (encoder.new ≡ narrowed_by encoder.old
+        (unit_rows (part_at part table.now) size across i j count)) }
 {
     'rows: for n in 0..count {
         match write_unit_row(encoder, table, part, size, i, j + n * size, across) {
@@ -74,7 +75,8 @@ fn write_superblock(
     requires row { sy < table.now.down }
     requires most_across { table.now.across ≤ 1024 }
     requires most_down { table.now.down ≤ 1024 }
-    ensures { OnOk result (encoder.new ≡ narrowed_by encoder.old (superblock_part (part_at part table.now) table.now sx sy)) }
+    ensures { OnOk result (encoder.new ≡ narrowed_by encoder.old
+        (superblock_part (part_at part table.now) table.now sx sy)) }
 {
     let split = table.split(sx, sy);
     let size = unit_blocks(split) as u32;
@@ -94,7 +96,8 @@ fn write_superblock_row(
     requires row { sy < table.now.down }
     requires most_across { table.now.across ≤ 1024 }
     requires most_down { table.now.down ≤ 1024 }
-    ensures { OnOk result (encoder.new ≡ narrowed_by encoder.old (superblock_row (part_at part table.now) table.now sy count)) }
+    ensures { OnOk result (encoder.new ≡ narrowed_by encoder.old
+        (superblock_row (part_at part table.now) table.now sy count)) }
 {
     'superblocks: for n in 0..count {
         match write_superblock(encoder, table, part, n, sy) {
@@ -117,7 +120,8 @@ pub fn write_superblock_rows(
     requires row { count ≤ table.now.down }
     requires most_across { table.now.across ≤ 1024 }
     requires most_down { table.now.down ≤ 1024 }
-    ensures { OnOk result (encoder.new ≡ narrowed_by encoder.old (superblock_rows (part_at part table.now) table.now count)) }
+    ensures { OnOk result (encoder.new ≡ narrowed_by encoder.old
+        (superblock_rows (part_at part table.now) table.now count)) }
 {
     'rows: for n in 0..count {
         match write_superblock_row(encoder, table, part, n, across) {

@@ -53,7 +53,8 @@ fn read_unit_row(
     requires at_most_1024 { table.old.across ≤ 1024 }
     requires no_overflow { decoder.old.at.doublings < 2 ^ 59 }
     requires at_most_4 { count ≤ 4 }
-    ensures value { Moves result table.new decoder.new (unit_row_step part size i j count (progress table.old decoder.old)) }
+    ensures value { Moves result table.new decoder.new (unit_row_step part size i j count
+        (progress table.old decoder.old)) }
     ensures shape { SameShape table.old table.new }
     ensures few_doublings { decoder.new.at.doublings ≤ decoder.old.at.doublings + 702 * count }
 {
@@ -86,7 +87,8 @@ fn read_unit_rows(
     requires no_overflow { decoder.old.at.doublings < 2 ^ 58 }
     requires few_across { across ≤ 4 }
     requires at_most_4 { count ≤ 4 }
-    ensures value { Moves result table.new decoder.new (unit_rows_step part size across i j count (progress table.old decoder.old)) }
+    ensures value { Moves result table.new decoder.new (unit_rows_step part size across i j count
+        (progress table.old decoder.old)) }
     ensures shape { SameShape table.old table.new }
     ensures few_doublings { decoder.new.at.doublings ≤ decoder.old.at.doublings + 2808 * count }
 {
@@ -136,7 +138,8 @@ fn read_superblock_row(
     requires most_across { table.old.across ≤ 1024 }
     requires most_down { table.old.down ≤ 1024 }
     requires no_overflow { decoder.old.at.doublings < 2 ^ 56 }
-    ensures value { Moves result table.new decoder.new (repeated (superblock_step part sy) count (progress table.old decoder.old)) }
+    ensures value { Moves result table.new decoder.new (repeated (superblock_step part sy) count
+        (progress table.old decoder.old)) }
     ensures shape { SameShape table.old table.new }
     ensures few_doublings { decoder.new.at.doublings ≤ decoder.old.at.doublings + 11232 * count }
 {
@@ -162,7 +165,8 @@ fn read_superblock_rows(
     requires most_across { table.old.across ≤ 1024 }
     requires most_down { table.old.down ≤ 1024 }
     requires at_the_start { decoder.old.at.doublings ≡ 0 }
-    ensures value { Moves result table.new decoder.new (repeated (λ sy. repeated (superblock_step part sy) across) count (progress table.old decoder.old)) }
+    ensures value { Moves result table.new decoder.new (repeated (λ sy. repeated (superblock_step part sy) across) count
+        (progress table.old decoder.old)) }
     ensures shape { SameShape table.old table.new }
 {
     'rows: for n in 0..count {

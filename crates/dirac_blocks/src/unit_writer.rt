@@ -65,7 +65,8 @@ fn write_less(
     requires sign { sign < CONTEXTS }
     requires prediction { IsShort prediction }
     requires value { IsShort value }
-    ensures { OnOk result (encoder.new ≡ narrowed_by encoder.old (signed_spelling follow.now bits sign (value -ℤ prediction))) }
+    ensures { OnOk result (encoder.new ≡ narrowed_by encoder.old
+        (signed_spelling follow.now bits sign (value -ℤ prediction))) }
 {
     encoder.signed(follow, bits, sign, i64::from(value) - i64::from(prediction))
 }
@@ -85,7 +86,8 @@ fn write_difference(
     requires sign { sign < CONTEXTS }
     requires prediction { IsShort prediction }
     requires value { ForSome value IsShort }
-    ensures { OnOk result (encoder.new ≡ narrowed_by encoder.old (less_prediction follow.now bits sign prediction value)) }
+    ensures { OnOk result (encoder.new ≡ narrowed_by encoder.old
+        (less_prediction follow.now bits sign prediction value)) }
 {
     match value {
         None => Ok(()),

@@ -34,8 +34,10 @@ fn write_block(w: &mut BitWriter, block: &[u8]) -> Result<(), NoMemory>
 
 /// Writes the block of the split numbers.
 fn write_splits(alloc: Global, w: &mut BitWriter, table: &BlockData) -> Result<(), NoMemory>
-    ensures exact { OnOk result (w.new ≡ with_block (flush (split_rows table.now.across (least_numbers table.now) table.now.down)) w.old) }
-    ensures short { OnOk result (length (flush (split_rows table.now.across (least_numbers table.now) table.now.down)) + 1 < 2 ^ 39) }
+    ensures exact { OnOk result (w.new ≡ with_block (flush (split_rows table.now.across (least_numbers table.now)
+        table.now.down)) w.old) }
+    ensures short { OnOk result (length (flush (split_rows table.now.across (least_numbers table.now) table.now.down)) +
+        1 < 2 ^ 39) }
 {
     let block = split_block(alloc, table)?;
     write_block(w, block.as_slice())
@@ -62,8 +64,11 @@ fn write_vectors(
     table: &BlockData,
     reference: Reference,
 ) -> Result<(), NoMemory>
-    ensures exact { OnOk result (w.new ≡ with_lists (unit_decisions table.now (part_at (ListKind.Across reference) table.now) ∷ unit_decisions table.now (part_at (ListKind.Down reference) table.now) ∷ []) w.old) }
-    ensures short { OnOk result (AreShort (unit_decisions table.now (part_at (ListKind.Across reference) table.now) ∷ unit_decisions table.now (part_at (ListKind.Down reference) table.now) ∷ [])) }
+    ensures exact { OnOk result (w.new ≡ with_lists (unit_decisions table.now
+        (part_at (ListKind.Across reference) table.now) ∷ unit_decisions table.now
+        (part_at (ListKind.Down reference) table.now) ∷ []) w.old) }
+    ensures short { OnOk result (AreShort (unit_decisions table.now (part_at (ListKind.Across reference) table.now)
+        ∷ unit_decisions table.now (part_at (ListKind.Down reference) table.now) ∷ [])) }
 {
     write_part(alloc, w, table, ListKind::Across(reference))?;
     write_part(alloc, w, table, ListKind::Down(reference))
@@ -83,8 +88,13 @@ fn write_second(alloc: Global, w: &mut BitWriter, table: &BlockData) -> Result<(
 
 /// Writes the blocks of the DC values.
 fn write_dcs(alloc: Global, w: &mut BitWriter, table: &BlockData) -> Result<(), NoMemory>
-    ensures exact { OnOk result (w.new ≡ with_lists (unit_decisions table.now (part_at (ListKind.Dc Component.Y) table.now) ∷ unit_decisions table.now (part_at (ListKind.Dc Component.U) table.now) ∷ unit_decisions table.now (part_at (ListKind.Dc Component.V) table.now) ∷ []) w.old) }
-    ensures short { OnOk result (AreShort (unit_decisions table.now (part_at (ListKind.Dc Component.Y) table.now) ∷ unit_decisions table.now (part_at (ListKind.Dc Component.U) table.now) ∷ unit_decisions table.now (part_at (ListKind.Dc Component.V) table.now) ∷ [])) }
+    ensures exact { OnOk result (w.new ≡ with_lists (unit_decisions table.now
+        (part_at (ListKind.Dc Component.Y) table.now) ∷ unit_decisions table.now
+        (part_at (ListKind.Dc Component.U) table.now) ∷ unit_decisions table.now
+        (part_at (ListKind.Dc Component.V) table.now) ∷ []) w.old) }
+    ensures short { OnOk result (AreShort (unit_decisions table.now (part_at (ListKind.Dc Component.Y) table.now)
+        ∷ unit_decisions table.now (part_at (ListKind.Dc Component.U) table.now)
+        ∷ unit_decisions table.now (part_at (ListKind.Dc Component.V) table.now) ∷ [])) }
 {
     write_part(alloc, w, table, ListKind::Dc(Component::Y))?;
     write_part(alloc, w, table, ListKind::Dc(Component::U))?;
@@ -97,7 +107,8 @@ fn write_dcs(alloc: Global, w: &mut BitWriter, table: &BlockData) -> Result<(), 
 pub fn write_blocks(alloc: Global, w: &mut BitWriter, blocks: &BlockData) -> Result<(), NoMemory>
     requires { IsWhole w.old }
     ensures exact { OnOk result (w.new ≡ with_lists (block_decisions blocks.now (least_numbers blocks.now)) w.old) }
-    ensures spelled { OnOk result (SpelledBehind (blocks_grammar blocks.now.across blocks.now.down blocks.now.refs) blocks.now w.old w.new) }
+    ensures spelled { OnOk result (SpelledBehind (blocks_grammar blocks.now.across blocks.now.down blocks.now.refs)
+        blocks.now w.old w.new) }
 {
     write_splits(alloc, w, blocks)?;
     write_part(alloc, w, blocks, ListKind::Modes)?;

@@ -24,9 +24,12 @@ pub(crate) fn show_predicted(
 ) -> Result<Picture, NoMemory>
     requires sequence { IsSequence sequence.now }
     requires residual { IfSome coded.now.residual (IsResidual sequence.now) }
-    requires y { length predictions.now.y.values ≡ width_of sequence.now component.Y * height_of sequence.now component.Y }
-    requires u { length predictions.now.u.values ≡ width_of sequence.now component.U * height_of sequence.now component.U }
-    requires v { length predictions.now.v.values ≡ width_of sequence.now component.V * height_of sequence.now component.V }
+    requires y { length predictions.now.y.values ≡ width_of sequence.now component.Y * height_of sequence.now
+        component.Y }
+    requires u { length predictions.now.u.values ≡ width_of sequence.now component.U * height_of sequence.now
+        component.U }
+    requires v { length predictions.now.v.values ≡ width_of sequence.now component.V * height_of sequence.now
+        component.V }
     ensures value { IfOk result (λ p. p ≡ picture_from sequence.now coded.now predictions.now) }
 {
     let residual = &coded.residual;

@@ -20,18 +20,20 @@ IsZeroBlock layout xs cy cx =
     (i j : ℕ) →
     i < span_of layout.width layout.across cx →
     j < span_of layout.height layout.down cy →
-    value_at layout.width xs (edge_of layout.width layout.across cx + i) (edge_of layout.height layout.down cy + j) ≡ pos 0
+    value_at layout.width xs (edge_of layout.width layout.across cx + i) (edge_of layout.height layout.down cy + j)
+    ≡ pos 0
 
 -- a codeblock whose flag is true has zeros alone
 abbrev pub SkippedIsZero : BandLayout → List ℤ → ℕ → ℕ → Mark → Type 0
 SkippedIsZero layout xs cy cx mark = is_flagged layout ≡ true → mark.skipped ≡ true → IsZeroBlock layout xs cy cx
 
 -- the block carries the decisions of this finished band
-pub record CarriesBand (layout : BandLayout) (parent : List ℤ) (block : List ℕ) (xs : List ℤ) (marks : Marks) : Type 0 where
-  pub len : length xs ≡ layout.width * layout.height
-  pub small : AreSmall xs
-  pub zeros : (cy cx : ℕ) → cy < layout.down → cx < layout.across → SkippedIsZero layout xs cy cx (marks cy cx)
-  pub carried : Carries block (band_decisions layout parent xs marks)
+pub record CarriesBand (layout : BandLayout) (parent : List ℤ) (block : List ℕ) (xs : List ℤ) (marks : Marks) : Type 0
+  where
+    pub len : length xs ≡ layout.width * layout.height
+    pub small : AreSmall xs
+    pub zeros : (cy cx : ℕ) → cy < layout.down → cx < layout.across → SkippedIsZero layout xs cy cx (marks cy cx)
+    pub carried : Carries block (band_decisions layout parent xs marks)
 
 -- where a number is too long: the row of codeblocks, the codeblock in it, the row and the column in that, and the digits
 pub record LongAt : Type 0 where

@@ -63,4 +63,5 @@ follow_among left above corner parent = follow_of (is_zero parent) (is_zero left
 -- the decisions that spell a value among these neighbours
 abbrev pub value_spelling : Band → ℤ → ℤ → ℤ → ℤ → ℤ → List Decision
 value_spelling band left above corner parent value =
-    signed_spelling (follow_among left above corner parent) bits_context (sign_of (sign_neighbour band left above)) value
+    signed_spelling (follow_among left above corner parent) bits_context (sign_of (sign_neighbour band left above))
+    value

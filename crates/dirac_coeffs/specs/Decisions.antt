@@ -84,12 +84,14 @@ block_part layout parent xs cy cx mark =
 -- the first n codeblocks of row cy of codeblocks
 unfoldable pub blocks_part : BandLayout → List ℤ → List ℤ → (ℕ → Mark) → ℕ → ℕ → List Decision
 blocks_part layout parent xs marks cy zero = []
-blocks_part layout parent xs marks cy (suc n) = blocks_part layout parent xs marks cy n ++ block_part layout parent xs cy n (marks n)
+blocks_part layout parent xs marks cy (suc n) =
+    blocks_part layout parent xs marks cy n ++ block_part layout parent xs cy n (marks n)
 
 -- the first n rows of codeblocks
 unfoldable pub bands_part : BandLayout → List ℤ → List ℤ → Marks → ℕ → List Decision
 bands_part layout parent xs marks zero = []
-bands_part layout parent xs marks (suc n) = bands_part layout parent xs marks n ++ blocks_part layout parent xs (marks n) n layout.across
+bands_part layout parent xs marks (suc n) =
+    bands_part layout parent xs marks n ++ blocks_part layout parent xs (marks n) n layout.across
 
 -- the whole band
 abbrev pub band_decisions : BandLayout → List ℤ → List ℤ → Marks → List Decision

@@ -57,4 +57,5 @@ OnesAreRefused =
 
 -- the block of a subband is short: its length can be spelt
 abbrev pub BlocksAreShort : Type 0
-BlocksAreShort = (layout : BandLayout) (parent xs : List ℤ) → IsBandLayout layout → length (block_of layout parent xs) + 1 < 2 ^ 39
+BlocksAreShort =
+    (layout : BandLayout) (parent xs : List ℤ) → IsBandLayout layout → length (block_of layout parent xs) + 1 < 2 ^ 39

@@ -23,7 +23,8 @@ abbrev pub is_zero_block : BandLayout → List ℤ → ℕ → ℕ → Bool
 is_zero_block layout xs cy cx =
     all_below
     (λ i. all_below
-    (λ j. is_zero (value_at layout.width xs (edge_of layout.width layout.across cx + i) (edge_of layout.height layout.down cy + j)))
+    (λ j. is_zero (value_at layout.width xs (edge_of layout.width layout.across cx + i)
+    (edge_of layout.height layout.down cy + j)))
     (span_of layout.height layout.down cy))
     (span_of layout.width layout.across cx)
 

@@ -51,7 +51,8 @@ pub fn write_band(
     requires band { IsCodedBand layout band.now }
     requires zeros { is_zero_band band.now.table.values ≡ true → band.now.index ≡ 0 }
     ensures exact { OnOk result (w.new ≡ with_band layout (values_of_parent parent.entry) band.now w.old) }
-    ensures spelled { OnOk result (SpelledBehind (band_grammar layout (values_of_parent parent.entry)) band.now w.old w.new) }
+    ensures spelled { OnOk result (SpelledBehind (band_grammar layout (values_of_parent parent.entry)) band.now w.old
+        w.new) }
 {
     w.align()?;
     let values = band.table.values();

@@ -23,7 +23,8 @@ pub fn read_block(
     ensures value { GivesBlock layout at result (band_read layout parent.now block.now) }
     ensures len { IfOk result (λ t. length t.values ≡ layout.width * layout.height) }
     ensures magnitudes_bounded { IfOk result (λ t. AreSmall t.values) }
-    ensures long { result ≡ Err (Stop.Refused (record { at = at; cause = Cause.NumberTooLong })) → CarriesLong layout parent.now block.now }
+    ensures long { result ≡ Err (Stop.Refused (record { at = at; cause = Cause.NumberTooLong }))
+        → CarriesLong layout parent.now block.now }
 {
     let mut table = BandTable::try_new(alloc, layout.width, layout.height, 0)?;
     let mut decoder = Decoder::new(block);

@@ -27,7 +27,10 @@ fn write_block_values(
     requires column { cx < layout.across }
     requires len { length values.now ≡ layout.width * layout.height }
     requires magnitudes_bounded { AreSmall values.now }
-    ensures { OnOk result (encoder.new ≡ narrowed_by encoder.old (rows_part (frame_of layout parent.now) values.now (edge_of layout.width layout.across cx) (span_of layout.width layout.across cx) (edge_of layout.height layout.down cy) (span_of layout.height layout.down cy))) }
+    ensures { OnOk result (encoder.new ≡ narrowed_by encoder.old
+        (rows_part (frame_of layout parent.now) values.now (edge_of layout.width layout.across cx)
+        (span_of layout.width layout.across cx) (edge_of layout.height layout.down cy)
+        (span_of layout.height layout.down cy))) }
 {
     let columns = codeblock_span(layout.width, layout.across, cx);
     let rows = codeblock_span(layout.height, layout.down, cy);
@@ -57,7 +60,8 @@ fn write_codeblock(
     requires column { cx < layout.across }
     requires len { length values.now ≡ layout.width * layout.height }
     requires magnitudes_bounded { AreSmall values.now }
-    ensures { OnOk result (encoder.new ≡ narrowed_by encoder.old (block_part layout parent.now values.now cy cx (marks_of layout values.now cy cx))) }
+    ensures { OnOk result (encoder.new ≡ narrowed_by encoder.old
+        (block_part layout parent.now values.now cy cx (marks_of layout values.now cy cx))) }
 {
     if !has_flags(layout) {
         return write_block_values(encoder, values, layout, parent, cy, cx);
@@ -83,7 +87,8 @@ fn write_codeblocks(
     requires row { cy < layout.down }
     requires len { length values.now ≡ layout.width * layout.height }
     requires magnitudes_bounded { AreSmall values.now }
-    ensures { OnOk result (encoder.new ≡ narrowed_by encoder.old (blocks_part layout parent.now values.now (marks_of layout values.now cy) cy layout.across)) }
+    ensures { OnOk result (encoder.new ≡ narrowed_by encoder.old
+        (blocks_part layout parent.now values.now (marks_of layout values.now cy) cy layout.across)) }
 {
     'across: for cx in 0..layout.across {
         match write_codeblock(encoder, values, layout, parent, cy, cx) {
@@ -104,7 +109,8 @@ pub fn write_all(
     requires layout { IsBandLayout layout }
     requires len { length values.now ≡ layout.width * layout.height }
     requires magnitudes_bounded { AreSmall values.now }
-    ensures { OnOk result (encoder.new ≡ narrowed_by encoder.old (band_decisions layout parent.now values.now (marks_of layout values.now))) }
+    ensures { OnOk result (encoder.new ≡ narrowed_by encoder.old
+        (band_decisions layout parent.now values.now (marks_of layout values.now))) }
 {
     'down: for cy in 0..layout.down {
         match write_codeblocks(encoder, values, layout, parent, cy) {

@@ -23,9 +23,11 @@ fn read_block_values(
     requires column { cx < layout.across }
     requires len { length values.old ≡ layout.width * layout.height }
     requires no_overflow { decoder.old.at.doublings < 2 ^ 58 }
-    ensures value { Moves result values.new decoder.new (filled_step layout parent.now cy cx (progress values.old decoder.old)) }
+    ensures value { Moves result values.new decoder.new (filled_step layout parent.now cy cx
+        (progress values.old decoder.old)) }
     ensures len { length values.new ≡ length values.old }
-    ensures few_doublings { decoder.new.at.doublings ≤ decoder.old.at.doublings + 702 * LARGEST_TABLE_SIDE * span_of layout.width layout.across cx }
+    ensures few_doublings { decoder.new.at.doublings ≤ decoder.old.at.doublings + 702 * LARGEST_TABLE_SIDE * span_of
+        layout.width layout.across cx }
 {
     let columns = codeblock_span(layout.width, layout.across, cx);
     let rows = codeblock_span(layout.height, layout.down, cy);
@@ -56,9 +58,11 @@ fn read_codeblock(
     requires column { cx < layout.across }
     requires len { length values.old ≡ layout.width * layout.height }
     requires no_overflow { decoder.old.at.doublings < 2 ^ 57 }
-    ensures value { Moves result values.new decoder.new (block_step layout parent.now cy cx (progress values.old decoder.old)) }
+    ensures value { Moves result values.new decoder.new (block_step layout parent.now cy cx
+        (progress values.old decoder.old)) }
     ensures len { length values.new ≡ length values.old }
-    ensures few_doublings { decoder.new.at.doublings ≤ decoder.old.at.doublings + 9 + 702 * LARGEST_TABLE_SIDE * span_of layout.width layout.across cx }
+    ensures few_doublings { decoder.new.at.doublings ≤ decoder.old.at.doublings + 9 + 702 * LARGEST_TABLE_SIDE * span_of
+        layout.width layout.across cx }
 {
     if !has_flags(layout) {
         return read_block_values(decoder, values, layout, parent, cy, cx);
@@ -82,9 +86,11 @@ fn read_codeblocks(
     requires row { cy < layout.down }
     requires len { length values.old ≡ layout.width * layout.height }
     requires no_overflow { decoder.old.at.doublings < 2 ^ 56 }
-    ensures value { Moves result values.new decoder.new (blocks_step layout parent.now cy layout.across (progress values.old decoder.old)) }
+    ensures value { Moves result values.new decoder.new (blocks_step layout parent.now cy layout.across
+        (progress values.old decoder.old)) }
     ensures len { length values.new ≡ length values.old }
-    ensures few_doublings { decoder.new.at.doublings ≤ decoder.old.at.doublings + 9 * LARGEST_TABLE_SIDE + 702 * LARGEST_TABLE_SIDE * LARGEST_TABLE_SIDE }
+    ensures few_doublings { decoder.new.at.doublings ≤ decoder.old.at.doublings + 9 * LARGEST_TABLE_SIDE + 702 *
+        LARGEST_TABLE_SIDE * LARGEST_TABLE_SIDE }
 {
     'across: for cx in 0..layout.across {
         match read_codeblock(decoder, values, layout, parent, cy, cx) {
@@ -105,7 +111,8 @@ pub fn read_all(
     requires layout { IsBandLayout layout }
     requires len { length values.old ≡ layout.width * layout.height }
     requires at_the_start { decoder.old.at.doublings ≡ 0 }
-    ensures value { Moves result values.new decoder.new (block_rows_step layout parent.now layout.down (progress values.old decoder.old)) }
+    ensures value { Moves result values.new decoder.new (block_rows_step layout parent.now layout.down
+        (progress values.old decoder.old)) }
     ensures len { length values.new ≡ length values.old }
 {
     'down: for cy in 0..layout.down {

@@ -43,7 +43,8 @@ fn write_at(
     requires row { y < LARGEST_TABLE_SIDE }
     requires inside { (y + 1) * layout.width ≤ length values.now }
     requires magnitudes_bounded { AreSmall values.now }
-    ensures { OnOk result (encoder.new ≡ narrowed_by encoder.old (value_part (frame_of layout parent.now) values.now x y)) }
+    ensures { OnOk result (encoder.new ≡ narrowed_by encoder.old
+        (value_part (frame_of layout parent.now) values.now x y)) }
 {
     let width = layout.width as usize;
     let left = contexts::left_value(values, width, x, y);
@@ -76,7 +77,8 @@ fn write_row(
     requires row { y < LARGEST_TABLE_SIDE }
     requires inside { (y + 1) * layout.width ≤ length values.now }
     requires magnitudes_bounded { AreSmall values.now }
-    ensures { OnOk result (encoder.new ≡ narrowed_by encoder.old (row_part (frame_of layout parent.now) values.now y from count)) }
+    ensures { OnOk result (encoder.new ≡ narrowed_by encoder.old
+        (row_part (frame_of layout parent.now) values.now y from count)) }
 {
     'values: for i in 0..count {
         match write_at(encoder, values, layout, parent, from + i, y) {
@@ -103,7 +105,8 @@ pub fn write_rows(
     requires rows { top + rows ≤ LARGEST_TABLE_SIDE }
     requires inside { (top + rows) * layout.width ≤ length values.now }
     requires magnitudes_bounded { AreSmall values.now }
-    ensures { OnOk result (encoder.new ≡ narrowed_by encoder.old (rows_part (frame_of layout parent.now) values.now from count top rows)) }
+    ensures { OnOk result (encoder.new ≡ narrowed_by encoder.old
+        (rows_part (frame_of layout parent.now) values.now from count top rows)) }
 {
     'rows: for j in 0..rows {
         match write_row(encoder, values, layout, parent, top + j, from, count) {

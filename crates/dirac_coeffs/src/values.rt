@@ -21,7 +21,8 @@ fn read_value(
     parent: i64,
 ) -> Result<i64, Cause>
     requires no_overflow { decoder.old.at.doublings < 2 ^ 61 }
-    ensures read { Gives result decoder.new (signed_read (follow_among left above corner parent) bits_context (sign_of (sign_neighbour band left above)) decoder.old) }
+    ensures read { Gives result decoder.new (signed_read (follow_among left above corner parent) bits_context
+        (sign_of (sign_neighbour band left above)) decoder.old) }
     ensures few_doublings { decoder.new.at.doublings ≤ decoder.old.at.doublings + 702 }
 {
     let follow = contexts::follow_among(left, above, corner, parent);
@@ -45,7 +46,8 @@ fn read_at(
     requires row { y < LARGEST_TABLE_SIDE }
     requires inside { (y + 1) * layout.width ≤ length values.old }
     requires no_overflow { decoder.old.at.doublings < 2 ^ 61 }
-    ensures value { Moves result values.new decoder.new (value_step (frame_of layout parent.now) x y (progress values.old decoder.old)) }
+    ensures value { Moves result values.new decoder.new (value_step (frame_of layout parent.now) x y
+        (progress values.old decoder.old)) }
     ensures len { length values.new ≡ length values.old }
     ensures few_doublings { decoder.new.at.doublings ≤ decoder.old.at.doublings + 702 }
 {
@@ -78,7 +80,8 @@ fn read_row(
     requires row { y < LARGEST_TABLE_SIDE }
     requires inside { (y + 1) * layout.width ≤ length values.old }
     requires no_overflow { decoder.old.at.doublings < 2 ^ 60 }
-    ensures value { Moves result values.new decoder.new (row_step (frame_of layout parent.now) y from count (progress values.old decoder.old)) }
+    ensures value { Moves result values.new decoder.new (row_step (frame_of layout parent.now) y from count
+        (progress values.old decoder.old)) }
     ensures len { length values.new ≡ length values.old }
     ensures few_doublings { decoder.new.at.doublings ≤ decoder.old.at.doublings + 702 * count }
 {
@@ -107,7 +110,8 @@ pub fn read_rows(
     requires rows { top + rows ≤ LARGEST_TABLE_SIDE }
     requires inside { (top + rows) * layout.width ≤ length values.old }
     requires no_overflow { decoder.old.at.doublings < 2 ^ 59 }
-    ensures value { Moves result values.new decoder.new (rows_step (frame_of layout parent.now) from count top rows (progress values.old decoder.old)) }
+    ensures value { Moves result values.new decoder.new (rows_step (frame_of layout parent.now) from count top rows
+        (progress values.old decoder.old)) }
     ensures len { length values.new ≡ length values.old }
     ensures few_doublings { decoder.new.at.doublings ≤ decoder.old.at.doublings + 702 * LARGEST_TABLE_SIDE * count }
 {

@@ -39,8 +39,10 @@ fn are_zero_rows(
     requires width { width ≤ LARGEST_TABLE_SIDE }
     requires rows { top + rows ≤ LARGEST_TABLE_SIDE }
     requires inside { (top + rows) * width ≤ length values.now }
-    ensures zeros { result ≡ true → (i j : ℕ) → i < count → j < rows → value_at width values.now (from + i) (top + j) ≡ pos 0 }
-    ensures others { result ≡ false → ((i j : ℕ) → i < count → j < rows → value_at width values.now (from + i) (top + j) ≡ pos 0) → ⊥ }
+    ensures zeros { result ≡ true → (i j : ℕ) → i < count → j < rows → value_at width values.now (from + i) (top + j)
+        ≡ pos 0 }
+    ensures others { result ≡ false → ((i j : ℕ) → i < count → j < rows → value_at width values.now (from + i) (top + j)
+        ≡ pos 0) → ⊥ }
 {
     'rows: for j in 0..rows {
         if !is_zero_row(values, width, top + j, from, count) {

@@ -11,25 +11,35 @@ use Rattle.dirac_decode.specs.StreamState.{StreamState}
 use Rattle.dirac_decode.specs.Decoding.{LeadsTo, decoding}
 
 -- from one place of a stream to another, at which the decoder drains or goes on, while these pictures leave
-abbrev pub Brings : Progress → Progress → StreamState → StreamState → Option (List ℕ) → Option (List ℕ) → Bool → StreamEnd → List Picture → Type 0
+abbrev pub Brings : Progress → Progress → StreamState → StreamState → Option (List ℕ) → Option (List ℕ) → Bool
+    → StreamEnd → List Picture → Type 0
 Brings units units' state state' held held' drains stream_end' gone =
-    (given given' : ℕ) → LeadsTo (decoding units state false given stream_end.Going) (decoding units' state' drains given' stream_end') held held' gone
+    (given given' : ℕ) → LeadsTo (decoding units state false given stream_end.Going)
+    (decoding units' state' drains given' stream_end') held held' gone
 
 -- what the content of the next unit, or the end or fault behind the last one, brings
-abbrev pub Advances : Advanced → Progress → Progress → StreamState → StreamState → Option (List ℕ) → Option (List ℕ) → Type 0
-Advances advanced.On units units' state state' held held' = Brings units units' state state' held held' false stream_end.Going []
-Advances (advanced.Shown p) units units' state state' held held' = Brings units units' state state' held held' false stream_end.Going (p ∷ [])
-Advances advanced.Drains units units' state state' held held' = Brings units units' state state' held held' true stream_end.Going []
-Advances advanced.End units units' state state' held held' = Brings units units' state state' held held' true stream_end.Ended []
-Advances (advanced.Fault fault) units units' state state' held held' = Brings units units' state state' held held' true (stream_end.Faulted fault) []
+abbrev pub Advances : Advanced → Progress → Progress → StreamState → StreamState → Option (List ℕ) → Option (List ℕ)
+    → Type 0
+Advances advanced.On units units' state state' held held' =
+    Brings units units' state state' held held' false stream_end.Going []
+Advances (advanced.Shown p) units units' state state' held held' =
+    Brings units units' state state' held held' false stream_end.Going (p ∷ [])
+Advances advanced.Drains units units' state state' held held' =
+    Brings units units' state state' held held' true stream_end.Going []
+Advances advanced.End units units' state state' held held' =
+    Brings units units' state state' held held' true stream_end.Ended []
+Advances (advanced.Fault fault) units units' state state' held held' =
+    Brings units units' state state' held held' true (stream_end.Faulted fault) []
 Advances advanced.ReadFault units units' state state' held held' = ⊤
 Advances advanced.NoMemory units units' state state' held held' = ⊤
 
 -- a unit was passed, so the next one begins further on
 abbrev pub GoesOn : Advanced → Progress → Progress → Type 0
 GoesOn advanced.On units units' = (units'.stream_end ≡ stream_end.Going) × (units.unit_place.at < units'.unit_place.at)
-GoesOn (advanced.Shown p) units units' = (units'.stream_end ≡ stream_end.Going) × (units.unit_place.at < units'.unit_place.at)
-GoesOn advanced.Drains units units' = (units'.stream_end ≡ stream_end.Going) × (units.unit_place.at < units'.unit_place.at)
+GoesOn (advanced.Shown p) units units' =
+    (units'.stream_end ≡ stream_end.Going) × (units.unit_place.at < units'.unit_place.at)
+GoesOn advanced.Drains units units' =
+    (units'.stream_end ≡ stream_end.Going) × (units.unit_place.at < units'.unit_place.at)
 GoesOn advanced.End units units' = ⊤
 GoesOn (advanced.Fault fault) units units' = ⊤
 GoesOn advanced.ReadFault units units' = ⊤
@@ -48,6 +58,10 @@ shown_by advanced.NoMemory = 0
 -- the next due picture left, or none is due any more
 abbrev pub Settles : Option Picture → StreamState → StreamState → Bool → Type 0
 Settles (Some p) state state' draining =
-    (units : Progress) (given given' : ℕ) (stream_end : StreamEnd) (held : Option (List ℕ)) → LeadsTo (decoding units state draining given stream_end) (decoding units state' draining given' stream_end) held held (p ∷ [])
+    (units : Progress) (given given' : ℕ) (stream_end : StreamEnd) (held : Option (List ℕ))
+    → LeadsTo (decoding units state draining given stream_end) (decoding units state' draining given' stream_end)
+    held held (p ∷ [])
 Settles None state state' draining =
-    (units : Progress) (given given' : ℕ) (stream_end : StreamEnd) (held : Option (List ℕ)) → LeadsTo (decoding units state draining given stream_end) (decoding units state' false given' stream_end) held held []
+    (units : Progress) (given given' : ℕ) (stream_end : StreamEnd) (held : Option (List ℕ))
+    → LeadsTo (decoding units state draining given stream_end) (decoding units state' false given' stream_end) held
+    held []

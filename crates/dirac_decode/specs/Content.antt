@@ -47,7 +47,8 @@ bands_of r component.V = r.v
 abbrev pub residual_among : Sequence → Kind → Component → Option CodedResidual → Table
 residual_among s kind component None = zeros (width_of s component) (height_of s component)
 residual_among s kind component (Some r) =
-    residual r.transform.wavelet r.transform.depth kind (bands_of r component) (width_of s component) (height_of s component)
+    residual r.transform.wavelet r.transform.depth kind (bands_of r component) (width_of s component)
+    (height_of s component)
 
 -- the listed picture that a header names
 abbrev pub named : List Picture → Option ℕ → Option Picture
@@ -74,7 +75,8 @@ compensated s m first second component = record {
 -- what a plane is predicted from, with these references
 abbrev pub compensation : Sequence → CodedMotion → Picture → Option Picture → Component → Compensation
 compensation s m first second component =
-    compensated s m (up_of (plane_of first component)) (option_map (λ (p : Picture). up_of (plane_of p component)) second) component
+    compensated s m (up_of (plane_of first component)) (option_map (λ (p : Picture). up_of (plane_of p component))
+    second) component
 
 -- the predictions of a plane, by rows; an inter picture has a first reference
 abbrev pub predicted_among : Sequence → CodedMotion → Option Picture → Option Picture → Component → List ℤ
@@ -86,12 +88,15 @@ abbrev pub intra_samples : Sequence → Option CodedResidual → Component → T
 intra_samples s coded component = clipped (residual_among s Intra component coded)
 
 -- the samples of a plane of an inter picture: its residual and what is predicted, clipped
-abbrev pub inter_samples : Sequence → List Picture → PictureHeader → CodedMotion → Option CodedResidual → Component → Table
+abbrev pub inter_samples : Sequence → List Picture → PictureHeader → CodedMotion → Option CodedResidual → Component
+    → Table
 inter_samples s refs head m coded component =
-    clipped (with_prediction (residual_among s Inter component coded) (predicted_among s m (named refs head.ref1) (named refs head.ref2) component))
+    clipped (with_prediction (residual_among s Inter component coded)
+    (predicted_among s m (named refs head.ref1) (named refs head.ref2) component))
 
 -- just an inter picture is predicted
-abbrev pub samples_from : Sequence → List Picture → PictureHeader → Option CodedMotion → Option CodedResidual → Component → Table
+abbrev pub samples_from : Sequence → List Picture → PictureHeader → Option CodedMotion → Option CodedResidual
+    → Component → Table
 samples_from s refs head None coded component = intra_samples s coded component
 samples_from s refs head (Some m) coded component = inter_samples s refs head m coded component
 

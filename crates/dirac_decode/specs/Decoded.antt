@@ -10,8 +10,10 @@ use Rattle.dirac_decode.specs.Shown.{Outcome, IsShown, tally_of}
 
 -- what the answer says of what the stream shows and of what was written
 abbrev pub AnswersDecode : Decoded → Outcome → Option (List ℕ) → Option (List ℕ) → Type 0
-AnswersDecode (decoded.Done tally) o taken taken' = (o.end ≡ None) × (tally ≡ tally_of o) × Appends taken taken' (raws o.shown)
-AnswersDecode (decoded.Fault fault tally) o taken taken' = (o.end ≡ Some fault) × (tally ≡ tally_of o) × Appends taken taken' (raws o.shown)
+AnswersDecode (decoded.Done tally) o taken taken' =
+    (o.end ≡ None) × (tally ≡ tally_of o) × Appends taken taken' (raws o.shown)
+AnswersDecode (decoded.Fault fault tally) o taken taken' =
+    (o.end ≡ Some fault) × (tally ≡ tally_of o) × Appends taken taken' (raws o.shown)
 AnswersDecode decoded.ReadFault o taken taken' = AppendsFront taken taken' (raws o.shown)
 AnswersDecode decoded.WriteFault o taken taken' = AppendsFront taken taken' (raws o.shown)
 AnswersDecode decoded.NoMemory o taken taken' = AppendsFront taken taken' (raws o.shown)

@@ -45,7 +45,8 @@ decoding units state draining given stream_end = record {
 
 -- what comes behind the due pictures: the rest of the stream, or what was met
 abbrev pub Remains : StreamEnd → StreamState → Progress → Option (List ℕ) → Outcome → Type 0
-Remains stream_end.Going state units held o = IfSome (prepend_known units.ahead held) (λ bytes. Shows state units.unit_place bytes o)
+Remains stream_end.Going state units held o =
+    IfSome (prepend_known units.ahead held) (λ bytes. Shows state units.unit_place bytes o)
 Remains stream_end.Ended state units held o = o ≡ record { shown = []; most = state.most; end = None }
 Remains (stream_end.Faulted fault) state units held o = o ≡ record { shown = []; most = state.most; end = Some fault }
 Remains stream_end.Stopped state units held o = ⊥
@@ -62,9 +63,14 @@ LeadsTo old new held held' given = (o : Outcome) → Comes new held' o → Comes
 
 -- what an answer says of the decoder before and behind it
 abbrev pub Gives : Next → Decoding → Decoding → Option (List ℕ) → Option (List ℕ) → Type 0
-Gives (next.Shown p) old new held held' = LeadsTo old new held held' (p ∷ []) × (new.given ≡ old.given + 1) × (new.stream_end ≡ stream_end.Stopped → old.stream_end ≡ stream_end.Stopped)
-Gives next.End old new held held' = LeadsTo old new held held' [] × (new.stream_end ≡ stream_end.Ended) × (new.due ≡ []) × (new.given ≡ old.given)
-Gives (next.Fault fault) old new held held' = LeadsTo old new held held' [] × (new.stream_end ≡ stream_end.Faulted fault) × (new.due ≡ []) × (new.given ≡ old.given)
+Gives (next.Shown p) old new held held' =
+    LeadsTo old new held held' (p ∷ []) × (new.given ≡ old.given + 1)
+    × (new.stream_end ≡ stream_end.Stopped → old.stream_end ≡ stream_end.Stopped)
+Gives next.End old new held held' =
+    LeadsTo old new held held' [] × (new.stream_end ≡ stream_end.Ended) × (new.due ≡ []) × (new.given ≡ old.given)
+Gives (next.Fault fault) old new held held' =
+    LeadsTo old new held held' [] × (new.stream_end ≡ stream_end.Faulted fault) × (new.due ≡ [])
+    × (new.given ≡ old.given)
 Gives next.ReadFault old new held held' = (new.stream_end ≡ stream_end.Stopped) × (new.given ≡ old.given)
 Gives next.NoMemory old new held held' = (new.stream_end ≡ stream_end.Stopped) × (new.given ≡ old.given)
 Gives next.Stopped old new held held' = (old.stream_end ≡ stream_end.Stopped) × (new ≡ old)

@@ -18,12 +18,14 @@ abbrev pub IsUpOfPart : Sequence → Component → Up → Type 0
 IsUpOfPart s component u = (u.width ≡ width_of s component) × (u.height ≡ height_of s component)
 
 -- the samples of a plane of an inter picture with these references
-abbrev pub inter_plane : Sequence → Option Picture → Option Picture → CodedMotion → Option CodedResidual → Component → Table
+abbrev pub inter_plane : Sequence → Option Picture → Option Picture → CodedMotion → Option CodedResidual → Component
+    → Table
 inter_plane s first second m coded component =
     clipped (with_prediction (residual_among s Inter component coded) (predicted_among s m first second component))
 
 -- an inter picture with these references
-abbrev pub inter_picture : Sequence → Option Picture → Option Picture → PictureHeader → CodedMotion → Option CodedResidual → Picture
+abbrev pub inter_picture : Sequence → Option Picture → Option Picture → PictureHeader → CodedMotion
+    → Option CodedResidual → Picture
 inter_picture s first second head m coded = record {
   number = head.number;
   y = inter_plane s first second m coded component.Y;

@@ -34,7 +34,8 @@ pushed_in state (Some o) unit = pushed_of state o (picture_read unit.info.code o
 -- the picture of a unit, where it has one
 abbrev pub pushed_by : StreamState → UnitText → List Waiting
 pushed_by state unit =
-    if fields_are_read unit.info.code && not (unit.info.code == SEQUENCE_HEADER) then pushed_in state state.opened unit else []
+    if fields_are_read unit.info.code && not (unit.info.code == SEQUENCE_HEADER) then pushed_in state state.opened unit
+    else []
 
 -- a unit's picture and those behind it; a unit that is refused has none, and none is behind it
 abbrev pub pushed_on : List Waiting → (StreamState → List Waiting) → Result StreamStep Refusal → List Waiting
@@ -80,4 +81,5 @@ abbrev pub EachIsFlushed : Type 0
 EachIsFlushed =
     (state : StreamState) (unit_place : UnitPlace) (units rest : List UnitText) (last : UnitText) (end : Option Fault)
     → AreOfOneSequence units → accepted state units ≡ units → last.info.code ≡ END_OF_SEQUENCE
-    → ShowsBehind (outcome state unit_place (units ++ last ∷ rest) end).shown (flushed_behind state.waiting (pushed state units)) rest end
+    → ShowsBehind (outcome state unit_place (units ++ last ∷ rest) end).shown
+    (flushed_behind state.waiting (pushed state units)) rest end

@@ -32,7 +32,8 @@ follows state unit_place next (Err refusal) = ends_with state (Some (fault_at un
 unfoldable pub outcome : StreamState → UnitPlace → List UnitText → Option Fault → Outcome
 outcome state unit_place [] end = ends_with state end
 outcome state unit_place (unit ∷ units) end =
-    follows state unit_place (λ next. outcome next (after unit_place unit.info) units end) (unit_step state unit.info.code unit.payload)
+    follows state unit_place (λ next. outcome next (after unit_place unit.info) units end)
+    (unit_step state unit.info.code unit.payload)
 
 -- a unit and those behind it that are accepted; one whose content is refused ends them
 abbrev pub accepted_on : UnitText → (StreamState → List UnitText) → Result StreamStep Refusal → List UnitText
@@ -42,7 +43,8 @@ accepted_on unit rest (Err refusal) = []
 -- those among these units, from a course on
 unfoldable pub accepted : StreamState → List UnitText → List UnitText
 accepted state [] = []
-accepted state (unit ∷ units) = accepted_on unit (λ next. accepted next units) (unit_step state unit.info.code unit.payload)
+accepted state (unit ∷ units) =
+    accepted_on unit (λ next. accepted next units) (unit_step state unit.info.code unit.payload)
 
 -- what these bytes show from there on
 pub record Shows (state : StreamState) (unit_place : UnitPlace) (bytes : List ℕ) (o : Outcome) : Type 0 where

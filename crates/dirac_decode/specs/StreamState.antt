@@ -44,7 +44,8 @@ in_unit refusal = record { at = 13 + refusal.at; cause = refusal.cause }
 
 -- a first sequence header opens its sequence
 abbrev pub opening : StreamState → List ℕ → Result Sequence Refusal → Result StreamStep Refusal
-opening state payload (Ok s) = Ok (staying (record state { opened = Some (record { header = payload; sequence = s }); first = None }))
+opening state payload (Ok s) =
+    Ok (staying (record state { opened = Some (record { header = payload; sequence = s }); first = None }))
 opening state payload (Err refusal) = Err (in_unit refusal)
 
 -- a repeated sequence header has the first one's payload
@@ -54,7 +55,8 @@ is_same payload header = length payload == length header && starts_with nat_eq p
 -- a sequence header opens a sequence, or repeats the header of the open one
 abbrev pub header_step : StreamState → Option Opened → List ℕ → Result StreamStep Refusal
 header_step state None payload = opening state payload (sequence_read payload)
-header_step state (Some o) payload = if is_same payload o.header then Ok (staying state) else Err (record { at = 0; cause = SequenceChanged })
+header_step state (Some o) payload =
+    if is_same payload o.header then Ok (staying state) else Err (record { at = 0; cause = SequenceChanged })
 
 -- the number of the sequence's first picture
 abbrev pub first_or : Option ℕ → ℕ → ℕ
@@ -68,7 +70,13 @@ shows state coded p =
     let list = committed state.list coded.header.retire (as_reference coded.code p) in
     let after = delivered (state.waiting ++ record { key = key_of first p.number; picture = p } ∷ []) in
     record {
-      state = record { opened = state.opened; first = Some first; list = list; waiting = after.waiting; most = max state.most (length list) };
+      state = record {
+        opened = state.opened;
+        first = Some first;
+        list = list;
+        waiting = after.waiting;
+        most = max state.most (length list);
+      };
       gone = after.gone;
     }
 
@@ -84,12 +92,17 @@ picture_step state (Some o) code payload = made state o (picture_read code o.seq
 
 -- an end unit closes the sequence, and all that wait leave
 abbrev pub ended : StreamState → StreamStep
-ended state = record { state = record { opened = None; first = None; list = []; waiting = []; most = state.most }; gone = flushed state.waiting }
+ended state =
+    record {
+      state = record { opened = None; first = None; list = []; waiting = []; most = state.most };
+      gone = flushed state.waiting;
+    }
 
 -- a sequence header or a picture
 abbrev pub content : StreamState → ℕ → List ℕ → Result StreamStep Refusal
 content state code payload =
-    if code == SEQUENCE_HEADER then header_step state state.opened payload else picture_step state state.opened code payload
+    if code == SEQUENCE_HEADER then header_step state state.opened payload
+    else picture_step state state.opened code payload
 
 -- an end unit, or one that is passed over
 abbrev pub passed : StreamState → ℕ → StreamStep

@@ -68,7 +68,8 @@ impl Decoder {
         ensures gives { Gives result self.old self.new (S.held source.old) (S.held source.new) }
         ensures repeated { Answers self.old.stream_end self.old.due result }
         ensures repeats_without_reading { (self.old.stream_end ≡ StreamEnd.Going → ⊥) → source.new ≡ source.old }
-        ensures whole { (self.old.stream_end ≡ StreamEnd.Ended → IsAtEnd (S.held source.old)) → self.new.stream_end ≡ StreamEnd.Ended → IsAtEnd (S.held source.new) }
+        ensures whole { (self.old.stream_end ≡ StreamEnd.Ended → IsAtEnd (S.held source.old)) → self.new.stream_end
+            ≡ StreamEnd.Ended → IsAtEnd (S.held source.new) }
         ensures read { result ≡ Next.ReadFault → Rose (S.faults source.old) (S.faults source.new) }
         ensures count { S.faults source.old ≤ S.faults source.new }
         ensures fits { self.new.given < 2 ^ 64 }

@@ -49,8 +49,10 @@ pub fn predicted_samples(
 ) -> Result<Plane, NoMemory>
     requires sequence { IsSequence sequence.now }
     requires fits { IfSome residual.now (IsResidual sequence.now) }
-    requires predicted { length predicted.now ≡ content.width_of sequence.now component * content.height_of sequence.now component }
-    ensures value { IfOk result (λ t. t ≡ clipped_table (with_prediction (content.residual_among sequence.now Inter component residual.now) predicted.now)) }
+    requires predicted { length predicted.now ≡ content.width_of sequence.now component * content.height_of sequence.now
+        component }
+    ensures value { IfOk result (λ t. t ≡ clipped_table (with_prediction
+        (content.residual_among sequence.now Inter component residual.now) predicted.now)) }
 {
     let residual = residual_of(alloc, sequence, Kind::Inter, component, residual)?;
     clipped_sum(alloc, &residual, predicted)

@@ -60,7 +60,8 @@ pub fn raw_length(settings: &Settings) -> usize
 fn length_in(settings: &Settings, sequence: &Sequence) -> usize
     requires luma { IsPlaneSize settings.now.width settings.now.height }
     requires chroma { IsPlaneSize (chroma_width sequence.now) (chroma_height sequence.now) }
-    ensures { result ≡ settings.now.width * settings.now.height + chroma_width sequence.now * chroma_height sequence.now + chroma_width sequence.now * chroma_height sequence.now }
+    ensures { result ≡ settings.now.width * settings.now.height + chroma_width sequence.now * chroma_height sequence.now
+        + chroma_width sequence.now * chroma_height sequence.now }
 {
     let width = sequence.plane_width(Component::U);
     let height = sequence.plane_height(Component::U);
@@ -97,8 +98,10 @@ fn planes_of(
     requires sequence { IsSequence sequence.now }
     requires luma { IsPlaneSize settings.now.width settings.now.height }
     requires chroma { IsPlaneSize (chroma_width sequence.now) (chroma_height sequence.now) }
-    requires bytes { length bytes.now ≡ settings.now.width * settings.now.height + chroma_width sequence.now * chroma_height sequence.now + chroma_width sequence.now * chroma_height sequence.now }
-    ensures value { IfOk result (λ p. p ≡ picture_in settings.now.width settings.now.height (chroma_width sequence.now) (chroma_height sequence.now) number bytes.now) }
+    requires bytes { length bytes.now ≡ settings.now.width * settings.now.height + chroma_width sequence.now *
+        chroma_height sequence.now + chroma_width sequence.now * chroma_height sequence.now }
+    ensures value { IfOk result (λ p. p ≡ picture_in settings.now.width settings.now.height (chroma_width sequence.now)
+        (chroma_height sequence.now) number bytes.now) }
     ensures y { IfOk result (λ p. AreSamples p.y.values) }
     ensures u { IfOk result (λ p. AreSamples p.u.values) }
     ensures v { IfOk result (λ p. AreSamples p.v.values) }

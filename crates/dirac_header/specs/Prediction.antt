@@ -30,7 +30,8 @@ is_divisible ratio length separation =
 -- lengths and separations that a picture of this chroma format may have
 abbrev pub is_grid : Chroma → BlockGrid → Bool
 is_grid chroma g =
-    is_overlap g.xblen g.xbsep && is_divisible (ratio_across chroma) g.xblen g.xbsep && is_overlap g.yblen g.ybsep && is_divisible (ratio_down chroma) g.yblen g.ybsep
+    is_overlap g.xblen g.xbsep && is_divisible (ratio_across chroma) g.xblen g.xbsep && is_overlap g.yblen g.ybsep
+    && is_divisible (ratio_down chroma) g.yblen g.ybsep
 
 -- block parameters that stand in the picture, refused at the first of them
 unfoldable pub own_grid : Chroma → Syntax BlockGrid
@@ -86,7 +87,13 @@ modes = do
 -- the parameters with these weights
 abbrev pub weighted : BlockGrid → ℕ → Weights → Prediction
 weighted grid precision weights =
-    record { grid = grid; precision = precision; weight_bits = weights.bits; weight1 = weights.first; weight2 = weights.second }
+    record {
+      grid = grid;
+      precision = precision;
+      weight_bits = weights.bits;
+      weight1 = weights.first;
+      weight2 = weights.second;
+    }
 
 -- the prediction parameters of a picture with this parse code in this chroma format
 unfoldable pub prediction : ℕ → Chroma → Syntax Prediction

@@ -40,7 +40,8 @@ retirement_bits there number retire = if there then numbers.sint (retired_offset
 -- a picture header behind these bits, the gap up to the next byte of bits 0
 abbrev pub header_bits : List Bool → ℕ → PictureHeader → List Bool
 header_bits before code h =
-    gap before ++ numbers.literal h.number ++ reference_bits h.number h.ref1 ++ reference_bits h.number h.ref2 ++ retirement_bits (is_reference code) h.number h.retire
+    gap before ++ numbers.literal h.number ++ reference_bits h.number h.ref1 ++ reference_bits h.number h.ref2
+    ++ retirement_bits (is_reference code) h.number h.retire
 
 -- the numbers of pictures are below 2 ^ 32
 pub record IsInRange (h : PictureHeader) : Type 0 where
@@ -97,12 +98,14 @@ pub record IsTransform (t : Transform) : Type 0 where
 abbrev pub FitFrom : ℕ → ℕ → ℕ → ℕ → List (ℕ × ℕ) → Type 0
 FitFrom width height depth level [] = ⊤
 FitFrom width height depth level (c ∷ counts) =
-    (c.0 ≤ band_length width depth level) × (c.1 ≤ band_length height depth level) × FitFrom width height depth (level + 1) counts
+    (c.0 ≤ band_length width depth level) × (c.1 ≤ band_length height depth level)
+    × FitFrom width height depth (level + 1) counts
 
 -- the bits written spell these parameters for each picture size whose luma bands the counts fit
 abbrev pub TransformBehind : Transform → List Bool → List Bool → Type 0
 TransformBehind t old new =
-    (width height : ℕ) → width < 2 ^ 32 → height < 2 ^ 32 → FitFrom width height t.depth 0 t.counts → SpelledBehind (transform width height) t old new
+    (width height : ℕ) → width < 2 ^ 32 → height < 2 ^ 32 → FitFrom width height t.depth 0 t.counts
+    → SpelledBehind (transform width height) t old new
 
 -- the default weights
 abbrev pub default_weights : Weights

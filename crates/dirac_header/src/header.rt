@@ -30,7 +30,8 @@ pub fn read_header(r: &mut BitReader<'_>, code: u8) -> Result<PictureHeader, Ref
     // What is answered is spelled by the bits left.
     ensures spelled { IfOk result (λ h. BeginsWith (grammar.header code) h r.old r.new) }
     // What they spell is answered.
-    ensures no_other_reading { (h : TheHeader) (d : Cursor) → BeginsWith (grammar.header code) h r.old d → (result ≡ Ok h) × (r.new ≡ d) }
+    ensures no_other_reading { (h : TheHeader) (d : Cursor) → BeginsWith (grammar.header code) h r.old d
+        → (result ≡ Ok h) × (r.new ≡ d) }
     ensures place_inside { IfErr result (λ e. e.at ≤ length r.old.bytes) }
     ensures kept { r.new.bytes ≡ r.old.bytes }
 {

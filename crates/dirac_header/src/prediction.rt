@@ -48,7 +48,8 @@ pub fn read_prediction(
     // What is answered is spelled by the bits left.
     ensures spelled { IfOk result (λ p. BeginsWith (grammar.prediction code chroma) p r.old r.new) }
     // What they spell is answered.
-    ensures no_other_reading { (p : ThePrediction) (d : Cursor) → BeginsWith (grammar.prediction code chroma) p r.old d → (result ≡ Ok p) × (r.new ≡ d) }
+    ensures no_other_reading { (p : ThePrediction) (d : Cursor) → BeginsWith (grammar.prediction code chroma) p r.old d
+        → (result ≡ Ok p) × (r.new ≡ d) }
     ensures place_inside { IfErr result (λ e. e.at ≤ length r.old.bytes) }
     ensures kept { r.new.bytes ≡ r.old.bytes }
     ensures grid { IfOk result (λ p. IsTrue (grammar.is_grid chroma p.grid)) }

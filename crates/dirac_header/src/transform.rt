@@ -28,7 +28,8 @@ pub fn read_transform(r: &mut BitReader<'_>, width: u32, height: u32) -> Result<
     // What is answered is spelled by the bits left.
     ensures spelled { IfOk result (λ t. BeginsWith (grammar.transform width height) t r.old r.new) }
     // What they spell is answered.
-    ensures no_other_reading { (t : TheTransform) (d : Cursor) → BeginsWith (grammar.transform width height) t r.old d → (result ≡ Ok t) × (r.new ≡ d) }
+    ensures no_other_reading { (t : TheTransform) (d : Cursor) → BeginsWith (grammar.transform width height) t r.old d
+        → (result ≡ Ok t) × (r.new ≡ d) }
     ensures place_inside { IfErr result (λ e. e.at ≤ length r.old.bytes) }
     ensures kept { r.new.bytes ≡ r.old.bytes }
     ensures wavelet { IfOk result (λ t. IsWavelet t.wavelet) }

@@ -124,7 +124,8 @@ impl<W: Write> Sink for WriterSink<W> {
 
     fn write(&mut self, piece: &[u8]) -> Took
         requires { 0 < length piece.now }
-        ensures bytes { IfTaken result (λ n. TakesFront n piece.now (W.contents self.old.writer) (W.contents self.new.writer)) }
+        ensures bytes { IfTaken result (λ n. TakesFront n piece.now (W.contents self.old.writer)
+            (W.contents self.new.writer)) }
         ensures failed { result ≡ Took.Failed → Rose (clipped self.old.faults) (clipped self.new.faults) }
         ensures kept { result ≡ Took.Failed → Keeps (W.contents self.old.writer) (W.contents self.new.writer) }
         ensures memory { result ≡ Took.NoMemory → ⊥ }

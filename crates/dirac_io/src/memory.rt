@@ -70,7 +70,8 @@ impl Source for MemSource {
         ensures bytes { IfBytes result (λ n. GivesFront n buf.new
             (Some self.old.bytes) (Some self.new.bytes) (left_of self.old.bytes) (left_of self.new.bytes)) }
         ensures end { result ≡ Got.End → MeetsEnd (Some self.old.bytes) (Some self.new.bytes)
-            (clipped self.old.calls.count) (clipped self.new.calls.count) (left_of self.old.bytes) (left_of self.new.bytes) }
+            (clipped self.old.calls.count) (clipped self.new.calls.count) (left_of self.old.bytes)
+            (left_of self.new.bytes) }
         ensures failed { result ≡ Got.Failed → Rose (clipped self.old.calls.count) (clipped self.new.calls.count) }
         ensures kept { result ≡ Got.Failed → Keeps (Some self.old.bytes) (Some self.new.bytes) }
         ensures count { clipped self.old.calls.count ≤ clipped self.new.calls.count }

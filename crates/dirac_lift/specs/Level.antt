@@ -45,7 +45,8 @@ begun wavelet xs = if has_shift wavelet then map doubled xs else xs
 -- the synthesis of a plane whose four bands are interleaved
 abbrev pub synthesised : ℕ → Table → Table
 synthesised wavelet t =
-    let lifted = rows_by (synth wavelet) (columns_by (synth wavelet) t) in record lifted { values = ended wavelet lifted.values }
+    let lifted = rows_by (synth wavelet) (columns_by (synth wavelet) t) in
+    record lifted { values = ended wavelet lifted.values }
 
 -- the next level's LL band, of the four bands of one level
 abbrev pub level : ℕ → Table → Table → Table → Table → Table

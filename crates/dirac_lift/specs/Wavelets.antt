@@ -7,11 +7,13 @@ use Rattle.dirac_lift.specs.Lifting.{Step, lift, opposite}
 
 -- even places minus a rounded sum of odd ones
 abbrev pub even_minus : ℕ → ℤ → List ℤ → Step
-even_minus shift first taps = record { parity = 0; minus = true; shift = shift; lead = unsigned_abs (pos 1 -ℤ first); taps = taps }
+even_minus shift first taps =
+    record { parity = 0; minus = true; shift = shift; lead = unsigned_abs (pos 1 -ℤ first); taps = taps }
 
 -- even places plus a rounded sum of odd ones
 abbrev pub even_plus : ℕ → ℤ → List ℤ → Step
-even_plus shift first taps = record { parity = 0; minus = false; shift = shift; lead = unsigned_abs (pos 1 -ℤ first); taps = taps }
+even_plus shift first taps =
+    record { parity = 0; minus = false; shift = shift; lead = unsigned_abs (pos 1 -ℤ first); taps = taps }
 
 -- odd places minus a rounded sum of even ones
 abbrev pub odd_minus : ℕ → ℤ → List ℤ → Step

@@ -16,5 +16,6 @@ LinesStayZeros = (wavelet : ℕ) (xs : List ℤ) → AreZeros xs → AreZeros (s
 -- and so has that of four bands of zeros
 abbrev pub LevelsStayZeros : Type 0
 LevelsStayZeros =
-    (wavelet : ℕ) (ll hl lh hh : Table) → AreZeros ll.values → AreZeros hl.values → AreZeros lh.values → AreZeros hh.values
+    (wavelet : ℕ) (ll hl lh hh : Table) → AreZeros ll.values → AreZeros hl.values → AreZeros lh.values
+    → AreZeros hh.values
     → AreZeros (level wavelet ll hl lh hh).values

@@ -38,7 +38,8 @@ fn weighted_in_column(
     requires pair { n < height / 2 }
     requires values { PlacesWithin (2 ^ 112) (1 - step.parity) (column values.now width height x) }
     requires taps { sum_by unsigned_abs taps.now ≤ 2 ^ 14 }
-    ensures value { result ≡ weighted taps.now (value_read step.parity step.lead (column values.now width height x) n) (length taps.now) }
+    ensures value { result ≡ weighted taps.now (value_read step.parity step.lead (column values.now width height x) n)
+        (length taps.now) }
     ensures bound { unsigned_abs result ≤ 2 ^ 126 }
 {
     let last = height / 2 - 1;
@@ -71,9 +72,16 @@ fn lift_column_place(
     requires pair { n < height / 2 }
     requires shift { step.shift ≤ 32 }
     requires read { PlacesWithin (2 ^ 112) (1 - step.parity) (column values.old width height x) }
-    requires changed { unsigned_abs (slice_index_or (column values.old width height x) (own step.parity n) (pos 0)) ≤ 2 ^ 112 }
+    requires changed { unsigned_abs (slice_index_or (column values.old width height x) (own step.parity n) (pos 0))
+        ≤ 2 ^ 112 }
     requires taps { sum_by unsigned_abs taps.now ≤ 2 ^ 14 }
-    ensures { values.new ≡ slice_set values.old (own step.parity n * width + x) (new_at (record { parity = step.parity; minus = step.minus; shift = step.shift; lead = step.lead; taps = taps.now }) (column values.old width height x) n) }
+    ensures { values.new ≡ slice_set values.old (own step.parity n * width + x) (new_at (record {
+      parity = step.parity;
+      minus = step.minus;
+      shift = step.shift;
+      lead = step.lead;
+      taps = taps.now;
+    }) (column values.old width height x) n) }
 {
     let sum = weighted_in_column(values, width, height, step, taps, n, x);
     let y = 2 * n + step.parity;
@@ -95,7 +103,13 @@ fn lift_columns_by(values: &mut [i128], width: usize, height: usize, step: Step,
     requires shift { step.shift ≤ 32 }
     requires taps { sum_by unsigned_abs taps.now ≤ 2 ^ 14 }
     requires magnitudes_bounded { ColumnsSmall width height values.old }
-    ensures { ColumnsBecome (lift (record { parity = step.parity; minus = step.minus; shift = step.shift; lead = step.lead; taps = taps.now })) width height values.old values.new }
+    ensures { ColumnsBecome (lift (record {
+      parity = step.parity;
+      minus = step.minus;
+      shift = step.shift;
+      lead = step.lead;
+      taps = taps.now;
+    })) width height values.old values.new }
 {
     for n in 0..height / 2 {
         for x in 0..width {
@@ -120,7 +134,13 @@ fn lift_columns(
     requires shift { shift ≤ 32 }
     requires taps { sum_by unsigned_abs taps.now ≤ 2 ^ 14 }
     requires magnitudes_bounded { ColumnsSmall width height values.old }
-    ensures { ColumnsBecome (lift (record { parity = parity_of change; minus = is_minus change; shift = shift; lead = lead; taps = taps.now })) width height values.old values.new }
+    ensures { ColumnsBecome (lift (record {
+      parity = parity_of change;
+      minus = is_minus change;
+      shift = shift;
+      lead = lead;
+      taps = taps.now;
+    })) width height values.old values.new }
 {
     let parity = change.parity();
     let minus = change.takes();

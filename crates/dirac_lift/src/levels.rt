@@ -98,7 +98,8 @@ fn synth_values(wavelet: u8, values: &mut [i128], width: usize, height: usize)
     requires down { height % 2 ≡ 0 }
     requires magnitudes_at_most_2_103 { All (λ v. unsigned_abs v ≤ 2 ^ 103) values.old }
     ensures value { values.new ≡ (synthesised wavelet (by_rows width height values.old)).values }
-    ensures growth { (b : ℕ) → All (λ v. unsigned_abs v ≤ b) values.old → All (λ v. unsigned_abs v ≤ 72 * b + 40) values.new }
+    ensures growth { (b : ℕ) → All (λ v. unsigned_abs v ≤ b) values.old
+        → All (λ v. unsigned_abs v ≤ 72 * b + 40) values.new }
 {
     synth_columns(wavelet, values, width, height);
     synth_rows(wavelet, values, width, height);
@@ -113,7 +114,8 @@ fn analyse_values(wavelet: u8, values: &mut [i128], width: usize, height: usize)
     requires down { height % 2 ≡ 0 }
     requires magnitudes_at_most_2_103 { All (λ v. unsigned_abs v ≤ 2 ^ 103) values.old }
     ensures value { values.new ≡ (analysed wavelet (by_rows width height values.old)).values }
-    ensures growth { (b : ℕ) → All (λ v. unsigned_abs v ≤ b) values.old → All (λ v. unsigned_abs v ≤ 128 * b + 32) values.new }
+    ensures growth { (b : ℕ) → All (λ v. unsigned_abs v ≤ b) values.old
+        → All (λ v. unsigned_abs v ≤ 128 * b + 32) values.new }
     ensures undone { (synthesised wavelet (by_rows width height values.new)).values ≡ values.old }
 {
     begin_level(wavelet, values);
@@ -130,7 +132,8 @@ pub fn synth_level(wavelet: u8, plane: &mut Wide)
     requires down { plane.old.height % 2 ≡ 0 }
     requires magnitudes_at_most_2_103 { All (λ v. unsigned_abs v ≤ 2 ^ 103) plane.old.values }
     ensures value { plane.new ≡ synthesised wavelet plane.old }
-    ensures growth { (b : ℕ) → All (λ v. unsigned_abs v ≤ b) plane.old.values → All (λ v. unsigned_abs v ≤ 72 * b + 40) plane.new.values }
+    ensures growth { (b : ℕ) → All (λ v. unsigned_abs v ≤ b) plane.old.values
+        → All (λ v. unsigned_abs v ≤ 72 * b + 40) plane.new.values }
 {
     let width = plane.width() as usize;
     let height = plane.height() as usize;
@@ -145,7 +148,8 @@ pub fn analyse_level(wavelet: u8, plane: &mut Wide)
     requires down { plane.old.height % 2 ≡ 0 }
     requires magnitudes_at_most_2_103 { All (λ v. unsigned_abs v ≤ 2 ^ 103) plane.old.values }
     ensures value { plane.new ≡ analysed wavelet plane.old }
-    ensures growth { (b : ℕ) → All (λ v. unsigned_abs v ≤ b) plane.old.values → All (λ v. unsigned_abs v ≤ 128 * b + 32) plane.new.values }
+    ensures growth { (b : ℕ) → All (λ v. unsigned_abs v ≤ b) plane.old.values
+        → All (λ v. unsigned_abs v ≤ 128 * b + 32) plane.new.values }
     ensures undone { synthesised wavelet plane.new ≡ plane.old }
 {
     let width = plane.width() as usize;

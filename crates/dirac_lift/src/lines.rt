@@ -188,7 +188,8 @@ pub fn synth_line(wavelet: u8, line: &mut [i128])
     requires even { length line.old % 2 ≡ 0 }
     requires magnitudes_at_most_2_108 { All (λ v. unsigned_abs v ≤ 2 ^ 108) line.old }
     ensures value { line.new ≡ synth wavelet line.old }
-    ensures growth { (b : ℕ) → All (λ v. unsigned_abs v ≤ b) line.old → All (λ v. unsigned_abs v ≤ synth_bound wavelet b) line.new }
+    ensures growth { (b : ℕ) → All (λ v. unsigned_abs v ≤ b) line.old
+        → All (λ v. unsigned_abs v ≤ synth_bound wavelet b) line.new }
     ensures undone { analyse wavelet line.new ≡ line.old }
 {
     run_synthesis(wavelet, line);
@@ -200,7 +201,8 @@ pub fn analyse_line(wavelet: u8, line: &mut [i128])
     requires even { length line.old % 2 ≡ 0 }
     requires magnitudes_at_most_2_108 { All (λ v. unsigned_abs v ≤ 2 ^ 108) line.old }
     ensures value { line.new ≡ analyse wavelet line.old }
-    ensures growth { (b : ℕ) → All (λ v. unsigned_abs v ≤ b) line.old → All (λ v. unsigned_abs v ≤ analyse_bound b) line.new }
+    ensures growth { (b : ℕ) → All (λ v. unsigned_abs v ≤ b) line.old
+        → All (λ v. unsigned_abs v ≤ analyse_bound b) line.new }
     ensures undone { synth wavelet line.new ≡ line.old }
 {
     run_analysis(wavelet, line);

@@ -130,7 +130,13 @@ fn lift_pair_clamped(line: &mut [i128], step: Step, taps: &[i64], n: usize)
     requires read { PlacesWithin (2 ^ 112) (1 - step.parity) line.old }
     requires changed { unsigned_abs (slice_index_or line.old (own step.parity n) (pos 0)) ≤ 2 ^ 112 }
     requires taps { sum_by unsigned_abs taps.now ≤ 2 ^ 14 }
-    ensures { line.new ≡ slice_set line.old (own step.parity n) (new_at (record { parity = step.parity; minus = step.minus; shift = step.shift; lead = step.lead; taps = taps.now }) line.old n) }
+    ensures { line.new ≡ slice_set line.old (own step.parity n) (new_at (record {
+      parity = step.parity;
+      minus = step.minus;
+      shift = step.shift;
+      lead = step.lead;
+      taps = taps.now;
+    }) line.old n) }
 {
     let sum = weighted_clamped(line, step, taps, n);
     let at = 2 * n + step.parity;
@@ -148,7 +154,13 @@ fn lift_pair_inside(line: &mut [i128], step: Step, taps: &[i64], n: usize)
     requires read { PlacesWithin (2 ^ 112) (1 - step.parity) line.old }
     requires changed { unsigned_abs (slice_index_or line.old (own step.parity n) (pos 0)) ≤ 2 ^ 112 }
     requires taps { sum_by unsigned_abs taps.now ≤ 2 ^ 14 }
-    ensures { line.new ≡ slice_set line.old (own step.parity n) (new_at (record { parity = step.parity; minus = step.minus; shift = step.shift; lead = step.lead; taps = taps.now }) line.old n) }
+    ensures { line.new ≡ slice_set line.old (own step.parity n) (new_at (record {
+      parity = step.parity;
+      minus = step.minus;
+      shift = step.shift;
+      lead = step.lead;
+      taps = taps.now;
+    }) line.old n) }
 {
     let sum = weighted_inside(line, step, taps, n);
     let at = 2 * n + step.parity;
@@ -165,7 +177,13 @@ fn lift_by(line: &mut [i128], step: Step, taps: &[i64])
     requires even { length line.old % 2 ≡ 0 }
     requires evens { PlacesWithin (2 ^ 112) 0 line.old }
     requires odds { PlacesWithin (2 ^ 112) 1 line.old }
-    ensures { line.new ≡ lift (record { parity = step.parity; minus = step.minus; shift = step.shift; lead = step.lead; taps = taps.now }) line.old }
+    ensures { line.new ≡ lift (record {
+      parity = step.parity;
+      minus = step.minus;
+      shift = step.shift;
+      lead = step.lead;
+      taps = taps.now;
+    }) line.old }
 {
     let half = line.len() / 2;
     let low = step.lead.min(half);
@@ -192,7 +210,13 @@ pub fn lift_in_place(line: &mut [i128], change: Change, shift: u32, lead: usize,
     requires even { length line.old % 2 ≡ 0 }
     requires evens { PlacesWithin (2 ^ 112) 0 line.old }
     requires odds { PlacesWithin (2 ^ 112) 1 line.old }
-    ensures { line.new ≡ lift (record { parity = parity_of change; minus = is_minus change; shift = shift; lead = lead; taps = taps.now }) line.old }
+    ensures { line.new ≡ lift (record {
+      parity = parity_of change;
+      minus = is_minus change;
+      shift = shift;
+      lead = lead;
+      taps = taps.now;
+    }) line.old }
 {
     let parity = change.parity();
     let minus = change.takes();

@@ -168,4 +168,5 @@ pub record IsMotion (m : Compensation) : Type 0 where
 abbrev pub IsFlat : Compensation → ℤ → Type 0
 IsFlat m v =
     (i j : ℕ) → i < blocks_across m → j < blocks_down m
-    → ((block_at m.blocks i j).ref1 ≡ false) × ((block_at m.blocks i j).ref2 ≡ false) × (dc_of m.component (block_at m.blocks i j) ≡ v)
+    → ((block_at m.blocks i j).ref1 ≡ false) × ((block_at m.blocks i j).ref2 ≡ false)
+    × (dc_of m.component (block_at m.blocks i j) ≡ v)

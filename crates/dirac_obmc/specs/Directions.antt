@@ -30,7 +30,8 @@ IsDown m d = IsDirection (blocks_down m) (y_length m) (y_separation m) m.height 
 -- the weights of all blocks of a direction, block after block
 pub record IsWeights (count len separation : ℕ) (ws : List ℕ) : Type 0 where
   pub whole : length ws ≡ count * len
-  pub each : (block t : ℕ) → block < count → t < len → slice_index ws (block * len + t) ≡ weight_at block count len separation t
+  pub each : (block t : ℕ) → block < count → t < len → slice_index ws (block * len + t)
+      ≡ weight_at block count len separation t
   pub small : All (λ w. w ≤ 8) ws
 
 -- the blocks of a plane from left to right, with their weights

@@ -23,7 +23,8 @@ pub record IsOfSamples (m : Compensation) : Type 0 where
 -- what is predicted from samples alone is a sample
 abbrev pub SamplesPredictSamples : Type 0
 SamplesPredictSamples =
-    (m : Compensation) → IsMotion m → IsOfSamples m → (x y : ℕ) → x < m.width → y < m.height → IsSample (predicted_at m x y)
+    (m : Compensation) → IsMotion m → IsOfSamples m → (x y : ℕ) → x < m.width → y < m.height
+    → IsSample (predicted_at m x y)
 
 -- and so is each value of a plane that is
 abbrev pub PlanesOfSamples : Type 0

@@ -24,7 +24,8 @@ weight_at block count length separation t =
 -- whether a block holds place x of its plane: it starts the margin before its own part
 abbrev pub holds : ℕ → ℕ → ℕ → ℕ → Bool
 holds block length separation x =
-    nat_le (block * separation) (x + margin length separation) && nat_lt (x + margin length separation) (block * separation + length)
+    nat_le (block * separation) (x + margin length separation)
+    && nat_lt (x + margin length separation) (block * separation + length)
 
 -- the weight of a block at place x of its plane; a block that doesn't hold the place counts nothing
 unfoldable pub share : ℕ → ℕ → ℕ → ℕ → ℕ → ℕ

@@ -58,7 +58,8 @@ fn rows_between(
     requires inside { end ≤ motion.now.height }
     requires motion { IsMotion (given motion.now) }
     ensures value { IfOk result (λ t. t ≡ predicted_rows (given motion.now) first end) }
-    ensures each { IfOk result (λ t. (x y : ℕ) → x < motion.now.width → y < end - first → table_at t x y ≡ predicted_at (given motion.now) x (first + y)) }
+    ensures each { IfOk result (λ t. (x y : ℕ) → x < motion.now.width → y < end - first → table_at t x y
+        ≡ predicted_at (given motion.now) x (first + y)) }
     ensures magnitudes_at_most_2_15 { IfOk result (λ t. All (λ v. unsigned_abs v ≤ 2 ^ 15) t.values) }
 {
     lawful(motion);
@@ -101,7 +102,8 @@ pub fn predict_rows(
     requires inside { end ≤ motion.now.height }
     requires motion { IsPredictable (given motion.now) }
     ensures value { IfOk result (λ t. t ≡ predicted_rows (given motion.now) first end) }
-    ensures each { IfOk result (λ t. (x y : ℕ) → x < motion.now.width → y < end - first → table_at t x y ≡ predicted_at (given motion.now) x (first + y)) }
+    ensures each { IfOk result (λ t. (x y : ℕ) → x < motion.now.width → y < end - first → table_at t x y
+        ≡ predicted_at (given motion.now) x (first + y)) }
     ensures magnitudes_at_most_2_15 { IfOk result (λ t. All (λ v. unsigned_abs v ≤ 2 ^ 15) t.values) }
 {
     bounded(motion);
@@ -112,7 +114,8 @@ pub fn predict_rows(
 pub fn predict_plane(alloc: Global, motion: &Motion<'_>) -> Result<Predicted, NoMemory>
     requires motion { IsPredictable (given motion.now) }
     ensures value { IfOk result (λ t. t ≡ predicted_plane (given motion.now)) }
-    ensures each { IfOk result (λ t. (x y : ℕ) → x < motion.now.width → y < motion.now.height → table_at t x y ≡ predicted_at (given motion.now) x y) }
+    ensures each { IfOk result (λ t. (x y : ℕ) → x < motion.now.width → y < motion.now.height → table_at t x y
+        ≡ predicted_at (given motion.now) x y) }
     ensures magnitudes_at_most_2_15 { IfOk result (λ t. All (λ v. unsigned_abs v ≤ 2 ^ 15) t.values) }
 {
     bounded(motion);

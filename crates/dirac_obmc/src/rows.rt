@@ -40,9 +40,11 @@ fn add_block(
     requires across { i < blocks_across (given motion.now) }
     requires below { j < blocks_down (given motion.now) }
     requires inside { y < motion.now.height }
-    requires down { down ≡ Rattle.dirac_obmc.specs.Weights.share j (blocks_down (given motion.now)) (y_length (given motion.now)) (y_separation (given motion.now)) y }
+    requires down { down ≡ Rattle.dirac_obmc.specs.Weights.share j (blocks_down (given motion.now))
+        (y_length (given motion.now)) (y_separation (given motion.now)) y }
     requires at_most_8 { down ≤ 8 }
-    requires lens { (length first.old ≡ x_length (given motion.now)) × (length second.old ≡ x_length (given motion.now)) × (length values.old ≡ x_length (given motion.now)) }
+    requires lens { (length first.old ≡ x_length (given motion.now)) × (length second.old ≡ x_length (given motion.now))
+        × (length values.old ≡ x_length (given motion.now)) }
     requires len { length sums.old ≡ motion.now.width }
     requires sums { All (λ v. unsigned_abs v ≤ 2 ^ 22) sums.old }
     ensures { Adds (λ x. term (given motion.now) x y j i) motion.now.width sums.old sums.new }
@@ -85,12 +87,15 @@ fn add_blocks(
     requires columns { IsColumns (given motion.now) columns }
     requires below { j < blocks_down (given motion.now) }
     requires inside { y < motion.now.height }
-    requires down { down ≡ Rattle.dirac_obmc.specs.Weights.share j (blocks_down (given motion.now)) (y_length (given motion.now)) (y_separation (given motion.now)) y }
+    requires down { down ≡ Rattle.dirac_obmc.specs.Weights.share j (blocks_down (given motion.now))
+        (y_length (given motion.now)) (y_separation (given motion.now)) y }
     requires at_most_8 { down ≤ 8 }
-    requires lens { (length first.old ≡ x_length (given motion.now)) × (length second.old ≡ x_length (given motion.now)) × (length values.old ≡ x_length (given motion.now)) }
+    requires lens { (length first.old ≡ x_length (given motion.now)) × (length second.old ≡ x_length (given motion.now))
+        × (length values.old ≡ x_length (given motion.now)) }
     requires len { length sums.old ≡ motion.now.width }
     requires sums { All (λ v. unsigned_abs v ≤ 2 ^ 21) sums.old }
-    ensures { Adds (λ x. total (term (given motion.now) x y j) (blocks_across (given motion.now))) motion.now.width sums.old sums.new }
+    ensures { Adds (λ x. total (term (given motion.now) x y j) (blocks_across (given motion.now))) motion.now.width
+        sums.old sums.new }
 {
     for i in 0..columns.blocks.count {
         add_block(motion, columns, i, j, y, down, first, second, values, sums);
@@ -115,7 +120,8 @@ fn first_row(rows: Direction, y: u32) -> u32
 fn end_row(rows: Direction, y: u32) -> u32
     requires rows { Rattle.dirac_obmc.specs.Weights.IsOverlap rows.length rows.separation }
     requires place { y ≤ LARGEST_SIDE }
-    ensures behind { (j : ℕ) → result ≤ j → j < rows.count → y + margin rows.length rows.separation < j * rows.separation }
+    ensures behind { (j : ℕ) → result ≤ j → j < rows.count → y + margin rows.length rows.separation
+        < j * rows.separation }
     ensures within { result ≤ rows.count }
 {
     let place = y + (rows.length - rows.separation) / 2;
@@ -138,10 +144,12 @@ fn add_rows(
     requires columns { IsColumns (given motion.now) columns }
     requires rows { IsDown (given motion.now) rows }
     requires inside { y < motion.now.height }
-    requires lens { (length first.old ≡ x_length (given motion.now)) × (length second.old ≡ x_length (given motion.now)) × (length values.old ≡ x_length (given motion.now)) }
+    requires lens { (length first.old ≡ x_length (given motion.now)) × (length second.old ≡ x_length (given motion.now))
+        × (length values.old ≡ x_length (given motion.now)) }
     requires len { length sums.old ≡ motion.now.width }
     requires sums { (x : ℕ) → slice_index_or sums.old x (pos 0) ≡ pos 0 }
-    ensures value { (x : ℕ) → x < motion.now.width → slice_index_or sums.new x (pos 0) ≡ blended (given motion.now) x y }
+    ensures value { (x : ℕ) → x < motion.now.width → slice_index_or sums.new x (pos 0)
+        ≡ blended (given motion.now) x y }
     ensures magnitudes_at_most_2_21 { All (λ v. unsigned_abs v ≤ 2 ^ 21) sums.new }
 {
     for j in first_row(rows, y)..end_row(rows, y) {
@@ -167,9 +175,11 @@ pub fn predict_row(
     requires columns { IsColumns (given motion.now) columns }
     requires rows { IsDown (given motion.now) rows }
     requires inside { y < motion.now.height }
-    requires lens { (length first.old ≡ x_length (given motion.now)) × (length second.old ≡ x_length (given motion.now)) × (length values.old ≡ x_length (given motion.now)) }
+    requires lens { (length first.old ≡ x_length (given motion.now)) × (length second.old ≡ x_length (given motion.now))
+        × (length values.old ≡ x_length (given motion.now)) }
     requires len { (length sums.old ≡ motion.now.width) × (length out.old ≡ motion.now.width) }
-    ensures value { (x : ℕ) → x < motion.now.width → slice_index_or out.new x (pos 0) ≡ predicted_at (given motion.now) x y }
+    ensures value { (x : ℕ) → x < motion.now.width → slice_index_or out.new x (pos 0)
+        ≡ predicted_at (given motion.now) x y }
 {
     clear_sums(sums);
     add_rows(motion, columns, rows, y, first, second, values, sums);

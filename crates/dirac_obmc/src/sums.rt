@@ -42,7 +42,8 @@ pub fn add_values(
     requires weighed { first + count ≤ length weights.now }
     requires weights { All (λ w. w ≤ 8) weights.now }
     requires down { down ≤ 8 }
-    ensures { AddsPart start (λ k. pos (slice_index weights.now (first + k) * down) *ℤ slice_index_or values.now k (pos 0)) count sums.old sums.new }
+    ensures { AddsPart start (λ k. pos (slice_index weights.now (first + k) * down) *ℤ slice_index_or values.now k
+        (pos 0)) count sums.old sums.new }
 {
     for k in 0..count {
         sums[start + k] = sum(
@@ -75,7 +76,8 @@ fn divided(sum: i32) -> i32
 pub fn divide_sums(sums: &[i32], out: &mut [i32])
     requires len { length sums.now ≡ length out.old }
     requires sums { All (λ v. unsigned_abs v ≤ 2 ^ 21) sums.now }
-    ensures value { (x : ℕ) → x < length out.old → slice_index_or out.new x (pos 0) ≡ int_shr (slice_index_or sums.now x (pos 0) +ℤ pos 32) 6 }
+    ensures value { (x : ℕ) → x < length out.old → slice_index_or out.new x (pos 0)
+        ≡ int_shr (slice_index_or sums.now x (pos 0) +ℤ pos 32) 6 }
 {
     for x in 0..out.len() {
         out[x] = divided(sums[x]);

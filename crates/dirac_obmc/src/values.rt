@@ -66,7 +66,8 @@ fn moved_row(motion: &Motion<'_>, up: &UpPlane, vector: Vector, x: u32, y: u32, 
     requires x { x ≤ LARGEST_SIDE }
     requires y { y ≤ LARGEST_SIDE }
     requires at_most_64 { length out.old ≤ 64 }
-    ensures value { (k : ℕ) → k < length out.old → slice_index_or out.new k (pos 0) ≡ moved_sample (given motion.now) up.now vector (x + k) y }
+    ensures value { (k : ℕ) → k < length out.old → slice_index_or out.new k (pos 0)
+        ≡ moved_sample (given motion.now) up.now vector (x + k) y }
     ensures samples { All IsSample out.new }
 {
     let precision = motion.prediction.precision;
@@ -82,7 +83,8 @@ fn second_row(motion: &Motion<'_>, vector: Vector, x: u32, y: u32, out: &mut [i1
     requires x { x ≤ LARGEST_SIDE }
     requires y { y ≤ LARGEST_SIDE }
     requires at_most_64 { length out.old ≤ 64 }
-    ensures value { (k : ℕ) → k < length out.old → slice_index_or out.new k (pos 0) ≡ second_sample (given motion.now) (given motion.now).up2 vector (x + k) y }
+    ensures value { (k : ℕ) → k < length out.old → slice_index_or out.new k (pos 0)
+        ≡ second_sample (given motion.now) (given motion.now).up2 vector (x + k) y }
     ensures samples { All IsSample out.new }
 {
     match motion.up2 {
@@ -171,7 +173,8 @@ fn weigh_one(p: &Prediction, samples: &[i16], out: &mut [i32])
     requires weights { (unsigned_abs p.now.weight1 ≤ 255) × (unsigned_abs p.now.weight2 ≤ 255) }
     requires len { length samples.now ≡ length out.old }
     requires samples { All IsSample samples.now }
-    ensures { (k : ℕ) → k < length out.old → slice_index_or out.new k (pos 0) ≡ from_one p.now (slice_index_or samples.now k (pos 0)) }
+    ensures { (k : ℕ) → k < length out.old → slice_index_or out.new k (pos 0)
+        ≡ from_one p.now (slice_index_or samples.now k (pos 0)) }
 {
     let weight = weight_of_one(p);
     let bits = p.weight_bits;
@@ -200,7 +203,8 @@ fn weigh_two(p: &Prediction, first: &[i16], second: &[i16], out: &mut [i32])
     requires len { (length first.now ≡ length out.old) × (length second.now ≡ length out.old) }
     requires first { All IsSample first.now }
     requires second { All IsSample second.now }
-    ensures { (k : ℕ) → k < length out.old → slice_index_or out.new k (pos 0) ≡ from_two p.now (slice_index_or first.now k (pos 0)) (slice_index_or second.now k (pos 0)) }
+    ensures { (k : ℕ) → k < length out.old → slice_index_or out.new k (pos 0)
+        ≡ from_two p.now (slice_index_or first.now k (pos 0)) (slice_index_or second.now k (pos 0)) }
 {
     for k in 0..out.len() {
         out[k] = value_of_two(p, first, second, k);
@@ -243,7 +247,8 @@ pub fn block_values(
     requires y { y ≤ LARGEST_SIDE }
     requires at_most_64 { length out.old ≤ 64 }
     requires lens { (length first.old ≡ length out.old) × (length second.old ≡ length out.old) }
-    ensures { (k : ℕ) → k < length out.old → slice_index_or out.new k (pos 0) ≡ predicts (given motion.now) block.now (x + k) y }
+    ensures { (k : ℕ) → k < length out.old → slice_index_or out.new k (pos 0)
+        ≡ predicts (given motion.now) block.now (x + k) y }
 {
     if block.ref1 {
         moved_row(motion, motion.up1, block.v1, x, y, first);

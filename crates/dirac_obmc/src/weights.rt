@@ -53,7 +53,8 @@ pub fn share(blocks: Direction, block: u32, place: u32) -> u8
     requires block { block < blocks.count }
     requires count { blocks.count ≤ LARGEST_SIDE }
     requires place { place ≤ LARGEST_SIDE }
-    ensures value { result ≡ Rattle.dirac_obmc.specs.Weights.share block blocks.count blocks.length blocks.separation place }
+    ensures value { result ≡ Rattle.dirac_obmc.specs.Weights.share block blocks.count blocks.length blocks.separation
+        place }
     ensures at_most_8 { result ≤ 8 }
 {
     let place = place + (blocks.length - blocks.separation) / 2;
@@ -75,7 +76,8 @@ pub fn share(blocks: Direction, block: u32, place: u32) -> u8
 fn weight_in_list(blocks: Direction, place: u32) -> u8
     requires sizes { IsOverlap blocks.length blocks.separation }
     requires place { place < blocks.count * blocks.length }
-    ensures value { result ≡ weight_at (place / blocks.length) blocks.count blocks.length blocks.separation (place % blocks.length) }
+    ensures value { result ≡ weight_at (place / blocks.length) blocks.count blocks.length blocks.separation
+        (place % blocks.length) }
     ensures at_most_8 { result ≤ 8 }
 {
     weight(
@@ -110,15 +112,18 @@ pub fn weight_table(alloc: Global, blocks: Direction) -> Result<Vec<u8>, NoMemor
 
 /// The weights of all blocks at a place across, or down, sum to 8, however the blocks overlap.
 pub fn weights_sum_to_eight()
-    ensures { (count length separation x : ℕ) → IsOverlap length separation → x < count * separation → sum_below (λ block. share block count length separation x) count ≡ 8 }
+    ensures { (count length separation x : ℕ) → IsOverlap length separation → x < count * separation
+        → sum_below (λ block. share block count length separation x) count ≡ 8 }
 {}
 
 /// The weights of all blocks at a sample that they cover sum to 64.
 pub fn weights_sum_to_64()
-    ensures { (m : Compensation) → IsMotion m → (x y : ℕ) → x < m.width → y < m.height → sum_below (λ j. sum_below (λ i. weight_of m x y j i) (blocks_across m)) (blocks_down m) ≡ 64 }
+    ensures { (m : Compensation) → IsMotion m → (x y : ℕ) → x < m.width → y < m.height
+        → sum_below (λ j. sum_below (λ i. weight_of m x y j i) (blocks_across m)) (blocks_down m) ≡ 64 }
 {}
 
 /// DC blocks of one value predict that value everywhere.
 pub fn dc_blocks_predict_their_value()
-    ensures { (m : Compensation) (v : ℤ) → IsMotion m → IsFlat m v → (x y : ℕ) → x < m.width → y < m.height → predicted_at m x y ≡ v }
+    ensures { (m : Compensation) (v : ℤ) → IsMotion m → IsFlat m v → (x y : ℕ) → x < m.width → y < m.height
+        → predicted_at m x y ≡ v }
 {}

@@ -46,7 +46,8 @@ pub record IsPlaneSize (width height : ℕ) : Type 0 where
 
 -- each of these bands is what its place in a plane of this size asks for
 abbrev pub AreBands : Transform → ℕ → ℕ → List CodedBand → Type 0
-AreBands t width height bands = (n : ℕ) (b : CodedBand) → slice_get bands n ≡ Some b → IsCodedBand (layout_of t width height n) b
+AreBands t width height bands =
+    (n : ℕ) (b : CodedBand) → slice_get bands n ≡ Some b → IsCodedBand (layout_of t width height n) b
 
 -- the bands of a plane of this size, all of them
 pub record AreBandsOf (t : Transform) (width height : ℕ) (bands : List CodedBand) : Type 0 where

@@ -60,7 +60,8 @@ superblocks_over size separation = (size + 4 * separation - 1) / (4 * separation
 unfoldable pub prediction_fields : ℕ → Sequence → Syntax CodedMotion
 prediction_fields code s = do
   p ← prediction code s.chroma
-  t ← blocks (superblocks_over s.width p.grid.xbsep) (superblocks_over (picture_height s) p.grid.ybsep) (references_of code)
+  t ← blocks (superblocks_over s.width p.grid.xbsep) (superblocks_over (picture_height s) p.grid.ybsep)
+      (references_of code)
   done (record { prediction = p; blocks = t })
 
 -- what an inter picture is predicted from

@@ -35,7 +35,8 @@ pub fn read_picture(
     // What is answered is spelled by the payload's first bits.
     ensures spelled { IfOk result (λ p. StartsWith (grammar.picture code sequence.now refs.now) p payload.now) }
     // What its first bits spell is answered.
-    ensures no_other_reading { (p : ThePicture) → StartsWith (grammar.picture code sequence.now refs.now) p payload.now → GivesOrStops result (Ok p) }
+    ensures no_other_reading { (p : ThePicture) → StartsWith (grammar.picture code sequence.now refs.now) p payload.now
+        → GivesOrStops result (Ok p) }
     ensures place_inside { IfErr result (IsEarly (length payload.now)) }
     ensures fits { IfOk result (FitsSequence code sequence.now) }
     // Each reference that its header names is listed.

@@ -42,7 +42,8 @@ fn read_next(
     requires size { IsPlaneSize width height }
     requires a_place_left { length bands.now ≤ 3 * transform.now.depth }
     requires before { AreBands transform.now width height bands.now }
-    ensures value { ReadsOrStops result r.new (read (band (places.layout_of transform.now width height (length bands.now)) (places.parent_values bands.now)) r.old) }
+    ensures value { ReadsOrStops result r.new (read (band (places.layout_of transform.now width height
+        (length bands.now)) (places.parent_values bands.now)) r.old) }
     ensures place_inside { IfErr result (IsEarly (length r.old.bytes)) }
     ensures kept { r.new.bytes ≡ r.old.bytes }
     ensures lawful { IfOk result (IsCodedBand (places.layout_of transform.now width height (length bands.now))) }

@@ -58,7 +58,9 @@ pub record Leaving : Type 0 where
 
 -- where more than four wait, one leaves
 abbrev pub delivered : List Waiting → Leaving
-delivered ws = if nat_le (length ws) MOST_WAITING then record { waiting = ws; gone = [] } else record { waiting = others ws; gone = least ws }
+delivered ws =
+    if nat_le (length ws) MOST_WAITING then record { waiting = ws; gone = [] }
+    else record { waiting = others ws; gone = least ws }
 
 -- so many pictures, as they leave one after another
 abbrev pub flushed_by : ℕ → List Waiting → List Picture

@@ -60,7 +60,8 @@ impl Delivery {
     /// leaves, the earlier pushed at a tie; else none does.
     pub fn push(&mut self, key: i32, picture: Picture) -> Option<Picture>
         ensures waiting { self.new ≡ (delivered (self.old ++ record { key = key; picture = picture } ∷ [])).waiting }
-        ensures gone { option_to_list result ≡ (delivered (self.old ++ record { key = key; picture = picture } ∷ [])).gone }
+        ensures gone { option_to_list result ≡ (delivered (self.old ++ record { key = key; picture = picture }
+            ∷ [])).gone }
         ensures exactly_when_4_wait { IsSome result ↔ (length self.old ≡ MOST_WAITING) }
         ensures at_most_4_wait { length self.new ≤ MOST_WAITING }
         ensures count { length self.new + length (option_to_list result) ≡ length self.old + 1 }

@@ -36,7 +36,8 @@ summed Inter t = t
 unfoldable pub after_levels : ℕ → Kind → List CodedBand → ℕ → Table
 after_levels wavelet kind bands zero = summed kind (restored_at kind bands 0)
 after_levels wavelet kind bands (suc n) =
-    level wavelet (after_levels wavelet kind bands n) (restored_at kind bands (3 * n + 1)) (restored_at kind bands (3 * n + 2)) (restored_at kind bands (3 * n + 3))
+    level wavelet (after_levels wavelet kind bands n) (restored_at kind bands (3 * n + 1))
+    (restored_at kind bands (3 * n + 2)) (restored_at kind bands (3 * n + 3))
 
 -- the first columns and rows of a table
 abbrev pub cut : ℕ → ℕ → Table → Table

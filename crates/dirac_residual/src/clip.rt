@@ -50,7 +50,8 @@ fn put_sum(residual: &[i128], predicted: &[i32], samples: &mut [i16], i: usize)
     requires predicted { length predicted.now ≡ length residual.now }
     requires samples { length samples.old ≡ length residual.now }
     requires bound { All (λ v. unsigned_abs v ≤ 2 ^ 108) residual.now }
-    ensures { samples.new ≡ slice_set samples.old i (clip (slice_index_or residual.now i (pos 0) +ℤ slice_index_or predicted.now i (pos 0))) }
+    ensures { samples.new ≡ slice_set samples.old i (clip (slice_index_or residual.now i (pos 0) +ℤ slice_index_or
+        predicted.now i (pos 0))) }
 {
     samples[i] = clip_sum(residual[i], predicted[i]);
 }

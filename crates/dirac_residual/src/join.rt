@@ -15,7 +15,8 @@ use std::alloc::Global;
 #[inline(always)]
 fn copy_into(values: &[i128], line: &mut [i128])
     requires line { length line.old ≡ 2 * length values.now }
-    ensures written { (n : ℕ) → n < length values.now → slice_index_or line.new (2 * n) (pos 0) ≡ slice_index_or values.now n (pos 0) }
+    ensures written { (n : ℕ) → n < length values.now → slice_index_or line.new (2 * n) (pos 0)
+        ≡ slice_index_or values.now n (pos 0) }
 {
     for n in 0..values.len() {
         line[2 * n] = values[n];
@@ -51,7 +52,8 @@ fn odd_row(
     requires right_index { IsIndex right_index }
     requires left_small { All (λ v. unsigned_abs v < 2 ^ 39 - 1) left.now }
     requires right_small { All (λ v. unsigned_abs v < 2 ^ 39 - 1) right.now }
-    ensures { line.new ≡ interleaved (map (λ v. restored v left_index kind) left.now) (map (λ v. restored v right_index kind) right.now) }
+    ensures { line.new ≡ interleaved (map (λ v. restored v left_index kind) left.now)
+        (map (λ v. restored v right_index kind) right.now) }
 {
     restore_into(left, left_index, kind, 2, 0, line);
     restore_into(right, right_index, kind, 2, 1, line);
@@ -72,7 +74,8 @@ pub fn join_restored(
     requires hl { IsBesides low.now hl.now }
     requires lh { IsBesides low.now lh.now }
     requires hh { IsBesides low.now hh.now }
-    ensures { IfOk result (λ t. t ≡ joined low.now (restored_band kind hl.now) (restored_band kind lh.now) (restored_band kind hh.now)) }
+    ensures { IfOk result (λ t. t ≡ joined low.now (restored_band kind hl.now) (restored_band kind lh.now)
+        (restored_band kind hh.now)) }
 {
     let width = low.width();
     let height = low.height();

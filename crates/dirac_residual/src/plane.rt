@@ -48,8 +48,10 @@ fn next_level(
     requires lh { IsBesides low.now lh.now }
     requires hh { IsBesides low.now hh.now }
     requires magnitudes_at_most_2_103 { All (λ v. unsigned_abs v ≤ 2 ^ 103) low.now.values }
-    ensures value { IfOk result (λ t. t ≡ level wavelet low.now (restored_band kind hl.now) (restored_band kind lh.now) (restored_band kind hh.now)) }
-    ensures growth { IfOk result (λ t. (b : ℕ) → 2 ^ 64 ≤ b → All (λ v. unsigned_abs v ≤ b) low.now.values → All (λ v. unsigned_abs v ≤ 72 * b + 40) t.values) }
+    ensures value { IfOk result (λ t. t ≡ level wavelet low.now (restored_band kind hl.now) (restored_band kind lh.now)
+        (restored_band kind hh.now)) }
+    ensures growth { IfOk result (λ t. (b : ℕ) → 2 ^ 64 ≤ b → All (λ v. unsigned_abs v ≤ b) low.now.values
+        → All (λ v. unsigned_abs v ≤ 72 * b + 40) t.values) }
 {
     let mut plane = join_restored(alloc, low, hl, lh, hh, kind)?;
     synth_level(wavelet, &mut plane);

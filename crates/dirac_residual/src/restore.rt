@@ -23,8 +23,10 @@ pub fn restore_into(
     requires first { first < step }
     requires index { IsIndex index }
     requires magnitudes_below_2_39 { All (λ v. unsigned_abs v < 2 ^ 39 - 1) coded.now }
-    ensures written { (n : ℕ) → n < length coded.now → slice_index_or line.new (n * step + first) (pos 0) ≡ restored (slice_index_or coded.now n (pos 0)) index kind }
-    ensures others { (x : ℕ) → x % step ≢ first → slice_index_or line.new x (pos 0) ≡ slice_index_or line.old x (pos 0) }
+    ensures written { (n : ℕ) → n < length coded.now → slice_index_or line.new (n * step + first) (pos 0)
+        ≡ restored (slice_index_or coded.now n (pos 0)) index kind }
+    ensures others { (x : ℕ) → x % step ≢ first → slice_index_or line.new x (pos 0)
+        ≡ slice_index_or line.old x (pos 0) }
 {
     for n in 0..coded.len() {
         line[n * step + first] = restore(coded[n], index, kind);

@@ -140,7 +140,8 @@ pub fn push_further(
 ) -> Result<(), NoMemory>
     requires at_most_16 { settings.now.range ≤ 16 }
     requires former { HasFormer stage (lent before) i j }
-    ensures value { IfOk result (λ _. list.new ≡ list.old ++ further_candidates stage settings.now.range (lent before.entry) i j) }
+    ensures value { IfOk result (λ _. list.new ≡ list.old ++ further_candidates stage settings.now.range
+        (lent before.entry) i j) }
     ensures within { All (IsWithinReach (2 ^ 24)) (further_candidates stage settings.now.range (lent before.entry) i j) }
 {
     match (stage, before) {
@@ -185,7 +186,8 @@ pub fn push_choice(
     requires empty { list.old ≡ [] }
     requires at_most_16 { settings.now.range ≤ 16 }
     requires former { HasFormer stage (lent before) i j }
-    ensures chooses_as_all { IfOk result (λ _. ChoosesAs list.new (further_candidates stage settings.now.range (lent before.entry) i j)) }
+    ensures chooses_as_all { IfOk result (λ _. ChoosesAs list.new
+        (further_candidates stage settings.now.range (lent before.entry) i j)) }
     ensures within { IfOk result (λ _. All (IsWithinReach (2 ^ 24)) list.new) }
 {
     match (stage, before) {

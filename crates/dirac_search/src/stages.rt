@@ -31,7 +31,8 @@ fn push_block_row(
     requires stage { IsStage settings.now stage }
     requires former { HasFormerField (given search.now) stage (lent before) }
     requires row { j < 4 * search.now.down }
-    ensures { IfOk result (λ _. vectors.new.items ≡ vectors.old.items ++ row_values (4 * search.now.across) (best_of (given search.now) settings.now stage (lent before.entry)) j) }
+    ensures { IfOk result (λ _. vectors.new.items ≡ vectors.old.items
+        ++ row_values (4 * search.now.across) (best_of (given search.now) settings.now stage (lent before.entry)) j) }
 {
     for i in 0..4 * search.across {
         vectors.push(best_in(search, stage, settings, before, i, j, room)?)?;
@@ -85,11 +86,14 @@ fn stage_rows<R: Threads + Sync, G: RowGate>(
     requires search { IsSearch (given search.now) settings.now }
     requires stage { IsStage settings.now stage }
     requires former { HasFormerField (given search.now) stage (lent before) }
-    ensures { IfOk result (λ rows. AnswerRows (λ r v. v.items ≡ superblock_row (given search.now) settings.now stage (lent before.entry) r) search.now.down rows.items) }
+    ensures { IfOk result (λ rows. AnswerRows (λ r v. v.items
+        ≡ superblock_row (given search.now) settings.now stage (lent before.entry) r) search.now.down rows.items) }
 {
     let work = |row: u32| -> Result<Vec<Vector>, NoMemory>
-        requires { IsSearch (given search.now) settings.now × IsStage settings.now stage × HasFormerField (given search.now) stage (lent before) × (row < search.now.down) }
-        ensures { IfOk result (λ v. v.items ≡ superblock_row (given search.entry.now) settings.entry.now stage (lent before.entry) row) }
+        requires { IsSearch (given search.now) settings.now × IsStage settings.now stage
+            × HasFormerField (given search.now) stage (lent before) × (row < search.now.down) }
+        ensures { IfOk result (λ v. v.items ≡ superblock_row (given search.entry.now) settings.entry.now stage
+            (lent before.entry) row) }
     { search_rows(alloc, search, stage, settings, before, row) };
     map_rows(rt, alloc, search.down, settings.workers, gate, &work)
 }

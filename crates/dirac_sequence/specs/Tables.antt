@@ -8,7 +8,8 @@ use Rattle.dirac_sequence.specs.declared.sequence.SignalRange.{SignalRange}
 -- numerator and denominator of frame rates 1 to 10
 abbrev pub rates : List (ℕ × ℕ)
 rates =
-    (24000, 1001) ∷ (24, 1) ∷ (25, 1) ∷ (30000, 1001) ∷ (30, 1) ∷ (50, 1) ∷ (60000, 1001) ∷ (60, 1) ∷ (15000, 1001) ∷ (25, 2) ∷ []
+    (24000, 1001) ∷ (24, 1) ∷ (25, 1) ∷ (30000, 1001) ∷ (30, 1) ∷ (50, 1) ∷ (60000, 1001) ∷ (60, 1) ∷ (15000, 1001)
+    ∷ (25, 2) ∷ []
 
 -- the frame rate of an index
 unfoldable pub rate_of : ℕ → ℕ × ℕ

@@ -49,7 +49,8 @@ is_own_rate t = not (is_same (rate_of t.rate) (preset t.base).rate)
 -- whether its signal range is
 abbrev pub is_own_signal : Settings → Bool
 is_own_signal t =
-    not (is_same (range_of t.signal).luma (preset t.base).luma && is_same (range_of t.signal).colour (preset t.base).colour)
+    not (is_same (range_of t.signal).luma (preset t.base).luma
+    && is_same (range_of t.signal).colour (preset t.base).colour)
 
 -- the sequence of these settings: version 2.2, and what they don't say as the base has it; with a size of its own all of a picture is shown
 unfoldable pub sequence_of : Settings → Sequence

@@ -203,7 +203,8 @@ fn write_custom(w: &mut BitWriter, own: bool, index: u32) -> Result<(), NoMemory
 }
 
 fn write_size(w: &mut BitWriter, own: bool, settings: &Settings) -> Result<(), NoMemory>
-    ensures { OnOk result (w.new ≡ w.old ++ written.custom_bits own (numbers.uint settings.now.width ++ numbers.uint settings.now.height)) }
+    ensures { OnOk result (w.new ≡ w.old ++ written.custom_bits own (numbers.uint settings.now.width
+        ++ numbers.uint settings.now.height)) }
 {
     w.bit(own)?;
     if own {

@@ -80,7 +80,8 @@ stream_of t pictures = stream_from t (coding t pictures)
 
 -- those units, each with its parse info and its payload
 unfoldable pub header_text : Settings → ℕ → UnitText
-header_text t previous = record { info = info_for SEQUENCE_HEADER previous (sequence_payload t); payload = sequence_payload t }
+header_text t previous =
+    record { info = info_for SEQUENCE_HEADER previous (sequence_payload t); payload = sequence_payload t }
 
 unfoldable pub picture_text : Settings → Made → ℕ → UnitText
 picture_text t m previous = record {

@@ -19,7 +19,8 @@ ended_of encoded.SideFault = ended.SideFault
 ended_of encoded.NoMemory = ended.NoMemory
 
 -- what an answer says of the encoding, and of what both sinks took
-abbrev pub AnswersEncode : Ended → Encoding → Option (List ℕ) → Option (List ℕ) → Option (List ℕ) → Option (List ℕ) → Type 0
+abbrev pub AnswersEncode : Ended → Encoding → Option (List ℕ) → Option (List ℕ) → Option (List ℕ) → Option (List ℕ)
+    → Type 0
 AnswersEncode ended.ReadFault e out out' side side' = WritesFront e out out' side side'
 AnswersEncode ended.WriteFault e out out' side side' = WritesFront e out out' side side'
 AnswersEncode ended.SideFault e out out' side side' = WritesFront e out out' side side'
@@ -34,8 +35,10 @@ EndsStream ended.TooManyPictures = ⊤
 EndsStream answer = ⊥
 
 -- the answer, and what both sinks took, are those of the encoding of these bytes; a whole stream is decoded to what the side got, and at index 0 to the input
-abbrev pub IsEncoded : Settings → List ℕ → Ended → Option (List ℕ) → Option (List ℕ) → Option (List ℕ) → Option (List ℕ) → Type 0
-IsEncoded t bytes answer out out' side side' = AnswersEncode answer (encoding t bytes) out out' side side' × (EndsStream answer → IsRecovered t bytes)
+abbrev pub IsEncoded : Settings → List ℕ → Ended → Option (List ℕ) → Option (List ℕ) → Option (List ℕ) → Option (List ℕ)
+    → Type 0
+IsEncoded t bytes answer out out' side side' =
+    AnswersEncode answer (encoding t bytes) out out' side side' × (EndsStream answer → IsRecovered t bytes)
 
 -- the answers that `encode` may give, of whatever source
 abbrev pub IsEncodeAnswer : Ended → Type 0

@@ -24,7 +24,8 @@ status_of ended.NoMemory = 11
 -- a fault: its unit, its place in bytes, and its cause by name
 abbrev pub fault_text : Fault → List ℕ
 fault_text fault =
-    codes "fault unit=" ++ (decimal fault.unit ++ (codes " at=" ++ (decimal fault.at ++ (codes " cause=" ++ name_of fault.cause))))
+    codes "fault unit=" ++ (decimal fault.unit ++ (codes " at="
+    ++ (decimal fault.at ++ (codes " cause=" ++ name_of fault.cause))))
 
 -- a setting out of its range
 abbrev pub bad_setting_text : BadSetting → List ℕ

@@ -39,4 +39,5 @@ line_text index at info = line_with index at info (name_of_code info.code)
 -- the lines of the units of a cut, of which the first begins there
 abbrev pub lines : UnitPlace → List UnitText → List ℕ
 lines unit_place [] = []
-lines unit_place (unit ∷ units) = line_text unit_place.index unit_place.at unit.info ++ lines (after unit_place unit.info) units
+lines unit_place (unit ∷ units) =
+    line_text unit_place.index unit_place.at unit.info ++ lines (after unit_place unit.info) units

@@ -20,7 +20,8 @@ AnswersList _ end text out out' = ⊥
 -- the lines of the one cut of the bytes, and its end or fault
 abbrev pub IsListed : List ℕ → Ended → Option (List ℕ) → Option (List ℕ) → Type 0
 IsListed bytes answer out out' =
-    (units : List UnitText) × (end : Option Fault) × IsCut start bytes units end × AnswersList answer end (lines start units) out out'
+    (units : List UnitText) × (end : Option Fault) × IsCut start bytes units end
+    × AnswersList answer end (lines start units) out out'
 
 -- the answers that `list` may give, of whatever source
 abbrev pub IsListAnswer : Ended → Type 0

@@ -42,7 +42,8 @@ made_text answer line = []
 
 -- what an answer says of the encoding, and of what was written
 abbrev pub AnswersMake : Ended → Settings → ℕ → Option (List ℕ) → Option (List ℕ) → Type 0
-AnswersMake ended.Done t count out out' = ((making t count).answer ≡ encoded.Done) × Appends out out' (made_line t count)
+AnswersMake ended.Done t count out out' =
+    ((making t count).answer ≡ encoded.Done) × Appends out out' (made_line t count)
 AnswersMake (ended.UnitTooLong number) t count out out' =
     ((making t count).answer ≡ encoded.UnitTooLong number) × Keeps out out'
 AnswersMake ended.TooManyPictures t count out out' =

@@ -16,7 +16,8 @@ abbrev pub names : List Name
 names =
     name.Base ∷ name.Chroma ∷ name.Width ∷ name.Height ∷ name.Rate ∷ name.Signal ∷ name.Profile ∷ name.Level
     ∷ name.Wavelet ∷ name.Depth ∷ name.Index ∷ name.Codeblocks ∷ name.Blocks ∷ name.Precision ∷ name.References
-    ∷ name.Gop ∷ name.Between ∷ name.Range ∷ name.Pyramid ∷ name.Bias ∷ name.Workers ∷ name.Pictures ∷ name.UnitBytes ∷ []
+    ∷ name.Gop ∷ name.Between ∷ name.Range ∷ name.Pyramid ∷ name.Bias ∷ name.Workers ∷ name.Pictures ∷ name.UnitBytes
+    ∷ []
 
 -- what stands behind this front, where the word begins with it
 abbrev pub behind : List ℕ → List ℕ → Option (List ℕ)
@@ -35,7 +36,8 @@ is_digits text = all_ascii_digits text && (nat_le 1 (length text) && nat_le (len
 
 -- the number that 1 to 10 ASCII digits spell, where it is at most 4,294,967,295
 unfoldable pub number_read : List ℕ → Option ℕ
-number_read text = if is_digits text && nat_le (number_after 0 text) 4294967295 then Some (number_after 0 text) else None
+number_read text =
+    if is_digits text && nat_le (number_after 0 text) 4294967295 then Some (number_after 0 text) else None
 
 -- the value that a word --name=value gives to the setting of this name
 unfoldable pub value_in : Name → List ℕ → Option ℕ

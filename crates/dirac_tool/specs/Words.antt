@@ -25,7 +25,8 @@ encode_read words = where_all_fit (command.Encode (settings_given words)) (first
 
 -- `make` with the settings and the number of pictures that these words say
 unfoldable pub make_read : List (List ℕ) → Result Command WordsStop
-make_read words = where_all_fit (command.Make (settings_given words) (count_given words)) (first_unfit options_of.Make [] words)
+make_read words =
+    where_all_fit (command.Make (settings_given words) (count_given words)) (first_unfit options_of.Make [] words)
 
 -- the command, or the number of the first word that doesn't fit
 abbrev pub command_read : List (List ℕ) → Result Command WordsStop

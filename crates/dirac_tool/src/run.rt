@@ -38,7 +38,8 @@ pub fn run<R: Threads + Sync, S: Source, K: Sink, N: Sink, G: RowGate>(
         → (source.new ≡ source.old) × (out.new ≡ out.old) × (side.new ≡ side.old) }
 
     // A setting out of its range is refused, the first one, before anything is read or written.
-    ensures bad_settings { (bad : BadSetting) → (result ≡ Ended.BadSettings bad) ↔ (bad_setting (command_read words.now) ≡ Some bad) }
+    ensures bad_settings { (bad : BadSetting) → (result ≡ Ended.BadSettings bad)
+        ↔ (bad_setting (command_read words.now) ≡ Some bad) }
     ensures unread { (bad : BadSetting) → result ≡ Ended.BadSettings bad
         → (source.new ≡ source.old) × (out.new ≡ out.old) × (side.new ≡ side.old) }
 

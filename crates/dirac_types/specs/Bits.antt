@@ -8,7 +8,8 @@ is_bit_set byte i = byte / 2 ^ i % 2 == 1
 -- the eight bits of a byte, before these
 abbrev pub byte_bits : ℕ → List Bool → List Bool
 byte_bits b rest =
-    is_bit_set b 7 ∷ is_bit_set b 6 ∷ is_bit_set b 5 ∷ is_bit_set b 4 ∷ is_bit_set b 3 ∷ is_bit_set b 2 ∷ is_bit_set b 1 ∷ is_bit_set b 0 ∷ rest
+    is_bit_set b 7 ∷ is_bit_set b 6 ∷ is_bit_set b 5 ∷ is_bit_set b 4 ∷ is_bit_set b 3 ∷ is_bit_set b 2 ∷ is_bit_set b 1
+    ∷ is_bit_set b 0 ∷ rest
 
 -- the bits of bytes, in reading order
 abbrev pub bits_of : List ℕ → List Bool

@@ -29,7 +29,8 @@ sint (negsuc n) = uint (suc n) ++ true ∷ []
 
 -- a literal: four bytes, the most significant first
 abbrev pub literal : ℕ → List Bool
-literal v = byte_bits (v / 16777216 % 256) (byte_bits (v / 65536 % 256) (byte_bits (v / 256 % 256) (byte_bits (v % 256) [])))
+literal v =
+    byte_bits (v / 16777216 % 256) (byte_bits (v / 65536 % 256) (byte_bits (v / 256 % 256) (byte_bits (v % 256) [])))
 
 -- a magnitude with a sign, true for negative
 abbrev pub signed_value : ℕ → Bool → ℤ

@@ -77,7 +77,8 @@ IsAccepted s = AllByRecursion IsInRange (table s)
 
 -- what a base video format gives to five settings
 abbrev pub defaults : ℕ → ℕ → ℕ → ℕ → ℕ → Format
-defaults chroma width height rate signal = record { chroma = chroma; width = width; height = height; rate = rate; signal = signal }
+defaults chroma width height rate signal =
+    record { chroma = chroma; width = width; height = height; rate = rate; signal = signal }
 
 -- the number of a chroma format
 abbrev pub chroma_number : Chroma → ℕ

@@ -30,7 +30,8 @@ with_value t x y v = record t { values = slice_set t.values (y * t.width + x) v 
 
 -- a list with a part of it written over from place i on; it keeps its length whatever is written
 abbrev pub overwritten : {A : Type 0} → List A → ℕ → List A → List A
-overwritten xs i ws = let ys = take i xs ++ (ws ++ drop (length ws) (drop i xs)) in take (length xs) (ys ++ drop (length ys) xs)
+overwritten xs i ws =
+    let ys = take i xs ++ (ws ++ drop (length ws) (drop i xs)) in take (length xs) (ys ++ drop (length ys) xs)
 
 -- the table with row y written over
 abbrev pub with_row : {A : Type 0} → Cells A → ℕ → List A → Cells A

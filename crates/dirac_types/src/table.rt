@@ -42,7 +42,11 @@ impl<T: Element> Table<T> {
     pub fn try_new(alloc: Global, width: u32, height: u32, value: T) -> Result<Table<T>, NoMemory>
         requires across { (1 ≤ width) × (width ≤ LARGEST_TABLE_SIDE) }
         requires down { (1 ≤ height) × (height ≤ LARGEST_TABLE_SIDE) }
-        ensures { IfOk result (λ t. t ≡ record { width = width; height = height; values = replicate (width * height) value }) }
+        ensures { IfOk result (λ t. t ≡ record {
+          width = width;
+          height = height;
+          values = replicate (width * height) value;
+        }) }
     {
         let count = width as usize * height as usize;
         Ok(Table {

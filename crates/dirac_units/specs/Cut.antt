@@ -20,7 +20,8 @@ start = record { index = 0; at = 0; closed = false }
 
 -- where the next unit begins
 abbrev pub after : UnitPlace → ParseInfo → UnitPlace
-after unit_place info = record { index = unit_place.index + 1; at = unit_place.at + span_of info; closed = info.code == END_OF_SEQUENCE }
+after unit_place info =
+    record { index = unit_place.index + 1; at = unit_place.at + span_of info; closed = info.code == END_OF_SEQUENCE }
 
 -- a fault of the unit that begins there, so many bytes behind its first
 abbrev pub fault_at : UnitPlace → ℕ → Cause → Fault
@@ -49,7 +50,8 @@ IsCut unit_place bytes (unit ∷ units) end =
 -- each list of bytes has a cut, from each place
 abbrev pub EachHasACut : Type 0
 EachHasACut =
-    (unit_place : UnitPlace) (bytes : List ℕ) → (units : List UnitText) × (end : Option Fault) × IsCut unit_place bytes units end
+    (unit_place : UnitPlace) (bytes : List ℕ) → (units : List UnitText) × (end : Option Fault)
+    × IsCut unit_place bytes units end
 
 -- no list of bytes has two
 abbrev pub NoneHasTwoCuts : Type 0

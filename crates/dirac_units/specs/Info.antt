@@ -66,7 +66,8 @@ prefix = 0x42 ∷ 0x42 ∷ 0x43 ∷ 0x44 ∷ []
 -- a number of four bytes, the most significant first
 abbrev pub number_at : List ℕ → ℕ → ℕ
 number_at bytes i =
-    from_be_bytes w32 (slice_index bytes i ∷ slice_index bytes (i + 1) ∷ slice_index bytes (i + 2) ∷ slice_index bytes (i + 3) ∷ [])
+    from_be_bytes w32 (slice_index bytes i ∷ slice_index bytes (i + 1) ∷ slice_index bytes (i + 2)
+    ∷ slice_index bytes (i + 3) ∷ [])
 
 -- the fields behind the prefix
 abbrev pub info_of : List ℕ → ParseInfo

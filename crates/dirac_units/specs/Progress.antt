@@ -40,7 +40,8 @@ pub record GivesUnit (keep : Bool) (unit : Unit) (old new : Progress) (held held
   pub lawful : IsLawful unit.info
   pub short : length unit.payload + 13 ≤ span_of unit.info
   pub next : new.unit_place ≡ after old.unit_place unit.info
-  pub told : IfSome (prepend_known old.ahead held) (λ bytes. IsFirstUnit keep unit old.unit_place bytes (prepend_known new.ahead held'))
+  pub told : IfSome (prepend_known old.ahead held) (λ bytes. IsFirstUnit keep unit old.unit_place bytes
+      (prepend_known new.ahead held'))
 
 -- the source holds exactly what follows this unit
 abbrev pub HoldsWhatFollows : Unit → Progress → Option (List ℕ) → Option (List ℕ) → Type 0

@@ -11,4 +11,5 @@ info_bytes info = prefix ++ (info.code ∷ (to_be_bytes w32 info.next ++ to_be_b
 -- what is written is read again, where it isn't refused
 abbrev pub IsReadAsWritten : Type 0
 IsReadAsWritten =
-    (info : ParseInfo) → info.next < 2 ^ 32 → info.previous < 2 ^ 32 → IsLawful info → info_read (info_bytes info) ≡ Ok info
+    (info : ParseInfo) → info.next < 2 ^ 32 → info.previous < 2 ^ 32 → IsLawful info → info_read (info_bytes info)
+    ≡ Ok info

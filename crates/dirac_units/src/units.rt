@@ -47,7 +47,8 @@ impl Units {
     /// answers `Stopped`; none of them reads.
     pub fn next<S: Source>(&mut self, source: &mut S, keep: bool) -> UnitStep
         requires { self.old.unit_place.at + length self.old.ahead + S.left source.old < 2 ^ 63 }
-        ensures unit { IfUnit result (λ unit. GivesUnit keep unit self.old self.new (S.held source.old) (S.held source.new)) }
+        ensures unit { IfUnit result (λ unit. GivesUnit keep unit self.old self.new (S.held source.old)
+            (S.held source.new)) }
         // Behind a unit nothing was taken beyond it.
         ensures rest { IfUnit result (λ unit. HoldsWhatFollows unit self.old (S.held source.old) (S.held source.new)) }
         ensures none_ahead { self.new.ahead ≡ [] }

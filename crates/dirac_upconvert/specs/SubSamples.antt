@@ -81,9 +81,11 @@ four scale right below v00 v10 v01 v11 =
 
 -- the samples at every second place of a table's row, from a place on
 abbrev pub ArePlaces : Table → ℤ → ℤ → List ℤ → Type 0
-ArePlaces t across down out = (k : ℕ) → k < length out → slice_index_or out k (pos 0) ≡ clamped_at t (across +ℤ pos (2 * k)) down
+ArePlaces t across down out =
+    (k : ℕ) → k < length out → slice_index_or out k (pos 0) ≡ clamped_at t (across +ℤ pos (2 * k)) down
 
 -- the samples behind every second place of a row, as far behind it as a position is
 abbrev pub AreParts : Table → ℕ → ℤ → ℤ → ℤ → ℤ → List ℤ → Type 0
 AreParts t bits across down right below out =
-    (k : ℕ) → k < length out → slice_index_or out k (pos 0) ≡ rounded (2 * bits) (bilinear t (2 ^ bits) (across +ℤ pos (2 * k)) down right below)
+    (k : ℕ) → k < length out → slice_index_or out k (pos 0) ≡ rounded (2 * bits)
+    (bilinear t (2 ^ bits) (across +ℤ pos (2 * k)) down right below)

@@ -29,7 +29,9 @@ fn half_in_column(
     x: usize,
 ) -> i16
     requires inside { x < length a0.now }
-    requires lens { (length a1.now ≡ length a0.now) × (length a2.now ≡ length a0.now) × (length a3.now ≡ length a0.now) × (length b0.now ≡ length a0.now) × (length b1.now ≡ length a0.now) × (length b2.now ≡ length a0.now) × (length b3.now ≡ length a0.now) }
+    requires lens { (length a1.now ≡ length a0.now) × (length a2.now ≡ length a0.now) × (length a3.now ≡ length a0.now)
+        × (length b0.now ≡ length a0.now) × (length b1.now ≡ length a0.now) × (length b2.now ≡ length a0.now)
+        × (length b3.now ≡ length a0.now) }
     requires a3 { All IsSample a3.now }
     requires a2 { All IsSample a2.now }
     requires a1 { All IsSample a1.now }
@@ -38,7 +40,9 @@ fn half_in_column(
     requires b1 { All IsSample b1.now }
     requires b2 { All IsSample b2.now }
     requires b3 { All IsSample b3.now }
-    ensures value { result ≡ between (slice_index_or a3.now x (pos 0)) (slice_index_or a2.now x (pos 0)) (slice_index_or a1.now x (pos 0)) (slice_index_or a0.now x (pos 0)) (slice_index_or b0.now x (pos 0)) (slice_index_or b1.now x (pos 0)) (slice_index_or b2.now x (pos 0)) (slice_index_or b3.now x (pos 0)) }
+    ensures value { result ≡ between (slice_index_or a3.now x (pos 0)) (slice_index_or a2.now x (pos 0))
+        (slice_index_or a1.now x (pos 0)) (slice_index_or a0.now x (pos 0)) (slice_index_or b0.now x (pos 0))
+        (slice_index_or b1.now x (pos 0)) (slice_index_or b2.now x (pos 0)) (slice_index_or b3.now x (pos 0)) }
     ensures sample { IsSample result }
 {
     half_sample(
@@ -66,7 +70,9 @@ pub fn half_of_rows(
     b3: &[i16],
     out: &mut [i16],
 )
-    requires lens { (length a0.now ≡ length out.old) × (length a1.now ≡ length out.old) × (length a2.now ≡ length out.old) × (length a3.now ≡ length out.old) × (length b0.now ≡ length out.old) × (length b1.now ≡ length out.old) × (length b2.now ≡ length out.old) × (length b3.now ≡ length out.old) }
+    requires lens { (length a0.now ≡ length out.old) × (length a1.now ≡ length out.old)
+        × (length a2.now ≡ length out.old) × (length a3.now ≡ length out.old) × (length b0.now ≡ length out.old)
+        × (length b1.now ≡ length out.old) × (length b2.now ≡ length out.old) × (length b3.now ≡ length out.old) }
     requires a3 { All IsSample a3.now }
     requires a2 { All IsSample a2.now }
     requires a1 { All IsSample a1.now }
@@ -75,7 +81,10 @@ pub fn half_of_rows(
     requires b1 { All IsSample b1.now }
     requires b2 { All IsSample b2.now }
     requires b3 { All IsSample b3.now }
-    ensures value { (x : ℕ) → x < length out.old → slice_index_or out.new x (pos 0) ≡ between (slice_index_or a3.now x (pos 0)) (slice_index_or a2.now x (pos 0)) (slice_index_or a1.now x (pos 0)) (slice_index_or a0.now x (pos 0)) (slice_index_or b0.now x (pos 0)) (slice_index_or b1.now x (pos 0)) (slice_index_or b2.now x (pos 0)) (slice_index_or b3.now x (pos 0)) }
+    ensures value { (x : ℕ) → x < length out.old → slice_index_or out.new x (pos 0)
+        ≡ between (slice_index_or a3.now x (pos 0)) (slice_index_or a2.now x (pos 0)) (slice_index_or a1.now x (pos 0))
+        (slice_index_or a0.now x (pos 0)) (slice_index_or b0.now x (pos 0)) (slice_index_or b1.now x (pos 0))
+        (slice_index_or b2.now x (pos 0)) (slice_index_or b3.now x (pos 0)) }
 {
     for x in 0..out.len() {
         out[x] = half_in_column(a3, a2, a1, a0, b0, b1, b2, b3, x);
@@ -127,7 +136,8 @@ pub fn double_line(line: &[i16], out: &mut [i16])
     requires not_empty { 1 ≤ length line.now }
     requires len { length out.old + 1 ≡ 2 * length line.now }
     requires samples { All IsSample line.now }
-    ensures { (p : ℕ) → p < length out.old → slice_index_or out.new p (pos 0) ≡ doubled_at (λ k. slice_index_or line.now k (pos 0)) (length line.now - 1) p }
+    ensures { (p : ℕ) → p < length out.old → slice_index_or out.new p (pos 0)
+        ≡ doubled_at (λ k. slice_index_or line.now k (pos 0)) (length line.now - 1) p }
 {
     let last = line.len() - 1;
     let low = last.min(3);

@@ -108,7 +108,8 @@ fn mixed_row(table: &Plane, bits: u32, right: i32, across: i64, y: i64) -> i32
     requires right { IsRest bits right }
     requires across { unsigned_abs across ≤ 2 ^ 34 }
     requires samples { All IsSample table.now.values }
-    ensures value { result ≡ mixed (2 ^ bits) right (clamped_at table.now across y) (clamped_at table.now (across +ℤ pos 1) y) }
+    ensures value { result ≡ mixed (2 ^ bits) right (clamped_at table.now across y)
+        (clamped_at table.now (across +ℤ pos 1) y) }
     ensures within { IsWithin (2 ^ bits * 1) result }
 {
     mix(
@@ -126,7 +127,8 @@ fn mixed_rows(table: &Plane, bits: u32, x: i64, y: i64) -> i32
     requires x { unsigned_abs x < 2 ^ 34 }
     requires y { unsigned_abs y < 2 ^ 34 }
     requires samples { All IsSample table.now.values }
-    ensures value { result ≡ bilinear table.now (2 ^ bits) (place_at x bits) (place_at y bits) (rest_at x bits) (rest_at y bits) }
+    ensures value { result ≡ bilinear table.now (2 ^ bits) (place_at x bits) (place_at y bits) (rest_at x bits)
+        (rest_at y bits) }
     ensures within { IsWithin (2 ^ bits * (2 ^ bits * 1)) result }
 {
     let across = place(x, bits);

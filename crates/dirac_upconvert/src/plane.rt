@@ -47,7 +47,8 @@ fn half_row(plane: &Plane, y: u32, line: &mut [i16])
     requires at_most_4096 { plane.now.height ≤ LARGEST_SIDE }
     requires len { length line.old ≡ plane.now.width }
     requires samples { All IsSample plane.now.values }
-    ensures value { (x : ℕ) → x < plane.now.width → slice_index_or line.new x (pos 0) ≡ half_behind (λ j. table_at plane.now x j) (plane.now.height - 1) y }
+    ensures value { (x : ℕ) → x < plane.now.width → slice_index_or line.new x (pos 0)
+        ≡ half_behind (λ j. table_at plane.now x j) (plane.now.height - 1) y }
     ensures samples { All IsSample line.new }
 {
     let last = plane.height() - 1;
@@ -88,7 +89,11 @@ pub fn upconvert(alloc: Global, plane: &Plane) -> Result<UpPlane, NoMemory>
     requires across { plane.now.width ≤ LARGEST_SIDE }
     requires down { plane.now.height ≤ LARGEST_SIDE }
     requires samples { All IsSample plane.now.values }
-    ensures value { IfOk result (λ u. u ≡ record { width = plane.now.width; height = plane.now.height; table = half plane.now }) }
+    ensures value { IfOk result (λ u. u ≡ record {
+      width = plane.now.width;
+      height = plane.now.height;
+      table = half plane.now;
+    }) }
     ensures whole { IfOk result (λ u. (x y : ℤ) → sub_sample u 0 x y ≡ clamped_at plane.now x y) }
 {
     let width = plane.width();
@@ -145,7 +150,8 @@ impl UpPlane {
         requires x { unsigned_abs x < 2 ^ 31 }
         requires y { unsigned_abs y < 2 ^ 32 }
         requires at_most_4096 { length out.old ≤ LARGEST_SIDE }
-        ensures value { (k : ℕ) → k < length out.old → slice_index_or out.new k (pos 0) ≡ sub_sample self.now precision (x +ℤ pos (2 ^ precision * k)) y }
+        ensures value { (k : ℕ) → k < length out.old → slice_index_or out.new k (pos 0)
+            ≡ sub_sample self.now precision (x +ℤ pos (2 ^ precision * k)) y }
         ensures samples { All IsSample out.new }
     {
         if precision == 0 {

@@ -54,7 +54,8 @@ fn nearest(place: i64, size: u32) -> u32
 /// Lends the row that is nearest to place `y`.
 fn nearest_row(table: &Plane, y: i64) -> &[i16]
     requires { All IsSample table.now.values }
-    ensures value { (x : ℕ) → x < table.now.width → slice_index_or result.now x (pos 0) ≡ table_at table.now x (clamped_to y table.now.height) }
+    ensures value { (x : ℕ) → x < table.now.width → slice_index_or result.now x (pos 0)
+        ≡ table_at table.now x (clamped_to y table.now.height) }
     ensures len { length result.now ≡ table.now.width }
     ensures samples { All IsSample result.now }
 {
@@ -115,7 +116,9 @@ fn between_rows(bits: u32, right: i32, below: i32, above: &[i16], under: &[i16],
     requires above { All IsSample above.now }
     requires under { All IsSample under.now }
     requires inside { (at + 1 < length above.now) × (at + 1 < length under.now) }
-    ensures { result ≡ rounded (2 * bits) (four (2 ^ bits) right below (slice_index_or above.now at (pos 0)) (slice_index_or above.now (at + 1) (pos 0)) (slice_index_or under.now at (pos 0)) (slice_index_or under.now (at + 1) (pos 0))) }
+    ensures { result ≡ rounded (2 * bits) (four (2 ^ bits) right below (slice_index_or above.now at (pos 0))
+        (slice_index_or above.now (at + 1) (pos 0)) (slice_index_or under.now at (pos 0))
+        (slice_index_or under.now (at + 1) (pos 0))) }
 {
     between_four(
         bits,
@@ -146,7 +149,10 @@ fn all_between_rows(
     requires under { All IsSample under.now }
     requires inside { at + 2 * length out.old ≤ length above.now }
     requires same { length under.now ≡ length above.now }
-    ensures { (k : ℕ) → k < length out.old → slice_index_or out.new k (pos 0) ≡ rounded (2 * bits) (four (2 ^ bits) right below (slice_index_or above.now (at + 2 * k) (pos 0)) (slice_index_or above.now (at + 2 * k + 1) (pos 0)) (slice_index_or under.now (at + 2 * k) (pos 0)) (slice_index_or under.now (at + 2 * k + 1) (pos 0))) }
+    ensures { (k : ℕ) → k < length out.old → slice_index_or out.new k (pos 0)
+        ≡ rounded (2 * bits) (four (2 ^ bits) right below (slice_index_or above.now (at + 2 * k) (pos 0))
+        (slice_index_or above.now (at + 2 * k + 1) (pos 0)) (slice_index_or under.now (at + 2 * k) (pos 0))
+        (slice_index_or under.now (at + 2 * k + 1) (pos 0))) }
 {
     for k in 0..out.len() {
         out[k] = between_rows(bits, right, below, above, under, at + 2 * k);
@@ -157,7 +163,8 @@ fn all_between_rows(
 #[inline(always)]
 fn every_second(row: &[i16], at: usize, out: &mut [i16])
     requires inside { at + 2 * length out.old ≤ length row.now }
-    ensures { (k : ℕ) → k < length out.old → slice_index_or out.new k (pos 0) ≡ slice_index_or row.now (at + 2 * k) (pos 0) }
+    ensures { (k : ℕ) → k < length out.old → slice_index_or out.new k (pos 0)
+        ≡ slice_index_or row.now (at + 2 * k) (pos 0) }
 {
     for k in 0..out.len() {
         out[k] = row[at + 2 * k];
