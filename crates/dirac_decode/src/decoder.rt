@@ -7,6 +7,7 @@ use crate::advance::{Advanced, advance_by_unit, next_due};
 use crate::answers::{Next, Tally};
 use crate::state::State;
 use dirac_io::Source;
+use dirac_refs::MOST_REFERENCES;
 use dirac_units::{StreamEnd, Units};
 use std::alloc::Global;
 use std::marker::Model;
@@ -52,7 +53,7 @@ impl Decoder {
     /// How many pictures were given so far, and the greatest length that the list of references had so far.
     pub fn tally(&self) -> Tally
         ensures value { result ≡ tally self.now }
-        ensures at_most_8_references { result.references ≤ 8 }
+        ensures at_most_8_references { result.references ≤ MOST_REFERENCES }
     {
         Tally {
             pictures: self.given,

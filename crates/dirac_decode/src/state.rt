@@ -5,7 +5,7 @@ ghost use Rattle.dirac_decode.specs.Taking.{Fewer, IfRefused, IsOfOpen, IsPopped
 
 use crate::opened::Opened;
 use crate::picture::{Rebuilt, make_picture};
-use dirac_refs::{Delivery, RefBuffer, key};
+use dirac_refs::{Delivery, MOST_REFERENCES, RefBuffer, key};
 use dirac_sequence::read_sequence;
 use dirac_types::{Cause, Picture, Refusal, Stop};
 use dirac_units::{END_OF_SEQUENCE, PARSE_INFO_LENGTH, Payload, SEQUENCE_HEADER, fields_are_read};
@@ -24,6 +24,7 @@ pub(crate) struct State {
 
 impl Model for State {
     ghost use Rattle.std.specs.Prelude.{◌≤◌};
+    ghost use Rattle.dirac_refs.specs.declared.ref_buffer.TheConstants.{MOST_REFERENCES};
     ghost use Rattle.dirac_decode.specs.StreamState.{StreamState};
     ghost use Rattle.dirac_decode.specs.Taking.{IsOpen};
 
@@ -31,7 +32,7 @@ impl Model for State {
 
     ghost view = { λ s. record { opened = s.opened; first = s.first; list = s.refs; waiting = s.waits; most = s.most } };
 
-    ghost invariant = { λ s. IsOpen s.opened s.refs × (s.most ≤ 8) };
+    ghost invariant = { λ s. IsOpen s.opened s.refs × (s.most ≤ MOST_REFERENCES) };
 }
 
 /// What a unit's content brought.
@@ -63,7 +64,7 @@ impl State {
     /// The greatest length that a list of references had.
     pub(crate) fn most(&self) -> u8
         ensures value { result ≡ self.now.most }
-        ensures at_most_8 { result ≤ 8 }
+        ensures at_most_8_references { result ≤ MOST_REFERENCES }
     {
         self.most
     }

@@ -8,13 +8,14 @@ use crate::answers::{Decoded, Next};
 use crate::decoder::Decoder;
 use crate::written::put_picture;
 use dirac_io::{Put, Sink, Source};
+use dirac_refs::MOST_REFERENCES;
 use std::alloc::Global;
 
 /// Decodes a whole stream, and writes its pictures as raw pictures in order of delivery, up to the first fault.
 pub fn decode_stream<S: Source, K: Sink>(alloc: Global, source: &mut S, out: &mut K) -> Decoded
     ensures decoded { IfSome (S.held source.old) (λ bytes. IsDecoded bytes result (K.taken out.old) (K.taken out.new)) }
     ensures whole { IfDone result (IsAtEnd (S.held source.new)) }
-    ensures at_most_8_references { IfTally result (λ tally. tally.references ≤ 8) }
+    ensures at_most_8_references { IfTally result (λ tally. tally.references ≤ MOST_REFERENCES) }
     ensures read { result ≡ Decoded.ReadFault → Rose (S.faults source.old) (S.faults source.new) }
     ensures write { result ≡ Decoded.WriteFault → Rose (K.faults out.old) (K.faults out.new) }
     ensures reads { S.faults source.old ≤ S.faults source.new }
@@ -35,7 +36,7 @@ fn write_pictures<S: Source, K: Sink>(
     requires { decoder.old ≡ begun }
     ensures decoded { IfSome (S.held source.old) (λ bytes. IsDecoded bytes result (K.taken out.old) (K.taken out.new)) }
     ensures whole { IfDone result (IsAtEnd (S.held source.new)) }
-    ensures at_most_8_references { IfTally result (λ tally. tally.references ≤ 8) }
+    ensures at_most_8_references { IfTally result (λ tally. tally.references ≤ MOST_REFERENCES) }
     ensures read { result ≡ Decoded.ReadFault → Rose (S.faults source.old) (S.faults source.new) }
     ensures write { result ≡ Decoded.WriteFault → Rose (K.faults out.old) (K.faults out.new) }
     ensures reads { S.faults source.old ≤ S.faults source.new }

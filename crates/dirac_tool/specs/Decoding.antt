@@ -1,6 +1,7 @@
 -- What `decode` answers and writes.
 use Rattle.std.specs.Prelude.{◌≡◌, ℕ, ◌≤◌, List, ◌++◌, codes, decimal, Option, None, Some, ⊤}
 use Rattle.std.specs.Io.KnownBytes.{Appends, Keeps}
+use Rattle.dirac_refs.specs.declared.ref_buffer.TheConstants.{MOST_REFERENCES}
 use Rattle.dirac_io.specs.Writing.{AppendsFront}
 use Rattle.dirac_decode.specs.declared.answers.Tally.{Tally}
 use Rattle.dirac_decode.specs.Raw.{raws}
@@ -37,8 +38,8 @@ IsDecoded bytes answer out out' side side' =
 
 -- where the tally is written, the greatest length of the reference list that it tells is at most 8
 abbrev pub TellsFew : Ended → List ℕ → Type 0
-TellsFew ended.Done bytes = (o : Outcome) × IsShown bytes o × (o.most ≤ 8)
-TellsFew (ended.Fault fault) bytes = (o : Outcome) × IsShown bytes o × (o.most ≤ 8)
+TellsFew ended.Done bytes = (o : Outcome) × IsShown bytes o × (o.most ≤ MOST_REFERENCES)
+TellsFew (ended.Fault fault) bytes = (o : Outcome) × IsShown bytes o × (o.most ≤ MOST_REFERENCES)
 TellsFew _ bytes = ⊤
 
 -- the answers that `decode` may give, of whatever source
