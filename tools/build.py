@@ -1,19 +1,18 @@
 #!/usr/bin/env python3
 """Proves and builds a program of this repository, several crates at a time, and tells how far it is.
 
-build.py PROGRAM        PROGRAM is a crate of crates.txt, such as dirac_tool
+build.py PROGRAM [WORD...]      PROGRAM is a crate of crates.txt, such as dirac_tool; the words are what it is tried on,
+                                and it must end with 0 on them
 
-Each crate is built as soon as those that it stands on are, with one job each: as many at a time as there are
-processors, and as the memory that is free has room for (GIB_EACH each), at least one; RUN_JOBS=N in the environment
-says how many instead. What is proved already is built again from what was kept. Writes a line for each crate that is
-done to standard error; where one fails, its log, and ends with 1.
+On a fresh clone all crates are proved first, as many at a time as there are processors and as the memory that is free
+has room for (GIB_EACH each), at least one; RUN_JOBS=N in the environment says how many instead. Then the program is
+built over what was proved. Later only what changed is proved again. Writes a line for each crate that is done to
+standard error; where one fails, the end of the log, and ends with 1.
 """
-import concurrent.futures
 import os
 import pathlib
 import subprocess
 import sys
-import threading
 import time
 
 TOP = pathlib.Path(__file__).resolve().parent.parent
@@ -26,27 +25,9 @@ def fail(text):
 
 
 def read_crates():
-    """The libraries of this repository that each crate stands on."""
-    crates = {}
-    for line in (TOP / "crates.txt").read_text().splitlines():
-        name, _, libraries = line.partition("#")[0].partition(":")
-        if name.strip():
-            crates[name.split()[0]] = libraries.split()
-    return {name: [one for one in libraries if one in crates] for name, libraries in crates.items()}
-
-
-def below(program, crates):
-    """The program and all that it stands on."""
-    found = {}
-
-    def add(name):
-        if name not in found:
-            found[name] = crates[name]
-            for library in crates[name]:
-                add(library)
-
-    add(program)
-    return found
+    """The names of crates.txt."""
+    lines = [line.partition("#")[0].partition(":")[0] for line in (TOP / "crates.txt").read_text().splitlines()]
+    return [line.split()[0] for line in lines if line.strip()]
 
 
 def free_gib():
@@ -65,77 +46,64 @@ def places():
     return max(1, min(processors, int(free_gib() / GIB_EACH)))
 
 
-def log_of(name):
-    return TOP / "crates" / name / "out" / "build.log"
-
-
 class Build:
-    """Builds crates in places that are free, those first that most crates wait for."""
-
-    def __init__(self, program, crates):
-        self.program, self.crates = program, below(program, crates)
-        self.heights = {}
-        self.done, self.begin = 0, time.monotonic()
-        self.lock = threading.Lock()
-
-    def height(self, name):
-        """The longest chain of crates that stand on this one."""
-        if name not in self.heights:
-            above = [other for other, libraries in self.crates.items() if name in libraries]
-            self.heights[name] = 1 + max(map(self.height, above), default=0)
-        return self.heights[name]
+    def __init__(self, program, words, crates):
+        self.program, self.words, self.crates = program, words, crates
+        self.folder = TOP / "crates" / program
+        self.log = self.folder / "out" / "build.log"
+        self.begin = time.monotonic()
 
     def tell(self, text):
         minutes, seconds = divmod(int(time.monotonic() - self.begin), 60)
         print(f"run: {text} ({minutes}:{seconds:02})", file=sys.stderr, flush=True)
 
-    def build(self, name):
-        """Whether the crate was proved and built."""
-        # `rt run` also runs the program once, without words: its status says nothing here
-        words = ["rt", "run" if name == self.program else "lib", "--jobs", "1"]
-        folder = TOP / "crates" / name
-        log_of(name).parent.mkdir(exist_ok=True)
-        with open(log_of(name), "wb") as out:
-            done = subprocess.run(words, cwd=folder, stdin=subprocess.DEVNULL, stdout=out, stderr=subprocess.STDOUT)
-        is_built = (folder / "out" / name).exists() if name == self.program else done.returncode == 0
-        with self.lock:
-            self.done += is_built
-            if is_built:
-                self.tell(f"{self.done} of {len(self.crates)} crates are proved: {name}")
-        return is_built
+    def is_fresh(self):
+        """Whether no crate was proved in this clone."""
+        return not any((TOP / "crates" / name / "out").exists() for name in self.crates)
 
-    def all(self):
-        """Builds all, up to the first that fails; None, or the name of that one."""
+    def run(self, words, folder):
+        """The status of a command, whose lines go into the log; tells of each crate that it names as done."""
+        done = 0
+        with open(self.log, "a", encoding="utf-8") as log:
+            command = subprocess.Popen(words, cwd=folder, stdin=subprocess.DEVNULL, stdout=subprocess.PIPE,
+                                       stderr=subprocess.STDOUT, text=True, errors="replace")
+            for line in command.stdout:
+                log.write(line)
+                if line.startswith("== "):
+                    done += 1
+                    self.tell(f"{done} of {len(self.crates)} crates are proved: {line[3:].strip()}")
+            return command.wait()
+
+    def prove_all(self):
+        """Proves all crates, several at a time; whether all could be."""
         count = places()
-        self.tell(f"proving and building {len(self.crates)} crates, {count} at a time: minutes, where they are new")
-        waiting, built, running = set(self.crates), set(), {}
-        with concurrent.futures.ThreadPoolExecutor(count) as pool:
-            while waiting or running:
-                ready = [name for name in waiting if built.issuperset(self.crates[name])]
-                for name in sorted(ready, key=self.height, reverse=True)[: count - len(running)]:
-                    waiting.discard(name)
-                    running[pool.submit(self.build, name)] = name
-                ended, _ = concurrent.futures.wait(running, return_when=concurrent.futures.FIRST_COMPLETED)
-                for one in ended:
-                    name = running.pop(one)
-                    if not one.result():
-                        return name
-                    built.add(name)
-        return None
+        self.tell(f"reading and proving {len(self.crates)} crates, {count} at a time: minutes, the first for reading")
+        self.log.parent.mkdir(parents=True, exist_ok=True)
+        return self.run(["rt", "all", "check", "--jobs", str(count)], TOP) == 0
+
+    def build(self):
+        """Builds the program over what was proved, and tries it; whether it could be."""
+        self.log.parent.mkdir(parents=True, exist_ok=True)
+        self.tell(f"building {self.program}; what changed is proved first")
+        return self.run(["rt", "run", "--jobs", "1", "--", *self.words], self.folder) == 0
+
+    def tail(self):
+        return "".join(self.log.read_text(errors="replace").splitlines(keepends=True)[-20:])
 
 
 def main():
-    if len(sys.argv) != 2:
-        fail("usage: build.py PROGRAM")
+    if len(sys.argv) < 2:
+        fail("usage: build.py PROGRAM [WORD...]")
     crates = read_crates()
     if sys.argv[1] not in crates:
         fail(f"no crate {sys.argv[1]} in crates.txt")
+    build = Build(sys.argv[1], sys.argv[2:], crates)
     try:
-        failed = Build(sys.argv[1], crates).all()
+        if build.is_fresh() and not build.prove_all() or not build.build():
+            print(build.tail(), file=sys.stderr)
+            fail(f"not built; the whole log is {build.log}")
     except FileNotFoundError:
         fail("no command rt: the toolchain isn't there")
-    if failed is not None:
-        fail(f"{failed} was not built; the log is {log_of(failed)}")
 
 
 if __name__ == "__main__":
