@@ -69,9 +69,10 @@ class Build:
                                        stderr=subprocess.STDOUT, text=True, errors="replace")
             for line in command.stdout:
                 log.write(line)
-                if line.startswith("== "):
+                name = line[3:].strip() if line.startswith("== ") else None
+                if name in self.crates:
                     done += 1
-                    self.tell(f"{done} of {len(self.crates)} crates are proved: {line[3:].strip()}")
+                    self.tell(f"{done} of {len(self.crates)} crates are proved: {name}")
             return command.wait()
 
     def prove_all(self):
