@@ -296,6 +296,19 @@ def header_of_own_values():
     return made.sequence((20, 14), 0, version=(0, 0), **fields).intra(0, noise(111)).end()
 
 
+@stream
+def fields():
+    """fields as pictures: two frames of 20 by 24 in 4:2:0, then one of 12 by 10 in 4:4:4, and one of a base's own size"""
+    made = Stream().sequence((20, 24), 2, mode=1, sampling=1)
+    made.intra(0, noise(400)).inter(INTER_1, 1, (-1,), mixed_motion(401, 1), faint(402))
+    made.inter(INTER_1, 2, (-2,), mixed_motion(403, 1), faint(404))
+    made.inter(INTER_2, 3, (-2, -1), mixed_motion(405, 2), faint(406)).end()
+    made.sequence((12, 10), 0, mode=1).intra(0, noise(407, 3)).intra(1, noise(408, 1)).end()
+    made.size = (176, 60)
+    made.unit(SEQUENCE_HEADER, sequence_header(base=1, mode=1))
+    return made.intra(0, flat(250, 4)).inter(INTER_1, 1, (-1,), mixed_motion(409, 1)).end()
+
+
 # Units
 
 
@@ -720,8 +733,14 @@ def fault_depth8():
 
 @stream
 def fault_fields():
-    """Fields: picture coding mode 1"""
-    return behind_a_sequence("mode", 8, mode=1)
+    """Fields: picture coding mode 2"""
+    return behind_a_sequence("mode", 8, mode=2)
+
+
+@stream
+def fault_size_of_fields():
+    """Size: fields of frames of 8 by 10 in 4:2:0, whose chroma has no whole rows"""
+    return behind_a_sequence("mode", 8, size=(8, 10), mode=1)
 
 
 @stream

@@ -469,8 +469,13 @@ class Stream:
         return self
 
     def sequence(self, size, chroma=2, **fields):
-        """A sequence header unit; its size and chroma format hold for the pictures behind it."""
+        """A sequence header unit; its size and chroma format hold for the pictures behind it.
+
+        In picture coding mode 1 they are fields: half of the rows.
+        """
         self.size, self.chroma = size, chroma
+        if fields.get("mode") == 1:
+            self.size = (size[0], size[1] // 2)
         fields = {"size": size, "chroma": chroma} | fields
         return self.unit(SEQUENCE_HEADER, sequence_header(**fields))
 

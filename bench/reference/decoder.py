@@ -352,6 +352,8 @@ class ArithmeticDecoder:
 
 
 class Sequence(NamedTuple):
+    """The size of the pictures, which are frames or fields, and their chroma format."""
+
     width: int
     height: int
     chroma: int
@@ -404,7 +406,11 @@ def read_sequence_header(payload):
             reader.unsigned()
     read_signal_range(reader, base.signal)
     read_colour_specification(reader)
-    read_limited(reader, 0, 0, "Fields")
+    mode_place = reader.place()
+    if read_limited(reader, 0, 1, "Fields") == 1:
+        if height % (2 * down) != 0:
+            raise Fault(mode_place, "Size")
+        height //= 2
     return Sequence(width, height, chroma)
 
 

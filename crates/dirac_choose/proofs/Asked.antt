@@ -1,5 +1,6 @@
 -- What accepted settings and pictures of theirs give to a search and to a decision.
 use Rattle.std.proofs.Common.{◌≡◌, ℕ, ◌+◌, ◌-◌, ◌*◌, ◌<◌, ◌≤◌, Option, length, arith}
+use Rattle.dirac_sequence.specs.Sizes.{picture_height}
 use Rattle.std.specs.Option.{ForSome}
 use Rattle.std.proofs.lemmas.List.FromFn.{length-map-range_with_len}
 use Rattle.std.proofs.lemmas.Nat.{div_below}
@@ -21,7 +22,7 @@ use Rattle.dirac_decide.proofs.Accepted.{across_within, bias_within, down_within
 use Rattle.dirac_choose.specs.Chosen.{searched_in, view_in}
 use Rattle.dirac_choose.specs.Lent.{HasLuma}
 
-pub size_accepted : (s : Settings) → IsAccepted s → IsSize (sequence_of s).width (sequence_of s).height
+pub size_accepted : (s : Settings) → IsAccepted s → IsSize (sequence_of s).width (picture_height (sequence_of s))
 unfolding table sequence_of
 size_accepted s a = (a.1.1.0.0, a.1.1.0.1, a.1.1.1.0.0, a.1.1.1.0.1)
 

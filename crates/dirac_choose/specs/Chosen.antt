@@ -1,5 +1,6 @@
 -- The block table that is chosen for a planned picture.
 use Rattle.std.specs.Prelude.{◌≡◌, ℕ, nat_le, if◌then◌else◌, true, false, List, Option, Some, None, option_map}
+use Rattle.dirac_sequence.specs.Sizes.{picture_height}
 use Rattle.std.specs.List.{All}
 use Rattle.dirac_types.specs.declared.settings.Settings.{Settings}
 use Rattle.dirac_types.specs.declared.picture.Picture.{Picture}
@@ -73,7 +74,7 @@ pub record IsChoosing (s : Settings) (refs : List Picture) (q : Planned) (p : Pi
 -- values are samples
 pub record IsChosen (s : Settings) (code : ℕ) (b : BlockTable) : Type 0 where
   pub across : b.across ≡ superblocks_over (sequence_of s).width (grid_of s.blocks).xbsep
-  pub down : b.down ≡ superblocks_over (sequence_of s).height (grid_of s.blocks).ybsep
+  pub down : b.down ≡ superblocks_over (picture_height (sequence_of s)) (grid_of s.blocks).ybsep
   pub refs : b.refs ≡ references_of code
   pub table : IsBlockTable b
   pub dcs : All HasSamples b.blocks

@@ -48,7 +48,7 @@ pub fn vectors_in<R: Threads + Sync, G: RowGate>(
         up: reference.luma,
         grid,
         across: superblocks_over(sequence.width, grid.xbsep),
-        down: superblocks_over(sequence.height, grid.ybsep),
+        down: superblocks_over(sequence.picture_height(), grid.ybsep),
     };
     search_field(rt, alloc, &search, settings, gate)
 }

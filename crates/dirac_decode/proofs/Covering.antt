@@ -1,5 +1,7 @@
 -- The blocks of an inter picture cover each of its planes.
 use Rattle.std.proofs.Common.{◌≡◌, ℕ, ◌+◌, ◌-◌, ◌*◌, ◌/◌, ◌%◌, ◌<◌, ◌≤◌, IsTrue, IsSome, Option, None, Some, arith, ap, refl, subst, ◌∙◌}
+use Rattle.dirac_sequence.proofs.Heights.{picture_whole}
+use Rattle.dirac_sequence.specs.Sizes.{picture_height}
 use Rattle.std.specs.Borrow.{Bor}
 use Rattle.std.specs.Option.{ForSome, option_copied}
 use Rattle.std.proofs.Math.Nat.{lt-div-mul-add}
@@ -71,15 +73,15 @@ chroma_down C420 size sep q whole divides h = half_covered size sep q whole divi
 part_across : (s : Sequence) (sep q : ℕ) (p : Component) → IsSequence s → sep % ratio_across s.chroma ≡ 0 → s.width ≤ q * (4 * sep)
     → width_of s p ≤ 4 * q * (sep / ratio_of p (ratio_across s.chroma))
 part_across s sep q component.Y lawful divides h = rw (div-one sep) (omega arith)
-part_across s sep q component.U lawful divides h = chroma_across s.chroma s.width sep q lawful.whole_across divides h
-part_across s sep q component.V lawful divides h = chroma_across s.chroma s.width sep q lawful.whole_across divides h
+part_across s sep q component.U lawful divides h = chroma_across s.chroma s.width sep q lawful.frames.whole_across divides h
+part_across s sep q component.V lawful divides h = chroma_across s.chroma s.width sep q lawful.frames.whole_across divides h
 
 -- and its rows
-part_down : (s : Sequence) (sep q : ℕ) (p : Component) → IsSequence s → sep % ratio_down s.chroma ≡ 0 → s.height ≤ q * (4 * sep)
+part_down : (s : Sequence) (sep q : ℕ) (p : Component) → IsSequence s → sep % ratio_down s.chroma ≡ 0 → picture_height s ≤ q * (4 * sep)
     → height_of s p ≤ 4 * q * (sep / ratio_of p (ratio_down s.chroma))
 part_down s sep q component.Y lawful divides h = rw (div-one sep) (omega arith)
-part_down s sep q component.U lawful divides h = chroma_down s.chroma s.height sep q lawful.whole_down divides h
-part_down s sep q component.V lawful divides h = chroma_down s.chroma s.height sep q lawful.whole_down divides h
+part_down s sep q component.U lawful divides h = chroma_down s.chroma (picture_height s) sep q (picture_whole s lawful) divides h
+part_down s sep q component.V lawful divides h = chroma_down s.chroma (picture_height s) sep q (picture_whole s lawful) divides h
 
 -- a plane of a picture has the sizes of its part
 pub plane_size : (s : Sequence) (picture : Picture) (p : Component) → IsPicture s picture → IsPlane (width_of s p) (height_of s p) (plane_of picture p)
@@ -97,8 +99,8 @@ is_compensation code s m first second p lawful fits one two there =
     let down = grid_down s.chroma m.prediction.grid grid in
     let wide : s.width ≤ m.blocks.across * (4 * m.prediction.grid.xbsep) =
     rw fits.across (luma_covered s.width m.prediction.grid.xbsep across.0) in
-    let high : s.height ≤ m.blocks.down * (4 * m.prediction.grid.ybsep) =
-    rw fits.down (luma_covered s.height m.prediction.grid.ybsep down.0) in
+    let high : picture_height s ≤ m.blocks.down * (4 * m.prediction.grid.ybsep) =
+    rw fits.down (luma_covered (picture_height s) m.prediction.grid.ybsep down.0) in
     record {
       grid = grid;
       precision = fits.prediction.precision;

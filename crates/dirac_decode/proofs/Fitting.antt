@@ -1,5 +1,6 @@
 -- Bands that fit a transform are those that a plane is rebuilt from.
 use Rattle.std.proofs.Common.{ℕ, List}
+use Rattle.dirac_sequence.specs.Sizes.{picture_height}
 use Rattle.dirac_sequence.specs.declared.sequence.Sequence.{Sequence}
 use Rattle.dirac_types.specs.declared.formats.Component.{Component}
 use Rattle.dirac_types.specs.declared.formats.Component.TheVariants as component
@@ -22,6 +23,6 @@ bands_of_plane t width height bands fits = record {
 
 -- those of each plane of a picture's residual
 pub bands_of_part : (s : Sequence) (r : CodedResidual) (p : Component) → picture.IsResidual s r → plane.AreBandsOf r.transform.depth (width_of s p) (height_of s p) (bands_of r p)
-bands_of_part s r component.Y fits = bands_of_plane r.transform s.width s.height r.y fits.y
+bands_of_part s r component.Y fits = bands_of_plane r.transform s.width (picture_height s) r.y fits.y
 bands_of_part s r component.U fits = bands_of_plane r.transform (width_of s component.U) (height_of s component.U) r.u fits.u
 bands_of_part s r component.V fits = bands_of_plane r.transform (width_of s component.V) (height_of s component.V) r.v fits.v

@@ -8,7 +8,8 @@ use Rattle.dirac_sequence.specs.declared.sequence.Sequence.{Sequence}
 use Rattle.dirac_sequence.specs.Lawful.{IsSequence}
 use Rattle.dirac_sequence.specs.Ratios.{ratio_across, ratio_down}
 use Rattle.dirac_picture.specs.Fits.{IsPlaneSize}
-use Rattle.dirac_sequence.specs.Sizes.{chroma_height, chroma_width, plane_height, plane_width}
+use Rattle.dirac_sequence.specs.Sizes.{chroma_height, chroma_width, picture_height, plane_height, plane_width}
+use Rattle.dirac_sequence.proofs.Heights.{picture_size, picture_whole}
 
 across_some : (width : ℕ) (chroma : Chroma) → 1 ≤ width → width ≤ 4096 → width % ratio_across chroma ≡ 0 → (1 ≤ width / ratio_across chroma) × (width / ratio_across chroma ≤ 4096)
 across_some width C444 some few whole = (omega arith, omega arith)
@@ -21,16 +22,16 @@ down_some height C422 some few whole = (omega arith, omega arith)
 down_some height C420 some few whole = (omega arith, omega arith)
 
 -- the luma plane of a sequence
-pub luma_size : (s : Sequence) → IsSequence s → IsPlaneSize s.width s.height
-luma_size s lawful = let size = lawful.size in record { across = (size.0, size.1); down = (size.2, omega arith) }
+pub luma_size : (s : Sequence) → IsSequence s → IsPlaneSize s.width (picture_height s)
+luma_size s lawful = let size = picture_size s lawful in record { across = (size.0, size.1); down = (size.2, omega arith) }
 
 -- and its chroma planes
 pub chroma_size : (s : Sequence) → IsSequence s → IsPlaneSize (chroma_width s) (chroma_height s)
 chroma_size s lawful =
-    let size = lawful.size in
+    let size = picture_size s lawful in
     record {
-      across = across_some s.width s.chroma size.0 size.1 lawful.whole_across;
-      down = down_some s.height s.chroma size.2 (omega arith) lawful.whole_down;
+      across = across_some s.width s.chroma size.0 size.1 lawful.frames.whole_across;
+      down = down_some (picture_height s) s.chroma size.2 (omega arith) (picture_whole s lawful);
     }
 
 -- so each plane

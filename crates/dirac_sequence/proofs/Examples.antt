@@ -1,5 +1,5 @@
 -- Headers of settings, computed.
-use Rattle.std.proofs.Common.{◌≡◌, true, [], ◌∷◌, refl}
+use Rattle.std.proofs.Common.{◌≡◌, false, true, [], ◌∷◌, refl}
 use Rattle.dirac_types.specs.BaseFormats.{base_format}
 use Rattle.dirac_types.specs.Bytes.{bytes_in}
 use Rattle.dirac_types.specs.declared.formats.Chroma.TheVariants.{C422}
@@ -34,6 +34,7 @@ seventh : preset 7 ≡ record {
   clean = (704, 480, 8, 0);
   luma = (64, 876);
   colour = (512, 896);
+  fields = false;
 }
 unfolding preset base_format rate_of aspect_of range_of
 seventh = refl

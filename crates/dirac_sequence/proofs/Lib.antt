@@ -1,4 +1,5 @@
 pub mod Accepted
 mod Examples
+pub mod Heights
 pub mod Packed
 pub mod Written

@@ -2,7 +2,7 @@
 use Rattle.std.proofs.Common.{◌≡◌, ℕ, ◌+◌, ◌≤◌, ◌==◌, ◌%◌, ◌/◌, ◌&&◌, not, if◌then◌else◌, Bool, true, false, List, [], ◌∷◌, ◌++◌, length, refl, sym, ap, ap₂, subst, ◌∙◌, arith, inl, inr, append_assoc, append-nil}
 use Rattle.std.proofs.lemmas.Bool.{and_parts, and_from, eq-eqb, eqb-true, cases_eq, ne_eqb}
 use Rattle.dirac_sequence.specs.Ratios.{ratio_across, ratio_down}
-use Rattle.dirac_types.specs.declared.faults.Cause.TheVariants.{Preset, Size, ChromaFormat, RateIndex, SignalRange as SignalIndex, Depth8, Fields}
+use Rattle.dirac_types.specs.declared.faults.Cause.TheVariants.{Preset, Size, ChromaFormat, RateIndex, SignalRange as SignalIndex, Depth8}
 use Rattle.dirac_types.specs.declared.formats.Chroma.{Chroma}
 use Rattle.dirac_types.specs.declared.formats.Chroma.TheVariants.{C444, C422, C420}
 use Rattle.dirac_types.specs.declared.settings.Settings.{Settings}
@@ -11,7 +11,7 @@ use Rattle.dirac_bits.specs.Spelling.{Spells}
 use Rattle.dirac_bits.specs.Syntax.{Syntax, done, refuse, ◌>>=◌, field, between, custom}
 use Rattle.dirac_sequence.specs.declared.sequence.Sequence.{Sequence}
 use Rattle.dirac_sequence.specs.declared.sequence.SignalRange.{SignalRange}
-use Rattle.dirac_sequence.specs.Grammar.{base_format, size, chroma_of, own_chroma, is_whole, chroma, sampling, rate, fraction, frames, aspect, clean_area, own_range, signal_range, signal, is_depth, samples, colours, values, sequence}
+use Rattle.dirac_sequence.specs.Grammar.{base_format, size, chroma_of, own_chroma, is_whole, chroma, sampling, rate, fraction, frames, aspect, clean_area, own_range, signal_range, signal, is_depth, samples, colours, values, coding_mode, sequence}
 use Rattle.dirac_sequence.specs.Tables.{preset, rate_of, range_of}
 use Rattle.dirac_sequence.specs.Written.{IsWritable, is_same, index_of, is_own_size, is_own_chroma, is_own_rate, is_own_signal, custom_bits, base_bits, whole_area_bits, frames_bits, samples_bits, sequence_bits, sequence_of}
 use Rattle.dirac_bits.proofs.Fields.{spells_then, spells_last, field_spelled, between_is}
@@ -191,7 +191,7 @@ whole_area t true k w =
 whole_area t false k w = (false, [], refl, (refl, refl))
 
 samples_spelled : (t : Settings) (k : ℕ) → IsWritable t → Spells (samples (framed t)) (sequence_of t) k (samples_bits t)
-unfolding samples begun framed aspect sequence_of
+unfolding samples begun framed aspect sequence_of preset
 samples_spelled t k w =
     let a : List Bool = false ∷ [] in
     let b = custom_bits (is_own_size t) (whole_area_bits t) in
@@ -226,14 +226,14 @@ values_spelled t k w =
     subst (λ (l : List Bool). Spells values (sequence_of t) k l) parts all
 
 pub sequence_spelled : (t : Settings) (k : ℕ) → IsWritable t → Spells sequence (sequence_of t) k (sequence_bits t)
-unfolding sequence colours
+unfolding sequence colours coding_mode sequence_of
 sequence_spelled t k w =
     let a = base_bits t ++ frames_bits t ++ samples_bits t in
     let b : List Bool = false ∷ [] in
     let c = uint 0 in
     let k1 = k + length a in
     let k2 = k1 + length b in
-    let third : Sequence → Unit {0} → Syntax Sequence = λ s none. field Fields (between 0 0) >>= λ mode. done s in
+    let third : Sequence → Unit {0} → Syntax Sequence = λ s none. coding_mode s in
     let second : Sequence → Syntax Sequence = λ s. colours >>= third s in
     let last : Spells (third (sequence_of t) tt) (sequence_of t) k2 c = (0, [], omega arith, sym (append-nil (uint 0)), (refl, refl)) in
     let more : Spells (second (sequence_of t)) (sequence_of t) k1 (b ++ c) =

@@ -1,5 +1,5 @@
 -- The sequence header, field after field: sequence header, Dirac specification.
-use Rattle.std.specs.Prelude.{ℕ, ◌+◌, ◌-◌, ◌%◌, ◌^◌, ◌==◌, nat_le, nat_lt, ◌&&◌, if◌then◌else◌, Bool, List, Result}
+use Rattle.std.specs.Prelude.{ℕ, ◌+◌, ◌-◌, ◌*◌, ◌%◌, ◌^◌, false, true, ◌==◌, nat_le, nat_lt, ◌&&◌, if◌then◌else◌, Bool, List, Result}
 use Rattle.dirac_types.specs.declared.limits.TheConstants.{LARGEST_HEIGHT, LARGEST_WIDTH}
 use Rattle.dirac_types.specs.declared.faults.Cause.TheVariants.{Version, Preset, Size, ChromaFormat, Sampling, RateIndex, AspectIndex, SignalRange as SignalIndex, Depth8, Fields}
 use Rattle.dirac_types.specs.declared.faults.Refusal.{Refusal}
@@ -150,13 +150,24 @@ values = do
   s ← frames s
   samples s
 
--- the sequence header; the picture coding mode, its last field, is 0: pictures are frames
+-- a frame has two fields with whole chroma samples
+abbrev pub has_whole_fields : Sequence → Bool
+has_whole_fields s = s.height % (2 * ratio_down s.chroma) == 0
+
+-- the picture coding mode, 0 for frames and 1 for fields; fields of a height that doesn't allow them are refused at it
+unfoldable pub coding_mode : Sequence → Syntax Sequence
+coding_mode s = do
+  at ← here
+  mode ← field Fields (between 0 1)
+  if mode == 0 then done (record s { fields = false }) else
+      if has_whole_fields s then done (record s { fields = true }) else refuse at Size
+
+-- the sequence header
 unfoldable pub sequence : Syntax Sequence
 sequence = do
   s ← values
   none ← colours
-  mode ← field Fields (between 0 0)
-  done s
+  coding_mode s
 
 -- the sequence that a payload begins with, or the first field that breaks a rule
 abbrev pub sequence_read : List ℕ → Result Sequence Refusal

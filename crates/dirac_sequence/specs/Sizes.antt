@@ -1,13 +1,13 @@
 -- The sizes of a sequence's pictures and of their planes.
-use Rattle.std.specs.Prelude.{ℕ, ◌/◌}
+use Rattle.std.specs.Prelude.{ℕ, ◌/◌, if◌then◌else◌}
 use Rattle.dirac_types.specs.declared.formats.Component.{Component}
 use Rattle.dirac_types.specs.declared.formats.Component.TheVariants as component
 use Rattle.dirac_sequence.specs.declared.sequence.Sequence.{Sequence}
 use Rattle.dirac_sequence.specs.Ratios.{ratio_across, ratio_down}
 
--- the rows of a picture: each picture is a whole frame
+-- the rows of a picture: those of a frame, or half of them where it is a field
 abbrev pub picture_height : Sequence → ℕ
-picture_height s = s.height
+picture_height s = if s.fields then s.height / 2 else s.height
 
 -- the columns of a chroma plane
 abbrev pub chroma_width : Sequence → ℕ

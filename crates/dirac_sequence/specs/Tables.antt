@@ -1,5 +1,5 @@
 -- The tables of the sequence header: base video formats, frame rates, pixel aspects, signal ranges.
-use Rattle.std.specs.Prelude.{ℕ, ◌-◌, nat_le, if◌then◌else◌, List, [], ◌∷◌, slice_index_or}
+use Rattle.std.specs.Prelude.{ℕ, ◌-◌, false, nat_le, if◌then◌else◌, List, [], ◌∷◌, slice_index_or}
 use Rattle.dirac_types.specs.BaseFormats.{base_format}
 use Rattle.dirac_types.specs.declared.base_formats.BaseFormat.{BaseFormat}
 use Rattle.dirac_sequence.specs.declared.sequence.Sequence.{Sequence}
@@ -53,6 +53,7 @@ preset_of base f = record {
   clean = f.clean;
   luma = (range_of f.signal).luma;
   colour = (range_of f.signal).colour;
+  fields = false;
 }
 
 -- the sequence of the base video format of this number; beyond the last stands that of number 0

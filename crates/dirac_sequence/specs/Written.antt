@@ -66,6 +66,7 @@ sequence_of t = record (preset t.base) {
   clean = if is_own_size t then (t.width, t.height, 0, 0) else (preset t.base).clean;
   luma = (range_of t.signal).luma;
   colour = (range_of t.signal).colour;
+  fields = false;
 }
 
 -- a custom flag, and behind it where it is set what it announces

@@ -4,7 +4,7 @@ ghost use Rattle.std.specs.Prelude.{◌≡◌, ◌≤◌, IfOk, IfErr, length};
 ghost use Rattle.dirac_bits.specs.Syntax.{read};
 ghost use Rattle.dirac_bits.specs.Answers.{Reads};
 ghost use Rattle.dirac_sequence.specs.Grammar as grammar;
-ghost use Rattle.dirac_sequence.specs.Lawful.{IsSequence};
+ghost use Rattle.dirac_sequence.specs.Lawful.{HasFrames};
 
 use crate::frames::read_fraction;
 use crate::sequence::{Sequence, SignalRange};
@@ -14,11 +14,11 @@ use dirac_types::{Cause, Refusal};
 
 #[tactic(auto, unfolding(crate::specs::Grammar::samples), using(dirac_bits::specs::Then::read_then))]
 pub fn read_samples(r: &mut BitReader<'_>, s: Sequence) -> Result<Sequence, Refusal>
-    requires { IsSequence s }
+    requires { HasFrames s }
     ensures value { Reads (λ s. s) result r.new (read (grammar.samples s) r.old) }
     ensures place_inside { IfErr result (λ e. e.at ≤ length r.old.bytes) }
     ensures kept { r.new.bytes ≡ r.old.bytes }
-    ensures lawful { IfOk result (λ s. IsSequence s) }
+    ensures lawful { IfOk result (λ s. HasFrames s) }
 {
     let aspect = read_aspect(r, s.aspect)?;
     let clean = read_clean_area(r, s.clean)?;

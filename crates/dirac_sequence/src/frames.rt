@@ -5,7 +5,7 @@ ghost use Rattle.dirac_bits.specs.Syntax.{read};
 ghost use Rattle.dirac_bits.specs.Answers.{Reads};
 ghost use Rattle.dirac_sequence.specs.Grammar as grammar;
 ghost use Rattle.dirac_sequence.specs.Ratios as ratios;
-ghost use Rattle.dirac_sequence.specs.Lawful.{IsSize, IsSequence};
+ghost use Rattle.dirac_sequence.specs.Lawful.{IsSize, HasFrames};
 
 use crate::sequence::{Sequence, ratio_across, ratio_down};
 use crate::tables;
@@ -18,7 +18,7 @@ pub fn read_frames(r: &mut BitReader<'_>, s: Sequence) -> Result<Sequence, Refus
     ensures value { Reads (λ s. s) result r.new (read (grammar.frames s) r.old) }
     ensures place_inside { IfErr result (λ e. e.at ≤ length r.old.bytes) }
     ensures kept { r.new.bytes ≡ r.old.bytes }
-    ensures lawful { IfOk result (λ s. IsSequence s) }
+    ensures lawful { IfOk result (λ s. HasFrames s) }
 {
     let (width, height) = read_size(r, (s.width, s.height))?;
     let chroma = read_chroma(r, (width, height), s.chroma)?;

@@ -6,11 +6,11 @@ ghost use Rattle.dirac_bits.specs.Answers.{Gives, Reads};
 ghost use Rattle.dirac_bits.specs.Laws.{StartsWith};
 ghost use Rattle.dirac_sequence.specs.declared.sequence.Sequence.{Sequence as TheSequence};
 ghost use Rattle.dirac_sequence.specs.Grammar as grammar;
-ghost use Rattle.dirac_sequence.specs.Lawful.{IsSize, IsSequence};
+ghost use Rattle.dirac_sequence.specs.Lawful.{HasFrames, IsSize, IsSequence};
 
 use crate::details::{read_colours, read_samples};
 use crate::frames::read_frames;
-use crate::sequence::Sequence;
+use crate::sequence::{Sequence, ratio_down};
 use crate::tables::preset;
 use dirac_bits::BitReader;
 use dirac_types::{Cause, Refusal};
@@ -18,7 +18,8 @@ use dirac_types::{Cause, Refusal};
 /// The sequence that a payload begins with: sequence header, Dirac specification. What follows its last field is free.
 ///
 /// A refusal names the first field that breaks a rule, by the byte of its first bit. A size that isn't a multiple of
-/// the chroma ratios is refused at the flag of the chroma format, a depth other than 8 at the flag of the signal range.
+/// the chroma ratios is refused at the flag of the chroma format, a depth other than 8 at the flag of the signal range,
+/// a height that has no two fields with whole chroma samples at the picture coding mode, where that is fields.
 pub fn read_sequence(payload: &[u8]) -> Result<Sequence, Refusal>
     ensures value { Gives (λ s. s) result (grammar.sequence_read payload.now) }
     // What is answered is spelled by the payload's first bits.
@@ -29,19 +30,40 @@ pub fn read_sequence(payload: &[u8]) -> Result<Sequence, Refusal>
     ensures place_inside { IfErr result (λ e. e.at ≤ length payload.now) }
 {
     let mut r = BitReader::new(payload);
-    read_fields(&mut r)
+    read_header(&mut r)
 }
 
 #[tactic(auto, unfolding(crate::specs::Grammar::sequence), using(dirac_bits::specs::Then::read_then))]
-fn read_fields(r: &mut BitReader<'_>) -> Result<Sequence, Refusal>
+fn read_header(r: &mut BitReader<'_>) -> Result<Sequence, Refusal>
     ensures value { Reads (λ s. s) result r.new (read grammar.sequence r.old) }
     ensures place_inside { IfErr result (λ e. e.at ≤ length r.old.bytes) }
     ensures lawful { IfOk result (λ s. IsSequence s) }
 {
     let s = read_values(r)?;
     read_colours(r)?;
-    r.field(Cause::Fields, 0, 0)?;
-    Ok(s)
+    read_coding_mode(r, s)
+}
+
+#[tactic(auto, unfolding(crate::specs::Grammar::coding_mode), using(dirac_bits::specs::Then::read_then))]
+fn read_coding_mode(r: &mut BitReader<'_>, s: Sequence) -> Result<Sequence, Refusal>
+    requires { HasFrames s }
+    ensures value { Reads (λ s. s) result r.new (read (grammar.coding_mode s) r.old) }
+    ensures place_inside { IfErr result (λ e. e.at ≤ length r.old.bytes) }
+    ensures lawful { IfOk result (λ s. IsSequence s) }
+{
+    let at = r.place();
+    let mode = r.field(Cause::Fields, 0, 1)?;
+    if mode == 0 {
+        return Ok(Sequence { fields: false, ..s });
+    }
+    if s.height % (2 * ratio_down(s.chroma)) == 0 {
+        Ok(Sequence { fields: true, ..s })
+    } else {
+        Err(Refusal {
+            at,
+            cause: Cause::Size,
+        })
+    }
 }
 
 #[tactic(auto, unfolding(crate::specs::Grammar::values), using(dirac_bits::specs::Then::read_then))]
@@ -49,7 +71,7 @@ fn read_values(r: &mut BitReader<'_>) -> Result<Sequence, Refusal>
     ensures value { Reads (λ s. s) result r.new (read grammar.values r.old) }
     ensures place_inside { IfErr result (λ e. e.at ≤ length r.old.bytes) }
     ensures kept { r.new.bytes ≡ r.old.bytes }
-    ensures lawful { IfOk result (λ s. IsSequence s) }
+    ensures lawful { IfOk result (λ s. HasFrames s) }
 {
     let s = read_base_format(r)?;
     let s = read_frames(r, s)?;

@@ -16,10 +16,10 @@ pub struct Sequence {
     pub base: u8,
     /// Luma samples across.
     pub width: u32,
-    /// Luma samples down.
+    /// Luma samples down, in a frame.
     pub height: u32,
     pub chroma: Chroma,
-    /// Whether the source was interlaced. The pictures are whole frames all the same.
+    /// Whether the source was interlaced. Its pictures may be whole frames all the same.
     pub interlaced: bool,
     /// Frames a second, as numerator and denominator.
     pub rate: (u64, u64),
@@ -31,14 +31,20 @@ pub struct Sequence {
     pub luma: (u64, u64),
     /// Chroma's offset and excursion.
     pub colour: (u64, u64),
+    /// Whether each picture is a field, every second row of a frame, and not a whole frame.
+    pub fields: bool,
 }
 
 impl Sequence {
-    /// The number of rows of a picture, in luma samples.
+    /// The number of rows of a picture, in luma samples: those of a frame, or half of them where it is a field.
     pub fn picture_height(&self) -> u32
         ensures { result ≡ sizes.picture_height self.now }
     {
-        self.height
+        if self.fields {
+            self.height / 2
+        } else {
+            self.height
+        }
     }
 
     /// The number of columns of a plane of a picture.

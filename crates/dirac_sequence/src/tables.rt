@@ -32,6 +32,7 @@ pub fn preset(n: u8) -> Sequence
         clean: format.clean,
         luma: signal.luma,
         colour: signal.colour,
+        fields: false,
     }
 }
 

@@ -52,6 +52,7 @@ fn made(settings: &Settings) -> Sequence
         clean,
         luma: signal.luma,
         colour: signal.colour,
+        fields: false,
         ..base
     }
 }

@@ -1,5 +1,6 @@
 -- The payload of a coded picture.
 use Rattle.std.specs.Prelude.{ℕ, Bool, true, false, if◌then◌else◌, List, [], ◌∷◌, ◌++◌, length, Option, None, Some}
+use Rattle.dirac_sequence.specs.Sizes.{picture_height}
 use Rattle.dirac_types.specs.declared.settings.Settings.{Settings}
 use Rattle.dirac_types.specs.Bytes.{bytes_of}
 use Rattle.dirac_sequence.specs.declared.sequence.Sequence.{Sequence}
@@ -34,7 +35,7 @@ abbrev pub with_planes : Sequence → CodedResidual → List Bool → List Bool
 with_planes s r bits =
     with_plane r.transform (chroma_width s) (chroma_height s) r.v
     (with_plane r.transform (chroma_width s) (chroma_height s) r.u
-    (with_plane r.transform s.width s.height r.y bits))
+    (with_plane r.transform s.width (picture_height s) r.y bits))
 
 -- with the transform parameters and the bands behind them
 abbrev pub with_residual : Sequence → CodedResidual → List Bool → List Bool

@@ -1,5 +1,6 @@
 -- What can be written.
 use Rattle.std.specs.Prelude.{◌≡◌, ℕ, ◌≤◌, ◌<◌, ◌^◌, List, true, Some, slice_get, unsigned_abs}
+use Rattle.dirac_sequence.specs.Sizes.{picture_height}
 use Rattle.std.specs.List.{All}
 use Rattle.dirac_types.specs.Limits.{IsEncodedDepth, IsIndex, IsWavelet}
 use Rattle.dirac_types.specs.declared.settings.Settings.{Settings}
@@ -28,7 +29,7 @@ HaveZeros bands =
 pub record IsWritten (s : Sequence) (r : CodedResidual) : Type 0 where
   pub lawful : IsResidual s r
   pub transform : IsTransform r.transform
-  pub fits : FitFrom s.width s.height r.transform.depth 0 r.transform.counts
+  pub fits : FitFrom s.width (picture_height s) r.transform.depth 0 r.transform.counts
   pub y : HaveZeros r.y
   pub u : HaveZeros r.u
   pub v : HaveZeros r.v

@@ -68,7 +68,19 @@ fn decodes_inter_pictures(rt: HostRuntime) -> Result<(), Fail> {
     // it names the picture that follows its own
     let missing = faulty(2, 63, Cause::MissingReference);
     let bytes = changed(alloc, 67, 0x78)?;
-    shows(&rt, alloc, bytes.as_slice(), missing, &GREY, one)
+    shows(&rt, alloc, bytes.as_slice(), missing, &GREY, one)?;
+
+    // the same pictures, as the two fields of a frame of 8 by 16
+    let fields = [0x6Fu8, 0xC1, 0x80, 0xC2, 0x0C, 0x07, 0x84];
+    let bytes = joined(alloc, &[&header(0x00, 20, 0), &fields, &STREAM[19..]])?;
+    shows(
+        &rt,
+        alloc,
+        bytes.as_slice(),
+        Ended::Done,
+        two.as_slice(),
+        both,
+    )
 }
 
 #[test]

@@ -11,7 +11,8 @@ fn refused_headers(rt: HostRuntime) {
         ([0x6F, 0x8A, 0x10, 0x00, 0x00], 1, Cause::RateIndex),
         ([0x6F, 0x84, 0x08, 0x00, 0x00], 1, Cause::AspectIndex),
         ([0x6F, 0x81, 0x48, 0x00, 0x00], 2, Cause::SignalRange),
-        ([0x6F, 0xC1, 0x83, 0x00, 0x40], 3, Cause::Fields),
+        ([0x6F, 0xC1, 0x83, 0x00, 0xC0], 3, Cause::Fields),
+        ([0x6F, 0xC1, 0x8B, 0x00, 0x40], 3, Cause::Size),
         ([0x0F, 0x00, 0x00, 0x00, 0x00], 0, Cause::Version),
         ([0x6F, 0x06, 0x01, 0x00, 0x00], 2, Cause::Depth8),
     ];
@@ -65,6 +66,7 @@ fn read_headers(rt: HostRuntime) {
         clean: (176, 144, 0, 0),
         luma: (0, 255),
         colour: (128, 255),
+        fields: false,
     };
     let plain = [0x6Fu8, 0x60, 0x10];
     assert_eq!(rt; read_sequence(plain.as_slice()), Ok(wanted));
@@ -79,4 +81,16 @@ fn read_headers(rt: HostRuntime) {
         ..preset(0)
     };
     assert_eq!(rt; read_sequence(small.as_slice()), Ok(wanted));
+    // fields of frames of 8 by 8: pictures of 8 by 4
+    let fields = [0x6Fu8, 0xC1, 0x83, 0x00, 0x40];
+    let wanted = Sequence {
+        major: 2,
+        minor: 2,
+        width: 8,
+        height: 8,
+        fields: true,
+        ..preset(0)
+    };
+    assert_eq!(rt; read_sequence(fields.as_slice()), Ok(wanted));
+    assert_eq!(rt; wanted.picture_height(), 4);
 }

@@ -1,4 +1,6 @@
 use Rattle.std.proofs.Common.{◌≤◌, arith}
+use Rattle.dirac_sequence.specs.Sizes.{picture_height}
+use Rattle.dirac_sequence.proofs.Heights.{picture_size}
 use Rattle.dirac_picture.specs.Fits.{IsTransform}
 use Rattle.dirac_picture.proofs.Lawful.{layout_lawful, transform_lawful}
 use Rattle.dirac_picture.proofs.picture.read_residual.Goals as goal
@@ -6,14 +8,16 @@ use Rattle.dirac_picture.proofs.picture.read_residual.Goals as goal
 pub read_planes-requires-clause-transform : goal.read_planes-requires-clause-transform
 read_planes-requires-clause-transform c =
     let s = c.args.sequence.now in
-    transform_lawful s.width s.height c.args.r.now c.read_transform.new.r c.in_ok-transform.transform c.requires.sequence.size.0 c.requires.sequence.size.2
+    let size = picture_size s c.requires.sequence in
+    transform_lawful s.width (picture_height s) c.args.r.now c.read_transform.new.r c.in_ok-transform.transform size.0 size.2
     c.in_ok-transform.ensures.wavelet c.in_ok-transform.ensures.depth c.in_ok-transform.ensures.levels (rw c.picture_height.ensures at c.in_ok-transform.ensures.value)
 
 pub read_planes-requires-clause-layout : goal.read_planes-requires-clause-layout
 read_planes-requires-clause-layout c =
     let s = c.args.sequence.now in
-    let high : s.height ≤ 4096 = omega (arith, c.requires.sequence.size.3) in
-    let lawful : IsTransform s.width s.height c.in_ok-transform.transform =
-    transform_lawful s.width s.height c.args.r.now c.read_transform.new.r c.in_ok-transform.transform c.requires.sequence.size.0 c.requires.sequence.size.2
+    let size = picture_size s c.requires.sequence in
+    let high : picture_height s ≤ 4096 = omega (arith, size.3) in
+    let lawful : IsTransform s.width (picture_height s) c.in_ok-transform.transform =
+    transform_lawful s.width (picture_height s) c.args.r.now c.read_transform.new.r c.in_ok-transform.transform size.0 size.2
     c.in_ok-transform.ensures.wavelet c.in_ok-transform.ensures.depth c.in_ok-transform.ensures.levels (rw c.picture_height.ensures at c.in_ok-transform.ensures.value) in
-    layout_lawful s.width s.height c.in_ok-transform.transform c.requires.sequence.size.1 high lawful
+    layout_lawful s.width (picture_height s) c.in_ok-transform.transform size.1 high lawful

@@ -4,10 +4,10 @@ use Rattle.dirac_sequence.proofs.read.read_sequence.Goals as goal
 
 pub returns-clause-spelled : goal.returns-clause-spelled
 returns-clause-spelled c =
-    given_spelled sequence c.args.payload.now c.read_fields.result
-    (reads_given c.read_fields.result c.read_fields.new.r _ (rw c.new-r.ensures at c.read_fields.ensures.value))
+    given_spelled sequence c.args.payload.now c.read_header.result
+    (reads_given c.read_header.result c.read_header.new.r _ (rw c.new-r.ensures at c.read_header.ensures.value))
 
 pub returns-clause-no_other_reading : goal.returns-clause-no_other_reading
 returns-clause-no_other_reading c =
-    spelled_given sequence c.args.payload.now c.read_fields.result
-    (reads_given c.read_fields.result c.read_fields.new.r _ (rw c.new-r.ensures at c.read_fields.ensures.value))
+    spelled_given sequence c.args.payload.now c.read_header.result
+    (reads_given c.read_header.result c.read_header.new.r _ (rw c.new-r.ensures at c.read_header.ensures.value))
