@@ -51,10 +51,7 @@ fn read_split_row(
     ensures few_doublings { decoder.new.at.doublings ≤ decoder.old.at.doublings + 693 * count }
 {
     'superblocks: for n in 0..count {
-        match read_split(decoder, table, n, sy) {
-            Ok(()) => {}
-            Err(cause) => return Err(cause),
-        }
+        read_split(decoder, table, n, sy)?;
     }
     Ok(())
 }
@@ -77,10 +74,7 @@ fn read_split_rows(
     ensures blocks { SameBlocks table.old table.new }
 {
     'rows: for n in 0..count {
-        match read_split_row(decoder, table, n, across) {
-            Ok(()) => {}
-            Err(cause) => return Err(cause),
-        }
+        read_split_row(decoder, table, n, across)?;
     }
     Ok(())
 }

@@ -33,10 +33,7 @@ fn write_split_row(
     ensures { OnOk result (encoder.new ≡ narrowed_by encoder.old (split_row (least_numbers table.now) sy count)) }
 {
     'superblocks: for n in 0..count {
-        match write_split(encoder, table, n, sy) {
-            Ok(()) => {}
-            Err(e) => return Err(e),
-        }
+        write_split(encoder, table, n, sy)?;
     }
     Ok(())
 }
@@ -54,10 +51,7 @@ pub fn write_split_rows(
         (split_rows table.now.across (least_numbers table.now) count)) }
 {
     'rows: for n in 0..count {
-        match write_split_row(encoder, table, n, across) {
-            Ok(()) => {}
-            Err(e) => return Err(e),
-        }
+        write_split_row(encoder, table, n, across)?;
     }
     Ok(())
 }

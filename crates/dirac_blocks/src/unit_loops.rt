@@ -27,10 +27,7 @@ fn write_unit_row(
     ensures { OnOk result (encoder.new ≡ narrowed_by encoder.old (unit_row (part_at part table.now) size i j count)) }
 {
     'units: for n in 0..count {
-        match write_unit(encoder, table, part, i + n * size, j) {
-            Ok(()) => {}
-            Err(e) => return Err(e),
-        }
+        write_unit(encoder, table, part, i + n * size, j)?;
     }
     Ok(())
 }
@@ -55,10 +52,7 @@ fn write_unit_rows(
         (unit_rows (part_at part table.now) size across i j count)) }
 {
     'rows: for n in 0..count {
-        match write_unit_row(encoder, table, part, size, i, j + n * size, across) {
-            Ok(()) => {}
-            Err(e) => return Err(e),
-        }
+        write_unit_row(encoder, table, part, size, i, j + n * size, across)?;
     }
     Ok(())
 }
@@ -100,10 +94,7 @@ fn write_superblock_row(
         (superblock_row (part_at part table.now) table.now sy count)) }
 {
     'superblocks: for n in 0..count {
-        match write_superblock(encoder, table, part, n, sy) {
-            Ok(()) => {}
-            Err(e) => return Err(e),
-        }
+        write_superblock(encoder, table, part, n, sy)?;
     }
     Ok(())
 }
@@ -124,10 +115,7 @@ pub fn write_superblock_rows(
         (superblock_rows (part_at part table.now) table.now count)) }
 {
     'rows: for n in 0..count {
-        match write_superblock_row(encoder, table, part, n, across) {
-            Ok(()) => {}
-            Err(e) => return Err(e),
-        }
+        write_superblock_row(encoder, table, part, n, across)?;
     }
     Ok(())
 }

@@ -59,10 +59,7 @@ fn read_unit_row(
     ensures few_doublings { decoder.new.at.doublings ≤ decoder.old.at.doublings + 702 * count }
 {
     'units: for n in 0..count {
-        match read_unit(decoder, table, part, size, i + n * size, j) {
-            Ok(()) => {}
-            Err(cause) => return Err(cause),
-        }
+        read_unit(decoder, table, part, size, i + n * size, j)?;
     }
     Ok(())
 }
@@ -93,10 +90,7 @@ fn read_unit_rows(
     ensures few_doublings { decoder.new.at.doublings ≤ decoder.old.at.doublings + 2808 * count }
 {
     'rows: for n in 0..count {
-        match read_unit_row(decoder, table, part, size, i, j + n * size, across) {
-            Ok(()) => {}
-            Err(cause) => return Err(cause),
-        }
+        read_unit_row(decoder, table, part, size, i, j + n * size, across)?;
     }
     Ok(())
 }
@@ -144,10 +138,7 @@ fn read_superblock_row(
     ensures few_doublings { decoder.new.at.doublings ≤ decoder.old.at.doublings + 11232 * count }
 {
     'superblocks: for n in 0..count {
-        match read_superblock(decoder, table, part, n, sy) {
-            Ok(()) => {}
-            Err(cause) => return Err(cause),
-        }
+        read_superblock(decoder, table, part, n, sy)?;
     }
     Ok(())
 }
@@ -170,10 +161,7 @@ fn read_superblock_rows(
     ensures shape { SameShape table.old table.new }
 {
     'rows: for n in 0..count {
-        match read_superblock_row(decoder, table, part, n, across) {
-            Ok(()) => {}
-            Err(cause) => return Err(cause),
-        }
+        read_superblock_row(decoder, table, part, n, across)?;
     }
     Ok(())
 }

@@ -1,4 +1,5 @@
 use Rattle.std.proofs.Common.{arith}
+use Rattle.std.proofs.lemmas.Result.{err_from_is_err_and}
 use Rattle.dirac_blocks.specs.Grammar.{repeated, split_step}
 use Rattle.dirac_blocks.specs.Reached.{progress}
 use Rattle.dirac_blocks.proofs.Repeating.{repeated_none, repeated_next, repeated_stops, blocks_refl, blocks_join}
@@ -16,14 +17,16 @@ pub rows-preserved : goal.rows-preserved
 rows-preserved c =
     record {
       value =
-          repeated_next (λ sy. repeated (split_step sy) c.args.across) c.rows.n (progress c.args.table.now c.args.decoder.now) (progress c.rows.table c.rows.decoder) _ c.rows.invariant.value c.in-Ok.ensures.value;
+          repeated_next (λ sy. repeated (split_step sy) c.args.across) c.rows.n (progress c.args.table.now c.args.decoder.now) (progress c.rows.table c.rows.decoder) _ c.rows.invariant.value c.in_ok-read_split_row.ensures.value;
       blocks = blocks_join c.args.table.now c.rows.table c.read_split_row.new.table c.rows.invariant.blocks c.read_split_row.ensures.blocks;
       few = omega (arith, c.read_split_row.ensures.few_doublings);
     }
 
-pub returns-in-Err-clause-value : goal.returns-in-Err-clause-value
-returns-in-Err-clause-value c =
-    repeated_stops (λ sy. repeated (split_step sy) c.args.across) c.rows.n c.args.count (progress c.args.table.now c.args.decoder.now) (progress c.rows.table c.rows.decoder) c.in-Err.cause (omega arith) c.rows.invariant.value c.in-Err.ensures.value
+pub returns-in_err-read_split_row-clause-value : goal.returns-in_err-read_split_row-clause-value
+returns-in_err-read_split_row-clause-value c =
+    let p = err_from_is_err_and c.from_residual.result c.from_residual.ensures.1 in
+    rw (p.1, p.2)
+    (repeated_stops (λ sy. repeated (split_step sy) c.args.across) c.rows.n c.args.count (progress c.args.table.now c.args.decoder.now) (progress c.rows.table c.rows.decoder) _ (omega arith) c.rows.invariant.value c.in_err-read_split_row.ensures.value)
 
-pub returns-in-Err-clause-blocks : goal.returns-in-Err-clause-blocks
-returns-in-Err-clause-blocks c = blocks_join c.args.table.now c.rows.table c.read_split_row.new.table c.rows.invariant.blocks c.read_split_row.ensures.blocks
+pub returns-in_err-read_split_row-clause-blocks : goal.returns-in_err-read_split_row-clause-blocks
+returns-in_err-read_split_row-clause-blocks c = blocks_join c.args.table.now c.rows.table c.read_split_row.new.table c.rows.invariant.blocks c.read_split_row.ensures.blocks

@@ -15,6 +15,6 @@ rows-preserved c =
     let t = c.args.table.now in
     let p = part_at c.args.part t in
     let n = c.rows.n in
-    let written : c.write_superblock_row.new.encoder ≡ narrowed_by c.rows.encoder (superblock_row p t n t.across) = subst (λ (k : ℕ). c.write_superblock_row.new.encoder ≡ narrowed_by c.rows.encoder (superblock_row p t n k)) c.requires.column c.in-Ok.ensures in
+    let written : c.write_superblock_row.new.encoder ≡ narrowed_by c.rows.encoder (superblock_row p t n t.across) = subst (λ (k : ℕ). c.write_superblock_row.new.encoder ≡ narrowed_by c.rows.encoder (superblock_row p t n k)) c.requires.column c.in_ok-write_superblock_row.ensures in
     narrowed_more c.args.encoder.now c.rows.encoder c.write_superblock_row.new.encoder (superblock_rows p t n) (superblock_row p t n t.across) (superblock_rows p t (n + 1))
     c.rows.invariant written (superblock_rows_next p t n)

@@ -19,4 +19,4 @@ rows-preserved c =
     let i = c.args.i in
     let j = c.args.j in
     narrowed_more c.args.encoder.now c.rows.encoder c.write_unit_row.new.encoder (unit_rows p size across i j n) (unit_row p size i (j + n * size) across) (unit_rows p size across i j (n + 1))
-    c.rows.invariant c.in-Ok.ensures (unit_rows_next p size across i j n)
+    c.rows.invariant c.in_ok-write_unit_row.ensures (unit_rows_next p size across i j n)
