@@ -1,5 +1,5 @@
 -- The table keeps every probability within its bounds.
-use Rattle.std.proofs.Common.{◌≡◌, ℕ, ◌+◌, ◌-◌, ◌*◌, ◌/◌, ◌≤◌, Bool, true, false, nat_le, arith, refl, ap, ◌∙◌, inl, inr}
+use Rattle.std.proofs.Common.{◌≡◌, ℕ, ◌+◌, ◌-◌, ◌*◌, ◌/◌, ◌≤◌, if◌then◌else◌, Bool, true, false, nat_le, arith, refl, ap, ◌∙◌, inl, inr}
 use Rattle.std.proofs.lemmas.Bool.{leb-true, cases_lt}
 use Rattle.dirac_arith.specs.StepTable.{step_table, step_of}
 use Rattle.dirac_arith.specs.Interval.{adapted}
@@ -50,6 +50,13 @@ adapts probability false some most =
           let fits = step_within (255 - probability / 256) high (omega arith) in
           record { some = omega arith; most = omega arith }
     ]
+
+-- a probability goes up, and at true as far down again and further: without a branch
+pub settles : (probability up down : ℕ) (truth : Bool) → up ≡ step_of (255 - probability / 256) → down ≡ step_of (probability / 256) → 254 ≤ probability → probability ≤ 65281 → ((if truth then up + down else 0) ≤ probability + up) × (probability + up - (if truth then up + down else 0) ≡ adapted probability truth)
+settles probability up down true eu ed some most =
+    let kept = adapts probability true some most in
+    (omega (arith, ed, kept.some), omega (arith, ed, kept.some))
+settles probability up down false eu ed some most = (omega arith, omega (arith, eu))
 
 -- no probability grows past its bound
 pub adapted_most : (probability : ℕ) (truth : Bool) → probability ≤ 65281 → adapted probability truth ≤ 65281

@@ -1,5 +1,5 @@
 //! The probabilities of contexts.
-ghost use Rattle.std.specs.Prelude.{◌≡◌, ◌+◌, ◌-◌, ◌*◌, ◌/◌, ◌^◌, ◌<◌, ◌≤◌, ℕ, List, slice_index};
+ghost use Rattle.std.specs.Prelude.{◌≡◌, ◌+◌, ◌-◌, ◌*◌, ◌/◌, ◌^◌, ◌<◌, ◌≤◌, ℕ, List, slice_index, if◌then◌else◌};
 ghost use Rattle.dirac_arith.specs.Interval.{adapted};
 ghost use Rattle.dirac_arith.specs.StepTable.{step_of};
 
@@ -14,6 +14,15 @@ fn step(upper: u16) -> u16
     STEPS[upper as usize]
 }
 
+/// An amount where the decision is true, else 0: without a branch.
+#[inline(always)]
+fn amount_if(truth: bool, amount: u32) -> u32
+    requires { amount < 65536 }
+    ensures { result ≡ (if truth then amount else 0) }
+{
+    u32::from(truth) * amount
+}
+
 /// The probability of a context after a decision of this truth.
 pub fn adapt(probability: u16, truth: bool) -> u16
     requires at_least_254 { 254 ≤ probability }
@@ -22,9 +31,7 @@ pub fn adapt(probability: u16, truth: bool) -> u16
     ensures at_least_254_result { 254 ≤ result }
     ensures at_most_65281_result { result ≤ 65281 }
 {
-    if truth {
-        probability - step(probability / 256)
-    } else {
-        probability + step(255 - probability / 256)
-    }
+    let down = u32::from(step(probability / 256));
+    let up = u32::from(step(255 - probability / 256));
+    (u32::from(probability) + up - amount_if(truth, up + down)) as u16
 }

@@ -8,6 +8,7 @@ pub mod Readings
 pub mod AgreementOfBlocks
 pub mod Filling
 pub mod FillingOfBlocks
+mod Carrying
 pub mod Coding
 pub mod OneBand
 pub mod Apart

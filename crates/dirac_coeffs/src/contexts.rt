@@ -11,7 +11,7 @@ use dirac_types::{Band, LARGEST_TABLE_SIDE};
 /// The value to the left, 0 in the first column.
 #[inline(always)]
 pub fn left_value(values: &[i64], width: usize, x: usize, y: usize) -> i64
-    requires column { x < width }
+    requires column { x ≤ width }
     requires width { width ≤ LARGEST_TABLE_SIDE }
     requires row { y < LARGEST_TABLE_SIDE }
     requires inside { (y + 1) * width ≤ length values.now }
@@ -43,7 +43,7 @@ pub fn above_value(values: &[i64], width: usize, x: usize, y: usize) -> i64
 /// The value above and to the left, 0 in the first column and in the first row.
 #[inline(always)]
 pub fn corner_value(values: &[i64], width: usize, x: usize, y: usize) -> i64
-    requires column { x < width }
+    requires column { x ≤ width }
     requires width { width ≤ LARGEST_TABLE_SIDE }
     requires row { y < LARGEST_TABLE_SIDE }
     requires inside { (y + 1) * width ≤ length values.now }

@@ -1,8 +1,8 @@
-ghost use Rattle.std.specs.Prelude.{◌≡◌, ◌+◌, ◌*◌, ◌^◌, ◌<◌, ◌≤◌, length};
+ghost use Rattle.std.specs.Prelude.{◌≡◌, ◌+◌, ◌*◌, ◌^◌, ◌<◌, ◌≤◌, length, slice_set, IfOk};
 ghost use Rattle.dirac_arith.specs.Deciding.{Gives, signed_read};
 ghost use Rattle.dirac_coeffs.specs.Answers.{Moves};
 ghost use Rattle.dirac_coeffs.specs.BandRead.{progress, value_step, row_step, rows_step};
-ghost use Rattle.dirac_coeffs.specs.Contexts.{follow_among, bits_context, sign_of, sign_neighbour};
+ghost use Rattle.dirac_coeffs.specs.Contexts.{follow_among, bits_context, corner_of, left_of, sign_of, sign_neighbour};
 ghost use Rattle.dirac_coeffs.specs.Decisions.{frame_of};
 
 use crate::contexts;
@@ -30,7 +30,7 @@ fn read_value(
     decoder.signed(follow, COEFFICIENT_DIGITS, sign)
 }
 
-/// Reads the value in column `x` of row `y`.
+/// Reads the value in column `x` of row `y`, whose neighbours to the left and above that are at hand.
 #[tactic(auto, unfolding(crate::specs::BandRead::value_step))]
 #[inline(always)]
 fn read_at(
@@ -40,26 +40,29 @@ fn read_at(
     parent: &[i64],
     x: usize,
     y: usize,
-) -> Result<(), Cause>
+    left: i64,
+    corner: i64,
+) -> Result<i64, Cause>
     requires column { x < layout.width }
     requires width { layout.width ≤ LARGEST_TABLE_SIDE }
     requires row { y < LARGEST_TABLE_SIDE }
     requires inside { (y + 1) * layout.width ≤ length values.old }
+    requires left { left ≡ left_of layout.width values.old x y }
+    requires corner { corner ≡ corner_of layout.width values.old x y }
     requires no_overflow { decoder.old.at.doublings < 2 ^ 61 }
     ensures value { Moves result values.new decoder.new (value_step (frame_of layout parent.now) x y
         (progress values.old decoder.old)) }
+    ensures written { IfOk result (λ v. values.new ≡ slice_set values.old (y * layout.width + x) v) }
     ensures len { length values.new ≡ length values.old }
     ensures few_doublings { decoder.new.at.doublings ≤ decoder.old.at.doublings + 702 }
 {
     let width = layout.width as usize;
-    let left = contexts::left_value(values, width, x, y);
     let above = contexts::above_value(values, width, x, y);
-    let corner = contexts::corner_value(values, width, x, y);
     let parent = contexts::parent_value(parent, width, x, y);
     match read_value(decoder, layout.band, left, above, corner, parent) {
         Ok(value) => {
             values[y * width + x] = value;
-            Ok(())
+            Ok(value)
         }
         Err(cause) => Err(cause),
     }
@@ -85,9 +88,16 @@ fn read_row(
     ensures len { length values.new ≡ length values.old }
     ensures few_doublings { decoder.new.at.doublings ≤ decoder.old.at.doublings + 702 * count }
 {
+    let width = layout.width as usize;
+    let mut left = contexts::left_value(values, width, from, y);
+    let mut corner = contexts::corner_value(values, width, from, y);
     'values: for i in 0..count {
-        match read_at(decoder, values, layout, parent, from + i, y) {
-            Ok(()) => {}
+        let above = contexts::above_value(values, width, from + i, y);
+        match read_at(decoder, values, layout, parent, from + i, y, left, corner) {
+            Ok(value) => {
+                left = value;
+                corner = above;
+            }
             Err(cause) => return Err(cause),
         }
     }

@@ -183,17 +183,33 @@ fn weigh_one(p: &Prediction, samples: &[i16], out: &mut [i32])
     }
 }
 
+/// What the two references of a block weigh, read once a row.
+#[derive(Clone, Copy)]
+struct Weighing {
+    weight1: i32,
+    weight2: i32,
+    bits: u8,
+}
+
 /// The value at place `k` of a block with two references.
 #[inline(always)]
-fn value_of_two(p: &Prediction, first: &[i16], second: &[i16], k: usize) -> i32
-    requires bits { (1 ≤ p.now.weight_bits) × (p.now.weight_bits ≤ 8) }
-    requires weights { (unsigned_abs p.now.weight1 ≤ 255) × (unsigned_abs p.now.weight2 ≤ 255) }
+fn value_of_two(weighing: Weighing, first: &[i16], second: &[i16], k: usize) -> i32
+    requires bits { (1 ≤ weighing.bits) × (weighing.bits ≤ 8) }
+    requires weight1 { unsigned_abs weighing.weight1 ≤ 255 }
+    requires weight2 { unsigned_abs weighing.weight2 ≤ 255 }
     requires inside { (k < length first.now) × (k < length second.now) }
     requires first { All IsSample first.now }
     requires second { All IsSample second.now }
-    ensures { result ≡ from_two p.now (slice_index_or first.now k (pos 0)) (slice_index_or second.now k (pos 0)) }
+    ensures { result ≡ Rattle.dirac_upconvert.specs.SubSamples.rounded weighing.bits (slice_index_or first.now k (pos 0)
+        *ℤ weighing.weight1 +ℤ slice_index_or second.now k (pos 0) *ℤ weighing.weight2) }
 {
-    weighted_both(first[k], p.weight1, second[k], p.weight2, p.weight_bits)
+    weighted_both(
+        first[k],
+        weighing.weight1,
+        second[k],
+        weighing.weight2,
+        weighing.bits,
+    )
 }
 
 /// The values of a block with two references.
@@ -206,8 +222,13 @@ fn weigh_two(p: &Prediction, first: &[i16], second: &[i16], out: &mut [i32])
     ensures { (k : ℕ) → k < length out.old → slice_index_or out.new k (pos 0)
         ≡ from_two p.now (slice_index_or first.now k (pos 0)) (slice_index_or second.now k (pos 0)) }
 {
+    let weighing = Weighing {
+        weight1: p.weight1,
+        weight2: p.weight2,
+        bits: p.weight_bits,
+    };
     for k in 0..out.len() {
-        out[k] = value_of_two(p, first, second, k);
+        out[k] = value_of_two(weighing, first, second, k);
     }
 }
 

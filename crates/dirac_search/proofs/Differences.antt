@@ -22,7 +22,7 @@ pub apart_same : (f f' g g' : ℕ → ℤ) (count : ℕ) → ((k : ℕ) → k < 
 apart_same f f' g g' count hf hg =
     sum_same (λ k. unsigned_abs (f k -ℤ g k)) (λ k. unsigned_abs (f' k -ℤ g' k)) count (λ k l. ap₂ (λ (p q : ℤ). unsigned_abs (p -ℤ q)) (hf k l) (hg k l))
 
-inside_place : (x : ℤ) (i size : ℕ) → x ≡ pos i → i < size → clamped_to x size ≡ i
+pub inside_place : (x : ℤ) (i size : ℕ) → x ≡ pos i → i < size → clamped_to x size ≡ i
 inside_place x i size e l = rw e (grind (arith, ints))
 
 -- a sample of a row of a table

@@ -1,14 +1,18 @@
 -- Sums of eight columns at a time, in lanes, and of four rows at a time.
-use Rattle.std.proofs.Common.{◌≡◌, ◌≢◌, ℕ, suc, ℤ, pos, ◌+◌, ◌*◌, ◌<◌, ◌≤◌, ◌+ℤ◌, List, length, get_or, set, refl, ap, ap₂, sym, ◌∙◌, arith, inl, inr, get_or-set_same, get_or-set_other}
+use Rattle.std.proofs.Common.{◌≡◌, ◌≢◌, ℕ, suc, ℤ, pos, ◌+◌, ◌*◌, ◌^◌, ◌<◌, ◌≤◌, ◌+ℤ◌, ◌-ℤ◌, unsigned_abs, List, length, get_or, set, refl, ap, ap₂, sym, ◌∙◌, arith, inl, inr, get_or-set_same, get_or-set_other}
+use Rattle.std.specs.List.{slice_range}
 use Rattle.std.proofs.lemmas.Int.{ints}
+use Rattle.std.proofs.lemmas.List.Edits.{get_or-between}
 use Rattle.std.proofs.lemmas.Bool.{cases_eq}
-use Rattle.dirac_types.specs.Table.{Table}
+use Rattle.dirac_types.specs.Table.{Table, clamped_to, table_at}
 use Rattle.dirac_types.specs.declared.formats.Vector.{Vector}
+use Rattle.dirac_upconvert.specs.SubSamples.{Up, sub_sample}
 use Rattle.dirac_windows.specs.Sums.{sum_below}
+use Rattle.dirac_windows.specs.Windows.{row_from, values_apart, values_from}
 use Rattle.dirac_windows.specs.declared.window.Window.{Window}
 use Rattle.dirac_windows.proofs.Sums.{sum_added, sum_same}
-use Rattle.dirac_search.specs.Rows.{IsRowNearest, apart_at, four_rows_apart, row_apart, whole_rows}
-use Rattle.dirac_search.proofs.Differences.{rows_inside}
+use Rattle.dirac_search.specs.Rows.{IsRowNearest, apart_at, four_rows_apart, four_rows_from, four_sub_rows_apart, row_apart, sub_row_apart, sub_row_from, sub_rows, whole_rows}
+use Rattle.dirac_search.proofs.Differences.{apart_same, inside_place, rows_inside}
 
 -- the lanes before place k have been added to, the others not yet
 pub record LanesAt (lanes init : List ℕ) (f : ℕ → ℕ) (k : ℕ) : Type 0 where
@@ -30,6 +34,13 @@ lanes_more lanes init f k n v fits en ev small at =
         | inr other ↦ omega (arith, get_or-set_other lanes k j v 0 other, at.more j (omega arith))
       ];
     }
+
+-- how far samples of parts of two lists are apart
+pub apart_of_parts : (a : List ℤ) (first : ℕ) (b : List ℤ) (second k : ℕ) → k < 8 → apart_at (slice_range a first (first + 8)) 0 (slice_range b second (second + 8)) 0 k ≡ apart_at a first b second k
+unfolding apart_at
+apart_of_parts a first b second k l = ap₂ (λ (p q : ℤ). unsigned_abs (p -ℤ q)) (read a first k l) (read b second k l) where
+  read : (xs : List ℤ) (i n : ℕ) → n < 8 → get_or (slice_range xs i (i + 8)) (0 + n) (pos 0) ≡ get_or xs (i + n) (pos 0)
+  read xs i n l = let same : i + (0 + n) ≡ i + n = omega arith in get_or-between xs i (i + 8) (0 + n) (pos 0) (omega arith) ∙ ap (λ m. get_or xs m (pos 0)) same
 
 -- four rows of eight, lane by lane and row by row
 pub four_lanes : (l0 l1 l2 l3 l4 : List ℕ) (a b c d : ℕ → ℕ) → ((k : ℕ) → k < 8 → get_or l0 k 0 ≡ 0)
@@ -65,6 +76,51 @@ four_rows_are s r x across y sum p l0 l1 l2 l3 l4 a0 a1 a2 a3 b0 b1 b2 b3 e none
     (eight_apart s r x (y + 2) across (pos (y + 2) +ℤ p) a2 b2 sa2 rb2 fx fa))
     (eight_apart s r x (y + 3) across (pos (y + 3) +ℤ p) a3 b3 sa3 rb3 fx fa)
 
+-- eight samples of a row, beside eight of a list
+eight_beside : (s : Table) (x y from : ℕ) (a b : List ℤ) → IsRowNearest s (pos y) a → x + 8 ≤ s.width → sum_below (apart_at a x b from) 8 ≡ values_apart (row_from s x y) (values_from b from) 8
+unfolding apart_at
+eight_beside s x y from a b h fits =
+    apart_same (values_from a x) (row_from s x y) (values_from b from) (values_from b from) 8
+    (λ k l. h (x + k) (omega arith) ∙ ap (λ j. table_at s j (clamped_to (pos y) s.height)) (sym (inside_place (pos (x + k)) (x + k) s.width refl (omega arith))))
+    (λ k l. refl)
+
+-- four rows of eight samples beside a list of them, added in lanes
+pub four_rows_beside_are : (s : Table) (x y sum : ℕ) (l0 l1 l2 l3 l4 : List ℕ) (a0 a1 a2 a3 b : List ℤ)
+    → sum ≡ sum_below (λ k. get_or l4 k 0) 8 → ((k : ℕ) → k < 8 → get_or l0 k 0 ≡ 0)
+    → ((k : ℕ) → k < 8 → get_or l1 k 0 ≡ get_or l0 k 0 + apart_at a0 x b 0 k) → ((k : ℕ) → k < 8 → get_or l2 k 0 ≡ get_or l1 k 0 + apart_at a1 x b 8 k)
+    → ((k : ℕ) → k < 8 → get_or l3 k 0 ≡ get_or l2 k 0 + apart_at a2 x b 16 k) → ((k : ℕ) → k < 8 → get_or l4 k 0 ≡ get_or l3 k 0 + apart_at a3 x b 24 k)
+    → IsRowNearest s (pos y) a0 → IsRowNearest s (pos (y + 1)) a1 → IsRowNearest s (pos (y + 2)) a2 → IsRowNearest s (pos (y + 3)) a3 → x + 8 ≤ s.width
+    → sum ≡ four_rows_from s x y b
+four_rows_beside_are s x y sum l0 l1 l2 l3 l4 a0 a1 a2 a3 b e none h0 h1 h2 h3 r0 r1 r2 r3 fits =
+    let first : y ≡ y + 0 = omega arith in
+    e ∙ four_lanes l0 l1 l2 l3 l4 (apart_at a0 x b 0) (apart_at a1 x b 8) (apart_at a2 x b 16) (apart_at a3 x b 24) none h0 h1 h2 h3
+    ∙ ap₂ (λ (a b : ℕ). a + b) (ap₂ (λ (a b : ℕ). a + b) (ap₂ (λ (a b : ℕ). a + b)
+    (eight_beside s x y 0 a0 b r0 fits ∙ ap (λ n. values_apart (row_from s x n) (values_from b 0) 8) first)
+    (eight_beside s x (y + 1) 8 a1 b r1 fits))
+    (eight_beside s x (y + 2) 16 a2 b r2 fits))
+    (eight_beside s x (y + 3) 24 a3 b r3 fits)
+
+-- a row of a list of samples to which a vector leads
+sub_row_beside : (s : Table) (u : Up) (q x y r : ℕ) (v : Vector) (across down : ℤ) (samples : List ℤ) → r < 4
+    → ((j k : ℕ) → j < 4 → k < 8 → get_or samples (8 * j + k) (pos 0) ≡ sub_sample u q (across +ℤ pos (2 ^ q * k)) (down +ℤ pos (2 ^ q * j)))
+    → across ≡ pos (2 ^ q * x) +ℤ v.x → down ≡ pos (2 ^ q * y) +ℤ v.y → values_apart (row_from s x (y + r)) (values_from samples (8 * r)) 8 ≡ sub_row_apart s u q x (y + r) v 8
+unfolding sub_row_apart
+sub_row_beside s u q x y r v across down samples few h ea ed =
+    let parts : 2 ^ q * (y + r) ≡ 2 ^ q * y + 2 ^ q * r = omega arith in
+    let row : down +ℤ pos (2 ^ q * r) ≡ pos (2 ^ q * (y + r)) +ℤ v.y = omega (arith, ints) in
+    apart_same (row_from s x (y + r)) (row_from s x (y + r)) (values_from samples (8 * r)) (sub_row_from u q x (y + r) v) 8 (λ k l. refl)
+    (λ k l. h r k few l ∙ ap₂ (λ (a b : ℤ). sub_sample u q (a +ℤ pos (2 ^ q * k)) b) ea row)
+
+pub four_sub_rows_told : (s : Table) (u : Up) (q x y sum : ℕ) (v : Vector) (across down : ℤ) (samples : List ℤ) → sum ≡ four_rows_from s x y samples
+    → ((j k : ℕ) → j < 4 → k < 8 → get_or samples (8 * j + k) (pos 0) ≡ sub_sample u q (across +ℤ pos (2 ^ q * k)) (down +ℤ pos (2 ^ q * j)))
+    → across ≡ pos (2 ^ q * x) +ℤ v.x → down ≡ pos (2 ^ q * y) +ℤ v.y → sum ≡ four_sub_rows_apart s u q x y v
+four_sub_rows_told s u q x y sum v across down samples e h ea ed =
+    e ∙ ap₂ (λ (a b : ℕ). a + b) (ap₂ (λ (a b : ℕ). a + b) (ap₂ (λ (a b : ℕ). a + b)
+    (sub_row_beside s u q x y 0 v across down samples (omega arith) h ea ed)
+    (sub_row_beside s u q x y 1 v across down samples (omega arith) h ea ed))
+    (sub_row_beside s u q x y 2 v across down samples (omega arith) h ea ed))
+    (sub_row_beside s u q x y 3 v across down samples (omega arith) h ea ed)
+
 -- four more numbers
 four_more : (f : ℕ → ℕ) (k n : ℕ) → n ≡ k + 1 → sum_below f (4 * n) ≡ (((sum_below f (4 * k) + f (4 * k)) + f (4 * k + 1)) + f (4 * k + 2)) + f (4 * k + 3)
 four_more f k n e =
@@ -93,6 +149,24 @@ four_more_rows s r w v across p k n sum y ey ea ep ec en e =
     let e1 = row_is s r w v (y + 1) (w.y + (4 * k + 1)) (pos across) p (omega arith) ea ep ec in
     let e2 = row_is s r w v (y + 2) (w.y + (4 * k + 2)) (pos across) p (omega arith) ea ep ec in
     let e3 = row_is s r w v (y + 3) (w.y + (4 * k + 3)) (pos across) p (omega arith) ea ep ec in
+    let rows : sum ≡ ((f (4 * k) + f (4 * k + 1)) + f (4 * k + 2)) + f (4 * k + 3) = e ∙ ap₂ (λ (a b : ℕ). a + b) (ap₂ (λ (a b : ℕ). a + b) (ap₂ (λ (a b : ℕ). a + b) e0 e1) e2) e3 in
+    sum_up (sum_below f (4 * k)) (f (4 * k)) (f (4 * k + 1)) (f (4 * k + 2)) (f (4 * k + 3)) sum rows ∙ sym (four_more f k n en)
+  where
+    sum_up : (t a b c d m : ℕ) → m ≡ ((a + b) + c) + d → t + m ≡ (((t + a) + b) + c) + d
+    sum_up t a b c d m e = omega arith
+
+-- the same in parts of a sample
+sub_row_at : (s : Table) (u : Up) (q : ℕ) (w : Window) (v : Vector) (y y' : ℕ) → y ≡ y' → w.columns ≡ 8 → sub_row_apart s u q w.x y v 8 ≡ sub_row_apart s u q w.x y' v w.columns
+sub_row_at s u q w v y y' ey ec = ap (λ n. sub_row_apart s u q w.x n v 8) ey ∙ ap (sub_row_apart s u q w.x y' v) (sym ec)
+
+pub four_more_sub_rows : (s : Table) (u : Up) (q : ℕ) (w : Window) (v : Vector) (k n sum y : ℕ) → y ≡ w.y + 4 * k → w.columns ≡ 8 → n ≡ k + 1
+    → sum ≡ four_sub_rows_apart s u q w.x y v → sub_rows s u q w v (4 * k) + sum ≡ sub_rows s u q w v (4 * n)
+four_more_sub_rows s u q w v k n sum y ey ec en e =
+    let f : ℕ → ℕ = λ i. sub_row_apart s u q w.x (w.y + i) v w.columns in
+    let e0 = sub_row_at s u q w v (y + 0) (w.y + 4 * k) (omega arith) ec in
+    let e1 = sub_row_at s u q w v (y + 1) (w.y + (4 * k + 1)) (omega arith) ec in
+    let e2 = sub_row_at s u q w v (y + 2) (w.y + (4 * k + 2)) (omega arith) ec in
+    let e3 = sub_row_at s u q w v (y + 3) (w.y + (4 * k + 3)) (omega arith) ec in
     let rows : sum ≡ ((f (4 * k) + f (4 * k + 1)) + f (4 * k + 2)) + f (4 * k + 3) = e ∙ ap₂ (λ (a b : ℕ). a + b) (ap₂ (λ (a b : ℕ). a + b) (ap₂ (λ (a b : ℕ). a + b) e0 e1) e2) e3 in
     sum_up (sum_below f (4 * k)) (f (4 * k)) (f (4 * k + 1)) (f (4 * k + 2)) (f (4 * k + 3)) sum rows ∙ sym (four_more f k n en)
   where

@@ -41,6 +41,17 @@ four_rows_apart s t x across y part count =
     let row : ℕ → ℕ = λ r. row_apart s t (pos x) (pos (y + r)) (pos across) (pos (y + r) +ℤ part) count in
     ((row 0 + row 1) + row 2) + row 3
 
+-- the sum of absolute differences of four rows of a plane, from row y on, and of a list of four rows of eight samples
+abbrev pub four_rows_from : Table → ℕ → ℕ → List ℤ → ℕ
+four_rows_from s x y samples =
+    let row : ℕ → ℕ = λ r. values_apart (row_from s x (y + r)) (values_from samples (8 * r)) 8 in
+    ((row 0 + row 1) + row 2) + row 3
+
+-- the same of four rows of eight samples to which a vector in parts of a sample leads
+abbrev pub four_sub_rows_apart : Table → Up → ℕ → ℕ → ℕ → Vector → ℕ
+four_sub_rows_apart s up q x y v =
+    let row : ℕ → ℕ = λ r. sub_row_apart s up q x (y + r) v 8 in ((row 0 + row 1) + row 2) + row 3
+
 -- the differences of the first rows of a window and of the whole samples to which a vector leads
 abbrev pub whole_rows : Table → Table → Window → Vector → ℕ → ℕ
 whole_rows source reference w v rows =

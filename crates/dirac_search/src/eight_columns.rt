@@ -1,6 +1,6 @@
 ghost use Rattle.std.specs.Prelude.{◌≡◌, ℕ, pos, ◌+◌, ◌^◌, ◌<◌, ◌≤◌, ◌+ℤ◌, unsigned_abs, length, slice_index};
 ghost use Rattle.dirac_windows.specs.Sums.{sum_below};
-ghost use Rattle.dirac_search.specs.Rows.{AddsEight, IsRowNearest, apart_at, four_rows_apart};
+ghost use Rattle.dirac_search.specs.Rows.{AddsEight, IsRowNearest, apart_at, four_rows_apart, four_rows_from};
 
 use crate::places::{moved, nearest_row};
 use dirac_types::Plane;
@@ -28,8 +28,10 @@ fn add_eight(lanes: &mut [u32], a: &[i16], first: usize, b: &[i16], second: usiz
     ensures added { AddsEight lanes.old lanes.new (apart_at a.now first b.now second) }
     ensures at_most_65535_more { (k : ℕ) → k < 8 → slice_index lanes.new k ≤ slice_index lanes.old k + 65535 }
 {
+    let left = &a[first..first + 8];
+    let right = &b[second..second + 8];
     for k in 0..8 {
-        lanes[k] += difference_behind(a, first, b, second, k);
+        lanes[k] += difference_behind(left, 0, right, 0, k);
     }
 }
 
@@ -115,5 +117,23 @@ pub fn four_rows(
         reference_row(reference, y + 3, component),
         across,
     );
+    sum_of_eight(&lanes)
+}
+
+/// The sum of absolute differences of eight samples of four rows of the source, from row `y` on, and of these samples,
+/// eight a row.
+#[inline(always)]
+pub fn four_rows_beside(source: &Plane, x: usize, y: u32, samples: &[i16]) -> u32
+    requires y { y ≤ 2 ^ 20 }
+    requires x { x + 8 ≤ source.now.width }
+    requires four_rows_of_eight { length samples.now ≡ 32 }
+    ensures value { result ≡ four_rows_from source.now x y samples.now }
+    ensures at_most_2097120 { result ≤ 2097120 }
+{
+    let mut lanes = [0u32; 8];
+    add_eight(&mut lanes, source_row(source, y), x, samples, 0);
+    add_eight(&mut lanes, source_row(source, y + 1), x, samples, 8);
+    add_eight(&mut lanes, source_row(source, y + 2), x, samples, 16);
+    add_eight(&mut lanes, source_row(source, y + 3), x, samples, 24);
     sum_of_eight(&lanes)
 }

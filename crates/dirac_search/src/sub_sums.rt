@@ -1,8 +1,9 @@
-ghost use Rattle.std.specs.Prelude.{◌≡◌, ◌+◌, ◌*◌, ◌^◌, ◌<◌, ◌≤◌, IfSome, IfNone, length};
+ghost use Rattle.std.specs.Prelude.{◌≡◌, ◌+◌, ◌*◌, ◌%◌, ◌^◌, ◌<◌, ◌≤◌, IfSome, IfNone, length};
 ghost use Rattle.dirac_search.specs.Candidates.{IsWithinReach};
 ghost use Rattle.dirac_search.specs.Costs.{IsBlockWindow, Reaches, IsBelow};
-ghost use Rattle.dirac_search.specs.Rows.{sub_row_apart, sub_rows};
+ghost use Rattle.dirac_search.specs.Rows.{four_sub_rows_apart, sub_row_apart, sub_rows};
 
+use crate::eight_columns::four_rows_beside;
 use crate::places::moved;
 use dirac_types::{Plane, Vector};
 use dirac_upconvert::UpPlane;
@@ -50,9 +51,28 @@ fn sum_sub_row(
     row_differences(source, x, y, samples)
 }
 
+/// The sum of absolute differences of four rows of eight samples of the source, from row `y` on, and of those to which a
+/// vector in parts of a sample leads, where the source has all these columns.
+#[inline(always)]
+fn sum_four_sub_rows(source: &Plane, up: &UpPlane, precision: u8, x: u32, y: u32, v: Vector) -> u32
+    requires x { x ≤ 2 ^ 20 }
+    requires y { y ≤ 2 ^ 20 }
+    requires columns { x + 8 ≤ source.now.width }
+    requires precision { precision ≤ 3 }
+    requires v { IsWithinReach (2 ^ 24) v }
+    ensures value { result ≡ four_sub_rows_apart source.now up.now precision x y v }
+    ensures at_most_2097120 { result ≤ 2097120 }
+{
+    let across = moved(parts(x, precision), v.x);
+    let down = moved(parts(y, precision), v.y);
+    let mut samples = [0i16; 32];
+    up.sub_eight_by_four(precision, across, down, &mut samples);
+    four_rows_beside(source, x as usize, y, &samples)
+}
+
 /// `first` and the absolute differences of a window and of the samples to which a vector in parts of a sample leads,
-/// where all of it is below a limit. The summing ends as soon as it isn't.
-pub fn sub_below(
+/// where all of it is below a limit: row by row.
+fn sub_below_by_rows(
     source: &Plane,
     up: &UpPlane,
     precision: u8,
@@ -78,4 +98,59 @@ pub fn sub_below(
         sum += sum_sub_row(source, up, precision, window.x, window.y + k, v, samples);
     }
     if sum < limit { Some(sum) } else { None }
+}
+
+/// The same for a window of eight columns that the source has: four rows at a time.
+fn sub_below_by_four(
+    source: &Plane,
+    up: &UpPlane,
+    precision: u8,
+    window: Window,
+    v: Vector,
+    first: u32,
+    limit: u32,
+) -> Option<u32>
+    requires precision { precision ≤ 3 }
+    requires window { IsBlockWindow window }
+    requires eight_columns { window.columns ≡ 8 }
+    requires fours_of_rows { window.rows % 4 ≡ 0 }
+    requires x { window.x + 8 ≤ source.now.width }
+    requires v { IsWithinReach (2 ^ 24) v }
+    requires at_most_66300 { first ≤ 66300 }
+    ensures below { IfSome result (IsBelow limit (first + sub_rows source.now up.now precision window v window.rows)) }
+    ensures above { IfNone result (Reaches limit (first + sub_rows source.now up.now precision window v window.rows)) }
+{
+    let mut sum = first;
+    'fours: for k in 0..window.rows / 4 {
+        if sum >= limit {
+            return None;
+        }
+        sum += sum_four_sub_rows(source, up, precision, window.x, window.y + 4 * k, v);
+    }
+    if sum < limit { Some(sum) } else { None }
+}
+
+/// `first` and the absolute differences of a window and of the samples to which a vector in parts of a sample leads,
+/// where all of it is below a limit. The summing ends as soon as it isn't.
+pub fn sub_below(
+    source: &Plane,
+    up: &UpPlane,
+    precision: u8,
+    window: Window,
+    v: Vector,
+    first: u32,
+    limit: u32,
+) -> Option<u32>
+    requires precision { precision ≤ 3 }
+    requires window { IsBlockWindow window }
+    requires v { IsWithinReach (2 ^ 24) v }
+    requires at_most_66300 { first ≤ 66300 }
+    ensures below { IfSome result (IsBelow limit (first + sub_rows source.now up.now precision window v window.rows)) }
+    ensures above { IfNone result (Reaches limit (first + sub_rows source.now up.now precision window v window.rows)) }
+{
+    if window.columns == 8 && window.rows % 4 == 0 && window.x + 8 <= source.width() {
+        sub_below_by_four(source, up, precision, window, v, first, limit)
+    } else {
+        sub_below_by_rows(source, up, precision, window, v, first, limit)
+    }
 }

@@ -1,6 +1,7 @@
 pub mod Doubling
 mod Examples
 pub mod Halves
+mod Lanes
 pub mod Mixing
 pub mod PartRows
 pub mod SampleRows

@@ -1,6 +1,6 @@
 -- Positions between places, and the weighted sums of the samples round them.
 use Rattle.std.proofs.Common.{◌≡◌, ℕ, ℤ, pos, negsuc, zero, suc, ◌+◌, ◌*◌, ◌/◌, ◌%◌, ◌^◌, ◌<◌, ◌≤◌, ◌+ℤ◌, ◌-ℤ◌, ◌*ℤ◌, ◌≤ℤ◌, ◌<ℤ◌, unsigned_abs, to_z, of_z, arith, refl, ap, ◌∙◌}
-use Rattle.std.specs.Int.{w32, int_rem_euclid}
+use Rattle.std.specs.Int.{w16, int_rem_euclid}
 use Rattle.std.proofs.lemmas.Int.{ints, to_z-of_z, to_z_pos, fits_signed_from_abs, unsigned_abs-mul}
 use Rattle.std.proofs.lemmas.Nat.{mul-le, one_shl, pow_pos, div-add-mod', div_below, mod_below}
 use Rattle.std.proofs.Math.Nat.{suc-mul}
@@ -68,7 +68,7 @@ left_fits bits rest a few r p =
     omega (arith, mul-le (unsigned_abs (pos (2 ^ bits) -ℤ rest)) (unsigned_abs a) 4 512 weight value)
 
 pub right_fits : (bits : ℕ) (rest a b first : ℤ) → bits ≤ 2 → IsRest bits rest → IsWithin 4 a → IsWithin 4 b → first ≡ pos 0 +ℤ (pos (2 ^ bits) -ℤ rest) *ℤ a
-    → unsigned_abs first + unsigned_abs rest * unsigned_abs b ≤ 2 ^ 20
+    → unsigned_abs first + unsigned_abs rest * unsigned_abs b ≤ 2 ^ 13
 right_fits bits rest a b first few r p q e =
     let small : 2 ^ bits ≤ 2 ^ 2 = pow_mono {i = bits} {j = 2} few in
     let weight : unsigned_abs rest ≤ 4 = omega (arith, ints, small, r.least, r.most) in
@@ -78,10 +78,10 @@ right_fits bits rest a b first few r p q e =
     omega (arith, before, mul-le (unsigned_abs rest) (unsigned_abs b) 4 512 weight value)
 
 -- the weights' difference, through the bits
-pub weight_is : (bits : ℕ) (rest : ℤ) → bits ≤ 2 → IsRest bits rest → to_z w32 (of_z w32 (pos (2 ^ bits) -ℤ rest)) ≡ pos (2 ^ bits) -ℤ rest
+pub weight_is : (bits : ℕ) (rest : ℤ) → bits ≤ 2 → IsRest bits rest → to_z w16 (of_z w16 (pos (2 ^ bits) -ℤ rest)) ≡ pos (2 ^ bits) -ℤ rest
 weight_is bits rest few r =
     let small : 2 ^ bits ≤ 2 ^ 2 = pow_mono {i = bits} {j = 2} few in
-    to_z-of_z w32 (pos (2 ^ bits) -ℤ rest) (fits_signed_from_abs w32 (pos (2 ^ bits) -ℤ rest) (omega (arith, ints, small, r.least, r.most)))
+    to_z-of_z w16 (pos (2 ^ bits) -ℤ rest) (fits_signed_from_abs w16 (pos (2 ^ bits) -ℤ rest) (omega (arith, ints, small, r.least, r.most)))
 
 pub after_zero : (x y : ℤ) → (pos 0 +ℤ x) +ℤ y ≡ x +ℤ y
 after_zero x y = omega (arith, ints)
@@ -90,7 +90,7 @@ after_zero x y = omega (arith, ints)
 pub sample_within : (n : ℕ) (v : ℤ) → 1 ≤ n → IsSample v → IsWithin n v
 sample_within n v l s = record { least = omega (arith, ints, s.least); most = omega (arith, ints, s.most) }
 
-pub within_small : (bits : ℕ) (v : ℤ) → bits ≤ 2 → IsWithin (2 ^ bits * (2 ^ bits * 1)) v → unsigned_abs v ≤ 2 ^ 20
+pub within_small : (bits : ℕ) (v : ℤ) → bits ≤ 2 → IsWithin (2 ^ bits * (2 ^ bits * 1)) v → unsigned_abs v ≤ 2 ^ 13
 within_small zero v few w = omega (arith, ints, w.least, w.most)
 within_small (suc zero) v few w = omega (arith, ints, w.least, w.most)
 within_small (suc (suc zero)) v few w = omega (arith, ints, w.least, w.most)
@@ -116,26 +116,26 @@ rounded_sample (suc (suc zero)) z few w = shifted_sample (z +ℤ pos 8) 16 (omeg
 rounded_sample (suc (suc (suc k))) z few w = absurd (omega arith)
 
 -- a power of two, as the code shifts it
-pub power_is : (m : ℕ) → m ≤ 4 → to_z w32 (1 * 2 ^ m % 2 ^ 32) ≡ pos (2 ^ m)
+pub power_is : (m : ℕ) → m ≤ 4 → to_z w16 (1 * 2 ^ m % 2 ^ 16) ≡ pos (2 ^ m)
 power_is m l =
     let small : 2 ^ m ≤ 2 ^ 4 = pow_mono {i = m} {j = 4} l in
-    ap (to_z w32) (one_shl m 32 (omega arith)) ∙ to_z_pos w32 (2 ^ m) (omega arith)
+    ap (to_z w16) (one_shl m 16 (omega arith)) ∙ to_z_pos w16 (2 ^ m) (omega arith)
 
 -- the code's rounded sum
-pub rounded_is : (x : ℤ) (m : ℕ) → m ≤ 4 → unsigned_abs x ≤ 2 ^ 20 → to_z w32 (of_z w32 (shr_z (to_z w32 (of_z w32 (to_z w32 (of_z w32 x) +ℤ to_z w32 (of_z w32 (shr_z (to_z w32 (1 * 2 ^ m % 2 ^ 32)) 2))))) (2 ^ m))) ≡ rounded m x
+pub rounded_is : (x : ℤ) (m : ℕ) → m ≤ 4 → unsigned_abs x ≤ 2 ^ 13 → to_z w16 (of_z w16 (shr_z (to_z w16 (of_z w16 (to_z w16 (of_z w16 x) +ℤ to_z w16 (of_z w16 (shr_z (to_z w16 (1 * 2 ^ m % 2 ^ 16)) 2))))) (2 ^ m))) ≡ rounded m x
 rounded_is x m l h =
     let small : 2 ^ m ≤ 2 ^ 4 = pow_mono {i = m} {j = 4} l in
-    let half : shr_z (to_z w32 (1 * 2 ^ m % 2 ^ 32)) 2 ≡ pos (2 ^ m / 2) = ap (λ z. shr_z z 2) (power_is m l) in
-    ap (λ z. to_z w32 (of_z w32 (shr_z (to_z w32 (of_z w32 (to_z w32 (of_z w32 x) +ℤ to_z w32 (of_z w32 z)))) (2 ^ m)))) half
-    ∙ shr_sum_is w32 x (pos (2 ^ m / 2)) (2 ^ m) (fits_signed_from_abs w32 x (omega arith)) (fits_signed_from_abs w32 (pos (2 ^ m / 2)) (omega arith))
-    (fits_signed_from_abs w32 (x +ℤ pos (2 ^ m / 2)) (omega (arith, ints)))
+    let half : shr_z (to_z w16 (1 * 2 ^ m % 2 ^ 16)) 2 ≡ pos (2 ^ m / 2) = ap (λ z. shr_z z 2) (power_is m l) in
+    ap (λ z. to_z w16 (of_z w16 (shr_z (to_z w16 (of_z w16 (to_z w16 (of_z w16 x) +ℤ to_z w16 (of_z w16 z)))) (2 ^ m)))) half
+    ∙ shr_sum_is w16 x (pos (2 ^ m / 2)) (2 ^ m) (fits_signed_from_abs w16 x (omega arith)) (fits_signed_from_abs w16 (pos (2 ^ m / 2)) (omega arith))
+    (fits_signed_from_abs w16 (x +ℤ pos (2 ^ m / 2)) (omega (arith, ints)))
 
 -- a product that is added, and the sum
-pub product_fits : (sum weight value : ℤ) → unsigned_abs sum + unsigned_abs weight * unsigned_abs value ≤ 2 ^ 20 → SFits w32 (weight *ℤ value)
-product_fits sum weight value l = fits_signed_from_abs w32 (weight *ℤ value) (omega (arith, l, unsigned_abs-mul weight value))
+pub product_fits : (sum weight value : ℤ) → unsigned_abs sum + unsigned_abs weight * unsigned_abs value ≤ 2 ^ 13 → SFits w16 (weight *ℤ value)
+product_fits sum weight value l = fits_signed_from_abs w16 (weight *ℤ value) (omega (arith, l, unsigned_abs-mul weight value))
 
-pub product_is : (sum weight value : ℤ) → unsigned_abs sum + unsigned_abs weight * unsigned_abs value ≤ 2 ^ 20 → to_z w32 (of_z w32 (weight *ℤ value)) ≡ weight *ℤ value
-product_is sum weight value l = to_z-of_z w32 (weight *ℤ value) (product_fits sum weight value l)
+pub product_is : (sum weight value : ℤ) → unsigned_abs sum + unsigned_abs weight * unsigned_abs value ≤ 2 ^ 13 → to_z w16 (of_z w16 (weight *ℤ value)) ≡ weight *ℤ value
+product_is sum weight value l = to_z-of_z w16 (weight *ℤ value) (product_fits sum weight value l)
 
-pub added_fits : (sum weight value : ℤ) → unsigned_abs sum + unsigned_abs weight * unsigned_abs value ≤ 2 ^ 20 → SFits w32 (sum +ℤ weight *ℤ value)
-added_fits sum weight value l = fits_signed_from_abs w32 (sum +ℤ weight *ℤ value) (omega (arith, ints, l, unsigned_abs-mul weight value))
+pub added_fits : (sum weight value : ℤ) → unsigned_abs sum + unsigned_abs weight * unsigned_abs value ≤ 2 ^ 13 → SFits w16 (sum +ℤ weight *ℤ value)
+added_fits sum weight value l = fits_signed_from_abs w16 (sum +ℤ weight *ℤ value) (omega (arith, ints, l, unsigned_abs-mul weight value))

@@ -1,5 +1,5 @@
 -- Samples at positions counted in parts of a sample.
-use Rattle.std.specs.Prelude.{◌≡◌, ℕ, ℤ, pos, ◌-◌, ◌*◌, ◌/◌, ◌^◌, ◌<◌, ◌≤◌, ◌==◌, List, length, slice_index_or, ◌≤ℤ◌, ◌<ℤ◌, ◌+ℤ◌, ◌-ℤ◌, ◌*ℤ◌, if◌then◌else◌}
+use Rattle.std.specs.Prelude.{◌≡◌, ℕ, ℤ, pos, ◌+◌, ◌-◌, ◌*◌, ◌/◌, ◌^◌, ◌<◌, ◌≤◌, ◌==◌, List, length, slice_index_or, ◌≤ℤ◌, ◌<ℤ◌, ◌+ℤ◌, ◌-ℤ◌, ◌*ℤ◌, if◌then◌else◌}
 use Rattle.std.specs.Int.{int_shr}
 use Rattle.std.specs.List.{All}
 use Rattle.dirac_types.specs.declared.limits.TheConstants.{LARGEST_SIDE}
@@ -89,3 +89,20 @@ abbrev pub AreParts : Table → ℕ → ℤ → ℤ → ℤ → ℤ → List ℤ
 AreParts t bits across down right below out =
     (k : ℕ) → k < length out → slice_index_or out k (pos 0) ≡ rounded (2 * bits)
     (bilinear t (2 ^ bits) (across +ℤ pos (2 * k)) down right below)
+
+-- the sample behind place p of two rows, one above the other
+abbrev pub between_at : ℕ → ℤ → ℤ → List ℤ → List ℤ → ℕ → ℤ
+between_at bits right below above under p =
+    rounded (2 * bits) (four (2 ^ bits) right below (slice_index_or above p (pos 0)) (slice_index_or above (p + 1) (pos 0))
+    (slice_index_or under p (pos 0)) (slice_index_or under (p + 1) (pos 0)))
+
+-- a list in which from place `first` on so many values were written, and none before it
+pub record PutFrom (first count : ℕ) (f : ℕ → ℤ) (before after : List ℤ) : Type 0 where
+  pub value : (k : ℕ) → k < count → slice_index_or after (first + k) (pos 0) ≡ f k
+  pub kept : (k : ℕ) → k < first → slice_index_or after k (pos 0) ≡ slice_index_or before k (pos 0)
+
+-- the samples behind every second place of every second row, eight in each of four rows
+abbrev pub ArePartsByFour : Table → ℕ → ℤ → ℤ → ℤ → ℤ → List ℤ → Type 0
+ArePartsByFour t bits across down right below out =
+    (j k : ℕ) → j < 4 → k < 8 → slice_index_or out (8 * j + k) (pos 0) ≡ rounded (2 * bits)
+    (bilinear t (2 ^ bits) (across +ℤ pos (2 * k)) (down +ℤ pos (2 * j)) right below)

@@ -9,7 +9,7 @@ use dirac_types::Plane;
 
 /// How many positions a place has.
 #[inline(always)]
-fn positions(bits: u32) -> i32
+fn positions(bits: u32) -> i16
     requires { bits ≤ 2 }
     ensures { result ≡ pos (2 ^ bits) }
 {
@@ -29,21 +29,21 @@ pub fn place(position: i64, bits: u32) -> i64
 
 /// How far a position lies behind its place.
 #[inline(always)]
-pub fn rest(position: i64, bits: u32) -> i32
+pub fn rest(position: i64, bits: u32) -> i16
     requires { bits ≤ 2 }
     ensures value { result ≡ rest_at position bits }
     ensures within { IsRest bits result }
 {
     match bits {
         0 => 0,
-        1 => position.rem_euclid(2) as i32,
-        _ => position.rem_euclid(4) as i32,
+        1 => position.rem_euclid(2) as i16,
+        _ => position.rem_euclid(4) as i16,
     }
 }
 
 #[inline(always)]
-fn multiply_add(sum: i32, weight: i32, value: i32) -> i32
-    requires { unsigned_abs sum + unsigned_abs weight * unsigned_abs value ≤ 2 ^ 20 }
+fn multiply_add(sum: i16, weight: i16, value: i16) -> i16
+    requires { unsigned_abs sum + unsigned_abs weight * unsigned_abs value ≤ 2 ^ 13 }
     ensures value { result ≡ sum +ℤ weight *ℤ value }
 {
     sum + weight * value
@@ -51,7 +51,7 @@ fn multiply_add(sum: i32, weight: i32, value: i32) -> i32
 
 /// Two values, each weighted by the nearness of its place.
 #[inline(always)]
-pub fn mix(bits: u32, rest: i32, a: i32, b: i32) -> i32
+pub fn mix(bits: u32, rest: i16, a: i16, b: i16) -> i16
     requires bits { bits ≤ 2 }
     requires rest { IsRest bits rest }
     requires a { IsWithin 4 a }
@@ -65,32 +65,23 @@ pub fn mix(bits: u32, rest: i32, a: i32, b: i32) -> i32
 
 /// A sum divided by 2 to the power `bits`, to the nearest.
 #[inline(always)]
-pub fn rounded_sum(sum: i32, bits: u32) -> i32
-    requires sum { unsigned_abs sum ≤ 2 ^ 20 }
+pub fn rounded_sum(sum: i16, bits: u32) -> i16
+    requires sum { unsigned_abs sum ≤ 2 ^ 13 }
     requires bits { bits ≤ 4 }
     ensures { result ≡ rounded bits sum }
 {
-    let half = (1i32 << bits) >> 1;
+    let half = (1i16 << bits) >> 1;
     (sum + half) >> bits
-}
-
-#[inline(always)]
-pub fn to_sample(value: i32) -> i16
-    requires { IsSample value }
-    ensures value { result ≡ value }
-    ensures sample { IsSample result }
-{
-    value as i16
 }
 
 /// The sample at a place that is clamped to the table.
 #[inline(always)]
-fn sample(table: &Plane, x: i64, y: i64) -> i32
+pub fn sample(table: &Plane, x: i64, y: i64) -> i16
     requires { All IsSample table.now.values }
     ensures value { result ≡ clamped_at table.now x y }
     ensures sample { IsSample result }
 {
-    i32::from(table.clamped(x, y))
+    table.clamped(x, y)
 }
 
 #[inline(always)]
@@ -103,7 +94,7 @@ fn next(place: i64) -> i64
 
 /// The samples of row `y` at places `across` and the next, each times its weight.
 #[inline(always)]
-fn mixed_row(table: &Plane, bits: u32, right: i32, across: i64, y: i64) -> i32
+fn mixed_row(table: &Plane, bits: u32, right: i16, across: i64, y: i64) -> i16
     requires bits { bits ≤ 2 }
     requires right { IsRest bits right }
     requires across { unsigned_abs across ≤ 2 ^ 34 }
@@ -122,7 +113,7 @@ fn mixed_row(table: &Plane, bits: u32, right: i32, across: i64, y: i64) -> i32
 
 /// The sum of the four samples round a position, each times its two weights.
 #[inline(always)]
-fn mixed_rows(table: &Plane, bits: u32, x: i64, y: i64) -> i32
+fn mixed_rows(table: &Plane, bits: u32, x: i64, y: i64) -> i16
     requires bits { bits ≤ 2 }
     requires x { unsigned_abs x < 2 ^ 34 }
     requires y { unsigned_abs y < 2 ^ 34 }
@@ -149,7 +140,7 @@ pub fn part(table: &Plane, bits: u32, x: i64, y: i64) -> i16
     ensures value { result ≡ part_sample table.now bits x y }
     ensures sample { IsSample result }
 {
-    to_sample(rounded_sum(mixed_rows(table, bits, x, y), 2 * bits))
+    rounded_sum(mixed_rows(table, bits, x, y), 2 * bits)
 }
 
 #[inline(always)]
@@ -169,5 +160,5 @@ pub fn whole_sample(table: &Plane, x: i64, y: i64) -> i16
     ensures value { result ≡ clamped_at table.now (pos 2 *ℤ x) (pos 2 *ℤ y) }
     ensures sample { IsSample result }
 {
-    to_sample(sample(table, twice(x), twice(y)))
+    sample(table, twice(x), twice(y))
 }

@@ -2,11 +2,11 @@ ghost use Rattle.std.specs.Prelude.{◌≡◌, ℕ, ℤ, pos, ◌+◌, ◌-◌, 
 ghost use Rattle.std.specs.List.{All};
 ghost use Rattle.dirac_types.specs.Table.{Table, clamped_at, table_at};
 ghost use Rattle.dirac_upconvert.specs.HalfSamples.{IsSample, half, half_at, half_behind};
-ghost use Rattle.dirac_upconvert.specs.SubSamples.{IsUp, Up, sub_sample};
+ghost use Rattle.dirac_upconvert.specs.SubSamples.{ArePartsByFour, IsRest, IsUp, Up, sub_sample};
 
 use crate::lines::{double_line, half_of_rows};
-use crate::parts::{part, twice, whole_sample};
-use crate::rows::{parts, places};
+use crate::parts::{part, place, twice, whole_sample};
+use crate::rows::{Rests, ahead, parts, places, put, rests_of, row_parts};
 use dirac_types::{LARGEST_SIDE, NoMemory, Plane};
 use std::alloc::Global;
 use std::marker::Model;
@@ -110,6 +110,25 @@ pub fn upconvert(alloc: Global, plane: &Plane) -> Result<UpPlane, NoMemory>
     })
 }
 
+/// Writes the samples behind every second place of every second row, from place `across` of row `down` on: four rows
+/// of eight.
+fn eight_by_four(table: &Plane, rests: Rests, across: i64, down: i64, out: &mut [i16])
+    requires samples { All IsSample table.now.values }
+    requires bits { rests.bits ≤ 2 }
+    requires across { unsigned_abs across ≤ 2 ^ 34 }
+    requires down { unsigned_abs down ≤ 2 ^ 34 }
+    requires right { IsRest rests.bits rests.right }
+    requires below { IsRest rests.bits rests.below }
+    requires four_rows_of_eight { length out.old ≡ 32 }
+    ensures { ArePartsByFour table.now rests.bits across down rests.right rests.below out.new }
+{
+    for j in 0..4 {
+        let mut lanes = [0i16; 8];
+        row_parts(table, rests, across, ahead(down, j), &mut lanes);
+        put(&lanes, out, 8 * j);
+    }
+}
+
 impl UpPlane {
     /// The sample at column `x` and row `y`, both counted in 2 to the power `precision` parts of a sample
     /// (sub-pixel prediction, Dirac specification). Positions may lie outside the plane.
@@ -158,6 +177,35 @@ impl UpPlane {
             places(&self.table, twice(x), twice(y), out);
         } else {
             parts(&self.table, u32::from(precision) - 1, x, y, out);
+        }
+    }
+
+    /// Writes the samples of four rows of eight, row after row, from column `x` of row `y` on, a whole sample apart;
+    /// both are counted in 2 to the power `precision` parts of a sample. Positions may lie outside the plane.
+    pub fn sub_eight_by_four(&self, precision: u8, x: i64, y: i64, out: &mut [i16])
+        requires precision { precision ≤ 3 }
+        requires x { unsigned_abs x < 2 ^ 31 }
+        requires y { unsigned_abs y < 2 ^ 31 }
+        requires four_rows_of_eight { length out.old ≡ 32 }
+        ensures value { (j k : ℕ) → j < 4 → k < 8 → slice_index_or out.new (8 * j + k) (pos 0)
+            ≡ sub_sample self.now precision (x +ℤ pos (2 ^ precision * k)) (y +ℤ pos (2 ^ precision * j)) }
+    {
+        if precision == 0 {
+            let rests = Rests {
+                bits: 0,
+                right: 0,
+                below: 0,
+            };
+            eight_by_four(&self.table, rests, twice(x), twice(y), out);
+        } else {
+            let bits = u32::from(precision) - 1;
+            eight_by_four(
+                &self.table,
+                rests_of(bits, x, y),
+                place(x, bits),
+                place(y, bits),
+                out,
+            );
         }
     }
 }

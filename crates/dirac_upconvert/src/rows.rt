@@ -2,14 +2,14 @@ ghost use Rattle.std.specs.Prelude.{◌≡◌, ℕ, pos, ◌+◌, ◌-◌, ◌*�
 ghost use Rattle.std.specs.List.{All};
 ghost use Rattle.dirac_types.specs.Table.{clamped_at, clamped_to, table_at};
 ghost use Rattle.dirac_upconvert.specs.HalfSamples.{IsSample};
-ghost use Rattle.dirac_upconvert.specs.SubSamples.{AreParts, ArePlaces, IsRest, IsWithin, bilinear, four, mixed, place_at, rest_at, rounded};
+ghost use Rattle.dirac_upconvert.specs.SubSamples.{AreParts, ArePlaces, IsRest, IsWithin, PutFrom, between_at, bilinear, four, mixed, place_at, rest_at, rounded};
 
-use crate::parts::{mix, place, rest, rounded_sum, to_sample};
+use crate::parts::{mix, place, rest, rounded_sum, sample};
 use dirac_types::{LARGEST_SIDE, Plane};
 
 /// The place `count` whole samples behind another one.
 #[inline(always)]
-fn ahead(place: i64, count: usize) -> i64
+pub fn ahead(place: i64, count: usize) -> i64
     requires place { unsigned_abs place ≤ 2 ^ 34 }
     requires count { count ≤ LARGEST_SIDE }
     ensures value { result ≡ place +ℤ pos (2 * count) }
@@ -64,19 +64,19 @@ fn nearest_row(table: &Plane, y: i64) -> &[i16]
 
 /// Two sums of two samples, one above the other, weighted by the nearness of their places, and divided.
 #[inline(always)]
-fn settle(bits: u32, below: i32, above: i32, under: i32) -> i16
+fn settle(bits: u32, below: i16, above: i16, under: i16) -> i16
     requires bits { bits ≤ 2 }
     requires below { IsRest bits below }
     requires above { IsWithin (2 ^ bits * 1) above }
     requires under { IsWithin (2 ^ bits * 1) under }
     ensures { result ≡ rounded (2 * bits) (mixed (2 ^ bits) below above under) }
 {
-    to_sample(rounded_sum(mix(bits, below, above, under), 2 * bits))
+    rounded_sum(mix(bits, below, above, under), 2 * bits)
 }
 
 /// Two samples side by side, weighted by the nearness of their places.
 #[inline(always)]
-fn beside_each_other(bits: u32, right: i32, a: i16, b: i16) -> i32
+fn beside_each_other(bits: u32, right: i16, a: i16, b: i16) -> i16
     requires bits { bits ≤ 2 }
     requires right { IsRest bits right }
     requires a { IsSample a }
@@ -84,12 +84,12 @@ fn beside_each_other(bits: u32, right: i32, a: i16, b: i16) -> i32
     ensures value { result ≡ mixed (2 ^ bits) right a b }
     ensures within { IsWithin (2 ^ bits * 1) result }
 {
-    mix(bits, right, i32::from(a), i32::from(b))
+    mix(bits, right, a, b)
 }
 
 /// The sample between four others, two above and two below.
 #[inline(always)]
-fn between_four(bits: u32, right: i32, below: i32, v00: i16, v10: i16, v01: i16, v11: i16) -> i16
+fn between_four(bits: u32, right: i16, below: i16, v00: i16, v10: i16, v01: i16, v11: i16) -> i16
     requires bits { bits ≤ 2 }
     requires right { IsRest bits right }
     requires below { IsRest bits below }
@@ -109,16 +109,14 @@ fn between_four(bits: u32, right: i32, below: i32, v00: i16, v10: i16, v01: i16,
 
 /// The sample between those of two rows at places `at` and the next.
 #[inline(always)]
-fn between_rows(bits: u32, right: i32, below: i32, above: &[i16], under: &[i16], at: usize) -> i16
+fn between_rows(bits: u32, right: i16, below: i16, above: &[i16], under: &[i16], at: usize) -> i16
     requires bits { bits ≤ 2 }
     requires right { IsRest bits right }
     requires below { IsRest bits below }
     requires above { All IsSample above.now }
     requires under { All IsSample under.now }
     requires inside { (at + 1 < length above.now) × (at + 1 < length under.now) }
-    ensures { result ≡ rounded (2 * bits) (four (2 ^ bits) right below (slice_index_or above.now at (pos 0))
-        (slice_index_or above.now (at + 1) (pos 0)) (slice_index_or under.now at (pos 0))
-        (slice_index_or under.now (at + 1) (pos 0))) }
+    ensures { result ≡ between_at bits right below above.now under.now at }
 {
     between_four(
         bits,
@@ -135,8 +133,8 @@ fn between_rows(bits: u32, right: i32, below: i32, above: &[i16], under: &[i16],
 #[inline(always)]
 fn all_between_rows(
     bits: u32,
-    right: i32,
-    below: i32,
+    right: i16,
+    below: i16,
     above: &[i16],
     under: &[i16],
     at: usize,
@@ -150,12 +148,133 @@ fn all_between_rows(
     requires inside { at + 2 * length out.old ≤ length above.now }
     requires same { length under.now ≡ length above.now }
     ensures { (k : ℕ) → k < length out.old → slice_index_or out.new k (pos 0)
-        ≡ rounded (2 * bits) (four (2 ^ bits) right below (slice_index_or above.now (at + 2 * k) (pos 0))
-        (slice_index_or above.now (at + 2 * k + 1) (pos 0)) (slice_index_or under.now (at + 2 * k) (pos 0))
-        (slice_index_or under.now (at + 2 * k + 1) (pos 0))) }
+        ≡ between_at bits right below above.now under.now (at + 2 * k) }
 {
     for k in 0..out.len() {
         out[k] = between_rows(bits, right, below, above, under, at + 2 * k);
+    }
+}
+
+/// Writes a few samples into a list from place `first` on. They stand in a list of their own, whose length is a number
+/// where the code is compiled, so that they are computed side by side.
+#[inline(always)]
+pub fn put(lanes: &[i16], out: &mut [i16], first: usize)
+    requires inside { first + length lanes.now ≤ length out.old }
+    ensures { PutFrom first (length lanes.now) (λ k. slice_index_or lanes.now k (pos 0)) out.old out.new }
+{
+    for k in 0..lanes.len() {
+        out[first + k] = lanes[k];
+    }
+}
+
+/// How far a position lies behind its places across and down, each of which has 2 to the power `bits` positions.
+#[derive(Clone, Copy)]
+pub struct Rests {
+    pub bits: u32,
+    pub right: i16,
+    pub below: i16,
+}
+
+/// Writes as many samples between those of two rows as there are lanes: those behind every second place from place
+/// `at` on, into a list from place `first` on.
+#[inline(always)]
+fn put_between(
+    rests: Rests,
+    above: &[i16],
+    under: &[i16],
+    at: usize,
+    lanes: &mut [i16],
+    out: &mut [i16],
+    first: usize,
+)
+    requires bits { rests.bits ≤ 2 }
+    requires right { IsRest rests.bits rests.right }
+    requires below { IsRest rests.bits rests.below }
+    requires above { All IsSample above.now }
+    requires under { All IsSample under.now }
+    requires inside { at + 2 * length lanes.old ≤ length above.now }
+    requires same { length under.now ≡ length above.now }
+    requires room { first + length lanes.old ≤ length out.old }
+    ensures { PutFrom first (length lanes.old) (λ k. between_at rests.bits rests.right rests.below above.now under.now
+        (at + 2 * k)) out.old out.new }
+{
+    let end = at + 2 * lanes.len();
+    all_between_rows(
+        rests.bits,
+        rests.right,
+        rests.below,
+        &above[at..end],
+        &under[at..end],
+        0,
+        lanes,
+    );
+    put(lanes, out, first);
+}
+
+/// A row of four to eight samples between those of two rows: the last four may be some that were written before.
+#[inline(always)]
+fn by_fours(rests: Rests, above: &[i16], under: &[i16], at: usize, out: &mut [i16])
+    requires bits { rests.bits ≤ 2 }
+    requires right { IsRest rests.bits rests.right }
+    requires below { IsRest rests.bits rests.below }
+    requires above { All IsSample above.now }
+    requires under { All IsSample under.now }
+    requires inside { at + 2 * length out.old ≤ length above.now }
+    requires same { length under.now ≡ length above.now }
+    requires at_least_4 { 4 ≤ length out.old }
+    requires at_most_8 { length out.old ≤ 8 }
+    ensures { (k : ℕ) → k < length out.old → slice_index_or out.new k (pos 0)
+        ≡ between_at rests.bits rests.right rests.below above.now under.now (at + 2 * k) }
+{
+    let last = out.len() - 4;
+    let mut first = [0i16; 4];
+    put_between(rests, above, under, at, &mut first, out, 0);
+    let mut more = [0i16; 4];
+    put_between(rests, above, under, at + 2 * last, &mut more, out, last);
+}
+
+/// A row of at least eight samples between those of two rows: the last eight may be some that were written before.
+#[inline(always)]
+fn by_eights(rests: Rests, above: &[i16], under: &[i16], at: usize, out: &mut [i16])
+    requires bits { rests.bits ≤ 2 }
+    requires right { IsRest rests.bits rests.right }
+    requires below { IsRest rests.bits rests.below }
+    requires above { All IsSample above.now }
+    requires under { All IsSample under.now }
+    requires inside { at + 2 * length out.old ≤ length above.now }
+    requires same { length under.now ≡ length above.now }
+    requires at_least_8 { 8 ≤ length out.old }
+    ensures { (k : ℕ) → k < length out.old → slice_index_or out.new k (pos 0)
+        ≡ between_at rests.bits rests.right rests.below above.now under.now (at + 2 * k) }
+{
+    let last = out.len() - 8;
+    for i in 0..(last + 7) / 8 {
+        let mut lanes = [0i16; 8];
+        put_between(rests, above, under, at + 16 * i, &mut lanes, out, 8 * i);
+    }
+    let mut lanes = [0i16; 8];
+    put_between(rests, above, under, at + 2 * last, &mut lanes, out, last);
+}
+
+/// The samples between those of two rows at every second place, from place `at` on: eight or four side by side.
+#[inline(always)]
+fn in_lanes(rests: Rests, above: &[i16], under: &[i16], at: usize, out: &mut [i16])
+    requires bits { rests.bits ≤ 2 }
+    requires right { IsRest rests.bits rests.right }
+    requires below { IsRest rests.bits rests.below }
+    requires above { All IsSample above.now }
+    requires under { All IsSample under.now }
+    requires inside { at + 2 * length out.old ≤ length above.now }
+    requires same { length under.now ≡ length above.now }
+    ensures { (k : ℕ) → k < length out.old → slice_index_or out.new k (pos 0)
+        ≡ between_at rests.bits rests.right rests.below above.now under.now (at + 2 * k) }
+{
+    if out.len() >= 8 {
+        by_eights(rests, above, under, at, out);
+    } else if out.len() >= 4 {
+        by_fours(rests, above, under, at, out);
+    } else {
+        all_between_rows(rests.bits, rests.right, rests.below, above, under, at, out);
     }
 }
 
@@ -214,22 +333,12 @@ pub fn places(table: &Plane, across: i64, down: i64, out: &mut [i16])
     }
 }
 
-/// The sample at a place that is clamped to the table.
-#[inline(always)]
-fn clamped(table: &Plane, x: i64, y: i64) -> i16
-    requires { All IsSample table.now.values }
-    ensures value { result ≡ clamped_at table.now x y }
-    ensures sample { IsSample result }
-{
-    table.clamped(x, y)
-}
-
 /// The sample behind a place of the table that may lie outside.
-fn clamped_part(table: &Plane, bits: u32, across: i64, down: i64, right: i32, below: i32) -> i16
+fn clamped_part(table: &Plane, bits: u32, across: i64, down: i64, right: i16, below: i16) -> i16
     requires samples { All IsSample table.now.values }
     requires bits { bits ≤ 2 }
     requires across { unsigned_abs across ≤ 2 ^ 35 }
-    requires down { unsigned_abs down ≤ 2 ^ 34 }
+    requires down { unsigned_abs down ≤ 2 ^ 35 }
     requires right { IsRest bits right }
     requires below { IsRest bits below }
     ensures { result ≡ rounded (2 * bits) (bilinear table.now (2 ^ bits) across down right below) }
@@ -240,64 +349,92 @@ fn clamped_part(table: &Plane, bits: u32, across: i64, down: i64, right: i32, be
         bits,
         right,
         below,
-        clamped(table, across, down),
-        clamped(table, next, down),
-        clamped(table, across, under),
-        clamped(table, next, under),
+        sample(table, across, down),
+        sample(table, next, down),
+        sample(table, across, under),
+        sample(table, next, under),
     )
 }
 
 /// The samples behind every second place of row `down`, from a place on that may lie outside.
-fn clamped_parts(
-    table: &Plane,
-    bits: u32,
-    across: i64,
-    down: i64,
-    right: i32,
-    below: i32,
-    out: &mut [i16],
-)
+fn clamped_parts(table: &Plane, rests: Rests, across: i64, down: i64, out: &mut [i16])
     requires samples { All IsSample table.now.values }
-    requires bits { bits ≤ 2 }
+    requires bits { rests.bits ≤ 2 }
     requires across { unsigned_abs across ≤ 2 ^ 34 }
-    requires down { unsigned_abs down ≤ 2 ^ 34 }
-    requires right { IsRest bits right }
-    requires below { IsRest bits below }
+    requires down { unsigned_abs down ≤ 2 ^ 35 }
+    requires right { IsRest rests.bits rests.right }
+    requires below { IsRest rests.bits rests.below }
     requires at_most_4096 { length out.old ≤ LARGEST_SIDE }
-    ensures { AreParts table.now bits across down right below out.new }
+    ensures { AreParts table.now rests.bits across down rests.right rests.below out.new }
 {
     for k in 0..out.len() {
-        out[k] = clamped_part(table, bits, ahead(across, k), down, right, below);
+        out[k] = clamped_part(
+            table,
+            rests.bits,
+            ahead(across, k),
+            down,
+            rests.right,
+            rests.below,
+        );
     }
 }
 
 /// The samples behind every second place of row `down`, where all lie inside the row.
-fn inner_parts(
-    table: &Plane,
-    bits: u32,
-    across: i64,
-    down: i64,
-    right: i32,
-    below: i32,
-    out: &mut [i16],
-)
+#[inline(always)]
+fn inner_parts(table: &Plane, rests: Rests, across: i64, down: i64, out: &mut [i16])
     requires samples { All IsSample table.now.values }
-    requires bits { bits ≤ 2 }
+    requires bits { rests.bits ≤ 2 }
     requires inside { (pos 0 ≤ℤ across) × ((across +ℤ pos (2 * length out.old)) ≤ℤ pos table.now.width) }
-    requires down { unsigned_abs down ≤ 2 ^ 34 }
-    requires right { IsRest bits right }
-    requires below { IsRest bits below }
-    ensures { AreParts table.now bits across down right below out.new }
+    requires down { unsigned_abs down ≤ 2 ^ 35 }
+    requires right { IsRest rests.bits rests.right }
+    requires below { IsRest rests.bits rests.below }
+    ensures { AreParts table.now rests.bits across down rests.right rests.below out.new }
 {
-    all_between_rows(
-        bits,
-        right,
-        below,
+    in_lanes(
+        rests,
         nearest_row(table, down),
         nearest_row(table, beside(down)),
         column(across),
         out,
     );
+}
+
+/// The samples behind every second place of row `down`, from place `across` on.
+#[inline(always)]
+pub fn row_parts(table: &Plane, rests: Rests, across: i64, down: i64, out: &mut [i16])
+    requires samples { All IsSample table.now.values }
+    requires bits { rests.bits ≤ 2 }
+    requires across { unsigned_abs across ≤ 2 ^ 34 }
+    requires down { unsigned_abs down ≤ 2 ^ 35 }
+    requires right { IsRest rests.bits rests.right }
+    requires below { IsRest rests.bits rests.below }
+    requires at_most_4096 { length out.old ≤ LARGEST_SIDE }
+    ensures { AreParts table.now rests.bits across down rests.right rests.below out.new }
+{
+    if rests.right == 0 && rests.below == 0 {
+        places(table, across, down, out);
+    } else if is_inside(across, out.len(), table.width()) {
+        inner_parts(table, rests, across, down, out);
+    } else {
+        clamped_parts(table, rests, across, down, out);
+    }
+}
+
+/// How far a position lies behind its places.
+#[inline(always)]
+pub fn rests_of(bits: u32, x: i64, y: i64) -> Rests
+    requires bits { bits ≤ 2 }
+    ensures bits { result.bits ≡ bits }
+    ensures right { result.right ≡ rest_at x bits }
+    ensures below { result.below ≡ rest_at y bits }
+    ensures right_within { IsRest bits result.right }
+    ensures below_within { IsRest bits result.below }
+{
+    Rests {
+        bits,
+        right: rest(x, bits),
+        below: rest(y, bits),
+    }
 }
 
 /// The samples at positions of the table that are a whole sample apart, from a position on that is counted in parts,
@@ -310,15 +447,6 @@ pub fn parts(table: &Plane, bits: u32, x: i64, y: i64, out: &mut [i16])
     requires at_most_4096 { length out.old ≤ LARGEST_SIDE }
     ensures { AreParts table.now bits (place_at x bits) (place_at y bits) (rest_at x bits) (rest_at y bits) out.new }
 {
-    let across = place(x, bits);
-    let down = place(y, bits);
-    let right = rest(x, bits);
-    let below = rest(y, bits);
-    if right == 0 && below == 0 {
-        places(table, across, down, out);
-    } else if is_inside(across, out.len(), table.width()) {
-        inner_parts(table, bits, across, down, right, below, out);
-    } else {
-        clamped_parts(table, bits, across, down, right, below, out);
-    }
+    let rests = rests_of(bits, x, y);
+    row_parts(table, rests, place(x, bits), place(y, bits), out);
 }

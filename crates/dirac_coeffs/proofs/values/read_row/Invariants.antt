@@ -1,5 +1,6 @@
 use Rattle.std.proofs.Common.{◌≡◌, ◌+◌, ◌*◌, ◌≤◌, length, Ok}
 use Rattle.dirac_coeffs.specs.BandRead.{progress, row_step}
+use Rattle.dirac_coeffs.specs.Contexts.{corner_of, left_of}
 use Rattle.dirac_coeffs.specs.Decisions.{frame_of}
 use Rattle.dirac_coeffs.proofs.values.read_row.Given as goal
 
@@ -9,4 +10,6 @@ invariant-values l =
       value : row_step (frame_of l.layout l.parent) l.y l.from l.i (progress l.fn.values l.fn.decoder) ≡ Ok (progress l.values l.decoder);
       len : length l.values ≡ length l.fn.values;
       few : l.decoder.at.doublings ≤ l.fn.decoder.at.doublings + 702 * l.i;
+      left : l.left ≡ left_of l.layout.width l.values (l.from + l.i) l.y;
+      corner : l.corner ≡ corner_of l.layout.width l.values (l.from + l.i) l.y;
     }

@@ -1,5 +1,5 @@
 use Rattle.std.proofs.Common.{◌≡◌, ◌+ℤ◌, pos, to_z, of_z, refl, ◌∙◌}
-use Rattle.std.specs.Int.{w16, w32, w64}
+use Rattle.std.specs.Int.{w16, w64}
 use Rattle.std.proofs.lemmas.Int.{to_z-of_z}
 use Rattle.dirac_types.specs.Table.{clamped_at}
 use Rattle.dirac_upconvert.proofs.rows.clamped_part.Goals as goal
@@ -9,13 +9,13 @@ returns c =
     let t = c.args.table.now in
     let next : to_z w64 (of_z w64 c.beside-next.result) ≡ c.args.across +ℤ pos 1 = to_z-of_z w64 _ (record { sfits = c.beside-next.type_inv }) ∙ c.beside-next.ensures ∙ rw (to_z-of_z w64 c.args.across c.ranges.across) refl in
     let under : to_z w64 (of_z w64 c.beside-under.result) ≡ c.args.down +ℤ pos 1 = to_z-of_z w64 _ (record { sfits = c.beside-under.type_inv }) ∙ c.beside-under.ensures ∙ rw (to_z-of_z w64 c.args.down c.ranges.down) refl in
-    let v00 : to_z w16 (of_z w16 c.clamped.result) ≡ clamped_at t c.args.across c.args.down =
-    to_z-of_z w16 _ (record { sfits = c.clamped.type_inv }) ∙ c.clamped.ensures.value ∙ rw (to_z-of_z w64 c.args.across c.ranges.across, to_z-of_z w64 c.args.down c.ranges.down) refl in
-    let v10 : to_z w16 (of_z w16 c.clamped-2.result) ≡ clamped_at t (c.args.across +ℤ pos 1) c.args.down =
-    to_z-of_z w16 _ (record { sfits = c.clamped-2.type_inv }) ∙ c.clamped-2.ensures.value ∙ rw (next, to_z-of_z w64 c.args.down c.ranges.down) refl in
-    let v01 : to_z w16 (of_z w16 c.clamped-3.result) ≡ clamped_at t c.args.across (c.args.down +ℤ pos 1) =
-    to_z-of_z w16 _ (record { sfits = c.clamped-3.type_inv }) ∙ c.clamped-3.ensures.value ∙ rw (to_z-of_z w64 c.args.across c.ranges.across, under) refl in
-    let v11 : to_z w16 (of_z w16 c.clamped-4.result) ≡ clamped_at t (c.args.across +ℤ pos 1) (c.args.down +ℤ pos 1) =
-    to_z-of_z w16 _ (record { sfits = c.clamped-4.type_inv }) ∙ c.clamped-4.ensures.value ∙ rw (next, under) refl in
+    let v00 : to_z w16 (of_z w16 c.sample.result) ≡ clamped_at t c.args.across c.args.down =
+    to_z-of_z w16 _ (record { sfits = c.sample.type_inv }) ∙ c.sample.ensures.value ∙ rw (to_z-of_z w64 c.args.across c.ranges.across, to_z-of_z w64 c.args.down c.ranges.down) refl in
+    let v10 : to_z w16 (of_z w16 c.sample-2.result) ≡ clamped_at t (c.args.across +ℤ pos 1) c.args.down =
+    to_z-of_z w16 _ (record { sfits = c.sample-2.type_inv }) ∙ c.sample-2.ensures.value ∙ rw (next, to_z-of_z w64 c.args.down c.ranges.down) refl in
+    let v01 : to_z w16 (of_z w16 c.sample-3.result) ≡ clamped_at t c.args.across (c.args.down +ℤ pos 1) =
+    to_z-of_z w16 _ (record { sfits = c.sample-3.type_inv }) ∙ c.sample-3.ensures.value ∙ rw (to_z-of_z w64 c.args.across c.ranges.across, under) refl in
+    let v11 : to_z w16 (of_z w16 c.sample-4.result) ≡ clamped_at t (c.args.across +ℤ pos 1) (c.args.down +ℤ pos 1) =
+    to_z-of_z w16 _ (record { sfits = c.sample-4.type_inv }) ∙ c.sample-4.ensures.value ∙ rw (next, under) refl in
     to_z-of_z w16 _ (record { sfits = c.between_four.type_inv }) ∙ c.between_four.ensures
-    ∙ rw (to_z-of_z w32 c.args.right c.ranges.right, to_z-of_z w32 c.args.below c.ranges.below, v00, v10, v01, v11) refl
+    ∙ rw (to_z-of_z w16 c.args.right c.ranges.right, to_z-of_z w16 c.args.below c.ranges.below, v00, v10, v01, v11) refl

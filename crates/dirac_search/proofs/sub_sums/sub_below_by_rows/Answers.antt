@@ -1,7 +1,7 @@
 use Rattle.std.proofs.Common.{◌≡◌, ◌+◌, arith, ap, ◌∙◌}
 use Rattle.dirac_windows.proofs.Sums.{sum_grows}
 use Rattle.dirac_search.specs.Rows.{sub_row_apart, sub_rows}
-use Rattle.dirac_search.proofs.sub_sums.sub_below.Goals as goal
+use Rattle.dirac_search.proofs.sub_sums.sub_below_by_rows.Goals as goal
 
 pub returns-then-sum-limit-clause-above : goal.returns-then-sum-limit-clause-above
 returns-then-sum-limit-clause-above c =

@@ -1,6 +1,6 @@
 use Rattle.std.proofs.Common.{◌≡◌, ◌≤◌, ◌*◌, ◌+◌, length}
 use Rattle.dirac_search.specs.Rows.{sub_rows}
-use Rattle.dirac_search.proofs.sub_sums.sub_below.Given as goal
+use Rattle.dirac_search.proofs.sub_sums.sub_below_by_rows.Given as goal
 
 abbrev pub invariant-rows : goal.invariant-rows
 invariant-rows l = record {

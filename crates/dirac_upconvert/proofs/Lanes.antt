@@ -1,0 +1,84 @@
+-- Rows that are written a few samples at a time.
+use Rattle.std.proofs.Common.{◌≡◌, ◌≢◌, ℕ, ℤ, pos, ◌+◌, ◌-◌, ◌*◌, ◌/◌, ◌%◌, ◌^◌, ◌<◌, ◌≤◌, ◌+ℤ◌, List, length, get_or, set, to_z, of_z, arith, refl, inl, inr, ap, sym, ◌∙◌}
+use Rattle.std.specs.Int.{w16}
+use Rattle.std.specs.List.{All, slice_range}
+use Rattle.std.proofs.lemmas.Bool.{cases_eq, cases_lt}
+use Rattle.std.proofs.lemmas.Int.{ints, to_z-of_z, fits_signed_from_abs}
+use Rattle.std.proofs.lemmas.List.{get_or-set_same, get_or-set_other}
+use Rattle.std.proofs.lemmas.List.Edits.{get_or-between, length-between}
+use Rattle.std.proofs.Math.Pow.{pow_mono}
+use Rattle.dirac_types.specs.Table.{Table}
+use Rattle.dirac_upconvert.specs.HalfSamples.{IsSample}
+use Rattle.dirac_upconvert.specs.SubSamples.{IsRest, PutFrom, between_at, bilinear, four, rounded}
+use Rattle.dirac_upconvert.proofs.Halves.{all_samples, sample_at}
+
+-- a rest, through its bits
+pub plain_rest : (bits : ℕ) (r : ℤ) → bits ≤ 2 → IsRest bits r → to_z w16 (of_z w16 r) ≡ r
+plain_rest bits r few h =
+    let small : 2 ^ bits ≤ 2 ^ 2 = pow_mono {i = bits} {j = 2} few in
+    to_z-of_z w16 r (fits_signed_from_abs w16 r (omega (arith, ints, small, h.least, h.most)))
+
+-- one more value is put
+pub put_none : (first : ℕ) (f : ℕ → ℤ) (xs : List ℤ) → PutFrom first 0 f xs xs
+put_none first f xs = record { value = λ k l. absurd (omega arith); kept = λ k l. refl }
+
+pub put_more : (first n m place : ℕ) (f : ℕ → ℤ) (before out : List ℤ) (v : ℤ) → PutFrom first n f before out → place ≡ first + n → place < length out → m ≡ n + 1 → v ≡ f n → PutFrom first m f before (set out place v)
+put_more first n m place f before out v h e fits next ev = record {
+  value = λ k l. elim (cases_eq k n) [
+    | inl here ↦
+        let at : first + k ≡ place = omega arith in
+        ap (λ i. get_or (set out place v) i (pos 0)) at ∙ get_or-set_same out place v (pos 0) fits ∙ ev ∙ ap f (sym here)
+    | inr other ↦
+        let apart : first + k ≢ place = omega arith in
+        get_or-set_other out place (first + k) v (pos 0) apart ∙ h.value k (omega arith)
+  ];
+  kept = λ k l. let apart : k ≢ place = omega arith in get_or-set_other out place k v (pos 0) apart ∙ h.kept k l;
+}
+
+-- the same values, told by another function
+pub put_told : (first n m : ℕ) (f g : ℕ → ℤ) (before after : List ℤ) → PutFrom first n f before after → m ≤ n → ((k : ℕ) → k < m → f k ≡ g k) → PutFrom first m g before after
+put_told first n m f g before after h l e = record { value = λ k i. h.value k (omega arith) ∙ e k i; kept = h.kept }
+
+-- behind values that are told, or over some of them, more are put
+pub joined : (last count : ℕ) (g f : ℕ → ℤ) (mid after : List ℤ) → ((k : ℕ) → k < last → get_or mid k (pos 0) ≡ g k) → PutFrom last count f mid after → ((k : ℕ) → k < count → f k ≡ g (last + k))
+    → (k : ℕ) → k < last + count → get_or after k (pos 0) ≡ g k
+joined last count g f mid after h p e k l = elim (cases_lt k last) [
+  | inl before ↦ p.kept k before ∙ h k before
+  | inr past ↦
+      let same : last + (k - last) ≡ k = omega arith in
+      ap (λ i. get_or after i (pos 0)) (sym same) ∙ p.value (k - last) (omega arith) ∙ e (k - last) (omega arith) ∙ ap g same
+]
+
+-- a part of two rows
+part_read : (xs : List ℤ) (i j k p : ℕ) → i + k < j → p ≡ i + k → get_or (slice_range xs i j) k (pos 0) ≡ get_or xs p (pos 0)
+part_read xs i j k p inside e = get_or-between xs i j k (pos 0) inside ∙ ap (λ n. get_or xs n (pos 0)) (sym e)
+
+pub between_part : (bits : ℕ) (right below : ℤ) (above under : List ℤ) (at end k : ℕ) → at + (2 * k + 1) < end → between_at bits right below (slice_range above at end) (slice_range under at end) (0 + 2 * k) ≡ between_at bits right below above under (at + 2 * k)
+between_part bits right below above under at end k inside =
+    let f : ℤ → ℤ → ℤ → ℤ → ℤ = λ a b c d. rounded (2 * bits) (four (2 ^ bits) right below a b c d) in
+    let a = part_read above at end (0 + 2 * k) (at + 2 * k) (omega arith) (omega arith) in
+    let b = part_read above at end (0 + 2 * k + 1) (at + 2 * k + 1) (omega arith) (omega arith) in
+    let c = part_read under at end (0 + 2 * k) (at + 2 * k) (omega arith) (omega arith) in
+    let d = part_read under at end (0 + 2 * k + 1) (at + 2 * k + 1) (omega arith) (omega arith) in
+    rw (a, b, c, d) refl
+
+pub part_samples : (xs : List ℤ) (i j : ℕ) → All IsSample xs → j ≤ length xs → All IsSample (slice_range xs i j)
+part_samples xs i j h fits =
+    all_samples (slice_range xs i j)
+    (λ k l. let inside : i + k < j = omega (arith, length-between xs i j fits) in rw (part_read xs i j k (i + k) inside refl) (sample_at xs h (i + k)))
+
+pub part_length : (xs : List ℤ) (i j : ℕ) → j ≤ length xs → length (slice_range xs i j) ≡ j - i
+part_length xs i j fits = length-between xs i j fits
+
+-- four rows of eight, one behind another
+abbrev pub row_by_row : Table → ℕ → ℤ → ℤ → ℤ → ℤ → ℕ → ℤ
+row_by_row t bits across down right below n =
+    rounded (2 * bits) (bilinear t (2 ^ bits) (across +ℤ pos (2 * (n % 8))) (down +ℤ pos (2 * (n / 8))) right below)
+
+pub row_by_row_at : (t : Table) (bits : ℕ) (across down right below : ℤ) (j k : ℕ) → k < 8
+    → row_by_row t bits across down right below (8 * j + k) ≡ rounded (2 * bits) (bilinear t (2 ^ bits) (across +ℤ pos (2 * k)) (down +ℤ pos (2 * j)) right below)
+row_by_row_at t bits across down right below j k l =
+    let column : (8 * j + k) % 8 ≡ k = omega arith in
+    let row : (8 * j + k) / 8 ≡ j = omega arith in
+    let f : ℕ → ℕ → ℤ = λ a b. rounded (2 * bits) (bilinear t (2 ^ bits) (across +ℤ pos (2 * a)) (down +ℤ pos (2 * b)) right below) in
+    ap (λ a. f a ((8 * j + k) / 8)) column ∙ ap (f k) row
