@@ -125,7 +125,7 @@ all_from_within b e o xs le lo he ho k d l =
     ])
 
 -- a fact of each wavelet
-by_wavelet : (P : ℕ → List Step → Type 0) → P 0 deslauriers_dubuc_9_7 → P 1 legall_5_3 → P 2 deslauriers_dubuc_13_7 → P 3 haar → P 4 haar → P 5 fidelity → P 6 daubechies_9_7 → (w : ℕ) → w ≤ 6 → P w (steps_of w)
+pub by_wavelet : (P : ℕ → List Step → Type 0) → P 0 deslauriers_dubuc_9_7 → P 1 legall_5_3 → P 2 deslauriers_dubuc_13_7 → P 3 haar → P 4 haar → P 5 fidelity → P 6 daubechies_9_7 → (w : ℕ) → w ≤ 6 → P w (steps_of w)
 by_wavelet P p0 p1 p2 p3 p4 p5 p6 zero l = p0
 by_wavelet P p0 p1 p2 p3 p4 p5 p6 (suc zero) l = p1
 by_wavelet P p0 p1 p2 p3 p4 p5 p6 (suc (suc zero)) l = p2
