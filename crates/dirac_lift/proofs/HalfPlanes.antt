@@ -142,11 +142,11 @@ halved_at [] x = refl
 halved_at (v ∷ xs) zero = refl
 halved_at (v ∷ xs) (suc x) = halved_at xs x
 
-ended_with : (s : Bool) (xs : List ℤ) (x : ℕ) → get_or (if s then map halved xs else xs) x (pos 0) ≡ (if s then halved (get_or xs x (pos 0)) else get_or xs x (pos 0))
+pub ended_with : (s : Bool) (xs : List ℤ) (x : ℕ) → get_or (if s then map halved xs else xs) x (pos 0) ≡ (if s then halved (get_or xs x (pos 0)) else get_or xs x (pos 0))
 ended_with true xs x = halved_at xs x
 ended_with false xs x = refl
 
-filled_ended : (s : Bool) (w h : ℕ) (f : ℕ → ℕ → ℤ) → filled w h (λ x y. if s then halved (f x y) else f x y) ≡ (if s then map halved (filled w h f) else filled w h f)
+pub filled_ended : (s : Bool) (w h : ℕ) (f : ℕ → ℕ → ℤ) → filled w h (λ x y. if s then halved (f x y) else f x y) ≡ (if s then map halved (filled w h f) else filled w h f)
 unfolding filled
 filled_ended true w h f = sym (map-map halved (λ p. f (p % w) (p / w)) (range_with_len 0 (w * h)))
 filled_ended false w h f = refl
@@ -160,7 +160,7 @@ level_filled k w h es os =
     ap (λ (vs : List ℤ). record { width = w; height = 2 * h; values = vs })
     (filled_ended (has_shift k) w (2 * h) (λ x y. get_or (synth k (row_in (lifted_columns k w h es os).values w y)) x (pos 0)))
 
-filled_len : (w h : ℕ) (f : ℕ → ℕ → ℤ) → length (filled w h f) ≡ w * h
+pub filled_len : (w h : ℕ) (f : ℕ → ℕ → ℤ) → length (filled w h f) ≡ w * h
 unfolding filled
 filled_len w h f = length-map-range_with_len (λ p. f (p % w) (p / w)) 0 (w * h)
 

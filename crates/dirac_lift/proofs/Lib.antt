@@ -6,9 +6,11 @@ pub mod HalfLemmas
 pub mod HalfLines
 pub mod HalfPlanes
 pub mod HalfSteps
+pub mod LevelGrowth
 pub mod LevelLemmas
 pub mod Lifted
 pub mod MapLemmas
+pub mod NarrowLevels
 pub mod PairLemmas
 pub mod RowLemmas
 pub mod Runs

@@ -4,7 +4,7 @@ use Rattle.std.specs.List.{All, sum_by}
 use Rattle.dirac_lift.specs.Halves.{AreHalves}
 use Rattle.dirac_lift.specs.Level.{column}
 use Rattle.dirac_lift.specs.Lifting.{Step, grown}
-use Rattle.dirac_lift.specs.Wavelets.{run}
+use Rattle.dirac_lift.specs.Wavelets.{run, steps_of}
 
 -- how large values at even and at odd places become by a step
 abbrev pub after_step : Step → ℕ × ℕ → ℕ × ℕ
@@ -48,3 +48,9 @@ pub record HalvesRun (ss : List Step) (w h : ℕ) (evens odds new_evens new_odds
   pub grow : (most : ℕ × ℕ) → All (λ v. unsigned_abs v ≤ most.0) evens → All (λ v. unsigned_abs v ≤ most.1) odds
       → All (λ v. unsigned_abs v ≤ (after_steps ss most).0) new_evens
       × All (λ v. unsigned_abs v ≤ (after_steps ss most).1) new_odds
+
+-- a line whose values can take all steps of a wavelet, all of them within one bound
+pub record IsNarrowLine (wavelet : ℕ) (line : List ℤ) : Type 0 where
+  pub most : ℕ
+  pub bound : All (λ v. unsigned_abs v ≤ most) line
+  pub test : stays_narrow (steps_of wavelet) (most, most) ≡ true

@@ -10,6 +10,7 @@ mod halves;
 mod laws;
 mod levels;
 mod lines;
+mod narrow_levels;
 mod step;
 mod tables;
 
@@ -17,3 +18,4 @@ pub use half_levels::synth_halves_level;
 pub use laws::zeros_stay_zeros;
 pub use levels::{analyse_level, synth_level};
 pub use lines::{analyse_line, synth_line};
+pub use narrow_levels::synth_level_narrow;
