@@ -6,9 +6,9 @@ ghost use Rattle.dirac_decode.specs.Content as content;
 
 use dirac_obmc::Component;
 use dirac_picture::{CodedResidual, PlaneBands};
-use dirac_residual::plane_residual;
+use dirac_residual::{Residual, plane_residual};
 use dirac_sequence::Sequence;
-use dirac_types::{Kind, LARGEST_SIDE, NoMemory, Picture, Plane, Wide};
+use dirac_types::{Kind, LARGEST_SIDE, NoMemory, Picture, Plane};
 use std::alloc::Global;
 
 /// The number of columns of a plane.
@@ -60,7 +60,7 @@ fn coded_residual(
     kind: Kind,
     component: Component,
     residual: &CodedResidual,
-) -> Result<Wide, NoMemory>
+) -> Result<Residual, NoMemory>
     requires sequence { IsSequence sequence.now }
     requires fits { IsResidual sequence.now residual.now }
     ensures value { IfOk result (λ t. t ≡ content.residual_among sequence.now kind component (Some residual.now)) }
@@ -84,14 +84,14 @@ fn zero_residual(
     sequence: &Sequence,
     kind: Kind,
     component: Component,
-) -> Result<Wide, NoMemory>
+) -> Result<Residual, NoMemory>
     requires sequence { IsSequence sequence.now }
     ensures value { IfOk result (λ t. t ≡ content.residual_among sequence.now kind component None) }
     ensures bound { IfOk result (λ t. All (λ v. unsigned_abs v ≤ 2 ^ 108) t.values) }
 {
     let width = width_of(sequence, component);
     let height = height_of(sequence, component);
-    Wide::try_new(alloc, width, height, 0)
+    Residual::try_zeros(alloc, width, height)
 }
 
 /// The residual of a plane; where none is coded it is 0.
@@ -101,7 +101,7 @@ pub fn residual_of(
     kind: Kind,
     component: Component,
     residual: &Option<CodedResidual>,
-) -> Result<Wide, NoMemory>
+) -> Result<Residual, NoMemory>
     requires sequence { IsSequence sequence.now }
     requires fits { IfSome residual.now (IsResidual sequence.now) }
     ensures value { IfOk result (λ t. t ≡ content.residual_among sequence.now kind component residual.now) }

@@ -10,7 +10,7 @@ use Rattle.dirac_lift.proofs.Lifted.{LiftedBelow, lift_below}
 use Rattle.dirac_lift.proofs.Signed.{abs-rounded}
 use Rattle.dirac_lift.proofs.Weighted.{abs-weighted}
 
-abs-moved : (minus : Bool) (v d : ℤ) → unsigned_abs (moved minus v d) ≤ unsigned_abs v + unsigned_abs d
+pub abs-moved : (minus : Bool) (v d : ℤ) → unsigned_abs (moved minus v d) ≤ unsigned_abs v + unsigned_abs d
 abs-moved true v d = omega (arith, ints)
 abs-moved false v d = omega (arith, ints)
 

@@ -1,9 +1,17 @@
 pub mod ColumnLemmas
 pub mod ColumnRuns
 pub mod Growth
+pub mod HalfBounds
+pub mod HalfLemmas
+pub mod HalfLines
+pub mod HalfPlanes
+pub mod HalfSteps
+pub mod LevelGrowth
 pub mod LevelLemmas
 pub mod Lifted
 pub mod MapLemmas
+pub mod NarrowLevels
+pub mod PairLemmas
 pub mod RowLemmas
 pub mod Runs
 pub mod Signed

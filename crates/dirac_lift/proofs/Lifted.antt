@@ -15,7 +15,7 @@ pub below_none : (s : Step) (xs : List ℤ) → LiftedBelow s xs xs 0
 below_none s xs = record { len = refl; kept = λ m. refl; done = λ m l. absurd (omega (arith, l)); rest = λ m l. refl }
 
 -- sums of the same values are the same
-weighted_same : (taps : List ℤ) (f g : ℕ → ℤ) (m : ℕ) → ((k : ℕ) → f k ≡ g k) → weighted taps f m ≡ weighted taps g m
+pub weighted_same : (taps : List ℤ) (f g : ℕ → ℤ) (m : ℕ) → ((k : ℕ) → f k ≡ g k) → weighted taps f m ≡ weighted taps g m
 weighted_same taps f g zero h = refl
 weighted_same taps f g (suc m) h =
     ap (λ a. a +ℤ get_or taps m (pos 0) *ℤ f m) (weighted_same taps f g m h)

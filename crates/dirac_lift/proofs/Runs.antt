@@ -40,10 +40,10 @@ run_back (s ∷ ss) xs fit even =
     ∙ lift_back s xs (leb-true s.parity 1 parts.0) even
 
 -- bounds on even and odd places after a step
-abbrev evens_after : Step → ℕ → ℕ → ℕ
+abbrev pub evens_after : Step → ℕ → ℕ → ℕ
 evens_after s evens odds = if s.parity == 0 then grown s evens odds else evens
 
-abbrev odds_after : Step → ℕ → ℕ → ℕ
+abbrev pub odds_after : Step → ℕ → ℕ → ℕ
 odds_after s evens odds = if s.parity == 0 then odds else grown s odds evens
 
 after_step : (s : Step) (e o : ℕ) (xs : List ℤ) → s.parity ≤ 1 → length xs % 2 ≡ 0 → PlacesWithin e 0 xs → PlacesWithin o 1 xs → PlacesWithin (evens_after s e o) 0 (lift s xs) × PlacesWithin (odds_after s e o) 1 (lift s xs)
@@ -68,11 +68,11 @@ after_step s e o xs p even he ho = elim (cases_eq s.parity 0) [
 ]
 
 -- the bounds after all steps
-abbrev reach : List Step → ℕ → ℕ → ℕ × ℕ
+abbrev pub reach : List Step → ℕ → ℕ → ℕ × ℕ
 reach [] evens odds = (evens, odds)
 reach (s ∷ ss) evens odds = reach ss (evens_after s evens odds) (odds_after s evens odds)
 
-run_within : (ss : List Step) (e o : ℕ) (xs : List ℤ) → has_parities ss ≡ true → length xs % 2 ≡ 0 → PlacesWithin e 0 xs → PlacesWithin o 1 xs → PlacesWithin (reach ss e o).0 0 (run ss xs) × PlacesWithin (reach ss e o).1 1 (run ss xs)
+pub run_within : (ss : List Step) (e o : ℕ) (xs : List ℤ) → has_parities ss ≡ true → length xs % 2 ≡ 0 → PlacesWithin e 0 xs → PlacesWithin o 1 xs → PlacesWithin (reach ss e o).0 0 (run ss xs) × PlacesWithin (reach ss e o).1 1 (run ss xs)
 run_within [] e o xs fit even he ho = (he, ho)
 run_within (s ∷ ss) e o xs fit even he ho =
     let parts : (nat_le s.parity 1 ≡ true) × (has_parities ss ≡ true) = and_parts (nat_le s.parity 1) (has_parities ss) fit in
@@ -125,7 +125,7 @@ all_from_within b e o xs le lo he ho k d l =
     ])
 
 -- a fact of each wavelet
-by_wavelet : (P : ℕ → List Step → Type 0) → P 0 deslauriers_dubuc_9_7 → P 1 legall_5_3 → P 2 deslauriers_dubuc_13_7 → P 3 haar → P 4 haar → P 5 fidelity → P 6 daubechies_9_7 → (w : ℕ) → w ≤ 6 → P w (steps_of w)
+pub by_wavelet : (P : ℕ → List Step → Type 0) → P 0 deslauriers_dubuc_9_7 → P 1 legall_5_3 → P 2 deslauriers_dubuc_13_7 → P 3 haar → P 4 haar → P 5 fidelity → P 6 daubechies_9_7 → (w : ℕ) → w ≤ 6 → P w (steps_of w)
 by_wavelet P p0 p1 p2 p3 p4 p5 p6 zero l = p0
 by_wavelet P p0 p1 p2 p3 p4 p5 p6 (suc zero) l = p1
 by_wavelet P p0 p1 p2 p3 p4 p5 p6 (suc (suc zero)) l = p2

@@ -12,7 +12,7 @@ use Rattle.dirac_types.proofs.Shifts.{shr_sum_is}
 use Rattle.dirac_lift.specs.Lifting.{rounded}
 
 -- half a power of two, as the code shifts it
-half_is : (w : Width) (m n : ℕ) → 1 * 2 ^ m % n ≡ 2 ^ m → 2 ^ m < 2 ^ hbits w → shr_z (to_z w (1 * 2 ^ m % n)) 2 ≡ pos (2 ^ m / 2)
+pub half_is : (w : Width) (m n : ℕ) → 1 * 2 ^ m % n ≡ 2 ^ m → 2 ^ m < 2 ^ hbits w → shr_z (to_z w (1 * 2 ^ m % n)) 2 ≡ pos (2 ^ m / 2)
 half_is w m n e l = ap (λ k. shr_z (to_z w k) 2) e ∙ ap (λ z. shr_z z 2) (to_z_pos w (2 ^ m) l)
 
 -- the code's rounded sum

@@ -1,4 +1,6 @@
 pub mod Changes
+pub mod HalfRuns
+pub mod Halves
 pub mod Level
 pub mod Lifting
 pub mod Places

@@ -12,7 +12,7 @@ use crate::step::rounded_sum;
 use dirac_types::Wide;
 
 /// Whether a level of this wavelet ends by halving: its shift is 1.
-fn halves(wavelet: u8) -> bool
+pub fn halves(wavelet: u8) -> bool
     ensures { result ≡ has_shift wavelet }
 {
     wavelet != 3 && wavelet != 5

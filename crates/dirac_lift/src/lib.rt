@@ -3,12 +3,19 @@
 //! The wavelet transforms as lifting steps in place.
 
 mod columns;
+mod half_ends;
+mod half_levels;
+mod half_lines;
+mod halves;
 mod laws;
 mod levels;
 mod lines;
+mod narrow_levels;
 mod step;
 mod tables;
 
+pub use half_levels::synth_halves_level;
 pub use laws::zeros_stay_zeros;
 pub use levels::{analyse_level, synth_level};
 pub use lines::{analyse_line, synth_line};
+pub use narrow_levels::synth_level_narrow;

@@ -38,6 +38,11 @@ abbrev pub restored_magnitude : ℕ → ℕ → Kind → ℕ
 restored_magnitude magnitude index kind =
     if magnitude == 0 then 0 else (magnitude * factor_of index + offset_of index kind + 2) / 4
 
+-- what a coded number stands for at a factor and an offset
+abbrev pub scaled : ℤ → ℕ → ℕ → ℤ
+scaled value factor offset =
+    with_sign_of value (if unsigned_abs value == 0 then 0 else (unsigned_abs value * factor + offset + 2) / 4)
+
 -- the coefficient that a coded number stands for
 abbrev pub restored : ℤ → ℕ → Kind → ℤ
 restored value index kind =

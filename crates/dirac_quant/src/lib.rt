@@ -4,4 +4,4 @@
 
 mod quantiser;
 
-pub use quantiser::{factor, offset, reduce, restore};
+pub use quantiser::{MOST_QUARTERS, factor, narrow_limit, offset, reduce, restore, restore_narrow};

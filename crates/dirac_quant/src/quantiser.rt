@@ -1,8 +1,11 @@
-ghost use Rattle.std.specs.Prelude.{◌≡◌, ◌^◌, ◌<◌, ◌≤◌, ◌-◌, unsigned_abs};
+ghost use Rattle.std.specs.Prelude.{◌≡◌, ℕ, ◌^◌, ◌*◌, ◌+◌, ◌<◌, ◌≤◌, ◌-◌, unsigned_abs};
 ghost use Rattle.dirac_types.specs.Limits.{IsIndex};
-ghost use Rattle.dirac_quant.specs.Quantiser.{factor_of, offset_of, restored, reduced};
+ghost use Rattle.dirac_quant.specs.Quantiser.{factor_of, offset_of, restored, restored_magnitude, reduced, scaled};
 
-use dirac_types::Kind;
+use dirac_types::{Kind, LARGEST_NARROW};
+
+/// Four times the greatest magnitude of a narrow plane, and what rounding down by four drops at most.
+pub const MOST_QUARTERS: u64 = 16383;
 
 /// Four times the step of the quantiser at an index (quantisation factors, Dirac specification).
 #[tactic(auto, using(crate::proofs::Powers::power_bound))]
@@ -53,6 +56,31 @@ pub fn restore(value: i64, index: u8, kind: Kind) -> i128
     let offset = u128::from(offset(index, kind));
     let restored = ((magnitude * factor + offset + 2) / 4) as i128;
     if value < 0 { -restored } else { restored }
+}
+
+/// What a coded number stands for at a factor and an offset, in 32 bits, where it is at most 4,095.
+#[inline(always)]
+pub fn restore_narrow(value: i32, factor: u32, offset: u32) -> i32
+    requires offset { offset < 2 ^ 27 }
+    requires small { 1 ≤ unsigned_abs value → unsigned_abs value * factor + offset + 2 ≤ MOST_QUARTERS }
+    ensures { result ≡ scaled value factor offset }
+{
+    let whole = value.unsigned_abs();
+    let quarters = whole * factor + offset + 2;
+    let size = if whole == 0 { 0 } else { (quarters / 4) as i32 };
+    if value < 0 { -size } else { size }
+}
+
+/// The largest coded magnitude whose coefficient is at most 4,095.
+pub fn narrow_limit(index: u8, kind: Kind) -> u64
+    requires { IsIndex index }
+    ensures fits { (m : ℕ) → m ≤ result → restored_magnitude m index kind ≤ LARGEST_NARROW }
+    ensures exact { (m : ℕ) → result < m → LARGEST_NARROW < restored_magnitude m index kind }
+    ensures room { (m : ℕ) → 1 ≤ m → m ≤ result → m * factor_of index + offset_of index kind + 2 ≤ MOST_QUARTERS }
+    ensures below { result < 2 ^ 12 }
+{
+    let taken = offset(index, kind) + 2;
+    MOST_QUARTERS.saturating_sub(taken) / factor(index)
 }
 
 /// The number that codes a coefficient: its magnitude in steps, rounded towards zero, with its sign.

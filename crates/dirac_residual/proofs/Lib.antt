@@ -1,6 +1,8 @@
+pub mod BesideRows
 pub mod Bounds
 pub mod Coefficients
 pub mod JoinedRows
+pub mod LevelBounds
 pub mod Levels
 pub mod Maps
 pub mod Sizes

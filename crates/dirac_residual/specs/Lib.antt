@@ -1,3 +1,5 @@
 pub mod Fits
+pub mod Halves
+pub mod Held
 pub mod Residual
 pub mod Zeros

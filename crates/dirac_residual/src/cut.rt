@@ -1,11 +1,11 @@
 ghost use Rattle.std.specs.Prelude.{◌≡◌, ◌≤◌, length, take, IfOk};
 ghost use Rattle.dirac_residual.specs.Residual.{cut};
 
-use dirac_types::{LARGEST_TABLE_SIDE, NoMemory, Wide};
+use crate::held::{Held, Residual};
+use dirac_types::{LARGEST_TABLE_SIDE, Narrow, NoMemory, Wide};
 use std::alloc::Global;
 
-/// The first `width` columns and `height` rows of a table.
-pub fn cut_to(alloc: Global, table: &Wide, width: u32, height: u32) -> Result<Wide, NoMemory>
+fn cut_wide(alloc: Global, table: &Wide, width: u32, height: u32) -> Result<Wide, NoMemory>
     requires across { (1 ≤ width) × (width ≤ table.now.width) × (width ≤ LARGEST_TABLE_SIDE) }
     requires down { (1 ≤ height) × (height ≤ table.now.height) × (height ≤ LARGEST_TABLE_SIDE) }
     ensures { IfOk result (λ t. t ≡ cut width height table.now) }
@@ -16,4 +16,40 @@ pub fn cut_to(alloc: Global, table: &Wide, width: u32, height: u32) -> Result<Wi
         part.row_mut(y).copy_from_slice(&line[..width as usize]);
     }
     Ok(part)
+}
+
+fn cut_narrow(alloc: Global, table: &Narrow, width: u32, height: u32) -> Result<Narrow, NoMemory>
+    requires across { (1 ≤ width) × (width ≤ table.now.width) × (width ≤ LARGEST_TABLE_SIDE) }
+    requires down { (1 ≤ height) × (height ≤ table.now.height) × (height ≤ LARGEST_TABLE_SIDE) }
+    ensures { IfOk result (λ t. t ≡ cut width height table.now) }
+{
+    let mut part = Narrow::try_new(alloc, width, height, 0)?;
+    for y in 0..height {
+        let from = table.row(y);
+        part.row_mut(y).copy_from_slice(&from[..width as usize]);
+    }
+    Ok(part)
+}
+
+/// The first `width` columns and `height` rows of a table, in the form that it is held in.
+pub fn cut_to(
+    alloc: Global,
+    table: &Residual,
+    width: u32,
+    height: u32,
+) -> Result<Residual, NoMemory>
+    requires across { (1 ≤ width) × (width ≤ table.now.width) × (width ≤ LARGEST_TABLE_SIDE) }
+    requires down { (1 ≤ height) × (height ≤ table.now.height) × (height ≤ LARGEST_TABLE_SIDE) }
+    ensures { IfOk result (λ t. t ≡ cut width height table.now) }
+{
+    match table.held() {
+        Held::Narrow(table) => {
+            let part = cut_narrow(alloc, table, width, height)?;
+            Ok(Residual::of_narrow(part))
+        }
+        Held::Wide(table) => {
+            let part = cut_wide(alloc, table, width, height)?;
+            Ok(Residual::of_wide(part))
+        }
+    }
 }

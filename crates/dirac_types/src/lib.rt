@@ -20,11 +20,12 @@ pub use base_formats::{BaseFormat, base_format};
 pub use faults::{Cause, Fault, Refusal, Stop};
 pub use formats::{Band, BlockGrid, Chroma, Component, Kind, Vector};
 pub use limits::{
-    LARGEST_DEPTH, LARGEST_ENCODED_DEPTH, LARGEST_HEIGHT, LARGEST_INDEX, LARGEST_SIDE,
-    LARGEST_TABLE_SIDE, LARGEST_WAVELET, LARGEST_WIDTH, MOST_CODEBLOCKS, MOST_DIGITS, MOST_SAMPLES,
+    LARGEST_DEPTH, LARGEST_ENCODED_DEPTH, LARGEST_HEIGHT, LARGEST_INDEX, LARGEST_NARROW,
+    LARGEST_SIDE, LARGEST_TABLE_SIDE, LARGEST_WAVELET, LARGEST_WIDTH, MOST_CODEBLOCKS, MOST_DIGITS,
+    MOST_SAMPLES,
 };
 pub use memory::NoMemory;
 pub use numbers::with_sign;
 pub use picture::Picture;
 pub use settings::{BadSetting, Name, Settings};
-pub use table::{BandTable, Plane, Table, Wide};
+pub use table::{BandTable, Narrow, Plane, Table, Wide};

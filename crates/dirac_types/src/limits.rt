@@ -30,3 +30,6 @@ pub const LARGEST_ENCODED_DEPTH: u32 = 4;
 
 /// The most binary digits of a coded number behind its leading one.
 pub const MOST_DIGITS: usize = 38;
+
+/// The greatest magnitude of a plane that is transformed in 32 bits: no sum of a level then leaves them.
+pub const LARGEST_NARROW: u32 = 4095;

@@ -1,10 +1,11 @@
-ghost use Rattle.std.specs.Prelude.{◌≡◌, ◌+◌, ◌*◌, ◌<◌, ◌≤◌, length, replicate, IfOk};
+ghost use Rattle.std.specs.Prelude.{◌≡◌, ◌+◌, ◌*◌, ◌<◌, ◌≤◌, length, replicate, unsigned_abs, IfOk, IfSome, IsSome, IsTrue, ◌↔◌};
+ghost use Rattle.std.specs.List.{All};
 ghost use Rattle.std.specs.Borrow.{sem};
 ghost use Rattle.dirac_types.specs.Table.{Cells, cell_at, clamped_at, clamped_to, row_of, with_row, with_value, with_values};
 ghost use Rattle.dirac_types.specs.Lending.{LendsRow, LendsValues};
 
 use crate::element::Element;
-use crate::limits::LARGEST_TABLE_SIDE;
+use crate::limits::{LARGEST_NARROW, LARGEST_TABLE_SIDE};
 use crate::memory::NoMemory;
 use std::alloc::Global;
 use std::marker::Model;
@@ -22,6 +23,9 @@ pub type Plane = Table<i16>;
 
 /// The values of a plane while it is transformed.
 pub type Wide = Table<i128>;
+
+/// The values of a plane that is transformed in 32 bits.
+pub type Narrow = Table<i32>;
 
 /// The quantised coefficients of one subband.
 pub type BandTable = Table<i64>;
@@ -150,6 +154,67 @@ impl Table<i16> {
         ensures { result ≡ clamped_at self.now x y }
     {
         self.at(clamped_place(x, self.width), clamped_place(y, self.height))
+    }
+}
+
+impl Table<i32> {
+    /// The plane in 32 bits; none where a magnitude is above 4,095.
+    pub fn try_of(alloc: Global, plane: &Wide) -> Result<Option<Narrow>, NoMemory>
+        ensures value { IfOk result (λ narrow. IfSome narrow (λ t. t ≡ plane.now)) }
+        ensures some { IfOk result (λ narrow. IsSome narrow ↔ All (λ v. unsigned_abs v ≤ LARGEST_NARROW)
+            plane.now.values) }
+    {
+        if !are_narrow(plane.values.as_slice()) {
+            return Ok(None);
+        }
+        let mut values = i32::filled(alloc, 0, plane.values.len())?;
+        copy_narrowed(plane.values.as_slice(), values.as_mut_slice());
+        Ok(Some(Table {
+            width: plane.width,
+            height: plane.height,
+            values,
+        }))
+    }
+
+    /// An equal plane of wide values.
+    pub fn try_wide(&self, alloc: Global) -> Result<Wide, NoMemory>
+        ensures { IfOk result (λ t. t ≡ self.now) }
+    {
+        let mut values = i128::filled(alloc, 0, self.values.len())?;
+        copy_widened(self.values.as_slice(), values.as_mut_slice());
+        Ok(Table {
+            width: self.width,
+            height: self.height,
+            values,
+        })
+    }
+}
+
+/// Whether all magnitudes are at most 4,095.
+fn are_narrow(values: &[i128]) -> bool
+    ensures { IsTrue result ↔ All (λ v. unsigned_abs v ≤ LARGEST_NARROW) values.now }
+{
+    values
+        .iter()
+        .all(|v| v.unsigned_abs() <= u128::from(LARGEST_NARROW))
+}
+
+fn copy_narrowed(wide: &[i128], values: &mut [i32])
+    requires len { length values.old ≡ length wide.now }
+    requires magnitudes_at_most_4095 { All (λ v. unsigned_abs v ≤ LARGEST_NARROW) wide.now }
+    ensures { values.new ≡ wide.now }
+{
+    for i in 0..wide.len() {
+        values[i] = wide[i] as i32;
+    }
+}
+
+fn copy_widened(values: &[i32], wide: &mut [i128])
+    requires { length wide.old ≡ length values.now }
+    ensures { wide.new ≡ values.now }
+{
+    for i in 0..values.len() {
+        wide[i] = i128::from(values[i]);
     }
 }
 

@@ -1,22 +1,15 @@
-use Rattle.std.proofs.Common.{◌^◌, arith}
-use Rattle.dirac_residual.specs.Residual.{restored_band}
-use Rattle.dirac_residual.proofs.Bounds.{joined_bound}
-use Rattle.dirac_residual.proofs.Coefficients.{restored_at_most}
+use Rattle.std.proofs.Common.{◌≡◌, ℕ, ◌+◌, ◌*◌, ◌^◌, ◌≤◌, IfOk, unsigned_abs, ap, sym, ◌∙◌, subst}
+use Rattle.std.specs.List.{All}
+use Rattle.dirac_types.specs.Table.{Table}
+use Rattle.dirac_residual.specs.Held.{held_table}
 use Rattle.dirac_residual.proofs.plane.next_level.Goals as goal
 
-pub synth_level-requires-clause-magnitudes_at_most_2_103 : goal.synth_level-requires-clause-magnitudes_at_most_2_103
-synth_level-requires-clause-magnitudes_at_most_2_103 c =
-    rw c.in_ok-plane.ensures
-    (joined_bound (2 ^ 103) c.args.low.now (restored_band c.args.kind c.args.hl.now) (restored_band c.args.kind c.args.lh.now) (restored_band c.args.kind c.args.hh.now) c.requires.magnitudes_at_most_2_103
-    (restored_at_most (2 ^ 103) c.args.kind c.args.low.now c.args.hl.now (omega arith) c.requires.hl)
-    (restored_at_most (2 ^ 103) c.args.kind c.args.low.now c.args.lh.now (omega arith) c.requires.lh)
-    (restored_at_most (2 ^ 103) c.args.kind c.args.low.now c.args.hh.now (omega arith) c.requires.hh))
+pub returns-in-Narrow-clause-growth : goal.returns-in-Narrow-clause-growth
+returns-in-Narrow-clause-growth c =
+    let same : c.in-Narrow.low ≡ c.args.low.now = sym (ap held_table c.in-Narrow.is) ∙ c.held.ensures in
+    subst (λ (t : Table). IfOk c.level_of_narrow.result (λ (next : Table). (b : ℕ) → 2 ^ 64 ≤ b → All (λ v. unsigned_abs v ≤ b) t.values → All (λ v. unsigned_abs v ≤ 72 * b + 40) next.values)) same c.level_of_narrow.ensures.growth
 
-pub returns-clause-growth : goal.returns-clause-growth
-returns-clause-growth c b least all =
-    c.synth_level.ensures.growth b
-    (rw c.in_ok-plane.ensures
-    (joined_bound b c.args.low.now (restored_band c.args.kind c.args.hl.now) (restored_band c.args.kind c.args.lh.now) (restored_band c.args.kind c.args.hh.now) all
-    (restored_at_most b c.args.kind c.args.low.now c.args.hl.now least c.requires.hl)
-    (restored_at_most b c.args.kind c.args.low.now c.args.lh.now least c.requires.lh)
-    (restored_at_most b c.args.kind c.args.low.now c.args.hh.now least c.requires.hh)))
+pub returns-in_ok-next-in-Wide-clause-growth : goal.returns-in_ok-next-in-Wide-clause-growth
+returns-in_ok-next-in-Wide-clause-growth c b least all =
+    let same : c.in-Wide.low ≡ c.args.low.now = sym (ap held_table c.in-Wide.is) ∙ c.held.ensures in
+    rw c.of_wide.ensures (c.in_ok-next-in-Wide.ensures.growth b least (subst (λ (t : Table). All (λ v. unsigned_abs v ≤ b) t.values) (sym same) all))

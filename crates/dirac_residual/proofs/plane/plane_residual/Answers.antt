@@ -32,14 +32,14 @@ loop-n-init c =
     let got : slice_get c.args.bands.now 0 ≡ Some c.index-bands-0.result = got_band c.args.bands.now 0 c.index-bands-0.result (omega (arith, c.requires.bands.count)) c.index-bands-0.is in
     let fits : IsBandOf c.args.depth c.args.width c.args.height 0 c.index-bands-0.result = c.requires.bands.each 0 c.index-bands-0.result got in
     record {
-      value = first_level c.args.wavelet c.args.kind c.args.bands.now c.index-bands-0.result c.in_ok-low.low got c.in_ok-low.ensures.value;
+      value = first_level c.args.wavelet c.args.kind c.args.bands.now c.index-bands-0.result c.in_ok-low.low got (c.in_ok-low.ensures ∙ c.in_ok-lowest.ensures.value);
       across =
-          ap (λ (t : Table). t.width) c.in_ok-low.ensures.value ∙ summed_width c.args.kind _ ∙ fits.across ∙ lowest_length c.args.width c.args.depth
+          ap (λ (t : Table). t.width) (c.in_ok-low.ensures ∙ c.in_ok-lowest.ensures.value) ∙ summed_width c.args.kind _ ∙ fits.across ∙ lowest_length c.args.width c.args.depth
           ∙ omega arith;
       down =
-          ap (λ (t : Table). t.height) c.in_ok-low.ensures.value ∙ summed_height c.args.kind _ ∙ fits.down ∙ lowest_length c.args.height c.args.depth
+          ap (λ (t : Table). t.height) (c.in_ok-low.ensures ∙ c.in_ok-lowest.ensures.value) ∙ summed_height c.args.kind _ ∙ fits.down ∙ lowest_length c.args.height c.args.depth
           ∙ omega arith;
-      bound = c.in_ok-low.ensures.bound;
+      bound = rw c.in_ok-low.ensures c.in_ok-lowest.ensures.bound;
     }
 
 pub next_level-requires-clause-across : goal.next_level-requires-clause-across

@@ -1,7 +1,7 @@
 use Rattle.std.proofs.Common.{◌≡◌}
 use Rattle.dirac_types.specs.Table.{table_at}
 use Rattle.dirac_types.proofs.Rows.{RowsFilled}
-use Rattle.dirac_residual.proofs.cut.cut_to.Given as goal
+use Rattle.dirac_residual.proofs.cut.cut_narrow.Given as goal
 
 abbrev pub invariant-loop-y : goal.invariant-loop-y
 invariant-loop-y l = record {

@@ -1,0 +1,213 @@
+-- Planes whose rows stand in halves.
+use Rattle.std.proofs.Common.{◌≡◌, ◌≢◌, ℕ, ℤ, pos, zero, suc, Bool, true, false, if◌then◌else◌, ◌==◌, ◌+◌, ◌-◌, ◌*◌, ◌/◌, ◌%◌, ◌<◌, ◌≤◌, List, [], ◌∷◌, length, map, get_or, take, drop, arith, refl, inl, inr, ap, sym, ◌∙◌, subst, eq-eqb, length-drop, unsigned_abs}
+use Rattle.std.specs.List.{All, range_with_len}
+use Rattle.std.proofs.lemmas.Bool.{cases_eq, cases_lt, ne_eqb}
+use Rattle.std.proofs.lemmas.List.{get_or-take, get_or-drop, get_or_past, length-take-le}
+use Rattle.std.proofs.lemmas.List.Elements.{All-take, All-drop}
+use Rattle.std.proofs.lemmas.List.FromFn.{length-map-range_with_len}
+use Rattle.std.proofs.lemmas.Simd.{map-map}
+use Rattle.dirac_types.specs.Table.{Table, filled, table_of}
+use Rattle.dirac_types.proofs.Rows.{filled_at}
+use Rattle.dirac_lift.specs.Halves.{AreHalves, from_halves, place_of}
+use Rattle.dirac_lift.specs.HalfRuns.{AreNarrow, HalvesRun, after_steps, stays_narrow}
+use Rattle.dirac_lift.specs.Level.{column, columns_by, ended, halved, row_in, synthesised}
+use Rattle.dirac_lift.specs.Lifting.{own, other}
+use Rattle.dirac_lift.specs.Wavelets.{has_shift, run, steps_of, synth}
+use Rattle.dirac_lift.proofs.ColumnLemmas.{column_at, length-column}
+use Rattle.dirac_lift.proofs.HalfBounds.{rows_narrow}
+use Rattle.dirac_lift.proofs.RowLemmas.{length-row, row_at, row_bound}
+
+place_even : (w m x : ℕ) → x ≡ 2 * m → place_of w x ≡ m
+place_even w m x e =
+    let rem : x % 2 ≡ 0 = omega (arith, e) in
+    let quot : x / 2 ≡ m = omega (arith, e) in
+    rw (eq-eqb (x % 2) 0 rem) quot
+
+place_odd : (w m x : ℕ) → x ≡ 2 * m + 1 → place_of w x ≡ w / 2 + m
+place_odd w m x e =
+    let rem : x % 2 ≢ 0 = λ z. omega (arith, e, z) in
+    let quot : x / 2 ≡ m = omega (arith, e) in
+    rw (ne_eqb (x % 2) 0 rem) (ap (λ i. w / 2 + i) quot)
+
+place_in : (w x : ℕ) → x < w → w % 2 ≡ 0 → place_of w x < w
+place_in w x l even = elim (cases_eq (x % 2) 0) [
+  | inl none ↦ rw (eq-eqb (x % 2) 0 none) (omega (arith, l))
+  | inr one ↦ rw (ne_eqb (x % 2) 0 one) (omega (arith, l, even, one))
+]
+
+-- the values of such a plane
+even_place : (w h : ℕ) (es os : List ℤ) (x n : ℕ) → x < w → n < h → get_or (from_halves w h es os).values ((2 * n) * w + x) (pos 0) ≡ get_or es (n * w + place_of w x) (pos 0)
+even_place w h es os x n l k =
+    let rem : (2 * n) % 2 ≡ 0 = omega arith in
+    let quot : (2 * n) / 2 ≡ n = omega arith in
+    filled_at (λ x y. get_or (if y % 2 == 0 then es else os) (y / 2 * w + place_of w x) (pos 0)) w (2 * h) x (2 * n) l (omega (arith, k))
+    ∙ rw (eq-eqb ((2 * n) % 2) 0 rem, quot) refl
+
+odd_place : (w h : ℕ) (es os : List ℤ) (x n : ℕ) → x < w → n < h → get_or (from_halves w h es os).values ((2 * n + 1) * w + x) (pos 0) ≡ get_or os (n * w + place_of w x) (pos 0)
+odd_place w h es os x n l k =
+    let rem : (2 * n + 1) % 2 ≢ 0 = λ z. omega (arith, z) in
+    let quot : (2 * n + 1) / 2 ≡ n = omega arith in
+    filled_at (λ x y. get_or (if y % 2 == 0 then es else os) (y / 2 * w + place_of w x) (pos 0)) w (2 * h) x (2 * n + 1) l (omega (arith, k))
+    ∙ rw (ne_eqb ((2 * n + 1) % 2) 0 rem, quot) refl
+
+-- its columns, by their halves
+column_halves : (w h : ℕ) (es os : List ℤ) (x : ℕ) → x < w → AreHalves 0 (column es w h (place_of w x)) (column os w h (place_of w x)) (column (from_halves w h es os).values w (2 * h) x)
+column_halves w h es os x l =
+    let ps = (from_halves w h es os).values in
+    let p = place_of w x in
+    record {
+      len = length-column ps w (2 * h) x ∙ ap (λ k. 2 * k) (sym (length-column es w h p));
+      alike = length-column os w h p ∙ sym (length-column es w h p);
+      changed = λ n. elim (cases_lt n h) [
+        | inl inside ↦
+            let place : own 0 n ≡ 2 * n = omega arith in
+            ap (λ i. get_or (column ps w (2 * h) x) i (pos 0)) place
+            ∙ column_at ps w (2 * h) x (2 * n) (omega (arith, inside))
+            ∙ even_place w h es os x n l inside
+            ∙ sym (column_at es w h p n inside)
+        | inr past ↦
+            get_or_past (column ps w (2 * h) x) (own 0 n) (pos 0) (omega (arith, past, length-column ps w (2 * h) x))
+            ∙ sym (get_or_past (column es w h p) n (pos 0) (omega (arith, past, length-column es w h p)))
+      ];
+      read = λ n. elim (cases_lt n h) [
+        | inl inside ↦
+            column_at ps w (2 * h) x (2 * n + 1) (omega (arith, inside))
+            ∙ odd_place w h es os x n l inside
+            ∙ sym (column_at os w h p n inside)
+        | inr past ↦
+            get_or_past (column ps w (2 * h) x) (2 * n + 1) (pos 0) (omega (arith, past, length-column ps w (2 * h) x))
+            ∙ sym (get_or_past (column os w h p) n (pos 0) (omega (arith, past, length-column os w h p)))
+      ];
+    }
+
+-- the plane whose columns are synthesised
+abbrev pub lifted_columns : ℕ → ℕ → ℕ → List ℤ → List ℤ → Table
+lifted_columns k w h es os = columns_by (synth k) (from_halves w h es os)
+
+column_ran : (k w h : ℕ) (es os new_es new_os : List ℤ) (x : ℕ) → HalvesRun (steps_of k) w h es os new_es new_os → x < w → w % 2 ≡ 0 → AreHalves 0 (column new_es w h (place_of w x)) (column new_os w h (place_of w x)) (synth k (column (from_halves w h es os).values w (2 * h) x))
+unfolding synth
+column_ran k w h es os new_es new_os x r l even =
+    r.each (place_of w x) (column (from_halves w h es os).values w (2 * h) x) (place_in w x l even) (column_halves w h es os x l)
+
+lifted_even : (k w h : ℕ) (es os new_es new_os : List ℤ) (x n : ℕ) → HalvesRun (steps_of k) w h es os new_es new_os → x < w → w % 2 ≡ 0 → n < h → get_or (lifted_columns k w h es os).values ((2 * n) * w + x) (pos 0) ≡ get_or new_es (n * w + place_of w x) (pos 0)
+lifted_even k w h es os new_es new_os x n r l even inside =
+    let place : 2 * n ≡ own 0 n = omega arith in
+    filled_at (λ x y. get_or (synth k (column (from_halves w h es os).values w (2 * h) x)) y (pos 0)) w (2 * h) x (2 * n) l (omega (arith, inside))
+    ∙ ap (λ i. get_or (synth k (column (from_halves w h es os).values w (2 * h) x)) i (pos 0)) place
+    ∙ (column_ran k w h es os new_es new_os x r l even).changed n
+    ∙ column_at new_es w h (place_of w x) n inside
+
+lifted_odd : (k w h : ℕ) (es os new_es new_os : List ℤ) (x n : ℕ) → HalvesRun (steps_of k) w h es os new_es new_os → x < w → w % 2 ≡ 0 → n < h → get_or (lifted_columns k w h es os).values ((2 * n + 1) * w + x) (pos 0) ≡ get_or new_os (n * w + place_of w x) (pos 0)
+lifted_odd k w h es os new_es new_os x n r l even inside =
+    filled_at (λ x y. get_or (synth k (column (from_halves w h es os).values w (2 * h) x)) y (pos 0)) w (2 * h) x (2 * n + 1) l (omega (arith, inside))
+    ∙ (column_ran k w h es os new_es new_os x r l even).read n
+    ∙ column_at new_os w h (place_of w x) n inside
+
+-- a row by its halves
+row_halves : (w : ℕ) (ps es : List ℤ) (n y : ℕ) → w % 2 ≡ 0 → length (row_in ps w y) ≡ w → length (row_in es w n) ≡ w → ((x : ℕ) → x < w → get_or ps (y * w + x) (pos 0) ≡ get_or es (n * w + place_of w x) (pos 0)) → AreHalves 0 (take (w / 2) (row_in es w n)) (drop (w / 2) (row_in es w n)) (row_in ps w y)
+row_halves w ps es n y even lp le each =
+    let front : length (take (w / 2) (row_in es w n)) ≡ w / 2 = length-take-le (w / 2) (row_in es w n) (omega (arith, le)) in
+    let back : length (drop (w / 2) (row_in es w n)) ≡ w / 2 = omega (arith, length-drop (w / 2) (row_in es w n), le, even) in
+    record {
+      len = omega (arith, lp, front, even);
+      alike = back ∙ sym front;
+      changed = λ m. elim (cases_lt m (w / 2)) [
+        | inl inside ↦
+            row_at ps w y (own 0 m) (omega (arith, inside, even))
+            ∙ each (own 0 m) (omega (arith, inside, even))
+            ∙ ap (λ i. get_or es (n * w + i) (pos 0)) (place_even w m (own 0 m) (omega arith))
+            ∙ sym (get_or-take (w / 2) (row_in es w n) m (pos 0) inside ∙ row_at es w n m (omega (arith, inside)))
+        | inr past ↦
+            get_or_past (row_in ps w y) (own 0 m) (pos 0) (omega (arith, past, lp, even))
+            ∙ sym (get_or_past (take (w / 2) (row_in es w n)) m (pos 0) (omega (arith, past, front)))
+      ];
+      read = λ m. elim (cases_lt m (w / 2)) [
+        | inl inside ↦
+            row_at ps w y (2 * m + 1) (omega (arith, inside, even))
+            ∙ each (2 * m + 1) (omega (arith, inside, even))
+            ∙ ap (λ i. get_or es (n * w + i) (pos 0)) (place_odd w m (2 * m + 1) refl)
+            ∙ sym (get_or-drop (w / 2) (row_in es w n) m (pos 0) ∙ row_at es w n (w / 2 + m) (omega (arith, inside, even)))
+        | inr past ↦
+            get_or_past (row_in ps w y) (2 * m + 1) (pos 0) (omega (arith, past, lp, even))
+            ∙ sym (get_or_past (drop (w / 2) (row_in es w n)) m (pos 0) (omega (arith, past, back)))
+      ];
+    }
+
+-- how a level ends a value
+abbrev pub finished : ℕ → ℤ → ℤ
+finished k v = if has_shift k then halved v else v
+
+halved_at : (xs : List ℤ) (x : ℕ) → get_or (map halved xs) x (pos 0) ≡ halved (get_or xs x (pos 0))
+halved_at [] x = refl
+halved_at (v ∷ xs) zero = refl
+halved_at (v ∷ xs) (suc x) = halved_at xs x
+
+pub ended_with : (s : Bool) (xs : List ℤ) (x : ℕ) → get_or (if s then map halved xs else xs) x (pos 0) ≡ (if s then halved (get_or xs x (pos 0)) else get_or xs x (pos 0))
+ended_with true xs x = halved_at xs x
+ended_with false xs x = refl
+
+pub filled_ended : (s : Bool) (w h : ℕ) (f : ℕ → ℕ → ℤ) → filled w h (λ x y. if s then halved (f x y) else f x y) ≡ (if s then map halved (filled w h f) else filled w h f)
+unfolding filled
+filled_ended true w h f = sym (map-map halved (λ p. f (p % w) (p / w)) (range_with_len 0 (w * h)))
+filled_ended false w h f = refl
+
+-- the value in column x of row y of a finished level
+abbrev pub level_at : ℕ → ℕ → ℕ → List ℤ → List ℤ → ℕ → ℕ → ℤ
+level_at k w h es os x y = finished k (get_or (synth k (row_in (lifted_columns k w h es os).values w y)) x (pos 0))
+
+pub level_filled : (k w h : ℕ) (es os : List ℤ) → table_of w (2 * h) (level_at k w h es os) ≡ synthesised k (from_halves w h es os)
+level_filled k w h es os =
+    ap (λ (vs : List ℤ). record { width = w; height = 2 * h; values = vs })
+    (filled_ended (has_shift k) w (2 * h) (λ x y. get_or (synth k (row_in (lifted_columns k w h es os).values w y)) x (pos 0)))
+
+pub filled_len : (w h : ℕ) (f : ℕ → ℕ → ℤ) → length (filled w h f) ≡ w * h
+unfolding filled
+filled_len w h f = length-map-range_with_len (λ p. f (p % w) (p / w)) 0 (w * h)
+
+-- a line that is finished from its halves is a row of the level
+line_at : (k w h y x : ℕ) (es os line half_es half_os : List ℤ) → ((whole : List ℤ) → AreHalves 0 half_es half_os whole → line ≡ ended k (synth k whole))
+    → AreHalves 0 half_es half_os (row_in (lifted_columns k w h es os).values w y)
+    → get_or line x (pos 0) ≡ level_at k w h es os x y
+line_at k w h y x es os line half_es half_os each a =
+    ap (λ zs. get_or zs x (pos 0)) (each (row_in (lifted_columns k w h es os).values w y) a)
+    ∙ ended_with (has_shift k) (synth k (row_in (lifted_columns k w h es os).values w y)) x
+
+pub even_line : (k w h n x : ℕ) (es os new_es new_os line : List ℤ) → HalvesRun (steps_of k) w h es os new_es new_os → w % 2 ≡ 0 → n < h → length new_es ≡ w * h
+    → ((whole : List ℤ) → AreHalves 0 (take (w / 2) (row_in new_es w n)) (drop (w / 2) (row_in new_es w n)) whole → line ≡ ended k (synth k whole))
+    → get_or line x (pos 0) ≡ level_at k w h es os x (2 * n)
+even_line k w h n x es os new_es new_os line r even inside len each =
+    let ps = (lifted_columns k w h es os).values in
+    let whole : length ps ≡ w * (2 * h) = filled_len w (2 * h) (λ x y. get_or (synth k (column (from_halves w h es os).values w (2 * h) x)) y (pos 0)) in
+    line_at k w h (2 * n) x es os line (take (w / 2) (row_in new_es w n)) (drop (w / 2) (row_in new_es w n)) each
+    (row_halves w ps new_es n (2 * n) even (length-row ps w (2 * h) (2 * n) whole (omega (arith, inside))) (length-row new_es w h n len inside)
+    (λ i l. lifted_even k w h es os new_es new_os i n r l even inside))
+
+pub odd_line : (k w h n x : ℕ) (es os new_es new_os line : List ℤ) → HalvesRun (steps_of k) w h es os new_es new_os → w % 2 ≡ 0 → n < h → length new_os ≡ w * h
+    → ((whole : List ℤ) → AreHalves 0 (take (w / 2) (row_in new_os w n)) (drop (w / 2) (row_in new_os w n)) whole → line ≡ ended k (synth k whole))
+    → get_or line x (pos 0) ≡ level_at k w h es os x (2 * n + 1)
+odd_line k w h n x es os new_es new_os line r even inside len each =
+    let ps = (lifted_columns k w h es os).values in
+    let whole : length ps ≡ w * (2 * h) = filled_len w (2 * h) (λ x y. get_or (synth k (column (from_halves w h es os).values w (2 * h) x)) y (pos 0)) in
+    line_at k w h (2 * n + 1) x es os line (take (w / 2) (row_in new_os w n)) (drop (w / 2) (row_in new_os w n)) each
+    (row_halves w ps new_os n (2 * n + 1) even (length-row ps w (2 * h) (2 * n + 1) whole (omega (arith, inside))) (length-row new_os w h n len inside)
+    (λ i l. lifted_odd k w h es os new_es new_os i n r l even inside))
+
+-- after the columns 32 bits are still enough for each row
+row_narrow : (k w n e : ℕ) (es : List ℤ) → stays_narrow (steps_of k) (e, e) ≡ true → w % 2 ≡ 0 → 0 < w → length (row_in es w n) ≡ w → All (λ v. unsigned_abs v ≤ e) es → AreNarrow (steps_of k) 1 (w / 2) (take (w / 2) (row_in es w n)) (drop (w / 2) (row_in es w n))
+row_narrow k w n e es test even some le all = record {
+  some = omega arith;
+  evens_len = length-take-le (w / 2) (row_in es w n) (omega (arith, le)) ∙ omega arith;
+  odds_len = omega (arith, length-drop (w / 2) (row_in es w n), le, even);
+  most = (e, e);
+  even_bound = All-take (λ v. unsigned_abs v ≤ e) (w / 2) (row_in es w n) (row_bound e es w n all);
+  odd_bound = All-drop (λ v. unsigned_abs v ≤ e) (w / 2) (row_in es w n) (row_bound e es w n all);
+  test = test;
+}
+
+pub even_row_narrow : (k w h n : ℕ) (es os new_es new_os : List ℤ) → k ≤ 6 → HalvesRun (steps_of k) w h es os new_es new_os → w % 2 ≡ 0 → 0 < w → n < h → length new_es ≡ w * h → All (λ v. unsigned_abs v ≤ 4095) es → All (λ v. unsigned_abs v ≤ 4095) os → AreNarrow (steps_of k) 1 (w / 2) (take (w / 2) (row_in new_es w n)) (drop (w / 2) (row_in new_es w n))
+even_row_narrow k w h n es os new_es new_os l r even some inside len he ho =
+    row_narrow k w n (after_steps (steps_of k) (4095, 4095)).0 new_es (rows_narrow k l).0 even some (length-row new_es w h n len inside) (r.grow (4095, 4095) he ho).0
+
+pub odd_row_narrow : (k w h n : ℕ) (es os new_es new_os : List ℤ) → k ≤ 6 → HalvesRun (steps_of k) w h es os new_es new_os → w % 2 ≡ 0 → 0 < w → n < h → length new_os ≡ w * h → All (λ v. unsigned_abs v ≤ 4095) es → All (λ v. unsigned_abs v ≤ 4095) os → AreNarrow (steps_of k) 1 (w / 2) (take (w / 2) (row_in new_os w n)) (drop (w / 2) (row_in new_os w n))
+odd_row_narrow k w h n es os new_es new_os l r even some inside len he ho =
+    row_narrow k w n (after_steps (steps_of k) (4095, 4095)).1 new_os (rows_narrow k l).1 even some (length-row new_os w h n len inside) (r.grow (4095, 4095) he ho).1
