@@ -18,8 +18,10 @@ use Rattle.dirac_decode.specs.Shown.{Outcome, ends_with, with_front}
 use Rattle.dirac_decode.specs.Decoding.{Answers, Comes, Decoding, LeadsTo, Remains, decoding, due_of, emptied}
 use Rattle.dirac_decode.specs.declared.answers.Next.{Next}
 use Rattle.dirac_decode.specs.declared.answers.Next.TheVariants as next
-use Rattle.dirac_decode.specs.Taking.{IsPopped}
-use Rattle.dirac_decode.specs.Advancing.{Brings, Settles}
+use Rattle.dirac_decode.specs.declared.step.Step.{Step}
+use Rattle.dirac_decode.specs.declared.step.Step.TheVariants as step
+use Rattle.dirac_decode.specs.Taking.{IsPopped, IsTook}
+use Rattle.dirac_decode.specs.Advancing.{Advances, Brings, Settles}
 use Rattle.dirac_decode.proofs.Passing.{fault_of, told_unit, told_refusal, told_end}
 
 -- an accepted unit at which at most one picture leaves
@@ -172,3 +174,12 @@ answers_any m due answer going = subst (λ (x : StreamEnd). Answers x due answer
 pub most_of : (draining : Bool) (state : StreamState) → (if draining then emptied state else state).most ≡ state.most
 most_of true state = refl
 most_of false state = refl
+
+-- a unit's content brings what its step says
+pub brings_step : (step : Step) (unit : Unit) (units units' : Progress) (state state' : StreamState) (held held' : Option (List ℕ)) → GivesUnit true unit units units' held held' → IsTook (Ok step) (unit_step state unit.info.code unit.payload) state state' → Advances (Ok step) units units' state state' held held'
+brings_step step.On unit units units' state state' held held' gives took =
+    brings_on unit units units' state state' held held' [] gives (took.1 ∙ ap Ok took.2)
+brings_step (step.Shown p) unit units units' state state' held held' gives took =
+    brings_on unit units units' state state' held held' (p ∷ []) gives (took.1 ∙ ap Ok took.2)
+brings_step step.Drains unit units units' state state' held held' gives took =
+    brings_drain unit units units' state state' held held' gives (took.1 ∙ ap Ok took.2)

@@ -1,14 +1,17 @@
 -- What one unit of a stream does to a decoder, whatever was given so far.
 -- Inner: for the proofs of this crate.
-use Rattle.std.specs.Prelude.{◌≡◌, ℕ, ◌<◌, Bool, true, false, List, [], ◌∷◌, Option, None, Some, ⊤}
+use Rattle.std.specs.Prelude.{◌≡◌, ℕ, ◌<◌, Bool, true, false, List, [], ◌∷◌, Option, None, Some, Result, Ok, Err, ⊤}
 use Rattle.dirac_types.specs.declared.picture.Picture.{Picture}
 use Rattle.dirac_units.specs.declared.unit.StreamEnd.{StreamEnd}
 use Rattle.dirac_units.specs.declared.unit.StreamEnd.TheVariants as stream_end
 use Rattle.dirac_units.specs.Progress.{Progress}
-use Rattle.dirac_decode.specs.declared.advance.Advanced.{Advanced}
-use Rattle.dirac_decode.specs.declared.advance.Advanced.TheVariants as advanced
+use Rattle.dirac_decode.specs.declared.step.Halt.{Halt}
+use Rattle.dirac_decode.specs.declared.step.Halt.TheVariants as halt
+use Rattle.dirac_decode.specs.declared.step.Step.{Step}
+use Rattle.dirac_decode.specs.declared.step.Step.TheVariants as step
 use Rattle.dirac_decode.specs.StreamState.{StreamState}
 use Rattle.dirac_decode.specs.Decoding.{LeadsTo, decoding}
+use Rattle.dirac_decode.specs.Taking.{shown_in}
 
 -- from one place of a stream to another, at which the decoder drains or goes on, while these pictures leave
 abbrev pub Brings : Progress → Progress → StreamState → StreamState → Option (List ℕ) → Option (List ℕ) → Bool
@@ -18,42 +21,30 @@ Brings units units' state state' held held' drains stream_end' gone =
     (decoding units' state' drains given' stream_end') held held' gone
 
 -- what the content of the next unit, or the end or fault behind the last one, brings
-abbrev pub Advances : Advanced → Progress → Progress → StreamState → StreamState → Option (List ℕ) → Option (List ℕ)
-    → Type 0
-Advances advanced.On units units' state state' held held' =
+abbrev pub Advances : Result Step Halt → Progress → Progress → StreamState → StreamState → Option (List ℕ)
+    → Option (List ℕ) → Type 0
+Advances (Ok step.On) units units' state state' held held' =
     Brings units units' state state' held held' false stream_end.Going []
-Advances (advanced.Shown p) units units' state state' held held' =
+Advances (Ok (step.Shown p)) units units' state state' held held' =
     Brings units units' state state' held held' false stream_end.Going (p ∷ [])
-Advances advanced.Drains units units' state state' held held' =
+Advances (Ok step.Drains) units units' state state' held held' =
     Brings units units' state state' held held' true stream_end.Going []
-Advances advanced.End units units' state state' held held' =
+Advances (Err halt.End) units units' state state' held held' =
     Brings units units' state state' held held' true stream_end.Ended []
-Advances (advanced.Fault fault) units units' state state' held held' =
+Advances (Err (halt.Fault fault)) units units' state state' held held' =
     Brings units units' state state' held held' true (stream_end.Faulted fault) []
-Advances advanced.ReadFault units units' state state' held held' = ⊤
-Advances advanced.NoMemory units units' state state' held held' = ⊤
+Advances (Err halt.ReadFault) units units' state state' held held' = ⊤
+Advances (Err halt.NoMemory) units units' state state' held held' = ⊤
 
 -- a unit was passed, so the next one begins further on
-abbrev pub GoesOn : Advanced → Progress → Progress → Type 0
-GoesOn advanced.On units units' = (units'.stream_end ≡ stream_end.Going) × (units.unit_place.at < units'.unit_place.at)
-GoesOn (advanced.Shown p) units units' =
-    (units'.stream_end ≡ stream_end.Going) × (units.unit_place.at < units'.unit_place.at)
-GoesOn advanced.Drains units units' =
-    (units'.stream_end ≡ stream_end.Going) × (units.unit_place.at < units'.unit_place.at)
-GoesOn advanced.End units units' = ⊤
-GoesOn (advanced.Fault fault) units units' = ⊤
-GoesOn advanced.ReadFault units units' = ⊤
-GoesOn advanced.NoMemory units units' = ⊤
+abbrev pub GoesOn : Result Step Halt → Progress → Progress → Type 0
+GoesOn (Ok step) units units' = (units'.stream_end ≡ stream_end.Going) × (units.unit_place.at < units'.unit_place.at)
+GoesOn (Err halt) units units' = ⊤
 
 -- how many pictures an answer gives
-abbrev pub shown_by : Advanced → ℕ
-shown_by advanced.On = 0
-shown_by (advanced.Shown p) = 1
-shown_by advanced.Drains = 0
-shown_by advanced.End = 0
-shown_by (advanced.Fault fault) = 0
-shown_by advanced.ReadFault = 0
-shown_by advanced.NoMemory = 0
+abbrev pub shown_by : Result Step Halt → ℕ
+shown_by (Ok step) = shown_in step
+shown_by (Err halt) = 0
 
 -- the next due picture left, or none is due any more
 abbrev pub Settles : Option Picture → StreamState → StreamState → Bool → Type 0

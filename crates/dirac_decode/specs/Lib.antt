@@ -8,3 +8,4 @@ pub mod Raw
 pub mod Decoded
 pub mod Sequences
 pub mod Predicting
+pub mod Rebuilding

@@ -13,40 +13,39 @@ use Rattle.dirac_refs.specs.Delivery.{flushed, least, others as rest_of}
 use Rattle.dirac_picture.specs.declared.coded.CodedPicture.{CodedPicture}
 use Rattle.dirac_decode.specs.declared.opened.Opened.{Opened}
 use Rattle.dirac_decode.specs.declared.picture.Rebuilt.{Rebuilt}
-use Rattle.dirac_decode.specs.declared.state.Took.{Took}
-use Rattle.dirac_decode.specs.declared.state.Took.TheVariants as took
+use Rattle.dirac_decode.specs.declared.step.Step.{Step}
+use Rattle.dirac_decode.specs.declared.step.Step.TheVariants as step
 use Rattle.dirac_decode.specs.Content.{IsPicture, rebuilt}
 use Rattle.dirac_decode.specs.StreamState.{StreamState, StreamStep, as_reference}
 use Rattle.dirac_decode.specs.Decoding.{emptied}
 
--- the answer is what the unit's content brings; after Ends the waiting pictures are left to the caller
-abbrev pub IsTook : Took → Result StreamStep Refusal → StreamState → StreamState → Type 0
-IsTook took.Nothing read old new = read ≡ Ok (record { state = new; gone = [] })
-IsTook (took.Shown p) read old new = read ≡ Ok (record { state = new; gone = p ∷ [] })
-IsTook took.Ends read old new = read ≡ Ok (record { state = emptied new; gone = flushed new.waiting })
-IsTook (took.Refused refusal) read old new = (read ≡ Err refusal) × (new ≡ old)
-IsTook took.NoMemory read old new = new ≡ old
+-- what the unit's content brings; after Drains the waiting pictures are left to the caller
+abbrev pub Steps : Step → StreamStep → StreamState → Type 0
+Steps step.On made new = made ≡ record { state = new; gone = [] }
+Steps (step.Shown p) made new = made ≡ record { state = new; gone = p ∷ [] }
+Steps step.Drains made new = made ≡ record { state = emptied new; gone = flushed new.waiting }
 
--- a fact on the refusal, where there is one
-abbrev pub IfRefused : Took → (Refusal → Type 0) → Type 0
-IfRefused took.Nothing P = ⊤
-IfRefused (took.Shown p) P = ⊤
-IfRefused took.Ends P = ⊤
-IfRefused (took.Refused refusal) P = P refusal
-IfRefused took.NoMemory P = ⊤
+-- the answer is what the unit's content brings, or its refusal, at which the state stays
+abbrev pub IsTook : Result Step Stop → Result StreamStep Refusal → StreamState → StreamState → Type 0
+IsTook (Ok step) read old new = (made : StreamStep) × (read ≡ Ok made) × Steps step made new
+IsTook (Err (stop.Refused refusal)) read old new = (read ≡ Err refusal) × (new ≡ old)
+IsTook (Err stop.NoMemory) read old new = new ≡ old
 
 -- a fact on the refusal that stopped a reader, where it is one
 abbrev pub IfStopped : Stop → (Refusal → Type 0) → Type 0
 IfStopped (stop.Refused refusal) P = P refusal
 IfStopped stop.NoMemory P = ⊤
 
--- at most one picture more waits, and none more where one left
-abbrev pub Fewer : Took → ℕ → ℕ → Type 0
-Fewer took.Nothing before now = now ≤ before + 1
-Fewer (took.Shown p) before now = now ≤ before
-Fewer took.Ends before now = now ≤ before
-Fewer (took.Refused refusal) before now = now ≤ before
-Fewer took.NoMemory before now = now ≤ before
+-- how many pictures leave at once
+abbrev pub shown_in : Step → ℕ
+shown_in step.On = 0
+shown_in (step.Shown p) = 1
+shown_in step.Drains = 0
+
+-- at most one picture more waits or leaves, and none more where the unit was refused
+abbrev pub Fewer : Result Step Stop → ℕ → ℕ → Type 0
+Fewer (Ok step) before now = shown_in step + now ≤ before + 1
+Fewer (Err stop) before now = now ≤ before
 
 -- the picture of least key left, where one waited
 pub record IsPopped (popped : Option Picture) (old new : StreamState) : Type 0 where

@@ -1,40 +1,34 @@
-ghost use Rattle.std.specs.Prelude.{◌≡◌, ℕ, ◌+◌, ◌<◌, ◌≤◌, ◌^◌, false, ◌∷◌, length, IfSome, Option};
+ghost use Rattle.std.specs.Prelude.{◌≡◌, ℕ, ◌+◌, ◌<◌, ◌≤◌, ◌^◌, false, ◌∷◌, length, Err, IfSome, Option};
 ghost use Rattle.std.specs.Option.{option_to_list};
 ghost use Rattle.std.specs.Io.KnownBytes.{IsAtEnd};
 ghost use Rattle.dirac_io.specs.Faults.{Rose};
 ghost use Rattle.dirac_refs.specs.Delivery.{flushed};
 ghost use Rattle.dirac_decode.specs.Decoding.{due_of};
 ghost use Rattle.dirac_decode.specs.Advancing.{Advances, GoesOn, Settles, shown_by};
+ghost use Rattle.dirac_decode.specs.Rebuilding.{Rebuilds};
 
-use crate::state::{State, Took};
+use crate::state::State;
+use crate::step::{Halt, Step};
 use dirac_io::Source;
-use dirac_types::{Fault, Picture};
+use dirac_picture::CodedPicture;
+use dirac_refs::RefBuffer;
+use dirac_sequence::Sequence;
+use dirac_types::{Fault, NoMemory, Picture, Stop};
 use dirac_units::{StreamEnd, UnitStep, Units};
 use std::alloc::Global;
 
-/// What the next unit of a stream brought.
-#[derive(Drop)]
-pub(crate) enum Advanced {
-    On,
-    /// This picture leaves.
-    Shown(Picture),
-    /// The sequence ended, and all that wait leave.
-    Drains,
-    /// The stream ends lawfully, and all that wait leave.
-    End,
-    /// The stream's first fault; before it is answered all that wait leave.
-    Fault(Fault),
-    ReadFault,
-    NoMemory,
-}
-
 /// Takes the next unit of a stream.
-pub(crate) fn advance_by_unit<S: Source>(
+pub(crate) fn advance_by_unit<
+    S: Source,
+    F: Fn(Global, &CodedPicture, &Sequence, &RefBuffer) -> Result<Picture, NoMemory>,
+>(
+    make: &F,
     alloc: Global,
     units: &mut Units,
     state: &mut State,
     source: &mut S,
-) -> Advanced
+) -> Result<Step, Halt>
+    requires rebuilds { Rebuilds (F.pre make.now) (F.post make.now) }
     requires going { units.old.stream_end ≡ StreamEnd.Going }
     requires no_overflow { units.old.unit_place.at + length units.old.ahead + S.left source.old < 2 ^ 63 }
     ensures advances { Advances result units.old units.new state.old state.new (S.held source.old) (S.held source.new) }
@@ -43,30 +37,28 @@ pub(crate) fn advance_by_unit<S: Source>(
         ≤ units.new.unit_place.index + length state.old.waiting }
     ensures fits { units.new.unit_place.index < 2 ^ 64 }
     ensures greatest_never_falls { state.old.most ≤ state.new.most }
-    ensures whole { result ≡ Advanced.End → IsAtEnd (S.held source.new) }
-    ensures read { result ≡ Advanced.ReadFault → Rose (S.faults source.old) (S.faults source.new) }
+    ensures whole { result ≡ Err Halt.End → IsAtEnd (S.held source.new) }
+    ensures read { result ≡ Err Halt.ReadFault → Rose (S.faults source.old) (S.faults source.new) }
     ensures count { S.faults source.old ≤ S.faults source.new }
     ensures no_overflow_result { units.new.unit_place.at + length units.new.ahead + S.left source.new
         ≤ units.old.unit_place.at + length units.old.ahead + S.left source.old }
 {
     let unit = match units.next(source, true) {
         UnitStep::Unit(unit) => unit,
-        UnitStep::End => return Advanced::End,
-        UnitStep::Fault(fault) => return Advanced::Fault(fault),
-        UnitStep::ReadFault => return Advanced::ReadFault,
-        UnitStep::NoMemory => return Advanced::NoMemory,
+        UnitStep::End => return Err(Halt::End),
+        UnitStep::Fault(fault) => return Err(Halt::Fault(fault)),
+        UnitStep::ReadFault => return Err(Halt::ReadFault),
+        UnitStep::NoMemory => return Err(Halt::NoMemory),
         UnitStep::Stopped => unreachable!(),
     };
-    match state.take(alloc, unit.info.code, unit.payload) {
-        Took::Nothing => Advanced::On,
-        Took::Shown(picture) => Advanced::Shown(picture),
-        Took::Ends => Advanced::Drains,
-        Took::Refused(refusal) => Advanced::Fault(Fault {
+    match state.take(make, alloc, unit.info.code, unit.payload) {
+        Ok(step) => Ok(step),
+        Err(Stop::NoMemory) => Err(Halt::NoMemory),
+        Err(Stop::Refused(refusal)) => Err(Halt::Fault(Fault {
             unit: unit.index,
             at: unit.at + refusal.at,
             cause: refusal.cause,
-        }),
-        Took::NoMemory => Advanced::NoMemory,
+        })),
     }
 }
 

@@ -2,12 +2,18 @@ ghost use Rattle.std.specs.Prelude.{◌≡◌, ℕ, ◌+◌, ◌<◌, ◌≤◌,
 ghost use Rattle.std.specs.Io.KnownBytes.{IsAtEnd};
 ghost use Rattle.dirac_io.specs.Faults.{Rose};
 ghost use Rattle.dirac_decode.specs.Decoding.{begun, tally, Answers, Gives};
+ghost use Rattle.dirac_decode.specs.Rebuilding.{Rebuilds};
 
-use crate::advance::{Advanced, advance_by_unit, next_due};
+use crate::advance::{advance_by_unit, next_due};
 use crate::answers::{Next, Tally};
+use crate::picture::rebuild;
 use crate::state::State;
+use crate::step::{Halt, Step};
 use dirac_io::Source;
-use dirac_refs::MOST_REFERENCES;
+use dirac_picture::CodedPicture;
+use dirac_refs::{MOST_REFERENCES, RefBuffer};
+use dirac_sequence::Sequence;
+use dirac_types::{NoMemory, Picture};
 use dirac_units::{StreamEnd, Units};
 use std::alloc::Global;
 use std::marker::Model;
@@ -79,6 +85,29 @@ impl Decoder {
         ensures no_overflow { self.new.units.unit_place.at + length self.new.units.ahead + S.left source.new
             ≤ self.old.units.unit_place.at + length self.old.units.ahead + S.left source.old }
     {
+        self.next_picture_by(&rebuild, source)
+    }
+
+    /// The next picture of the stream, as `next_picture`, where pictures are rebuilt by `make`.
+    pub fn next_picture_by<
+        S: Source,
+        F: Fn(Global, &CodedPicture, &Sequence, &RefBuffer) -> Result<Picture, NoMemory>,
+    >(&mut self, make: &F, source: &mut S) -> Next
+        requires rebuilds { Rebuilds (F.pre make.now) (F.post make.now) }
+        requires no_overflow { self.old.units.unit_place.at + length self.old.units.ahead + S.left source.old < 2 ^ 63 }
+        ensures gives { Gives result self.old self.new (S.held source.old) (S.held source.new) }
+        ensures repeated { Answers self.old.stream_end self.old.due result }
+        ensures repeats_without_reading { (self.old.stream_end ≡ StreamEnd.Going → ⊥) → source.new ≡ source.old }
+        ensures whole { (self.old.stream_end ≡ StreamEnd.Ended → IsAtEnd (S.held source.old)) → self.new.stream_end
+            ≡ StreamEnd.Ended → IsAtEnd (S.held source.new) }
+        ensures read { result ≡ Next.ReadFault → Rose (S.faults source.old) (S.faults source.new) }
+        ensures count { S.faults source.old ≤ S.faults source.new }
+        ensures fits { self.new.given < 2 ^ 64 }
+        // Whatever is answered, the greatest length of the list never falls.
+        ensures greatest { self.old.state.most ≤ self.new.state.most }
+        ensures no_overflow { self.new.units.unit_place.at + length self.new.units.ahead + S.left source.new
+            ≤ self.old.units.unit_place.at + length self.old.units.ahead + S.left source.old }
+    {
         if let StreamEnd::Stopped = self.stream_end {
             return Next::Stopped;
         }
@@ -97,26 +126,26 @@ impl Decoder {
                 StreamEnd::Faulted(fault) => return Next::Fault(fault),
                 StreamEnd::Stopped => return Next::Stopped,
             }
-            match advance_by_unit(self.alloc, &mut self.units, &mut self.state, source) {
-                Advanced::On => {}
-                Advanced::Shown(picture) => {
+            match advance_by_unit(make, self.alloc, &mut self.units, &mut self.state, source) {
+                Ok(Step::On) => {}
+                Ok(Step::Shown(picture)) => {
                     self.given += 1;
                     return Next::Shown(picture);
                 }
-                Advanced::Drains => self.draining = true,
-                Advanced::End => {
+                Ok(Step::Drains) => self.draining = true,
+                Err(Halt::End) => {
                     self.draining = true;
                     self.stream_end = StreamEnd::Ended;
                 }
-                Advanced::Fault(fault) => {
+                Err(Halt::Fault(fault)) => {
                     self.draining = true;
                     self.stream_end = StreamEnd::Faulted(fault);
                 }
-                Advanced::ReadFault => {
+                Err(Halt::ReadFault) => {
                     self.stream_end = StreamEnd::Stopped;
                     return Next::ReadFault;
                 }
-                Advanced::NoMemory => {
+                Err(Halt::NoMemory) => {
                     self.stream_end = StreamEnd::Stopped;
                     return Next::NoMemory;
                 }

@@ -10,6 +10,7 @@ ghost use Rattle.dirac_decode.specs.Content as content;
 ghost use Rattle.dirac_decode.specs.Content.{AreReferences, IsPicture, rebuilt};
 ghost use Rattle.dirac_decode.specs.StreamState.{as_reference};
 ghost use Rattle.dirac_decode.specs.Predicting.{inter_picture, inter_plane, intra_picture};
+ghost use Rattle.dirac_decode.specs.Rebuilding.{Rebuilds};
 ghost use Rattle.dirac_decode.specs.Taking.{IfStopped, IsRebuilt};
 
 use crate::compensate::{named, predict_from};
@@ -217,14 +218,37 @@ fn reference_of(alloc: Global, code: u8, picture: &Picture) -> Result<Option<Pic
     Ok(Some(copy))
 }
 
+/// The picture that a coded picture stands for, rebuilt by `make`.
+fn rebuilt_by<F: Fn(Global, &CodedPicture, &Sequence, &RefBuffer) -> Result<Picture, NoMemory>>(
+    make: &F,
+    alloc: Global,
+    coded: &CodedPicture,
+    sequence: &Sequence,
+    refs: &RefBuffer,
+) -> Result<Picture, NoMemory>
+    requires rebuilds { Rebuilds (F.pre make.now) (F.post make.now) }
+    requires sequence { IsSequence sequence.now }
+    requires fits { FitsSequence coded.now.code sequence.now coded.now }
+    requires refs { AreReferences sequence.now refs.now coded.now.header }
+    ensures value { IfOk result (λ p. p ≡ rebuilt sequence.now refs.now coded.now) }
+    ensures fits { IfOk result (IsPicture sequence.now) }
+{
+    let picture = make(alloc, coded, sequence, refs)?;
+    Ok(picture)
+}
+
 /// Reads a picture's payload and rebuilds the picture.
-pub(crate) fn make_picture(
+pub(crate) fn make_picture<
+    F: Fn(Global, &CodedPicture, &Sequence, &RefBuffer) -> Result<Picture, NoMemory>,
+>(
+    make: &F,
     alloc: Global,
     payload: &[u8],
     code: u8,
     sequence: &Sequence,
     refs: &RefBuffer,
 ) -> Result<Rebuilt, Stop>
+    requires rebuilds { Rebuilds (F.pre make.now) (F.post make.now) }
     requires code { IsTrue (is_picture code) }
     requires sequence { IsSequence sequence.now }
     requires refs { All (IsPicture sequence.now) refs.now }
@@ -232,20 +256,12 @@ pub(crate) fn make_picture(
     ensures fits { IfOk result (λ r. IsPicture sequence.now r.picture) }
     ensures place_inside { IfErr result (λ e. IfStopped e (λ r. r.at ≤ length payload.now)) }
 {
-    let coded = match read_picture(alloc, payload, code, sequence, refs) {
-        Err(stop) => return Err(stop),
-        Ok(coded) => coded,
-    };
-    let picture = match rebuild(alloc, &coded, sequence, refs) {
-        Err(_) => return Err(Stop::NoMemory),
-        Ok(picture) => picture,
-    };
-    match reference_of(alloc, coded.code, &picture) {
-        Err(_) => Err(Stop::NoMemory),
-        Ok(reference) => Ok(Rebuilt {
-            coded,
-            picture,
-            reference,
-        }),
-    }
+    let coded = read_picture(alloc, payload, code, sequence, refs)?;
+    let picture = rebuilt_by(make, alloc, &coded, sequence, refs)?;
+    let reference = reference_of(alloc, coded.code, &picture)?;
+    Ok(Rebuilt {
+        coded,
+        picture,
+        reference,
+    })
 }

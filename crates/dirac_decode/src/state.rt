@@ -1,13 +1,16 @@
-ghost use Rattle.std.specs.Prelude.{◌≡◌, ℕ, ◌+◌, ◌<◌, ◌≤◌, ◌^◌, length, IsTrue, Ok, Option};
+ghost use Rattle.std.specs.Prelude.{◌≡◌, ℕ, ◌+◌, ◌<◌, ◌≤◌, ◌^◌, length, IfErr, IsTrue, Ok, Option};
 ghost use Rattle.dirac_picture.specs.Grammar.{is_picture};
+ghost use Rattle.dirac_decode.specs.Rebuilding.{Rebuilds};
 ghost use Rattle.dirac_decode.specs.StreamState.{as_reference, begun, header_step, in_unit, is_same as same_header, first_or as first_of, unit_step, passed, picture_step, shows};
-ghost use Rattle.dirac_decode.specs.Taking.{Fewer, IfRefused, IsOfOpen, IsPopped, IsTook};
+ghost use Rattle.dirac_decode.specs.Taking.{Fewer, IfStopped, IsOfOpen, IsPopped, IsTook, Steps};
 
 use crate::opened::Opened;
 use crate::picture::{Rebuilt, make_picture};
+use crate::step::Step;
+use dirac_picture::CodedPicture;
 use dirac_refs::{Delivery, MOST_REFERENCES, RefBuffer, key};
-use dirac_sequence::read_sequence;
-use dirac_types::{Cause, Picture, Refusal, Stop};
+use dirac_sequence::{Sequence, read_sequence};
+use dirac_types::{Cause, NoMemory, Picture, Refusal, Stop};
 use dirac_units::{END_OF_SEQUENCE, PARSE_INFO_LENGTH, Payload, SEQUENCE_HEADER, fields_are_read};
 use std::alloc::Global;
 use std::marker::Model;
@@ -33,18 +36,6 @@ impl Model for State {
     ghost view = { λ s. record { opened = s.opened; first = s.first; list = s.refs; waiting = s.waits; most = s.most } };
 
     ghost invariant = { λ s. IsOpen s.opened s.refs × (s.most ≤ MOST_REFERENCES) };
-}
-
-/// What a unit's content brought.
-#[derive(Drop)]
-pub(crate) enum Took {
-    Nothing,
-    /// This picture leaves.
-    Shown(Picture),
-    /// The sequence ended, and all that wait leave.
-    Ends,
-    Refused(Refusal),
-    NoMemory,
 }
 
 impl State {
@@ -78,98 +69,103 @@ impl State {
 
     /// Takes the content of a unit with this parse code.
     #[tactic(auto, unfolding(crate::specs::StreamState::unit_step))]
-    pub(crate) fn take(&mut self, alloc: Global, code: u8, payload: Payload) -> Took
-        requires { length payload < 2 ^ 63 }
+    pub(crate) fn take<
+        F: Fn(Global, &CodedPicture, &Sequence, &RefBuffer) -> Result<Picture, NoMemory>,
+    >(&mut self, make: &F, alloc: Global, code: u8, payload: Payload) -> Result<Step, Stop>
+        requires rebuilds { Rebuilds (F.pre make.now) (F.post make.now) }
+        requires below_2_63 { length payload < 2 ^ 63 }
         ensures took { IsTook result (unit_step self.old code payload) self.old self.new }
-        ensures place_inside { IfRefused result (λ e. e.at ≤ 13 + length payload) }
+        ensures place_inside { IfErr result (λ e. IfStopped e (λ r. r.at ≤ 13 + length payload)) }
         ensures fewer_wait { Fewer result (length self.old.waiting) (length self.new.waiting) }
         ensures greatest_never_falls { self.old.most ≤ self.new.most }
     {
         if !fields_are_read(code) {
-            return self.pass(code);
+            return Ok(self.pass(code));
         }
         if code == SEQUENCE_HEADER {
             self.take_header(payload)
         } else {
-            self.take_picture(alloc, code, payload.bytes())
+            self.take_picture(make, alloc, code, payload.bytes())
         }
     }
 
     /// Passes over a unit without content, or closes the sequence.
-    fn pass(&mut self, code: u8) -> Took
-        ensures took { IsTook result (Ok (passed self.old code)) self.old self.new }
-        ensures fewer_wait { Fewer result (length self.old.waiting) (length self.new.waiting) }
+    fn pass(&mut self, code: u8) -> Step
+        ensures took { Steps result (passed self.old code) self.new }
+        ensures fewer_wait { Fewer (Ok result) (length self.old.waiting) (length self.new.waiting) }
         ensures greatest_never_falls { self.old.most ≤ self.new.most }
     {
         if code == END_OF_SEQUENCE {
             self.opened = None;
             self.first = None;
             self.refs = RefBuffer::new();
-            return Took::Ends;
+            return Step::Drains;
         }
-        Took::Nothing
+        Step::On
     }
 
     /// Opens a sequence, or compares a repeated header with the open one's.
-    fn take_header(&mut self, payload: Payload) -> Took
+    fn take_header(&mut self, payload: Payload) -> Result<Step, Stop>
         requires { length payload < 2 ^ 63 }
         ensures took { IsTook result (header_step self.old self.old.opened payload) self.old self.new }
-        ensures place_inside { IfRefused result (λ e. e.at ≤ 13 + length payload) }
+        ensures place_inside { IfErr result (λ e. IfStopped e (λ r. r.at ≤ 13 + length payload)) }
         ensures fewer_wait { Fewer result (length self.old.waiting) (length self.new.waiting) }
         ensures greatest_never_falls { self.old.most ≤ self.new.most }
     {
         if let Some(opened) = &self.opened {
             if is_same(payload.bytes(), opened.header.bytes()) {
-                return Took::Nothing;
+                return Ok(Step::On);
             }
-            return Took::Refused(Refusal {
+            return Err(Stop::Refused(Refusal {
                 at: 0,
                 cause: Cause::SequenceChanged,
-            });
+            }));
         }
         match read_sequence(payload.bytes()) {
-            Err(refusal) => Took::Refused(behind_parse_info(refusal)),
+            Err(refusal) => Err(Stop::Refused(behind_parse_info(refusal))),
             Ok(sequence) => {
                 self.opened = Some(Opened {
                     header: payload,
                     sequence,
                 });
                 self.first = None;
-                Took::Nothing
+                Ok(Step::On)
             }
         }
     }
 
     /// Reads and rebuilds a picture of the open sequence.
-    fn take_picture(&mut self, alloc: Global, code: u8, payload: &[u8]) -> Took
+    fn take_picture<
+        F: Fn(Global, &CodedPicture, &Sequence, &RefBuffer) -> Result<Picture, NoMemory>,
+    >(&mut self, make: &F, alloc: Global, code: u8, payload: &[u8]) -> Result<Step, Stop>
+        requires rebuilds { Rebuilds (F.pre make.now) (F.post make.now) }
         requires code { IsTrue (is_picture code) }
         requires below_2_63 { length payload.now < 2 ^ 63 }
         ensures took { IsTook result (picture_step self.old self.old.opened code payload.now) self.old self.new }
-        ensures place_inside { IfRefused result (λ e. e.at ≤ 13 + length payload.now) }
+        ensures place_inside { IfErr result (λ e. IfStopped e (λ r. r.at ≤ 13 + length payload.now)) }
         ensures fewer_wait { Fewer result (length self.old.waiting) (length self.new.waiting) }
         ensures greatest_never_falls { self.old.most ≤ self.new.most }
     {
         let Some(opened) = &self.opened else {
-            return Took::Refused(Refusal {
+            return Err(Stop::Refused(Refusal {
                 at: 0,
                 cause: Cause::NoSequence,
-            });
+            }));
         };
-        match make_picture(alloc, payload, code, &opened.sequence, &self.refs) {
-            Err(Stop::Refused(refusal)) => Took::Refused(behind_parse_info(refusal)),
-            Err(Stop::NoMemory) => Took::NoMemory,
-            Ok(made) => self.show(made),
+        match make_picture(make, alloc, payload, code, &opened.sequence, &self.refs) {
+            Err(Stop::Refused(refusal)) => Err(Stop::Refused(behind_parse_info(refusal))),
+            Err(Stop::NoMemory) => Err(Stop::NoMemory),
+            Ok(made) => Ok(self.show(made)),
         }
     }
 
     /// A rebuilt picture changes the list and joins those that wait.
-    fn show(&mut self, made: Rebuilt) -> Took
+    fn show(&mut self, made: Rebuilt) -> Step
         requires reference { made.reference ≡ as_reference made.coded.code made.picture }
         requires fits { IsOfOpen self.old.opened made.picture }
-        ensures took { IsTook result (Ok (shows self.old made.coded made.picture)) self.old self.new }
-        ensures fewer_wait { Fewer result (length self.old.waiting) (length self.new.waiting) }
+        ensures took { Steps result (shows self.old made.coded made.picture) self.new }
+        ensures fewer_wait { Fewer (Ok result) (length self.old.waiting) (length self.new.waiting) }
         ensures greatest_never_falls { self.old.most ≤ self.new.most }
-        ensures accepted { IfRefused result (λ e. ⊥) }
     {
         let Rebuilt {
             coded,
@@ -181,8 +177,8 @@ impl State {
         self.refs.commit(coded.header.retire, reference);
         self.most = self.most.max(self.refs.count());
         match self.waits.push(key(first, picture.number), picture) {
-            None => Took::Nothing,
-            Some(gone) => Took::Shown(gone),
+            None => Step::On,
+            Some(gone) => Step::Shown(gone),
         }
     }
 }

@@ -3,12 +3,17 @@ ghost use Rattle.std.specs.Io.KnownBytes.{IsAtEnd};
 ghost use Rattle.dirac_io.specs.Faults.{Rose};
 ghost use Rattle.dirac_decode.specs.Decoding.{begun};
 ghost use Rattle.dirac_decode.specs.Decoded.{IfDone, IfTally, IsDecoded};
+ghost use Rattle.dirac_decode.specs.Rebuilding.{Rebuilds};
 
 use crate::answers::{Decoded, Next};
 use crate::decoder::Decoder;
+use crate::picture::rebuild;
 use crate::written::put_picture;
 use dirac_io::{Put, Sink, Source};
-use dirac_refs::MOST_REFERENCES;
+use dirac_picture::CodedPicture;
+use dirac_refs::{MOST_REFERENCES, RefBuffer};
+use dirac_sequence::Sequence;
+use dirac_types::{NoMemory, Picture};
 use std::alloc::Global;
 
 /// Decodes a whole stream, and writes its pictures as raw pictures in order of delivery, up to the first fault.
@@ -21,19 +26,37 @@ pub fn decode_stream<S: Source, K: Sink>(alloc: Global, source: &mut S, out: &mu
     ensures reads { S.faults source.old ≤ S.faults source.new }
     ensures writes { K.faults out.old ≤ K.faults out.new }
 {
+    decode_stream_by(&rebuild, alloc, source, out)
+}
+
+/// Decodes a whole stream, as `decode_stream`, where pictures are rebuilt by `make`.
+pub fn decode_stream_by<
+    S: Source,
+    K: Sink,
+    F: Fn(Global, &CodedPicture, &Sequence, &RefBuffer) -> Result<Picture, NoMemory>,
+>(make: &F, alloc: Global, source: &mut S, out: &mut K) -> Decoded
+    requires { Rebuilds (F.pre make.now) (F.post make.now) }
+    ensures decoded { IfSome (S.held source.old) (λ bytes. IsDecoded bytes result (K.taken out.old) (K.taken out.new)) }
+    ensures whole { IfDone result (IsAtEnd (S.held source.new)) }
+    ensures at_most_8_references { IfTally result (λ tally. tally.references ≤ MOST_REFERENCES) }
+    ensures read { result ≡ Decoded.ReadFault → Rose (S.faults source.old) (S.faults source.new) }
+    ensures write { result ≡ Decoded.WriteFault → Rose (K.faults out.old) (K.faults out.new) }
+    ensures reads { S.faults source.old ≤ S.faults source.new }
+    ensures writes { K.faults out.old ≤ K.faults out.new }
+{
     let mut decoder = Decoder::new(alloc);
     let mut row = Vec::new(alloc);
-    write_pictures(&mut decoder, &mut row, source, out)
+    write_pictures(make, &mut decoder, &mut row, source, out)
 }
 
 /// Writes the pictures of a stream that a new decoder gives; `row` is a buffer for one row.
-fn write_pictures<S: Source, K: Sink>(
-    decoder: &mut Decoder,
-    row: &mut Vec<u8>,
-    source: &mut S,
-    out: &mut K,
-) -> Decoded
-    requires { decoder.old ≡ begun }
+fn write_pictures<
+    S: Source,
+    K: Sink,
+    F: Fn(Global, &CodedPicture, &Sequence, &RefBuffer) -> Result<Picture, NoMemory>,
+>(make: &F, decoder: &mut Decoder, row: &mut Vec<u8>, source: &mut S, out: &mut K) -> Decoded
+    requires rebuilds { Rebuilds (F.pre make.now) (F.post make.now) }
+    requires new { decoder.old ≡ begun }
     ensures decoded { IfSome (S.held source.old) (λ bytes. IsDecoded bytes result (K.taken out.old) (K.taken out.new)) }
     ensures whole { IfDone result (IsAtEnd (S.held source.new)) }
     ensures at_most_8_references { IfTally result (λ tally. tally.references ≤ MOST_REFERENCES) }
@@ -43,7 +66,7 @@ fn write_pictures<S: Source, K: Sink>(
     ensures writes { K.faults out.old ≤ K.faults out.new }
 {
     'pictures: loop {
-        match decoder.next_picture(source) {
+        match decoder.next_picture_by(make, source) {
             Next::Shown(picture) => match put_picture(out, &picture, row) {
                 Put::All => {}
                 Put::Failed => return Decoded::WriteFault,

@@ -7,3 +7,4 @@ pub mod Making
 pub mod Numbers
 pub mod Room
 pub mod Unfit
+pub mod Workers

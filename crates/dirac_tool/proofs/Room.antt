@@ -1,5 +1,5 @@
 -- How many more words can fit: each that does gives a setting its value, or the path, or the number of pictures.
-use Rattle.std.proofs.Common.{◌≡◌, ℕ, ◌+◌, ◌≤◌, ◌&&◌, true, cond, List, [], ◌∷◌, ◌++◌, refl, ap, ◌∙◌, inl, inr, Option, Some, None, arith}
+use Rattle.std.proofs.Common.{◌≡◌, Bool, ℕ, zero, suc, ◌+◌, ◌≤◌, ◌&&◌, ◌||◌, true, false, cond, drop, List, [], ◌∷◌, ◌++◌, refl, ap, ◌∙◌, inl, inr, Option, Some, None, arith}
 use Rattle.std.specs.Prelude.{is_some, is_none}
 use Rattle.std.specs.List.{list_any}
 use Rattle.std.specs.Option.{option_or}
@@ -78,6 +78,19 @@ one_set before word (name ∷ ns) any =
       | inr later ↦ omega (arith, fewer (value_given name before) (value_in name word), one_set before word ns later, pushed)
     ]
 
+-- one of them is a later one
+later : (b c : Bool) → c ≡ true → (b || c) ≡ true
+later true c is = refl
+later false c is = is
+
+any_behind : (f : Name → Bool) (n : ℕ) (ns : List Name) → list_any f (drop n ns) ≡ true → list_any f ns ≡ true
+any_behind f zero ns any = any
+any_behind f (suc n) [] any = cc
+any_behind f (suc n) (name ∷ ns) any = later (f name) (list_any f ns) (any_behind f n ns any)
+
+workers_named : (f : Name → Bool) → f name.Workers ≡ true → list_any f names ≡ true
+workers_named f is = any_behind f 20 names (ap (λ b. b || list_any f (name.Pictures ∷ name.UnitBytes ∷ [])) is)
+
 -- a word that fits takes some of the room
 pub room_taken : (of : OptionsOf) (before : List (List ℕ)) (word : List ℕ) → fits of before word ≡ true → room (before ++ word ∷ []) + 1 ≤ room before
 unfolding room fits is_new_path is_new_setting
@@ -97,3 +110,9 @@ room_taken options_of.Make before word fit =
       | inl set ↦ omega (arith, one_set before word names set, fewer (value_given name.Count before) (value_in name.Count word), pushed, counted, path)
       | inr new ↦ omega (arith, kept before word names, one_fewer (value_given name.Count before) (value_in name.Count word) new, pushed, counted, path)
     ]
+room_taken options_of.Pardecode before word fit =
+    let pushed = ap wanting (path_pushed before word) in
+    let counted = ap wanting (value_pushed name.Count before word) in
+    let path = fewer (path_given before) (path_in word) in
+    let count = fewer (value_given name.Count before) (value_in name.Count word) in
+    omega (arith, one_set before word names (workers_named (is_new_setting before word) fit), pushed, counted, count, path)

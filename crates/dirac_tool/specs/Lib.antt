@@ -8,3 +8,4 @@ pub mod Encoding
 pub mod Making
 pub mod Unmade
 pub mod Running
+pub mod Workers

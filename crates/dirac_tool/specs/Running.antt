@@ -14,6 +14,7 @@ use Rattle.dirac_tool.specs.Decoding.{IsDecoded, IsDecodeAnswer, TellsFew}
 use Rattle.dirac_tool.specs.Encoding.{IsEncoded, IsEncodeAnswer}
 use Rattle.dirac_tool.specs.Listing.{IsListed, IsListAnswer}
 use Rattle.dirac_tool.specs.Making.{AnswersMake, first_bad_for_make}
+use Rattle.dirac_tool.specs.Workers.{bad_workers}
 
 -- the bytes that the source holds and that the two sinks took, where they tell them
 pub record Held : Type 0 where
@@ -34,6 +35,12 @@ pub record Decodes (old new : Held) (answer : Ended) : Type 0 where
   pub decoded : IfSome old.held (λ bytes. IsDecoded bytes answer old.out new.out old.side new.side)
   pub few : IfSome old.held (TellsFew answer)
   pub whole : answer ≡ ended.Done → IsAtEnd new.held
+
+-- `pardecode`: what `decode` leaves, or the number of workers is out of its range, is answered and nothing is read or
+-- written
+abbrev pub DecodesUnless : Option BadSetting → Held → Held → Ended → Type 0
+DecodesUnless (Some bad) old new answer = (answer ≡ ended.BadSettings bad) × (new ≡ old)
+DecodesUnless None old new answer = Decodes old new answer
 
 -- `encode` with accepted settings: the stream of the raw pictures that the bytes held are, and their reconstructions
 pub record Encodes (t : Settings) (old new : Held) (answer : Ended) : Type 0 where
@@ -65,9 +72,11 @@ RunsTo (Ok command.List) old new answer = Lists old new answer
 RunsTo (Ok command.Decode) old new answer = Decodes old new answer
 RunsTo (Ok (command.Encode t)) old new answer = EncodesUnless (first_bad (table t)) t old new answer
 RunsTo (Ok (command.Make t count)) old new answer = MakesUnless (first_bad_for_make t count) t count old new answer
+RunsTo (Ok (command.Pardecode workers)) old new answer = DecodesUnless (bad_workers workers) old new answer
 
 -- the first setting that is out of its range, where the words fit a command with settings
 abbrev pub bad_setting : Result Command WordsStop → Option BadSetting
 bad_setting (Ok (command.Encode t)) = first_bad (table t)
 bad_setting (Ok (command.Make t count)) = first_bad_for_make t count
+bad_setting (Ok (command.Pardecode workers)) = bad_workers workers
 bad_setting _ = None

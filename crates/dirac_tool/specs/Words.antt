@@ -7,7 +7,7 @@ use Rattle.dirac_tool.specs.declared.words.Command.TheVariants as command
 use Rattle.dirac_tool.specs.declared.words.WordsStop.{WordsStop}
 use Rattle.dirac_tool.specs.declared.words.WordsStop.TheVariants.{Usage}
 use Rattle.dirac_tool.specs.declared.options.OptionsOf.TheVariants as options_of
-use Rattle.dirac_tool.specs.Options.{count_given, first_unfit, path_given, settings_given}
+use Rattle.dirac_tool.specs.Options.{count_given, first_unfit, path_given, settings_given, workers_given}
 
 -- a command that takes no further word
 abbrev pub alone : Command → List (List ℕ) → Result Command WordsStop
@@ -28,6 +28,11 @@ unfoldable pub make_read : List (List ℕ) → Result Command WordsStop
 make_read words =
     where_all_fit (command.Make (settings_given words) (count_given words)) (first_unfit options_of.Make [] words)
 
+-- `pardecode` with the number of workers that these words say
+unfoldable pub pardecode_read : List (List ℕ) → Result Command WordsStop
+pardecode_read words =
+    where_all_fit (command.Pardecode (workers_given words)) (first_unfit options_of.Pardecode [] words)
+
 -- the command, or the number of the first word that doesn't fit
 abbrev pub command_read : List (List ℕ) → Result Command WordsStop
 command_read [] = Err (Usage 0)
@@ -36,6 +41,7 @@ command_read (word ∷ words) =
     else if bytes_eq word (codes "decode") then alone command.Decode words
     else if bytes_eq word (codes "encode") then encode_read words
     else if bytes_eq word (codes "make") then make_read words
+    else if bytes_eq word (codes "pardecode") then pardecode_read words
     else Err (Usage 0)
 
 -- the path that these words give, where all settings are in their ranges

@@ -1,23 +1,76 @@
-ghost use Rattle.std.specs.Prelude.{◌≡◌, ◌≤◌, IfOk, IfSome, string_bytes};
+ghost use Rattle.std.specs.Prelude.{◌≡◌, ◌≤◌, IfOk, IfSome, OnOk, string_bytes};
 ghost use Rattle.std.specs.Io.KnownBytes.{Appends, IsAtEnd};
 ghost use Rattle.dirac_io.specs.Faults.{Rose};
 ghost use Rattle.dirac_io.specs.Writing.{AppendsFront};
+ghost use Rattle.dirac_types.specs.Settings.{verdict};
+ghost use Rattle.dirac_decode.specs.Decoded.{IfDone, IfTally, IsDecoded as IsStreamDecoded};
 ghost use Rattle.dirac_tool.specs.Decoding.{IsDecodeAnswer, IsDecoded, TellsFew, tally_line};
+ghost use Rattle.dirac_tool.specs.Workers.{bad_workers};
 
 use crate::ended::Ended;
 use dirac_decode::{Decoded, Tally, decode_stream};
-use dirac_io::{Put, Sink, Source, put_all};
-use dirac_types::NoMemory;
+use dirac_io::{Put, RowGate, Sink, Source, put_all};
+use dirac_pardec::decode_rows;
+use dirac_refs::MOST_REFERENCES;
+use dirac_types::{BadSetting, Name, NoMemory};
 use std::alloc::Global;
+use std::thread::Threads;
+
+// The most workers that decode a stream.
+const MOST_WORKERS: u32 = 64;
+
+/// Whether a number of workers is from 1 to 64. An `Err` names it.
+#[tactic(auto, using(crate::proofs::Workers::accepted, crate::proofs::Workers::none, crate::proofs::Workers::many))]
+pub fn check_workers(workers: u32) -> Result<(), BadSetting>
+    ensures exact { result ≡ verdict (bad_workers workers) }
+    ensures accepted { OnOk result ((1 ≤ workers) × (workers ≤ 64)) }
+{
+    if 1 <= workers && workers <= MOST_WORKERS {
+        return Ok(());
+    }
+    Err(BadSetting {
+        name: Name::Workers,
+        value: workers as u64,
+    })
+}
+
+// Decodes a stream on the caller's thread, or by so many workers.
+fn decoded_by<R: Threads + Sync, S: Source, K: Sink, G: RowGate>(
+    rt: &R,
+    alloc: Global,
+    source: &mut S,
+    out: &mut K,
+    workers: Option<u32>,
+    gate: &G,
+) -> Decoded
+    requires { IfSome workers (λ n. (1 ≤ n) × (n ≤ 64)) }
+    ensures decoded { IfSome (S.held source.old) (λ bytes. IsStreamDecoded bytes result
+        (K.taken out.old) (K.taken out.new)) }
+    ensures whole { IfDone result (IsAtEnd (S.held source.new)) }
+    ensures at_most_8_references { IfTally result (λ tally. tally.references ≤ MOST_REFERENCES) }
+    ensures read { result ≡ Decoded.ReadFault → Rose (S.faults source.old) (S.faults source.new) }
+    ensures write { result ≡ Decoded.WriteFault → Rose (K.faults out.old) (K.faults out.new) }
+    ensures reads { S.faults source.old ≤ S.faults source.new }
+    ensures writes { K.faults out.old ≤ K.faults out.new }
+{
+    match workers {
+        None => decode_stream(alloc, source, out),
+        Some(workers) => decode_rows(rt, alloc, source, out, workers, gate),
+    }
+}
 
 /// Decodes a stream to raw pictures, up to the first fault. At its end or at its fault it writes the tally
-/// to the side.
-pub fn decode<S: Source, K: Sink, N: Sink>(
+/// to the side. Where a number of workers is given, they rebuild each picture together.
+pub fn decode<R: Threads + Sync, S: Source, K: Sink, N: Sink, G: RowGate>(
+    rt: &R,
     alloc: Global,
     source: &mut S,
     out: &mut K,
     side: &mut N,
+    workers: Option<u32>,
+    gate: &G,
 ) -> Ended
+    requires { IfSome workers (λ n. (1 ≤ n) × (n ≤ 64)) }
     ensures answer { IsDecodeAnswer result }
     ensures decoded { IfSome (S.held source.old) (λ bytes. IsDecoded bytes result
         (K.taken out.old) (K.taken out.new) (N.taken side.old) (N.taken side.new)) }
@@ -30,7 +83,7 @@ pub fn decode<S: Source, K: Sink, N: Sink>(
     ensures writes { K.faults out.old ≤ K.faults out.new }
     ensures sides { N.faults side.old ≤ N.faults side.new }
 {
-    match decode_stream(alloc, source, out) {
+    match decoded_by(rt, alloc, source, out, workers, gate) {
         Decoded::Done(tally) => match put_tally(alloc, side, tally) {
             Put::All => Ended::Done,
             Put::Failed => Ended::SideFault,

@@ -1,5 +1,5 @@
 use crate::ended::Ended;
-use crate::tests::{SMALL, STREAM, decoded, header, joined};
+use crate::tests::{DECODE, PARDECODE, SMALL, STREAM, decoded, header, joined};
 use crate::tries::{Left, Outside, counts_its_fault, pieces, tried};
 use crate::words::Words;
 use dirac_types::{BadSetting, Name};
@@ -311,7 +311,7 @@ fn coded_back<R: Abort + Threads + Sync>(
     if is_lossless {
         assert_eq!(rt; coded.side.taken(), raw);
     }
-    let shown = decoded(rt, alloc, coded.out.taken(), &pieces(4096))?;
+    let shown = decoded(rt, alloc, &DECODE, coded.out.taken(), &pieces(4096))?;
     assert_eq!(rt; shown.ended, Ended::Done);
     assert_eq!(rt; shown.out.taken(), coded.side.taken());
     assert_eq!(rt; shown.side.taken(), tally.as_bytes());
@@ -435,6 +435,28 @@ fn decodes_what_it_encodes(rt: HostRuntime) -> Result<(), Fail> {
     round_trips(&rt, alloc, &shape_of((2, 2), 2, 0, 1, 12))?;
     round_trips(&rt, alloc, &shape_of((4, 6), 2, 0, 3, 72))?;
     round_trips(&rt, alloc, &shape_of((12, 10), 2, 12, 3, 360))
+}
+
+// Pictures of 40 rows, which have a short last slice, from one reference and from two.
+#[test]
+fn pardecodes_what_it_encodes(rt: HostRuntime) -> Result<(), Fail> {
+    let alloc = rt.alloc();
+    let tally = "pictures=8 references=3\n";
+    for (chroma, bytes, more) in [
+        (2, 9600, "--references=2"),
+        (1, 12_800, "--references=1"),
+        (0, 19_200, "--references=2"),
+    ] {
+        let mut words = shape_words(alloc, &shape_of((20, 40), chroma, 12, 2, bytes), 1, 2)?;
+        words.push(more)?;
+        let raw = noise(alloc, bytes)?;
+        let coded = coded_back(&rt, alloc, &words, raw.as_slice(), false, tally)?;
+        let shown = decoded(&rt, alloc, &PARDECODE, coded.out.taken(), &pieces(4096))?;
+        assert_eq!(rt; shown.ended, Ended::Done);
+        assert_eq!(rt; shown.out.taken(), coded.side.taken());
+        assert_eq!(rt; shown.side.taken(), tally.as_bytes());
+    }
+    Ok(())
 }
 
 // Appends a plane of 576 rows: a slope with noise in its lowest bits.

@@ -1,5 +1,5 @@
 use crate::ended::Ended;
-use crate::tests::{SMALL, STREAM, decoded, faulty, header, joined, shows};
+use crate::tests::{DECODE, PARDECODE, SMALL, STREAM, decoded, faulty, header, joined, shows};
 use crate::tries::Outside;
 use dirac_types::Cause;
 use std::alloc::Global;
@@ -196,7 +196,7 @@ fn delivers_by_number(rt: HostRuntime) -> Result<(), Fail> {
     )
 }
 
-// Decodes the stream by reads of 10 bytes; one read or write fails. Nothing is shown before that.
+// Decodes the stream by both commands and by reads of 10 bytes; one read or write fails. Nothing is shown before that.
 fn stops_at_first<R: Abort + Threads + Sync>(
     rt: &R,
     alloc: Global,
@@ -212,9 +212,11 @@ fn stops_at_first<R: Abort + Threads + Sync>(
         writes,
         sides: &[],
     };
-    let left = decoded(rt, alloc, &STREAM, &outside)?;
-    assert_eq!(rt; left.ended, answer);
-    assert!(rt; left.out.taken().is_empty());
+    for command in [DECODE.as_slice(), PARDECODE.as_slice()] {
+        let left = decoded(rt, alloc, command, &STREAM, &outside)?;
+        assert_eq!(rt; left.ended, answer);
+        assert!(rt; left.out.taken().is_empty());
+    }
     Ok(())
 }
 

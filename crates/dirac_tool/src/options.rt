@@ -39,6 +39,8 @@ pub enum OptionsOf {
     Encode,
     /// Settings, and the number of pictures.
     Make,
+    /// The number of workers.
+    Pardecode,
 }
 
 // What stands behind this front, where the word begins with it.
@@ -152,6 +154,7 @@ fn fits(of: OptionsOf, before: &[String], word: &str) -> bool
         OptionsOf::Make => {
             is_new_among(before, word, &NAMES) || is_new_setting(before, word, Name::Count)
         }
+        OptionsOf::Pardecode => is_new_setting(before, word, Name::Workers),
     }
 }
 
@@ -229,4 +232,11 @@ pub fn count_given(words: &[String]) -> u32
     ensures { result ≡ options.count_given (map string_bytes words.now) }
 {
     value_or(words, Name::Count, 12)
+}
+
+/// The number of workers that these words say.
+pub fn workers_given(words: &[String]) -> u32
+    ensures { result ≡ options.workers_given (map string_bytes words.now) }
+{
+    value_or(words, Name::Workers, 2)
 }

@@ -6,7 +6,7 @@ ghost use Rattle.dirac_types.specs.declared.settings.Settings.{Settings};
 ghost use Rattle.dirac_tool.specs.Words.{command_read};
 ghost use Rattle.dirac_tool.specs.Running.{RunsTo, bad_setting};
 
-use crate::decode::decode;
+use crate::decode::{check_workers, decode};
 use crate::encode::encode;
 use crate::ended::Ended;
 use crate::list::list;
@@ -58,13 +58,17 @@ pub fn run<R: Threads + Sync, S: Source, K: Sink, N: Sink, G: RowGate>(
     match read_words(words) {
         Err(WordsStop::Usage(n)) => Ended::Usage(n),
         Ok(Command::List) => list(alloc, source, out),
-        Ok(Command::Decode) => decode(alloc, source, out, side),
+        Ok(Command::Decode) => decode(rt, alloc, source, out, side, None, gate),
         Ok(Command::Encode(settings)) => match settings.check() {
             Ok(()) => encode(rt, alloc, source, out, side, &settings, gate),
             Err(bad) => Ended::BadSettings(bad),
         },
         Ok(Command::Make(settings, count)) => match check_make(&settings, count) {
             Ok(()) => make(rt, alloc, &settings, count, out, gate),
+            Err(bad) => Ended::BadSettings(bad),
+        },
+        Ok(Command::Pardecode(workers)) => match check_workers(workers) {
+            Ok(()) => decode(rt, alloc, source, out, side, Some(workers), gate),
             Err(bad) => Ended::BadSettings(bad),
         },
     }

@@ -176,6 +176,30 @@ fn refuses_words(rt: HostRuntime) -> Result<(), Fail> {
             runs(&rt, alloc, &[command, word, "y"], &end, Ended::Usage(1), "")?;
         }
     }
+    for (first, second, number) in [
+        ("", "--workers=2", 1),
+        ("--width=8", "--workers=2", 1),
+        ("--workers=", "--workers=2", 1),
+        ("--workers=2x", "--workers=2", 1),
+        ("--workers=2", "--workers=2", 2),
+        ("--workers=2", "--recon=a", 2),
+    ] {
+        let words = ["pardecode", first, second];
+        runs(&rt, alloc, &words, &end, Ended::Usage(number), "")?;
+    }
+    Ok(())
+}
+
+#[test]
+fn refuses_numbers_of_workers(rt: HostRuntime) -> Result<(), Fail> {
+    let alloc = rt.alloc();
+    for (word, value) in [("--workers=0", 0), ("--workers=65", 65)] {
+        let bad = Ended::BadSettings(BadSetting {
+            name: Name::Workers,
+            value,
+        });
+        runs(&rt, alloc, &["pardecode", word], &STREAM, bad, "")?;
+    }
     Ok(())
 }
 
@@ -259,19 +283,27 @@ fn changed(alloc: Global, place: usize, byte: u8) -> Result<Vec<u8>, Fail> {
     Ok(bytes)
 }
 
-// Decodes bytes, by calls that may fail.
+// The words of both commands that decode.
+pub(crate) const DECODE: [&str; 1] = ["decode"];
+
+pub(crate) const PARDECODE: [&str; 2] = ["pardecode", "--workers=3"];
+
+// Decodes bytes by a command, by calls that may fail.
 pub(crate) fn decoded<R: Abort + Threads + Sync>(
     rt: &R,
     alloc: Global,
+    command: &[&str],
     bytes: &[u8],
     outside: &Outside<'_>,
 ) -> Result<Left, Fail> {
     let mut words = Words::new(alloc);
-    words.push("decode")?;
+    for word in command {
+        words.push(word)?;
+    }
     tried(rt, alloc, &words, bytes, outside)
 }
 
-// Decodes bytes in pieces, and compares the answer, the samples that came out, all grey, and what was
+// Decodes bytes in pieces by both commands, and compares the answer, the samples that came out, all grey, and what was
 // said beside them.
 fn decodes<R: Abort + Threads + Sync>(
     rt: &R,
@@ -281,8 +313,13 @@ fn decodes<R: Abort + Threads + Sync>(
     samples: usize,
     line: &str,
 ) -> Result<(), Fail> {
-    for most in [1, 7, 4096] {
-        let left = decoded(rt, alloc, bytes, &pieces(most))?;
+    for (most, command) in [
+        (1, DECODE.as_slice()),
+        (7, DECODE.as_slice()),
+        (4096, DECODE.as_slice()),
+        (7, PARDECODE.as_slice()),
+    ] {
+        let left = decoded(rt, alloc, command, bytes, &pieces(most))?;
         assert_eq!(rt; left.ended, answer, "pieces of {most}");
         assert_eq!(rt; left.out.taken().len(), samples, "pieces of {most}");
         assert!(rt; left.out.taken().iter().all(|byte| *byte == 0x80));
@@ -385,7 +422,7 @@ fn decodes_up_to_the_first_fault(rt: HostRuntime) -> Result<(), Fail> {
     decodes(&rt, alloc, &two, second, SAMPLES, one)
 }
 
-// Decodes bytes in pieces, and compares the answer, what came out, and what was said beside it.
+// Decodes bytes in pieces by both commands, and compares the answer, what came out, and what was said beside it.
 pub(crate) fn shows<R: Abort + Threads + Sync>(
     rt: &R,
     alloc: Global,
@@ -394,8 +431,13 @@ pub(crate) fn shows<R: Abort + Threads + Sync>(
     raw: &[u8],
     line: &str,
 ) -> Result<(), Fail> {
-    for most in [1, 7, 4096] {
-        let left = decoded(rt, alloc, bytes, &pieces(most))?;
+    for (most, command) in [
+        (1, DECODE.as_slice()),
+        (7, DECODE.as_slice()),
+        (4096, DECODE.as_slice()),
+        (7, PARDECODE.as_slice()),
+    ] {
+        let left = decoded(rt, alloc, command, bytes, &pieces(most))?;
         assert_eq!(rt; left.ended, answer, "pieces of {most}");
         assert_eq!(rt; left.out.taken(), raw, "pieces of {most}");
         assert_eq!(rt; left.side.taken(), line.as_bytes(), "pieces of {most}");
@@ -447,6 +489,7 @@ fn decodes_intra_pictures(rt: HostRuntime) -> Result<(), Fail> {
 fn fails_to_decode<R: Abort + Threads + Sync>(
     rt: &R,
     alloc: Global,
+    command: &[&str],
     reads: &[u64],
     writes: &[u64],
     sides: &[u64],
@@ -460,7 +503,7 @@ fn fails_to_decode<R: Abort + Threads + Sync>(
         sides,
     };
     let bytes = stream(alloc, &[&GREY])?;
-    let left = decoded(rt, alloc, &bytes, &outside)?;
+    let left = decoded(rt, alloc, command, &bytes, &outside)?;
     let Left {
         ended,
         out,
@@ -507,7 +550,7 @@ fn shows_pictures_before_the_input_ends(rt: HostRuntime) -> Result<(), Fail> {
             writes: &[],
             sides: &[],
         };
-        let left = decoded(&rt, alloc, &bytes, &outside)?;
+        let left = decoded(&rt, alloc, &DECODE, &bytes, &outside)?;
         assert_eq!(rt; left.ended, Ended::ReadFault, "read {call}");
         assert_eq!(rt; left.out.taken().len(), shown * SAMPLES, "read {call}");
         assert!(rt; left.out.taken().iter().all(|byte| *byte == 0x80));
@@ -519,22 +562,24 @@ fn shows_pictures_before_the_input_ends(rt: HostRuntime) -> Result<(), Fail> {
 #[test]
 fn decodes_until_a_call_fails(rt: HostRuntime) -> Result<(), Fail> {
     let alloc = rt.alloc();
-    // two reads for each of three headers, one and two for the payloads, and one of the end
-    for call in 0..10 {
-        let ended = fails_to_decode(&rt, alloc, &[call], &[], &[])?;
-        assert_eq!(rt; ended, Ended::ReadFault);
+    for command in [DECODE.as_slice(), PARDECODE.as_slice()] {
+        // two reads for each of three headers, one and two for the payloads, and one of the end
+        for call in 0..10 {
+            let ended = fails_to_decode(&rt, alloc, command, &[call], &[], &[])?;
+            assert_eq!(rt; ended, Ended::ReadFault);
+        }
+        // a write for each row: 144 of Y, 72 of U and of V
+        for call in [0, 1, 143, 144, 215, 216, 287] {
+            let ended = fails_to_decode(&rt, alloc, command, &[], &[call], &[])?;
+            assert_eq!(rt; ended, Ended::WriteFault);
+        }
+        for call in 0..3 {
+            let ended = fails_to_decode(&rt, alloc, command, &[], &[], &[call])?;
+            assert_eq!(rt; ended, Ended::SideFault);
+        }
+        let ended = fails_to_decode(&rt, alloc, command, &[10], &[288], &[3])?;
+        assert_eq!(rt; ended, Ended::Done);
     }
-    // a write for each row: 144 of Y, 72 of U and of V
-    for call in [0, 1, 143, 144, 215, 216, 287] {
-        let ended = fails_to_decode(&rt, alloc, &[], &[call], &[])?;
-        assert_eq!(rt; ended, Ended::WriteFault);
-    }
-    for call in 0..3 {
-        let ended = fails_to_decode(&rt, alloc, &[], &[], &[call])?;
-        assert_eq!(rt; ended, Ended::SideFault);
-    }
-    let ended = fails_to_decode(&rt, alloc, &[10], &[288], &[3])?;
-    assert_eq!(rt; ended, Ended::Done);
     Ok(())
 }
 

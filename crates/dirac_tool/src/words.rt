@@ -1,8 +1,10 @@
 ghost use Rattle.std.specs.Prelude.{◌≡◌, ◌++◌, [], ◌∷◌, OnOk, OnErr, map, string_bytes, option_copied, slice_range, length};
 ghost use Rattle.dirac_types.specs.Settings.{first_bad, table};
-ghost use Rattle.dirac_tool.specs.Words.{command_read, path_read, path_accepted, encode_read, make_read, alone as command_alone};
+ghost use Rattle.dirac_tool.specs.Words.{command_read, path_read, path_accepted, encode_read, make_read, pardecode_read, alone as command_alone};
 
-use crate::options::{OptionsOf, count_given, first_unfit, path_given, settings_given};
+use crate::options::{
+    OptionsOf, count_given, first_unfit, path_given, settings_given, workers_given,
+};
 use dirac_types::{NoMemory, Settings};
 use std::alloc::Global;
 use std::marker::Model;
@@ -54,6 +56,8 @@ pub enum Command {
     Encode(Settings),
     /// Encodes so many generated pictures, and tells the sizes and how many come out exactly.
     Make(Settings, u32),
+    /// Decodes a stream as `Decode`, by so many workers.
+    Pardecode(u32),
 }
 
 /// Why words aren't run.
@@ -64,8 +68,8 @@ pub enum WordsStop {
 }
 
 /// Reads the words: the first is the command. A command that isn't built doesn't fit. `list` and `decode` take
-/// no further word, `encode` its settings and the path of its reconstructions, in any order, and `make` its settings
-/// and the number of pictures.
+/// no further word, `encode` its settings and the path of its reconstructions, in any order, `make` its settings and
+/// the number of pictures, and `pardecode` the number of workers.
 pub fn read_words(words: &Words) -> Result<Command, WordsStop>
     ensures { result ≡ command_read words.now }
 {
@@ -80,6 +84,8 @@ pub fn read_words(words: &Words) -> Result<Command, WordsStop>
         encode(others)
     } else if first.as_str() == "make" {
         make(others)
+    } else if first.as_str() == "pardecode" {
+        pardecode(others)
     } else {
         Err(WordsStop::Usage(0))
     }
@@ -116,6 +122,16 @@ fn make(others: &[String]) -> Result<Command, WordsStop>
     }
 }
 
+// `pardecode` with the number of workers that these words say.
+fn pardecode(others: &[String]) -> Result<Command, WordsStop>
+    ensures { result ≡ pardecode_read (map string_bytes others.now) }
+{
+    match first_unfit(OptionsOf::Pardecode, others) {
+        None => Ok(Command::Pardecode(workers_given(others))),
+        Some(number) => Err(WordsStop::Usage(number)),
+    }
+}
+
 /// The path of the reconstructions, where the words fit `encode`, give one, and the settings are accepted.
 #[tactic(auto, unfolding(crate::specs::Words::path_read))]
 pub fn recon_path(words: &Words) -> Option<&str>
@@ -127,6 +143,7 @@ pub fn recon_path(words: &Words) -> Option<&str>
         Ok(Command::List) => None,
         Ok(Command::Decode) => None,
         Ok(Command::Make(_, _)) => None,
+        Ok(Command::Pardecode(_)) => None,
         Err(_) => None,
     }
 }

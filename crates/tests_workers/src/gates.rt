@@ -61,3 +61,52 @@ impl RowGate for HoldsRows {
         self.ran_out.store(true, SeqCst);
     }
 }
+
+/// A gate that holds one of the rows 0 and 1 in each call until the other one was entered in that call, or the turns
+/// run out.
+#[derive(Drop)]
+pub struct HoldsEachCall {
+    held: u32,
+    entered: [AtomicU64; 2],
+    ran_out: AtomicBool,
+}
+
+impl HoldsEachCall {
+    /// A gate that holds this row.
+    pub fn new(held: u32) -> HoldsEachCall {
+        HoldsEachCall {
+            held,
+            entered: [AtomicU64::new(0), AtomicU64::new(0)],
+            ran_out: AtomicBool::new(false),
+        }
+    }
+
+    /// In how many calls both rows were entered, where none was held until the turns ran out.
+    pub fn calls(&self) -> Option<u64> {
+        if self.ran_out.load(SeqCst) {
+            return None;
+        }
+        Some(self.entered[0].load(SeqCst).min(self.entered[1].load(SeqCst)))
+    }
+}
+
+impl RowGate for HoldsEachCall {
+    fn enter(&self, row: u32) {
+        let (own, other) = match row {
+            0 => (&self.entered[0], &self.entered[1]),
+            1 => (&self.entered[1], &self.entered[0]),
+            _ => return,
+        };
+        // each call enters each row once, so the number of a row's entries is that of its calls
+        let call = own.fetch_add(1, SeqCst);
+        if row != self.held {
+            return;
+        }
+        for _ in 0..TURNS {
+            if call < other.load(SeqCst) {
+                return;
+            }
+        }
+        self.ran_out.store(true, SeqCst);
+    }
+}

@@ -11,7 +11,7 @@ use Rattle.dirac_decode.proofs.stream.write_pictures.Goals as goal
 
 pub pictures-init : goal.pictures-init
 pictures-init g c =
-    let same : c.args.decoder.now ≡ begun = c.requires in
+    let same : c.args.decoder.now ≡ begun = c.requires.new in
     record {
       streamed = streamed_none c.args.decoder.now (g.S.Source.held c.args.source.now) (g.K.Sink.taken c.args.out.now) same;
       moving = λ e. let going : c.args.decoder.now.stream_end ≡ stream_end.Going = ap (λ (d : Decoding). d.stream_end) same in cc;
@@ -21,15 +21,15 @@ pictures-init g c =
       writes = omega arith;
     }
 
-pub next_picture-requires : goal.next_picture-requires
-next_picture-requires g c =
+pub next_picture_by-requires-clause-no_overflow : goal.next_picture_by-requires-clause-no_overflow
+next_picture_by-requires-clause-no_overflow g c =
     let fits : g.S.Source.left c.args.source.now < 2 ^ 63 = g.met.S.Source.left_fits c.args.source.now in
     omega (arith, c.pictures.invariant.room)
 
 pub pictures-preserved : goal.pictures-preserved
 pictures-preserved g c = record {
-  streamed = streamed_more c.pictures.decoder c.next_picture.new.self c.in-Shown.picture
-      (g.S.Source.held c.args.source.now) (g.S.Source.held c.pictures.source) (g.S.Source.held c.next_picture.new.source)
+  streamed = streamed_more c.pictures.decoder c.next_picture_by.new.self c.in-Shown.picture
+      (g.S.Source.held c.args.source.now) (g.S.Source.held c.pictures.source) (g.S.Source.held c.next_picture_by.new.source)
       (g.K.Sink.taken c.args.out.now) (g.K.Sink.taken c.pictures.out) (g.K.Sink.taken c.put_picture.new.out)
       c.pictures.invariant.streamed c.in-Shown.ensures.gives (c.in-All.ensures.all refl);
   moving = λ e. c.pictures.invariant.moving (c.in-Shown.ensures.gives.2 e);
@@ -41,23 +41,23 @@ pictures-preserved g c = record {
 
 pub returns-in-Failed-clause-decoded : goal.returns-in-Failed-clause-decoded
 returns-in-Failed-clause-decoded g c =
-    cut_off_in c.pictures.decoder c.next_picture.new.self c.in-Shown.picture
-    (g.S.Source.held c.args.source.now) (g.S.Source.held c.pictures.source) (g.S.Source.held c.next_picture.new.source)
+    cut_off_in c.pictures.decoder c.next_picture_by.new.self c.in-Shown.picture
+    (g.S.Source.held c.args.source.now) (g.S.Source.held c.pictures.source) (g.S.Source.held c.next_picture_by.new.source)
     (g.K.Sink.taken c.args.out.now) (g.K.Sink.taken c.pictures.out) (g.K.Sink.taken c.put_picture.new.out)
     each_has_a_cut c.pictures.invariant.moving c.pictures.invariant.streamed c.in-Shown.ensures.gives c.in-Failed.ensures.front
 
 pub returns-in-NoMemory-put_picture-clause-decoded : goal.returns-in-NoMemory-put_picture-clause-decoded
 returns-in-NoMemory-put_picture-clause-decoded g c =
-    cut_off_in c.pictures.decoder c.next_picture.new.self c.in-Shown.picture
-    (g.S.Source.held c.args.source.now) (g.S.Source.held c.pictures.source) (g.S.Source.held c.next_picture.new.source)
+    cut_off_in c.pictures.decoder c.next_picture_by.new.self c.in-Shown.picture
+    (g.S.Source.held c.args.source.now) (g.S.Source.held c.pictures.source) (g.S.Source.held c.next_picture_by.new.source)
     (g.K.Sink.taken c.args.out.now) (g.K.Sink.taken c.pictures.out) (g.K.Sink.taken c.put_picture.new.out)
     each_has_a_cut c.pictures.invariant.moving c.pictures.invariant.streamed c.in-Shown.ensures.gives c.in-NoMemory-put_picture.ensures.front
 
 pub returns-in-End-clause-decoded : goal.returns-in-End-clause-decoded
 returns-in-End-clause-decoded g c =
     subst (λ (t : Tally). IfSome (g.S.Source.held c.args.source.now) (λ bytes. IsDecoded bytes (decoded.Done t) (g.K.Sink.taken c.args.out.now) (g.K.Sink.taken c.pictures.out))) (sym c.tally.ensures.value)
-    (streamed_done c.pictures.decoder c.next_picture.new.self
-    (g.S.Source.held c.args.source.now) (g.S.Source.held c.pictures.source) (g.S.Source.held c.next_picture.new.source)
+    (streamed_done c.pictures.decoder c.next_picture_by.new.self
+    (g.S.Source.held c.args.source.now) (g.S.Source.held c.pictures.source) (g.S.Source.held c.next_picture_by.new.source)
     (g.K.Sink.taken c.args.out.now) (g.K.Sink.taken c.pictures.out)
     c.pictures.invariant.streamed c.in-End.ensures.gives)
 
@@ -67,8 +67,8 @@ returns-in-End-clause-whole g c = c.in-End.ensures.whole c.pictures.invariant.wh
 pub returns-in-Fault-clause-decoded : goal.returns-in-Fault-clause-decoded
 returns-in-Fault-clause-decoded g c =
     subst (λ (t : Tally). IfSome (g.S.Source.held c.args.source.now) (λ bytes. IsDecoded bytes (decoded.Fault c.in-Fault.fault t) (g.K.Sink.taken c.args.out.now) (g.K.Sink.taken c.pictures.out))) (sym c.tally-in-Fault.ensures.value)
-    (streamed_fault c.pictures.decoder c.next_picture.new.self c.in-Fault.fault
-    (g.S.Source.held c.args.source.now) (g.S.Source.held c.pictures.source) (g.S.Source.held c.next_picture.new.source)
+    (streamed_fault c.pictures.decoder c.next_picture_by.new.self c.in-Fault.fault
+    (g.S.Source.held c.args.source.now) (g.S.Source.held c.pictures.source) (g.S.Source.held c.next_picture_by.new.source)
     (g.K.Sink.taken c.args.out.now) (g.K.Sink.taken c.pictures.out)
     c.pictures.invariant.streamed c.in-Fault.ensures.gives)
 

@@ -1,9 +1,13 @@
-use Rattle.std.proofs.Common.{◌≡◌, ◌+◌, ◌∙◌, ap, arith, false, sym, true, [], ◌∷◌}
+use Rattle.std.proofs.Common.{◌≡◌, ◌+◌, ◌∙◌, ap, arith, false, subst, sym, true, [], ◌∷◌, Ok, Err}
 use Rattle.dirac_units.specs.declared.unit.StreamEnd.TheVariants as stream_end
 use Rattle.dirac_refs.specs.Delivery.{flushed}
+use Rattle.dirac_decode.specs.declared.step.Halt.{Halt}
+use Rattle.dirac_decode.specs.declared.step.Step.{Step}
+use Rattle.dirac_decode.specs.Advancing.{Advances}
 use Rattle.dirac_decode.specs.Decoding.{decoding}
+use Rattle.dirac_decode.specs.Taking.{shown_in}
 use Rattle.dirac_decode.proofs.Leading.{most_of, answers_any, answers_shown, going_before, leads_going, leads_on, leads_unit}
-use Rattle.dirac_decode.proofs.decoder.Decoder.next_picture.Goals as goal
+use Rattle.dirac_decode.proofs.decoder.Decoder.next_picture_by.Goals as goal
 
 pub overflow_add-self : goal.overflow_add-self
 overflow_add-self g c = omega (arith, c.units.invariant.few, c.units.invariant.fits, c.in-Some.ensures.fewer)
@@ -31,64 +35,64 @@ returns-in-Some g c = record {
   no_overflow = c.units.invariant.room;
 }
 
-pub units-preserved-in-On : goal.units-preserved-in-On
-units-preserved-in-On g c =
+pub units-preserved-in-Ok-On : goal.units-preserved-in-Ok-On
+units-preserved-in-Ok-On g c =
     let before : c.args.self.now.stream_end ≡ stream_end.Going = going_before c.args.self.now.stream_end c.units.self-inside.stream_end (λ ne. ap (λ d. d.stream_end) (c.units.invariant.still ne).1) c.in-Going.is in
     record {
       leads = leads_going c.args.self.now c.units.self-inside.units c.advance_by_unit.new.units c.units.self-inside.state c.next_due.new.state c.advance_by_unit.new.state
           c.units.self-inside.draining false c.units.self-inside.given c.units.self-inside.given c.units.self-inside.stream_end
           (g.S.Source.held c.args.source.now) (g.S.Source.held c.units.source) (g.S.Source.held c.advance_by_unit.new.source) []
-          c.units.invariant.leads c.in-None.ensures.settles c.in-Going.is c.in-On.ensures.advances;
+          c.units.invariant.leads c.in-None.ensures.settles c.in-Going.is (subst (λ (s : Step). Advances (Ok s) c.units.self-inside.units c.advance_by_unit.new.units c.next_due.new.state c.advance_by_unit.new.state (g.S.Source.held c.units.source) (g.S.Source.held c.advance_by_unit.new.source)) c.in-Ok-On.field-0-is c.in-Ok-On.ensures.advances);
       given = c.units.invariant.given;
-      few = omega (arith, c.units.invariant.few, c.in-None.ensures.fewer, c.in-On.ensures.no_more_than_units);
-      fits = c.in-On.ensures.fits;
-      most = omega (arith, c.units.invariant.most, c.in-None.ensures.greatest_stays, c.in-On.ensures.greatest_never_falls);
-      going = λ e. c.in-On.ensures.goes_on.0;
+      few = omega (arith, c.units.invariant.few, c.in-None.ensures.fewer, c.in-Ok-On.ensures.no_more_than_units);
+      fits = c.in-Ok-On.ensures.fits;
+      most = omega (arith, c.units.invariant.most, c.in-None.ensures.greatest_stays, c.in-Ok-On.ensures.greatest_never_falls);
+      going = λ e. c.in-Ok-On.ensures.goes_on.0;
       moving = c.units.invariant.moving;
       still = λ ne. absurd (ne before);
       whole = λ a e. cc;
-      room = omega (arith, c.units.invariant.room, c.in-On.ensures.no_overflow_result);
-      count = omega (arith, c.units.invariant.count, c.in-On.ensures.count);
+      room = omega (arith, c.units.invariant.room, c.in-Ok-On.ensures.no_overflow_result);
+      count = omega (arith, c.units.invariant.count, c.in-Ok-On.ensures.count);
     }
 
-pub units-preserved-in-Drains : goal.units-preserved-in-Drains
-units-preserved-in-Drains g c =
+pub units-preserved-in-Ok-Drains : goal.units-preserved-in-Ok-Drains
+units-preserved-in-Ok-Drains g c =
     let before : c.args.self.now.stream_end ≡ stream_end.Going = going_before c.args.self.now.stream_end c.units.self-inside.stream_end (λ ne. ap (λ d. d.stream_end) (c.units.invariant.still ne).1) c.in-Going.is in
     record {
       leads = leads_going c.args.self.now c.units.self-inside.units c.advance_by_unit.new.units c.units.self-inside.state c.next_due.new.state c.advance_by_unit.new.state
           c.units.self-inside.draining true c.units.self-inside.given c.units.self-inside.given c.units.self-inside.stream_end
           (g.S.Source.held c.args.source.now) (g.S.Source.held c.units.source) (g.S.Source.held c.advance_by_unit.new.source) []
-          c.units.invariant.leads c.in-None.ensures.settles c.in-Going.is c.in-Drains.ensures.advances;
+          c.units.invariant.leads c.in-None.ensures.settles c.in-Going.is (subst (λ (s : Step). Advances (Ok s) c.units.self-inside.units c.advance_by_unit.new.units c.next_due.new.state c.advance_by_unit.new.state (g.S.Source.held c.units.source) (g.S.Source.held c.advance_by_unit.new.source)) c.in-Ok-Drains.field-0-is c.in-Ok-Drains.ensures.advances);
       given = c.units.invariant.given;
-      few = omega (arith, c.units.invariant.few, c.in-None.ensures.fewer, c.in-Drains.ensures.no_more_than_units);
-      fits = c.in-Drains.ensures.fits;
-      most = omega (arith, c.units.invariant.most, c.in-None.ensures.greatest_stays, c.in-Drains.ensures.greatest_never_falls);
-      going = λ e. c.in-Drains.ensures.goes_on.0;
+      few = omega (arith, c.units.invariant.few, c.in-None.ensures.fewer, c.in-Ok-Drains.ensures.no_more_than_units);
+      fits = c.in-Ok-Drains.ensures.fits;
+      most = omega (arith, c.units.invariant.most, c.in-None.ensures.greatest_stays, c.in-Ok-Drains.ensures.greatest_never_falls);
+      going = λ e. c.in-Ok-Drains.ensures.goes_on.0;
       moving = c.units.invariant.moving;
       still = λ ne. absurd (ne before);
       whole = λ a e. cc;
-      room = omega (arith, c.units.invariant.room, c.in-Drains.ensures.no_overflow_result);
-      count = omega (arith, c.units.invariant.count, c.in-Drains.ensures.count);
+      room = omega (arith, c.units.invariant.room, c.in-Ok-Drains.ensures.no_overflow_result);
+      count = omega (arith, c.units.invariant.count, c.in-Ok-Drains.ensures.count);
     }
 
-pub units-preserved-in-End : goal.units-preserved-in-End
-units-preserved-in-End g c =
+pub units-preserved-in-Err-End : goal.units-preserved-in-Err-End
+units-preserved-in-Err-End g c =
     let before : c.args.self.now.stream_end ≡ stream_end.Going = going_before c.args.self.now.stream_end c.units.self-inside.stream_end (λ ne. ap (λ d. d.stream_end) (c.units.invariant.still ne).1) c.in-Going.is in
     record {
       leads = leads_unit c.args.self.now c.units.self-inside.units c.advance_by_unit.new.units c.units.self-inside.state c.next_due.new.state c.advance_by_unit.new.state
           c.units.self-inside.draining true c.units.self-inside.given c.units.self-inside.given c.units.self-inside.stream_end stream_end.Ended
           (g.S.Source.held c.args.source.now) (g.S.Source.held c.units.source) (g.S.Source.held c.advance_by_unit.new.source) []
-          c.units.invariant.leads c.in-None.ensures.settles c.in-Going.is c.in-End.ensures.advances;
+          c.units.invariant.leads c.in-None.ensures.settles c.in-Going.is (subst (λ (h : Halt). Advances (Err h) c.units.self-inside.units c.advance_by_unit.new.units c.next_due.new.state c.advance_by_unit.new.state (g.S.Source.held c.units.source) (g.S.Source.held c.advance_by_unit.new.source)) c.in-Err-End.field-0-is c.in-Err-End.ensures.advances);
       given = c.units.invariant.given;
-      few = omega (arith, c.units.invariant.few, c.in-None.ensures.fewer, c.in-End.ensures.no_more_than_units);
-      fits = c.in-End.ensures.fits;
-      most = omega (arith, c.units.invariant.most, c.in-None.ensures.greatest_stays, c.in-End.ensures.greatest_never_falls);
+      few = omega (arith, c.units.invariant.few, c.in-None.ensures.fewer, c.in-Err-End.ensures.no_more_than_units);
+      fits = c.in-Err-End.ensures.fits;
+      most = omega (arith, c.units.invariant.most, c.in-None.ensures.greatest_stays, c.in-Err-End.ensures.greatest_never_falls);
       going = λ e. cc;
       moving = λ e. cc;
       still = λ ne. absurd (ne before);
-      whole = λ a e. c.advance_by_unit.ensures.whole c.in-End.is;
-      room = omega (arith, c.units.invariant.room, c.in-End.ensures.no_overflow_result);
-      count = omega (arith, c.units.invariant.count, c.in-End.ensures.count);
+      whole = λ a e. c.advance_by_unit.ensures.whole (c.in-Err-End.is ∙ ap Err c.in-Err-End.field-0-is);
+      room = omega (arith, c.units.invariant.room, c.in-Err-End.ensures.no_overflow_result);
+      count = omega (arith, c.units.invariant.count, c.in-Err-End.ensures.count);
     }
 
 pub units-preserved : goal.units-preserved
@@ -96,30 +100,30 @@ units-preserved g c =
     let before : c.args.self.now.stream_end ≡ stream_end.Going = going_before c.args.self.now.stream_end c.units.self-inside.stream_end (λ ne. ap (λ d. d.stream_end) (c.units.invariant.still ne).1) c.in-Going.is in
     record {
       leads = leads_unit c.args.self.now c.units.self-inside.units c.advance_by_unit.new.units c.units.self-inside.state c.next_due.new.state c.advance_by_unit.new.state
-          c.units.self-inside.draining true c.units.self-inside.given c.units.self-inside.given c.units.self-inside.stream_end (stream_end.Faulted c.in-Fault.fault)
+          c.units.self-inside.draining true c.units.self-inside.given c.units.self-inside.given c.units.self-inside.stream_end (stream_end.Faulted c.in-Err-Fault.fault)
           (g.S.Source.held c.args.source.now) (g.S.Source.held c.units.source) (g.S.Source.held c.advance_by_unit.new.source) []
-          c.units.invariant.leads c.in-None.ensures.settles c.in-Going.is c.in-Fault.ensures.advances;
+          c.units.invariant.leads c.in-None.ensures.settles c.in-Going.is (subst (λ (h : Halt). Advances (Err h) c.units.self-inside.units c.advance_by_unit.new.units c.next_due.new.state c.advance_by_unit.new.state (g.S.Source.held c.units.source) (g.S.Source.held c.advance_by_unit.new.source)) c.in-Err-Fault.field-0-is c.in-Err-Fault.ensures.advances);
       given = c.units.invariant.given;
-      few = omega (arith, c.units.invariant.few, c.in-None.ensures.fewer, c.in-Fault.ensures.no_more_than_units);
-      fits = c.in-Fault.ensures.fits;
-      most = omega (arith, c.units.invariant.most, c.in-None.ensures.greatest_stays, c.in-Fault.ensures.greatest_never_falls);
+      few = omega (arith, c.units.invariant.few, c.in-None.ensures.fewer, c.in-Err-Fault.ensures.no_more_than_units);
+      fits = c.in-Err-Fault.ensures.fits;
+      most = omega (arith, c.units.invariant.most, c.in-None.ensures.greatest_stays, c.in-Err-Fault.ensures.greatest_never_falls);
       going = λ e. cc;
       moving = λ e. cc;
       still = λ ne. absurd (ne before);
       whole = λ a e. cc;
-      room = omega (arith, c.units.invariant.room, c.in-Fault.ensures.no_overflow_result);
-      count = omega (arith, c.units.invariant.count, c.in-Fault.ensures.count);
+      room = omega (arith, c.units.invariant.room, c.in-Err-Fault.ensures.no_overflow_result);
+      count = omega (arith, c.units.invariant.count, c.in-Err-Fault.ensures.count);
     }
 
-pub returns-in-Shown : goal.returns-in-Shown
-returns-in-Shown g c =
+pub returns-in-Ok-Shown : goal.returns-in-Ok-Shown
+returns-in-Ok-Shown g c =
     let before : c.args.self.now.stream_end ≡ stream_end.Going = going_before c.args.self.now.stream_end c.units.self-inside.stream_end (λ ne. ap (λ d. d.stream_end) (c.units.invariant.still ne).1) c.in-Going.is in
     record {
       gives = (
         leads_going c.args.self.now c.units.self-inside.units c.advance_by_unit.new.units c.units.self-inside.state c.next_due.new.state c.advance_by_unit.new.state
             c.units.self-inside.draining false c.units.self-inside.given (c.units.self-inside.given + 1) c.units.self-inside.stream_end
-            (g.S.Source.held c.args.source.now) (g.S.Source.held c.units.source) (g.S.Source.held c.advance_by_unit.new.source) (c.in-Shown.picture ∷ [])
-            c.units.invariant.leads c.in-None.ensures.settles c.in-Going.is c.in-Shown.ensures.advances,
+            (g.S.Source.held c.args.source.now) (g.S.Source.held c.units.source) (g.S.Source.held c.advance_by_unit.new.source) (c.in-Ok-Shown.picture ∷ [])
+            c.units.invariant.leads c.in-None.ensures.settles c.in-Going.is (subst (λ (s : Step). Advances (Ok s) c.units.self-inside.units c.advance_by_unit.new.units c.next_due.new.state c.advance_by_unit.new.state (g.S.Source.held c.units.source) (g.S.Source.held c.advance_by_unit.new.source)) c.in-Ok-Shown.field-0-is c.in-Ok-Shown.ensures.advances),
         ap (λ n. n + 1) c.units.invariant.given,
         λ e. absurd (c.units.invariant.moving e),
       );
@@ -127,8 +131,8 @@ returns-in-Shown g c =
       repeats_without_reading = λ ne. absurd (ne before);
       whole = λ a e. cc;
       read = λ e. cc;
-      count = omega (arith, c.units.invariant.count, c.in-Shown.ensures.count);
-      fits = omega (arith, c.units.invariant.few, c.in-None.ensures.fewer, c.in-Shown.ensures.no_more_than_units, c.in-Shown.ensures.fits);
-      greatest = omega (arith, c.units.invariant.most, c.in-None.ensures.greatest_stays, c.in-Shown.ensures.greatest_never_falls);
-      no_overflow = omega (arith, c.units.invariant.room, c.in-Shown.ensures.no_overflow_result);
+      count = omega (arith, c.units.invariant.count, c.in-Ok-Shown.ensures.count);
+      fits = omega (arith, c.units.invariant.few, c.in-None.ensures.fewer, c.in-Ok-Shown.ensures.no_more_than_units, ap shown_in c.in-Ok-Shown.field-0-is, c.in-Ok-Shown.ensures.fits);
+      greatest = omega (arith, c.units.invariant.most, c.in-None.ensures.greatest_stays, c.in-Ok-Shown.ensures.greatest_never_falls);
+      no_overflow = omega (arith, c.units.invariant.room, c.in-Ok-Shown.ensures.no_overflow_result);
     }

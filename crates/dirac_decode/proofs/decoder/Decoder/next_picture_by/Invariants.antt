@@ -3,7 +3,7 @@ use Rattle.std.specs.Io.KnownBytes.{IsAtEnd}
 use Rattle.dirac_units.specs.declared.unit.StreamEnd.TheVariants as stream_end
 use Rattle.dirac_decode.specs.Decoding.{LeadsTo, decoding}
 use Rattle.dirac_decode.proofs.Leading.{turns_left}
-use Rattle.dirac_decode.proofs.decoder.Decoder.next_picture.Given as goal
+use Rattle.dirac_decode.proofs.decoder.Decoder.next_picture_by.Given as goal
 
 abbrev pub invariant-units : goal.invariant-units
 invariant-units g l = record {

@@ -1,0 +1,3 @@
+pub mod Sliced
+pub mod Placed
+pub mod Lending

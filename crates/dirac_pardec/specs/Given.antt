@@ -1,0 +1,70 @@
+-- An inter picture whose references are looked up, seen through its references.
+use Rattle.std.specs.Prelude.{◌≡◌, ℕ, ℤ, Option, Some, option_map, IsSome, IfSome, List}
+use Rattle.std.specs.Option.{ForSome, option_copied}
+use Rattle.dirac_types.specs.declared.formats.Component.{Component}
+use Rattle.dirac_types.specs.declared.picture.Picture.{Picture}
+use Rattle.dirac_types.specs.Table.{Table, filled}
+use Rattle.dirac_sequence.specs.declared.sequence.Sequence.{Sequence}
+use Rattle.dirac_sequence.specs.Lawful.{IsSequence}
+use Rattle.dirac_upconvert.specs.SubSamples.{Up}
+use Rattle.dirac_obmc.specs.Compensation.{predicted_at}
+use Rattle.dirac_picture.specs.declared.coded.CodedMotion.{CodedMotion}
+use Rattle.dirac_picture.specs.declared.coded.CodedResidual.{CodedResidual}
+use Rattle.dirac_picture.specs.Fits.{IsMotion, IsResidual}
+use Rattle.dirac_decode.specs.Content.{IsPicture, compensation, height_of, plane_of, up_of, width_of}
+use Rattle.dirac_rows.specs.Answers.{AnswerRows}
+use Rattle.dirac_pardec.specs.declared.inter.Inter.{Inter}
+use Rattle.dirac_pardec.specs.declared.places.SlicePlace.{SlicePlace}
+use Rattle.dirac_pardec.specs.Places.{component_at, place_of}
+use Rattle.dirac_pardec.specs.Planes.{up_at, up_rows}
+use Rattle.dirac_pardec.specs.Slices.{slice_of}
+
+-- its parse code, its sequence, its prediction and residual, and the pictures that it refers to
+pub record Lent : Type 0 where
+  pub code : ℕ
+  pub sequence : Sequence
+  pub motion : CodedMotion
+  pub residual : Option CodedResidual
+  pub first : Picture
+  pub second : Option Picture
+
+-- the data behind its references
+abbrev pub given : Inter → Lent
+given i = record {
+  code = i.code;
+  sequence = i.sequence.now;
+  motion = i.motion.now;
+  residual = i.residual.now;
+  first = i.first.now;
+  second = option_copied i.second;
+}
+
+-- it can be predicted from these pictures
+pub record IsInter (g : Lent) : Type 0 where
+  pub sequence : IsSequence g.sequence
+  pub motion : IsMotion g.code g.sequence g.motion
+  pub residual : IfSome g.residual (IsResidual g.sequence)
+  pub first : IsPicture g.sequence g.first
+  pub second : ForSome g.second (IsPicture g.sequence)
+  pub two : g.motion.blocks.refs ≡ 2 → IsSome g.second
+
+-- the planes of its references, upconverted
+abbrev pub AreUps : Lent → List Up → Type 0
+AreUps g items = AnswerRows (λ r u. u ≡ up_at g.first g.second r) (up_rows g.second) items
+
+-- what is predicted for one slice of it
+abbrev pub predicted_in : Lent → SlicePlace → Table
+predicted_in g place =
+    let c = component_at place.plane in
+    slice_of (width_of g.sequence c) (height_of g.sequence c)
+    (predicted_at (compensation g.sequence g.motion g.first g.second c)) place.slice
+
+-- what is predicted for its slices
+abbrev pub predicted_slice : Lent → ℕ → Table
+predicted_slice g r = predicted_in g (place_of g.sequence r)
+
+-- what is predicted for a plane of it, by rows
+abbrev pub predicted_values : Lent → Component → List ℤ
+predicted_values g c =
+    filled (width_of g.sequence c) (height_of g.sequence c)
+    (predicted_at (compensation g.sequence g.motion g.first g.second c))

@@ -1,0 +1,99 @@
+ghost use Rattle.std.specs.Prelude.{◌≡◌, ℕ, ℤ, ◌+◌, ◌*◌, ◌/◌, ◌^◌, ◌<◌, ◌≤◌, length, unsigned_abs, IfOk, Some};
+ghost use Rattle.std.specs.List.{All};
+ghost use Rattle.dirac_types.specs.Table.{filled};
+ghost use Rattle.dirac_types.specs.declared.formats.Kind.TheVariants.{Inter as OfInter};
+ghost use Rattle.dirac_residual.specs.Residual.{clipped, with_prediction};
+ghost use Rattle.dirac_decode.specs.Content as content;
+ghost use Rattle.dirac_decode.specs.Predicting.{inter_plane};
+ghost use Rattle.dirac_rows.specs.Answers.{AnswerRows};
+ghost use Rattle.dirac_pardec.specs.Given.{given, predicted_slice, predicted_values, IsInter};
+ghost use Rattle.dirac_pardec.specs.Places as places;
+ghost use Rattle.dirac_pardec.specs.Planes.{IsResidualAt};
+ghost use Rattle.dirac_pardec.specs.Slices.{AreSlices};
+
+use crate::inter::Inter;
+use crate::places::{component_at, first_slice, slices_in};
+use dirac_obmc::Predicted;
+use dirac_residual::clipped_sum;
+use dirac_types::{LARGEST_TABLE_SIDE, NoMemory, Plane, Wide};
+use std::alloc::Global;
+
+/// The values of a plane from its slices, which are `count` items from item `first` on.
+fn joined(alloc: Global, slices: &[Predicted], first: u32, count: u32) -> Result<Vec<i32>, NoMemory>
+    requires at_most_1024 { (first ≤ 1024) × (count ≤ 1024) }
+    requires inside { first + count ≤ length slices.now }
+    ensures { IfOk result (λ v. (width height : ℕ) (f : ℕ → ℕ → ℤ) → 1 ≤ width → count ≡ (height + 15) / 16
+        → AreSlices width height f first count slices.now → v.items ≡ filled width height f) }
+{
+    let mut values = Vec::new(alloc);
+    for k in 0..count {
+        values.extend_from_slice(slices[(first + k) as usize].values())?;
+    }
+    Ok(values)
+}
+
+/// The predictions of a plane.
+fn joined_plane(
+    alloc: Global,
+    inter: &Inter<'_>,
+    slices: &[Predicted],
+    plane: u32,
+) -> Result<Vec<i32>, NoMemory>
+    requires inter { IsInter (given inter.now) }
+    requires slices { AnswerRows (λ r t. t ≡ predicted_slice (given inter.now) r)
+        (places.slices_of_all (given inter.now).sequence) slices.now }
+    requires plane { plane < 3 }
+    ensures value { IfOk result (λ v. v.items ≡ predicted_values (given inter.now) (places.component_at plane)) }
+    ensures len { IfOk result (λ v. length v.items ≡ content.width_of (given inter.now).sequence
+        (places.component_at plane) * content.height_of (given inter.now).sequence (places.component_at plane)) }
+{
+    let first = first_slice(inter.sequence, plane);
+    let count = slices_in(inter.sequence, component_at(plane));
+    let values = joined(alloc, slices, first, count)?;
+    Ok(values)
+}
+
+/// Lends the residual of the plane of this number.
+fn residual_at<'a>(inter: &Inter<'_>, residuals: &'a [Wide], plane: u32) -> &'a Wide
+    requires residuals { AnswerRows (IsResidualAt (given inter.now).sequence OfInter (given inter.now).residual) 3
+        residuals.now }
+    requires plane { plane < 3 }
+    ensures { IsResidualAt (given inter.now).sequence OfInter (given inter.now).residual plane result.now }
+{
+    &residuals[plane as usize]
+}
+
+/// Each value of a residual with its prediction, clipped.
+fn sums(alloc: Global, residual: &Wide, predicted: &[i32]) -> Result<Plane, NoMemory>
+    requires across { residual.now.width ≤ LARGEST_TABLE_SIDE }
+    requires down { residual.now.height ≤ LARGEST_TABLE_SIDE }
+    requires predicted { length predicted.now ≡ residual.now.width * residual.now.height }
+    requires bound { All (λ v. unsigned_abs v ≤ 2 ^ 108) residual.now.values }
+    ensures { IfOk result (λ t. t ≡ clipped (with_prediction residual.now predicted.now)) }
+{
+    // Read for what it tells: how many values the residual has.
+    let _height = residual.height();
+    clipped_sum(alloc, residual, predicted)
+}
+
+/// The samples of a plane of an inter picture: each residual with its prediction, clipped.
+pub(crate) fn inter_samples(
+    alloc: Global,
+    inter: &Inter<'_>,
+    residuals: &[Wide],
+    slices: &[Predicted],
+    plane: u32,
+) -> Result<Plane, NoMemory>
+    requires inter { IsInter (given inter.now) }
+    requires residuals { AnswerRows (IsResidualAt (given inter.now).sequence OfInter (given inter.now).residual) 3
+        residuals.now }
+    requires slices { AnswerRows (λ r t. t ≡ predicted_slice (given inter.now) r)
+        (places.slices_of_all (given inter.now).sequence) slices.now }
+    requires plane { plane < 3 }
+    ensures { IfOk result (λ t. t ≡ inter_plane (given inter.now).sequence (Some (given inter.now).first)
+        (given inter.now).second (given inter.now).motion (given inter.now).residual (places.component_at plane)) }
+{
+    let predicted = joined_plane(alloc, inter, slices, plane)?;
+    let residual = residual_at(inter, residuals, plane);
+    sums(alloc, residual, predicted.as_slice())
+}

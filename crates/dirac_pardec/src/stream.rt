@@ -1,0 +1,47 @@
+ghost use Rattle.std.specs.Prelude.{◌≡◌, ◌≤◌, IfOk, IfSome};
+ghost use Rattle.std.specs.Io.KnownBytes.{IsAtEnd};
+ghost use Rattle.std.specs.Thread.{IsSync};
+ghost use Rattle.dirac_io.specs.Faults.{Rose};
+ghost use Rattle.dirac_decode.specs.Content.{rebuilt};
+ghost use Rattle.dirac_decode.specs.Decoded.{IfDone, IfTally, IsDecoded};
+ghost use Rattle.dirac_decode.specs.Rebuilding.{CanBeRebuilt};
+
+use crate::rebuild::rebuild_rows;
+use dirac_decode::{Decoded, decode_stream_by};
+use dirac_io::{RowGate, Sink, Source};
+use dirac_picture::CodedPicture;
+use dirac_refs::{MOST_REFERENCES, RefBuffer};
+use dirac_sequence::Sequence;
+use dirac_types::{NoMemory, Picture};
+use std::alloc::Global;
+use std::marker::Sync;
+use std::thread::Threads;
+
+/// Decodes a whole stream, as `decode_stream`, its pictures rebuilt by so many workers as `rebuild_rows` does.
+pub fn decode_rows<R: Threads + Sync, S: Source, K: Sink, G: RowGate>(
+    rt: &R,
+    alloc: Global,
+    source: &mut S,
+    out: &mut K,
+    workers: u32,
+    gate: &G,
+) -> Decoded
+    requires { (1 ≤ workers) × (workers ≤ 64) }
+    ensures decoded { IfSome (S.held source.old) (λ bytes. IsDecoded bytes result (K.taken out.old) (K.taken out.new)) }
+    ensures whole { IfDone result (IsAtEnd (S.held source.new)) }
+    ensures at_most_8_references { IfTally result (λ tally. tally.references ≤ MOST_REFERENCES) }
+    ensures read { result ≡ Decoded.ReadFault → Rose (S.faults source.old) (S.faults source.new) }
+    ensures write { result ≡ Decoded.WriteFault → Rose (K.faults out.old) (K.faults out.new) }
+    ensures reads { S.faults source.old ≤ S.faults source.new }
+    ensures writes { K.faults out.old ≤ K.faults out.new }
+{
+    let make = |alloc: Global, coded: &CodedPicture, sequence: &Sequence, refs: &RefBuffer| -> Result<
+        Picture,
+        NoMemory,
+    >
+        requires { IsSync R.row × IsSync G.row × (1 ≤ workers) × (workers ≤ 64)
+            × CanBeRebuilt coded.now sequence.now refs.now }
+        ensures { IfOk result (λ p. p ≡ rebuilt sequence.now refs.now coded.now) }
+    { rebuild_rows(rt, alloc, coded, sequence, refs, workers, gate) };
+    decode_stream_by(&make, alloc, source, out)
+}
