@@ -540,6 +540,92 @@ def delivery_before_a_fault():
     return made.inter(INTER_1, 9, (-5,), mixed_motion(385, 1)).end()
 
 
+# Shapes: small streams which together have each kind of picture that a decoder may find memory for
+
+
+def few(seed, wavelet, depth, counts=None):
+    """A residual of few values, in the coarsest bands and in one of the finest."""
+    source = Noise(seed)
+
+    def rows(plane, level, kind, width, height):
+        if level > 1 and (level, kind) != (depth, "HH"):
+            return None
+        return [[source.coefficient(5, 6) for _ in range(width)] for _ in range(height)]
+
+    return Residual(rows, lambda plane, level, kind: 8 + level + plane, wavelet, depth, counts)
+
+
+def shape_of_residual(number, seed):
+    """None, or a residual: every wavelet and depth, and codeblocks in one of three."""
+    if number % 4 == 3:
+        return None
+    depth = 1 + number % 5
+    counts = [(2, 1)] + depth * [(2, 2)] if number % 3 == 1 and depth < 4 else None
+    return few(seed, number % 7, depth, counts)
+
+
+SHAPES_OF_BLOCKS = [2, 3, (8, 12, 4, 8), 4, (4, 4, 4, 4)]
+SHAPES_OF_WEIGHTS = [None, (2, 3, 1), None, (4, -5, 21), None, None, (1, 2, 0)]
+
+
+def shapes(chroma, references, first):
+    """A picture or two to refer to, and five that do: each precision, block index and weight comes with each format."""
+    made = Stream().sequence((16, 8), chroma)
+    for number in range(references):
+        made.intra(number, few(500 + first + number, (first + number) % 7, 1 + (first + 2 * number) % 5))
+    codes = [INTER_1, INTER_1_UNLISTED] if references == 1 else [INTER_2, INTER_2_UNLISTED]
+    for n in range(5):
+        number, shape = references + n, first + n
+        blocks = SHAPES_OF_BLOCKS[shape % 5]
+        weights = SHAPES_OF_WEIGHTS[shape % 7]
+        motion = mixed_motion(600 + shape, references, 6, precision=shape % 4, blocks=blocks, weights=weights)
+        offsets = (-number, 1 - number)[:references]
+        made.inter(codes[n % 2], number, offsets, motion, shape_of_residual(shape, 700 + shape))
+    return made.end()
+
+
+@stream_of_each("shapes_of_one_{}", "one reference, five inter pictures of 16 by 8 in {}", ["444", "422", "420"])
+def shapes_of_one(chroma):
+    index = ["444", "422", "420"].index(chroma)
+    return shapes(index, 1, 5 * index)
+
+
+@stream_of_each("shapes_of_two_{}", "two references, five inter pictures of 16 by 8 in {}", ["444", "422", "420"])
+def shapes_of_two(chroma):
+    index = ["444", "422", "420"].index(chroma)
+    return shapes(index, 2, 3 + 5 * index)
+
+
+@stream_of_each(
+    "shapes_of_intra_{}", "intra pictures of 16 by 8 in {}, of depths 1 to 5, two with codeblocks", ["444", "422", "420"]
+)
+def shapes_of_intra(chroma):
+    index = ["444", "422", "420"].index(chroma)
+    made = Stream().sequence((16, 8), index)
+    for number in range(5):
+        counts = [(2, 1)] + (1 + number) * [(1, 2)] if number < 2 else None
+        code = INTRA_UNLISTED if number % 2 else INTRA
+        made.intra(number, few(800 + 5 * index + number, (2 + 5 * index + number) % 7, 1 + number, counts), code)
+    return made.end()
+
+
+@stream
+def shapes_of_lists():
+    """twelve pictures of all six codes, eight references listed, of which the last refer to the oldest and the
+    youngest
+    """
+    made = Stream().sequence((8, 8))
+    codes = [INTRA, INTRA, INTER_1, INTER_2, INTRA, INTRA_UNLISTED, INTRA, INTER_1_UNLISTED, INTRA, INTRA]
+    for number, code in enumerate([*codes, INTER_2, INTER_2_UNLISTED]):
+        if code in (INTRA, INTRA_UNLISTED):
+            made.intra(number, few(850 + number, number % 7, 1), code)
+            continue
+        offsets = {2: (-2,), 3: (-3, -1), 7: (-3,), 10: (-10, -1), 11: (-10, -1)}[number]
+        motion = mixed_motion(870 + number, len(offsets), 4, precision=number % 4, blocks=(4, 4, 4, 4))
+        made.inter(code, number, offsets, motion, shape_of_residual(number, 890 + number))
+    return made.end()
+
+
 # Faults
 
 

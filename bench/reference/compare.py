@@ -1,14 +1,15 @@
 #!/usr/bin/env python3
 """Compares the product with a plain decoder and encoder that were written apart from it.
 
-compare.py PROGRAM SECONDS [SEED]       PROGRAM is dirac_tool, built (`./run list < /dev/null` builds it at
-                                        crates/dirac_tool/out/dirac_tool)
+compare.py PROGRAM SECONDS [SEED [COUNT..]]     PROGRAM is dirac_tool, built (`./run list < /dev/null` builds it at
+                                                crates/dirac_tool/out/dirac_tool)
 
 Round by round it makes random streams, streams with a damaged header, rows of units, raw inputs with settings,
-generated pictures, and word lists, all from the round's seed (SEED, 1 where none is given, and then the numbers after it). It runs PROGRAM with
-decode, list, encode and make on them, and compares output, standard error, status and the file of --recon with what the plain
-programs beside it say. The round in which SECONDS pass is the last one, and is finished; so `compare.py PROGRAM 0 SEED`
-repeats the cases of one seed.
+generated pictures, and word lists, all from the round's seed (SEED, 1 where none is given, and then the numbers after
+it), of each kind in this order as many a round as a COUNT says (2 1 5 1 1 5). It runs PROGRAM with decode, list, encode
+and make on them, and compares output, standard error, status and the file of --recon with what the plain programs
+beside it say. The round in which SECONDS pass is the last one, and is finished; so `compare.py PROGRAM 0 SEED` repeats
+the cases of one seed.
 
 Prints each difference with its seed, and at the end a line a kind with the number of cases and how they ended: by cause
 of the fault for decode and list, by status for encode. Ends with 1 where anything differs.
@@ -628,13 +629,14 @@ class Kind:
 
 
 def main():
-    if len(sys.argv) not in (3, 4):
-        sys.exit("compare.py PROGRAM SECONDS [SEED]")
+    if len(sys.argv) < 3:
+        sys.exit("compare.py PROGRAM SECONDS [SEED [COUNT..]]")
     program = pathlib.Path(sys.argv[1]).resolve()
     if not program.is_file():
         sys.exit(f"compare.py: no such file: {program}")
     end = time.monotonic() + float(sys.argv[2])
-    first_seed = int(sys.argv[3]) if len(sys.argv) == 4 else 1
+    first_seed = int(sys.argv[3]) if len(sys.argv) > 3 else 1
+    counts = map(int, sys.argv[4:])
     kinds = [
         Kind("random streams", make_random_stream, 2),
         Kind("damaged headers", make_damaged_header, 1),
@@ -643,6 +645,8 @@ def main():
         Kind("makings", make_making, 1),
         Kind("word lists", make_word_list, 5),
     ]
+    for kind, count in zip(kinds, counts):
+        kind.cases_a_round = count
     seed = first_seed
     while True:
         for kind in kinds:

@@ -1,6 +1,6 @@
 use crate::ended::Ended;
 use crate::tests::{DECODE, PARDECODE, SMALL, STREAM, decoded, header, joined};
-use crate::tries::{Left, Outside, counts_its_fault, pieces, tried};
+use crate::tries::{Left, pieces, tried};
 use crate::words::Words;
 use dirac_types::{BadSetting, Name};
 use std::alloc::Global;
@@ -194,53 +194,6 @@ fn refuses_words_of_encode(rt: HostRuntime) -> Result<(), Fail> {
     Ok(())
 }
 
-// Encodes a grey picture by reads of 10 bytes and writes of 4096, of which one fails.
-fn fails_to_encode<R: Abort + Threads + Sync>(
-    rt: &R,
-    alloc: Global,
-    reads: &[u64],
-    writes: &[u64],
-    sides: &[u64],
-) -> Result<Ended, Fail> {
-    let words = encode_words(alloc, &SIZES, &[])?;
-    let end = header(0x10, 0, 31);
-    let stream = joined(alloc, &[&STREAM[..50], &end])?;
-    let outside = Outside {
-        read: 10,
-        write: 4096,
-        side: 4096,
-        reads,
-        writes,
-        sides,
-    };
-    let left = tried(rt, alloc, &words, &GREY[..96], &outside)?;
-    assert!(rt; stream.as_slice().starts_with(left.out.taken()));
-    assert!(rt; GREY[..96].starts_with(left.side.taken()));
-    assert!(rt; counts_its_fault(&left));
-    if left.ended == Ended::Done {
-        assert_eq!(rt; left.out.taken(), stream.as_slice());
-        assert_eq!(rt; left.side.taken(), &GREY[..96]);
-    }
-    Ok(left.ended)
-}
-
-#[test]
-fn encodes_until_a_call_fails(rt: HostRuntime) -> Result<(), Fail> {
-    let alloc = rt.alloc();
-    // ten reads of bytes, and one of the end
-    for call in 0..11 {
-        let ended = fails_to_encode(&rt, alloc, &[call], &[], &[])?;
-        assert_eq!(rt; ended, Ended::ReadFault);
-    }
-    let ended = fails_to_encode(&rt, alloc, &[], &[0], &[])?;
-    assert_eq!(rt; ended, Ended::WriteFault);
-    let ended = fails_to_encode(&rt, alloc, &[], &[], &[0])?;
-    assert_eq!(rt; ended, Ended::SideFault);
-    let ended = fails_to_encode(&rt, alloc, &[99], &[99], &[99])?;
-    assert_eq!(rt; ended, Ended::Done);
-    Ok(())
-}
-
 // Small pictures: how many samples they have across and down, their chroma format, the quantiser index, the codeblocks of
 // each direction, and how many bytes two of them have.
 #[derive(Clone, Copy)]
@@ -266,7 +219,7 @@ fn shape_of(size: (u32, u32), chroma: u32, index: u32, codeblocks: u32, bytes: u
 }
 
 // Bytes without order.
-fn noise(alloc: Global, count: usize) -> Result<Vec<u8>, Fail> {
+pub(crate) fn noise(alloc: Global, count: usize) -> Result<Vec<u8>, Fail> {
     let mut bytes = Vec::new(alloc);
     let mut state = 2463534242u32;
     for _ in 0..count {

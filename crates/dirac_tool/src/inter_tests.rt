@@ -1,23 +1,11 @@
 use crate::ended::Ended;
-use crate::tests::{DECODE, PARDECODE, SMALL, STREAM, decoded, faulty, header, joined, shows};
-use crate::tries::Outside;
+use crate::tests::{SMALL, STREAM, faulty, header, joined, shows};
 use dirac_types::Cause;
 use std::alloc::Global;
-use std::process::Abort;
 use std::test::Fail;
-use std::thread::Threads;
 
 // The picture of 8 by 8 samples, 4:2:0, that all pictures here are, as bytes.
 const GREY: [u8; 96] = [0x80; 96];
-
-// The stream with another byte at one place.
-fn changed(alloc: Global, place: usize, byte: u8) -> Result<Vec<u8>, Fail> {
-    let mut bytes = Vec::from_slice(alloc, &STREAM)?;
-    if let Some(at) = bytes.get_mut(place) {
-        *at = byte;
-    }
-    Ok(bytes)
-}
 
 // The unit of a grey intra reference picture of this number.
 fn intra(alloc: Global, number: u8) -> Result<Vec<u8>, Fail> {
@@ -57,18 +45,9 @@ fn grey_pictures(alloc: Global, count: usize) -> Result<Vec<u8>, Fail> {
 #[test]
 fn decodes_inter_pictures(rt: HostRuntime) -> Result<(), Fail> {
     let alloc = rt.alloc();
-    let one = "pictures=1 references=1\n";
     let two = grey_pictures(alloc, 2)?;
     let both = "pictures=2 references=2\n";
     shows(&rt, alloc, &STREAM, Ended::Done, two.as_slice(), both)?;
-
-    let global = faulty(2, 68, Cause::GlobalMotion);
-    let bytes = changed(alloc, 68, 0x6F)?;
-    shows(&rt, alloc, bytes.as_slice(), global, &GREY, one)?;
-    // it names the picture that follows its own
-    let missing = faulty(2, 63, Cause::MissingReference);
-    let bytes = changed(alloc, 67, 0x78)?;
-    shows(&rt, alloc, bytes.as_slice(), missing, &GREY, one)?;
 
     // the same pictures, as the two fields of a frame of 8 by 16
     let fields = [0x6Fu8, 0xC1, 0x80, 0xC2, 0x0C, 0x07, 0x84];
@@ -81,30 +60,6 @@ fn decodes_inter_pictures(rt: HostRuntime) -> Result<(), Fail> {
         two.as_slice(),
         both,
     )
-}
-
-#[test]
-fn refuses_each_field_of_an_inter_picture(rt: HostRuntime) -> Result<(), Fail> {
-    let alloc = rt.alloc();
-    let one = "pictures=1 references=1\n";
-    for (place, byte, at, cause) in [
-        // block parameters 1 and 5
-        (68, 0x2D, 68, Cause::BlockPreset),
-        (68, 0x4D, 68, Cause::BlockPreset),
-        // vector precision 4
-        (68, 0x63, 68, Cause::Precision),
-        // prediction mode 1 behind precision 2
-        (68, 0x6C, 68, Cause::PredictionMode),
-        // the block of splits or of modes begins with ones, or passes the payload
-        (71, 0xFF, 71, Cause::CodeWord),
-        (73, 0xFF, 73, Cause::CodeWord),
-        (70, 0x56, 71, Cause::UnitShort),
-    ] {
-        let bytes = changed(alloc, place, byte)?;
-        let fault = faulty(2, at, cause);
-        shows(&rt, alloc, bytes.as_slice(), fault, &GREY, one)?;
-    }
-    Ok(())
 }
 
 #[test]
@@ -194,35 +149,4 @@ fn delivers_by_number(rt: HostRuntime) -> Result<(), Fail> {
         all.as_slice(),
         line,
     )
-}
-
-// Decodes the stream by both commands and by reads of 10 bytes; one read or write fails. Nothing is shown before that.
-fn stops_at_first<R: Abort + Threads + Sync>(
-    rt: &R,
-    alloc: Global,
-    reads: &[u64],
-    writes: &[u64],
-    answer: Ended,
-) -> Result<(), Fail> {
-    let outside = Outside {
-        read: 10,
-        write: 4096,
-        side: 4096,
-        reads,
-        writes,
-        sides: &[],
-    };
-    for command in [DECODE.as_slice(), PARDECODE.as_slice()] {
-        let left = decoded(rt, alloc, command, &STREAM, &outside)?;
-        assert_eq!(rt; left.ended, answer);
-        assert!(rt; left.out.taken().is_empty());
-    }
-    Ok(())
-}
-
-#[test]
-fn stops_at_a_call_that_fails(rt: HostRuntime) -> Result<(), Fail> {
-    let alloc = rt.alloc();
-    stops_at_first(&rt, alloc, &[2], &[], Ended::ReadFault)?;
-    stops_at_first(&rt, alloc, &[], &[0], Ended::WriteFault)
 }

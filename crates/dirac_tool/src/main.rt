@@ -3,10 +3,14 @@
 #![tactic(auto)]
 
 mod decode;
+#[cfg(test)]
+mod device_tests;
 mod encode;
 #[cfg(test)]
 mod encode_tests;
 mod ended;
+#[cfg(test)]
+mod fault_tests;
 #[cfg(test)]
 mod inter_tests;
 mod line;
@@ -16,6 +20,10 @@ mod make;
 mod make_tests;
 mod options;
 mod run;
+#[cfg(test)]
+mod shape_streams;
+#[cfg(test)]
+mod shape_tests;
 #[cfg(test)]
 mod tests;
 #[cfg(test)]

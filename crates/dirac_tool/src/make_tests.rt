@@ -1,5 +1,5 @@
 use crate::ended::Ended;
-use crate::tries::{Outside, counts_its_fault, pieces, tried};
+use crate::tries::{pieces, tried};
 use crate::words::Words;
 use dirac_types::{BadSetting, Name};
 use std::alloc::Global;
@@ -112,19 +112,6 @@ fn makes_pictures(rt: HostRuntime) -> Result<(), Fail> {
         ("--count=3", "--pictures=2", Ended::TooManyPictures),
     ] {
         makes(&rt, alloc, &[first, second], answer, "")?;
-    }
-    // the line is written in pieces of 4 bytes, and no write is tried again
-    let words = words_of(alloc, "make", &["--count=0"])?;
-    for call in 0..10 {
-        let outside = Outside {
-            write: 4,
-            writes: &[call],
-            ..pieces(4)
-        };
-        let left = tried(&rt, alloc, &words, &[], &outside)?;
-        assert!(rt; none.as_bytes().starts_with(left.out.taken()));
-        assert!(rt; counts_its_fault(&left));
-        assert_eq!(rt; left.ended == Ended::Done, call == 9);
     }
     Ok(())
 }

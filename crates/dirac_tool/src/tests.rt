@@ -1,8 +1,5 @@
 use crate::ended::{Ended, ended_text, status};
-use crate::run::run;
-use crate::tries::{Left, Outside, counts_its_fault, pieces, tried};
-use crate::words::Words;
-use dirac_io::{MemSink, MemSource, NullSink, OpenGate};
+use crate::tries::{Left, Outside, counts_its_fault, pieces, tried, words_of};
 use dirac_types::{BadSetting, Cause, Fault, Name};
 use std::alloc::Global;
 use std::process::Abort;
@@ -19,7 +16,7 @@ pub(crate) const STREAM: [u8; 95] = [
     0x80, 0x80, 0x42, 0x42, 0x43, 0x44, 0x10, 0x00, 0x00, 0x00, 0x00, 0x00, 0x00, 0x00, 0x20,
 ];
 
-const LINES: &str =
+pub(crate) const LINES: &str =
     "0 0 00 sequence 19 0\n1 19 0C picture 31 19\n2 50 0D picture 32 31\n3 82 10 end 0 32\n";
 
 // Runs words over bytes in pieces, and compares the answer and what came out.
@@ -31,10 +28,7 @@ fn runs<R: Abort + Threads + Sync>(
     answer: Ended,
     text: &str,
 ) -> Result<(), Fail> {
-    let mut list = Words::new(alloc);
-    for word in words {
-        list.push(word)?;
-    }
+    let list = words_of(alloc, words)?;
     for most in [1, 7, 4096] {
         let left = tried(rt, alloc, &list, bytes, &pieces(most))?;
         assert_eq!(rt; left.ended, answer, "pieces of {most}");
@@ -203,55 +197,6 @@ fn refuses_numbers_of_workers(rt: HostRuntime) -> Result<(), Fail> {
     Ok(())
 }
 
-// Lists the stream by reads of 10 bytes and writes of 7, of which one fails.
-fn fails<R: Abort + Threads + Sync>(
-    rt: &R,
-    alloc: Global,
-    reads: &[u64],
-    writes: &[u64],
-) -> Result<Ended, Fail> {
-    let mut words = Words::new(alloc);
-    words.push("list")?;
-    let mut source = MemSource::new(
-        Vec::from_slice(alloc, &STREAM)?,
-        10,
-        Vec::from_slice(alloc, reads)?,
-    );
-    let mut out = MemSink::new(alloc, 7, Vec::from_slice(alloc, writes)?);
-    let ended = run(
-        rt,
-        alloc,
-        &words,
-        &mut source,
-        &mut out,
-        &mut NullSink,
-        &OpenGate,
-    );
-    assert!(rt; LINES.as_bytes().starts_with(out.taken()));
-    assert_eq!(rt; source.count(), u64::from(ended == Ended::ReadFault));
-    assert_eq!(rt; out.count(), u64::from(ended == Ended::WriteFault));
-    if ended == Ended::Done {
-        assert_eq!(rt; out.taken(), LINES.as_bytes());
-    }
-    Ok(ended)
-}
-
-#[test]
-fn stops_at_the_call_that_fails(rt: HostRuntime) -> Result<(), Fail> {
-    let alloc = rt.alloc();
-    // two reads for each of four headers, one, two and two for the payloads, and one of the end
-    for call in 0..14 {
-        assert_eq!(rt; fails(&rt, alloc, &[call], &[])?, Ended::ReadFault);
-    }
-    assert_eq!(rt; fails(&rt, alloc, &[99], &[99])?, Ended::Done);
-    // four lines of 21, 22, 22 and 17 bytes
-    for call in 0..14 {
-        assert_eq!(rt; fails(&rt, alloc, &[], &[call])?, Ended::WriteFault);
-    }
-    assert_eq!(rt; fails(&rt, alloc, &[], &[14])?, Ended::Done);
-    Ok(())
-}
-
 // A header of pictures of 176 by 144, and a picture all of whose bands are empty.
 const SEQUENCE: [u8; 3] = [0x6F, 0x60, 0x10];
 
@@ -296,10 +241,7 @@ pub(crate) fn decoded<R: Abort + Threads + Sync>(
     bytes: &[u8],
     outside: &Outside<'_>,
 ) -> Result<Left, Fail> {
-    let mut words = Words::new(alloc);
-    for word in command {
-        words.push(word)?;
-    }
+    let words = words_of(alloc, command)?;
     tried(rt, alloc, &words, bytes, outside)
 }
 
@@ -485,41 +427,6 @@ fn decodes_intra_pictures(rt: HostRuntime) -> Result<(), Fail> {
     shows(&rt, alloc, &ones, outside, &[], none)
 }
 
-// Decodes a grey picture by reads of 10 bytes and writes of 4096, of which one fails.
-fn fails_to_decode<R: Abort + Threads + Sync>(
-    rt: &R,
-    alloc: Global,
-    command: &[&str],
-    reads: &[u64],
-    writes: &[u64],
-    sides: &[u64],
-) -> Result<Ended, Fail> {
-    let outside = Outside {
-        read: 10,
-        write: 4096,
-        side: 9,
-        reads,
-        writes,
-        sides,
-    };
-    let bytes = stream(alloc, &[&GREY])?;
-    let left = decoded(rt, alloc, command, &bytes, &outside)?;
-    let Left {
-        ended,
-        out,
-        side,
-        ..
-    } = &left;
-    assert!(rt; out.taken().len() <= SAMPLES);
-    assert!(rt; out.taken().iter().all(|byte| *byte == 0x80));
-    assert!(rt; b"pictures=1 references=0\n".starts_with(side.taken()));
-    assert!(rt; counts_its_fault(&left));
-    if *ended == Ended::SideFault {
-        assert_eq!(rt; out.taken().len(), SAMPLES);
-    }
-    Ok(left.ended)
-}
-
 // Six grey pictures, numbered from 0, and an end unit. It has 209 bytes.
 fn six_pictures(alloc: Global) -> Result<Vec<u8>, Fail> {
     let mut bytes = joined(alloc, &[&header(0x00, 16, 0), &SEQUENCE])?;
@@ -555,30 +462,6 @@ fn shows_pictures_before_the_input_ends(rt: HostRuntime) -> Result<(), Fail> {
         assert_eq!(rt; left.out.taken().len(), shown * SAMPLES, "read {call}");
         assert!(rt; left.out.taken().iter().all(|byte| *byte == 0x80));
         assert!(rt; counts_its_fault(&left));
-    }
-    Ok(())
-}
-
-#[test]
-fn decodes_until_a_call_fails(rt: HostRuntime) -> Result<(), Fail> {
-    let alloc = rt.alloc();
-    for command in [DECODE.as_slice(), PARDECODE.as_slice()] {
-        // two reads for each of three headers, one and two for the payloads, and one of the end
-        for call in 0..10 {
-            let ended = fails_to_decode(&rt, alloc, command, &[call], &[], &[])?;
-            assert_eq!(rt; ended, Ended::ReadFault);
-        }
-        // a write for each row: 144 of Y, 72 of U and of V
-        for call in [0, 1, 143, 144, 215, 216, 287] {
-            let ended = fails_to_decode(&rt, alloc, command, &[], &[call], &[])?;
-            assert_eq!(rt; ended, Ended::WriteFault);
-        }
-        for call in 0..3 {
-            let ended = fails_to_decode(&rt, alloc, command, &[], &[], &[call])?;
-            assert_eq!(rt; ended, Ended::SideFault);
-        }
-        let ended = fails_to_decode(&rt, alloc, command, &[10], &[288], &[3])?;
-        assert_eq!(rt; ended, Ended::Done);
     }
     Ok(())
 }

@@ -41,6 +41,15 @@ pub(crate) struct Left {
     pub side: MemSink,
 }
 
+// The words of a command line.
+pub(crate) fn words_of(alloc: Global, list: &[&str]) -> Result<Words, Fail> {
+    let mut words = Words::new(alloc);
+    for word in list {
+        words.push(word)?;
+    }
+    Ok(words)
+}
+
 // Runs words over bytes.
 pub(crate) fn tried<R: Abort + Threads + Sync>(
     rt: &R,
