@@ -33,7 +33,7 @@ use Rattle.dirac_plan_laws.specs.Headers.{IsPictureCode}
 
 -- ---- the units
 
-header_lawful : (previous : ℕ) (payload : List ℕ) → IsLawful (info_for 0x00 previous payload)
+pub header_lawful : (previous : ℕ) (payload : List ℕ) → IsLawful (info_for 0x00 previous payload)
 header_lawful previous payload = rw (le-leb 13 (13 + length payload) (omega arith)) refl
 
 picture_lawful : (code previous : ℕ) (payload : List ℕ) → IsPictureCode code → IsLawful (info_for code previous payload)
@@ -48,7 +48,7 @@ header_cut written t previous unit_place rest units small more =
     one_cut unit_place info (sequence_payload t) rest units None
     (unit_front_is written unit_place info (sequence_payload t) rest (omega arith) (header_short t) small (header_lawful previous (sequence_payload t))) more
 
-picture_cut : IsReadAsWritten → (code previous : ℕ) (payload : List ℕ) (unit_place : UnitPlace) (rest : List ℕ) (units : List UnitText) → IsPictureCode code → 13 + length payload < 2 ^ 32 → previous < 2 ^ 32
+pub picture_cut : IsReadAsWritten → (code previous : ℕ) (payload : List ℕ) (unit_place : UnitPlace) (rest : List ℕ) (units : List UnitText) → IsPictureCode code → 13 + length payload < 2 ^ 32 → previous < 2 ^ 32
     → IsCut (after unit_place (info_for code previous payload)) rest units None
     → IsCut unit_place (unit code previous payload ++ rest) (record { info = info_for code previous payload; payload = payload } ∷ units) None
 picture_cut written code previous payload unit_place rest units is short small more =
@@ -102,7 +102,7 @@ front_same : (xs : List ℕ) → starts_with nat_eq xs xs ≡ true
 front_same [] = refl
 front_same (x ∷ xs) = rw (eq-eqb x x refl) (front_same xs)
 
-same_header : (xs : List ℕ) → is_same xs xs ≡ true
+pub same_header : (xs : List ℕ) → is_same xs xs ≡ true
 same_header xs = and_from (length xs == length xs) (starts_with nat_eq xs xs) (eq-eqb (length xs) (length xs) refl) (front_same xs)
 
 opened_by : Settings → Opened
@@ -132,7 +132,7 @@ adds t code payload coded state e is read =
     ∙ ap (λ (b : Bool). if b then header_step state state.opened payload else picture_step state state.opened code payload) is.other
     ∙ ap (λ o. picture_step state o code payload) e ∙ ap (made state (opened_by t)) read
 
-outcome_more : (state : StreamState) (unit_place : UnitPlace) (unit : UnitText) (units : List UnitText) (m : StreamStep) → unit_step state unit.info.code unit.payload ≡ Ok m
+pub outcome_more : (state : StreamState) (unit_place : UnitPlace) (unit : UnitText) (units : List UnitText) (m : StreamStep) → unit_step state unit.info.code unit.payload ≡ Ok m
     → outcome state unit_place (unit ∷ units) None ≡ with_front m.gone (outcome m.state (after unit_place unit.info) units None)
 unfolding outcome
 outcome_more state unit_place unit units m e = ap (follows state unit_place (λ next. outcome next (after unit_place unit.info) units None)) e

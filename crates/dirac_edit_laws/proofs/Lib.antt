@@ -1,0 +1,11 @@
+pub mod Alike
+pub mod Closed
+pub mod Cutting
+pub mod Later
+pub mod Numbers
+pub mod Parts
+pub mod Restricted
+pub mod Showing
+pub mod UnitKinds
+pub mod Walking
+pub mod Whole

@@ -1,0 +1,11 @@
+pub mod Alike
+pub mod Cut
+pub mod Joined
+pub mod Later
+pub mod Laws
+pub mod Numbers
+pub mod Rebuilt
+pub mod Restricted
+pub mod Rows
+pub mod Texts
+pub mod Units

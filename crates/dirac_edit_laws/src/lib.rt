@@ -1,0 +1,11 @@
+//! What the cut of a stream and joined streams are, and what decoders show for them: definitions and laws, without any
+//! code.
+#![tactic(auto)]
+
+mod laws;
+
+pub use laws::{
+    closed_parts_show_the_whole, closed_pictures_are_alike, cuts_show_their_parts,
+    examples_of_edits, greater_keys_leave_later, numbers_have_their_keys, parts_keep_their_lists,
+    pictures_of_parts_are_of_the_whole, units_show_their_sequences,
+};
