@@ -1,0 +1,199 @@
+-- What headers say of a part is what its rebuilt pictures say.
+use Rattle.std.proofs.Common.{◌≡◌, ◌∙◌, ℕ, ◌==◌, Bool, true, false, not, ◌&&◌, ◌||◌, if◌then◌else◌, List, [], ◌∷◌, ◌++◌, length, drop, map, nat_le, Option, None, Some, Result, Ok, Err, refl, sym, ap, ap₂, subst, inl, inr}
+use Rattle.std.specs.Prelude.{is_some, option_map}
+use Rattle.std.specs.List.{AllByRecursion, filter, list_any}
+use Rattle.std.proofs.lemmas.Bool.{cases_Bool, cond-false, cond-true}
+use Rattle.std.proofs.lemmas.List.{length-map, map-append}
+use Rattle.dirac_types.specs.Chain.{◌>>=◌ as ◌>>◌}
+use Rattle.dirac_types.specs.declared.faults.Cause.TheVariants.{MissingReference}
+use Rattle.dirac_types.specs.declared.faults.Refusal.{Refusal}
+use Rattle.dirac_types.specs.declared.picture.Picture.{Picture}
+use Rattle.dirac_bits.specs.Answers.{value_of}
+use Rattle.dirac_bits.specs.Cursor.{Cursor, start}
+use Rattle.dirac_bits.specs.Syntax.{Syntax, done, refuse, ◌>>=◌, align, read}
+use Rattle.dirac_bits.specs.Then.{read_then}
+use Rattle.dirac_units.specs.Codes.{is_reference}
+use Rattle.dirac_sequence.specs.declared.sequence.Sequence.{Sequence}
+use Rattle.dirac_sequence.specs.Grammar.{sequence_read}
+use Rattle.dirac_header.specs.declared.header.PictureHeader.{PictureHeader}
+use Rattle.dirac_header.specs.Header.{header}
+use Rattle.dirac_refs.specs.declared.ref_buffer.TheConstants.{MOST_REFERENCES}
+use Rattle.dirac_refs.specs.References.{append, appended, as_reference, committed, listed, retire, without}
+use Rattle.dirac_picture.specs.declared.coded.CodedMotion.{CodedMotion}
+use Rattle.dirac_picture.specs.declared.coded.CodedPicture.{CodedPicture}
+use Rattle.dirac_picture.specs.Grammar.{are_listed, body, is_listed, motion, picture, picture_read, residual_unless, zero_residual}
+use Rattle.dirac_picture.proofs.Every.{Every, every_any, every_read, every_then}
+use Rattle.dirac_decode.specs.Content.{rebuilt}
+use Rattle.dirac_edit_laws.specs.Cut.{first_of, is_between, open_among, open_from, part_rebuilt, restricted}
+use Rattle.dirac_edit_laws.specs.Rebuilt.{AreRead, IsRead, RebuiltText, list_behind, rebuilt_behind, rebuilt_from, rebuilt_of, rebuilt_on, rebuilt_text}
+use Rattle.dirac_edit_laws.specs.Texts.{PictureText, SequenceText}
+use Rattle.dirac_edit.specs.Open.{first_open, first_open_among, header_in, list_with, numbered, open_or}
+
+-- a picture that was read has the header that its payload begins with, and its unit's parse code
+record HasFront (code : ℕ) (head : PictureHeader) (coded : CodedPicture) : Type 0 where
+  head_is : coded.header ≡ head
+  code_is : coded.code ≡ code
+
+abbrev with_residual : ℕ → Sequence → PictureHeader → Option CodedMotion → Bool → Syntax CodedPicture
+with_residual code s head m none = residual_unless none s >>= λ coded. done (record { code = code; header = head; motion = m; residual = coded })
+
+abbrev behind_gap : ℕ → Sequence → PictureHeader → Option CodedMotion → Syntax CodedPicture
+behind_gap code s head m = align >>= λ gap. (zero_residual code >>= with_residual code s head m)
+
+body_front : (code : ℕ) (s : Sequence) (head : PictureHeader) → Every (HasFront code head) (body code s head)
+unfolding body
+body_front code s head =
+    let P : CodedPicture → Type 0 = HasFront code head in
+    every_then (λ _. Unit {0}) P (motion code s) (behind_gap code s head) (every_any (motion code s)) (λ m _.
+    every_then (λ _. Unit {0}) P (zero_residual code) (with_residual code s head m) (every_any (zero_residual code)) (λ none _.
+    every_then (λ _. Unit {0}) P (residual_unless none s) (λ coded. done (record { code = code; header = head; motion = m; residual = coded })) (every_any (residual_unless none s)) (λ r _. record { head_is = refl; code_is = refl })))
+
+every_value : (P : CodedPicture → Type 0) (syntax : Syntax CodedPicture) (c : Cursor) (coded : CodedPicture) → Every P syntax → value_of (read syntax c) ≡ Ok coded → P coded
+every_value P syntax c coded every is =
+    elim (read syntax c) as (λ r. read syntax c ≡ r → value_of r ≡ Ok coded → P coded) [
+      | Err e ↦ λ at bad. absurd cc
+      | Ok x ↦ λ at good. let same : x.0 ≡ coded = cc in subst P same (every_read P syntax c x.1 x.0 every at)
+    ] refl is
+
+abbrev behind : ℕ → Sequence → List Picture → PictureHeader → Syntax CodedPicture
+behind code s refs head = if are_listed refs head then body code s head else refuse 0 MissingReference
+
+behind_front : (code : ℕ) (s : Sequence) (refs : List Picture) (head : PictureHeader) (d : Cursor) (coded : CodedPicture) → value_of (read (behind code s refs head) d) ≡ Ok coded → HasFront code head coded
+behind_front code s refs head d coded is =
+    elim (are_listed refs head) as (λ b. value_of (read (if b then body code s head else refuse 0 MissingReference) d) ≡ Ok coded → HasFront code head coded) [
+      | false ↦ λ bad. absurd cc
+      | true ↦ λ good. every_value (HasFront code head) (body code s head) d coded (body_front code s head) good
+    ] is
+
+record HasHeader (code : ℕ) (r : Result PictureHeader Refusal) (coded : CodedPicture) : Type 0 where
+  read_is : r ≡ Ok coded.header
+  code_is : coded.code ≡ code
+
+front_header : (code : ℕ) (s : Sequence) (refs : List Picture) (coded : CodedPicture) (r : Result (PictureHeader × Cursor) Refusal)
+    → value_of (r >> λ x. read (behind code s refs x.0) x.1) ≡ Ok coded → HasHeader code (value_of r) coded
+front_header code s refs coded (Err e) is = absurd cc
+front_header code s refs coded (Ok x) is =
+    let front : HasFront code x.0 coded = behind_front code s refs x.0 x.1 coded is in
+    record { read_is = ap Ok (sym front.head_is); code_is = front.code_is }
+
+header_is : (s : Sequence) (refs : List Picture) (p : PictureText) (coded : CodedPicture) → picture_read p.code s refs p.payload ≡ Ok coded → HasHeader p.code (header_in p) coded
+unfolding picture
+header_is s refs p coded is =
+    front_header p.code s refs coded (read (header p.code) (start p.payload)) (sym (ap value_of (read_then (header p.code) (behind p.code s refs) (start p.payload))) ∙ is)
+
+-- ---- numbers
+
+abbrev numbers : List Picture → List ℕ
+numbers list = map (λ (p : Picture). p.number) list
+
+found_or : (b t : Bool) (p : Picture) (o : Option Picture) → is_some o ≡ t → is_some (if b then Some p else o) ≡ (b || t)
+found_or true t p o same = refl
+found_or false t p o same = same
+
+some_listed : (list : List Picture) (n : ℕ) → is_some (listed list n) ≡ list_any (λ m. m == n) (numbers list)
+some_listed [] n = refl
+some_listed (p ∷ list) n = found_or (p.number == n) (list_any (λ m. m == n) (numbers list)) p (listed list n) (some_listed list n)
+
+same_listed : (xs ys : List Picture) (r : Option ℕ) → numbers xs ≡ numbers ys → is_listed xs r ≡ is_listed ys r
+same_listed xs ys None same = refl
+same_listed xs ys (Some n) same = some_listed xs n ∙ ap (list_any (λ m. m == n)) same ∙ sym (some_listed ys n)
+
+stays_or : (b : Bool) (p : Picture) (list : List Picture) (ns : List ℕ) → numbers list ≡ ns → numbers (if b then p ∷ list else list) ≡ (if b then p.number ∷ ns else ns)
+stays_or true p list ns same = ap (λ ms. p.number ∷ ms) same
+stays_or false p list ns same = same
+
+numbers_without : (n : ℕ) (list : List Picture) → numbers (without n list) ≡ filter (λ m. not (m == n)) (numbers list)
+numbers_without n [] = refl
+numbers_without n (p ∷ list) = stays_or (not (p.number == n)) p (without n list) (filter (λ m. not (m == n)) (numbers list)) (numbers_without n list)
+
+same_without : (n : ℕ) (xs ys : List Picture) → numbers xs ≡ numbers ys → numbers (without n xs) ≡ numbers (without n ys)
+same_without n xs ys same = numbers_without n xs ∙ ap (filter (λ m. not (m == n))) same ∙ sym (numbers_without n ys)
+
+same_retire : (xs ys : List Picture) (r : Option ℕ) → numbers xs ≡ numbers ys → numbers (retire xs r) ≡ numbers (retire ys r)
+same_retire xs ys None same = same
+same_retire xs ys (Some n) same = same_without n xs ys same
+
+numbers_append : (list : List Picture) (p : Picture) → numbers (append list p) ≡ (if nat_le MOST_REFERENCES (length (numbers list)) then drop 1 (numbers list) else numbers list) ++ p.number ∷ []
+numbers_append list p =
+    map-append (λ (q : Picture). q.number) (if nat_le MOST_REFERENCES (length list) then drop 1 list else list) (p ∷ [])
+    ∙ ap (λ ns. ns ++ p.number ∷ []) (oldest (nat_le MOST_REFERENCES (length list)) list ∙ ap (λ (n : ℕ). if nat_le MOST_REFERENCES n then drop 1 (numbers list) else numbers list) (sym (length-map list (λ (q : Picture). q.number)))) where
+      oldest : (b : Bool) (list : List Picture) → numbers (if b then drop 1 list else list) ≡ (if b then drop 1 (numbers list) else numbers list)
+      oldest true [] = refl
+      oldest true (q ∷ list) = refl
+      oldest false list = refl
+
+same_append : (xs ys : List Picture) (p q : Picture) → numbers xs ≡ numbers ys → p.number ≡ q.number → numbers (append xs p) ≡ numbers (append ys q)
+same_append xs ys p q same one =
+    numbers_append xs p ∙ ap (λ ns. (if nat_le MOST_REFERENCES (length ns) then drop 1 ns else ns) ++ p.number ∷ []) same
+    ∙ ap (λ n. (if nat_le MOST_REFERENCES (length (numbers ys)) then drop 1 (numbers ys) else numbers ys) ++ n ∷ []) one ∙ sym (numbers_append ys q)
+
+same_committed : (xs ys : List Picture) (r : Option ℕ) (code : ℕ) (p q : Picture) → numbers xs ≡ numbers ys → p.number ≡ q.number
+    → numbers (committed xs r (as_reference code p)) ≡ numbers (committed ys r (as_reference code q))
+same_committed xs ys r code p q same one =
+    let left = retire xs r in
+    let right = retire ys r in
+    let kept : numbers left ≡ numbers right = same_retire xs ys r same in
+    elim (is_reference code) as (λ b. numbers (appended left (if b then Some p else None)) ≡ numbers (appended right (if b then Some q else None))) [
+      | false ↦ kept
+      | true ↦ same_append (without p.number left) (without q.number right) p q (same_without p.number left right kept ∙ ap (λ n. numbers (without n right)) one) one
+    ]
+
+-- ---- a sequence
+
+-- the rebuilt pictures of the part
+abbrev between : ℕ → ℕ → RebuiltText → Bool
+between a b r = is_between a b r.text
+
+-- listed or not, on both sides
+pick : (t : Bool) (list : List Picture) (index : ℕ) (next : List Picture → Option ℕ) (later : Option ℕ) (t' : Bool) → t ≡ t' → next list ≡ later → open_or index next (if t then Some list else None) ≡ (if t' then later else Some index)
+pick true list index next later true e same = same
+pick false list index next later false e same = refl
+pick true list index next later false e same = absurd cc
+pick false list index next later true e same = absurd cc
+
+-- kept or not, on both sides
+both_kept : (t : Bool) (xs ys : List Picture) (p : PictureText) (r : RebuiltText) (ps : List PictureText) (rs : List RebuiltText) → first_open xs (p ∷ ps) ≡ open_from ys (r ∷ rs) → first_open xs ps ≡ open_from ys rs
+    → first_open xs (if t then p ∷ ps else ps) ≡ open_from ys (if t then r ∷ rs else rs)
+both_kept true xs ys p r ps rs with_it without_it = with_it
+both_kept false xs ys p r ps rs with_it without_it = without_it
+
+same_step : (a b : ℕ) (s : Sequence) (p : PictureText) (pictures : List PictureText) (whole xs ys : List Picture) (coded : CodedPicture) → picture_read p.code s whole p.payload ≡ Ok coded → numbers xs ≡ numbers ys
+    → ((xs ys : List Picture) → numbers xs ≡ numbers ys → first_open xs (filter (is_between a b) pictures) ≡ open_from ys (filter (between a b) (rebuilt_from s (list_behind whole (rebuilt_text s whole p coded)) pictures)))
+    → first_open xs (filter (is_between a b) (p ∷ pictures)) ≡ open_from ys (filter (between a b) (rebuilt_from s whole (p ∷ pictures)))
+unfolding first_open open_from rebuilt_from
+same_step a b s p pictures whole xs ys coded is same later =
+    let r : RebuiltText = rebuilt_text s whole p coded in
+    let rest : List RebuiltText = rebuilt_from s (list_behind whole r) pictures in
+    let head : HasHeader p.code (header_in p) coded = header_is s whole p coded is in
+    let all : rebuilt_from s whole (p ∷ pictures) ≡ r ∷ rest = ap (rebuilt_on s whole p (λ next. rebuilt_from s next pictures)) is in
+    let kept : numbers (committed xs coded.header.retire (as_reference p.code (numbered coded.header.number))) ≡ numbers (list_behind ys r) =
+    same_committed xs ys coded.header.retire p.code (numbered coded.header.number) r.picture same refl
+    ∙ ap (λ (n : ℕ). numbers (committed ys coded.header.retire (as_reference n r.picture))) (sym head.code_is) in
+    let listed_same : are_listed xs coded.header ≡ are_listed ys coded.header =
+    ap₂ (λ (x y : Bool). x && y) (same_listed xs ys coded.header.ref1 same) (same_listed xs ys coded.header.ref2 same) in
+    let step : first_open xs (p ∷ filter (is_between a b) pictures) ≡ open_from ys (r ∷ filter (between a b) rest) =
+    ap (λ h. open_or p.index (λ next. first_open next (filter (is_between a b) pictures)) (list_with xs p.code h)) head.read_is
+    ∙ pick (are_listed xs coded.header) (committed xs coded.header.retire (as_reference p.code (numbered coded.header.number))) p.index (λ next. first_open next (filter (is_between a b) pictures))
+    (open_from (list_behind ys r) (filter (between a b) rest)) (are_listed ys coded.header) listed_same
+    (later (committed xs coded.header.retire (as_reference p.code (numbered coded.header.number))) (list_behind ys r) kept) in
+    both_kept (is_between a b p) xs ys p r (filter (is_between a b) pictures) (filter (between a b) rest) step (later xs ys same)
+    ∙ sym (ap (λ (l : List RebuiltText). open_from ys (filter (between a b) l)) all)
+
+same_open : (a b : ℕ) (s : Sequence) (pictures : List PictureText) (whole xs ys : List Picture) → AreRead s whole pictures → numbers xs ≡ numbers ys
+    → first_open xs (filter (is_between a b) pictures) ≡ open_from ys (filter (between a b) (rebuilt_from s whole pictures))
+unfolding first_open open_from rebuilt_from AreRead
+same_open a b s [] whole xs ys read same = refl
+same_open a b s (p ∷ pictures) whole xs ys read same =
+    same_step a b s p pictures whole xs ys read.0 read.1 same (λ xs ys e. same_open a b s pictures (list_behind whole (rebuilt_text s whole p read.0)) xs ys read.2 e)
+
+open_in : (a b : ℕ) (t : SequenceText) → IsRead t → first_open [] (restricted a b t).pictures ≡ open_from [] (part_rebuilt a b t)
+unfolding rebuilt_of
+open_in a b t read =
+    same_open a b read.sequence t.pictures [] [] [] read.pictures refl
+    ∙ sym (ap (λ r. open_from [] (filter (between a b) (rebuilt_behind t.pictures r))) read.header)
+
+-- the first open unit of a part
+pub open_is : (a b : ℕ) (ts : List SequenceText) → AllByRecursion IsRead ts → first_open_among (map (restricted a b) ts) ≡ open_among a b ts
+unfolding first_open_among open_among
+open_is a b [] read = refl
+open_is a b (t ∷ ts) read = ap₂ first_of (open_in a b t read.0) (open_is a b ts read.1)

@@ -1,0 +1,41 @@
+-- The bytes of sequences and their pictures, piece by piece.
+use Rattle.std.proofs.Common.{◌≡◌, ◌∙◌, ℕ, ◌+◌, ◌<◌, ◌≤◌, List, [], ◌∷◌, ◌++◌, length, drop, get_or, nat_lt, sym, ap, arith, if◌then◌else◌}
+use Rattle.std.proofs.lemmas.Bool.{cond-false, cond-true, le-ltb, lt-ltb}
+use Rattle.std.proofs.lemmas.List.{drop_all}
+use Rattle.dirac_units.specs.declared.codes.TheConstants.{SEQUENCE_HEADER}
+use Rattle.dirac_stream.specs.Stream.{end_unit, unit}
+use Rattle.dirac_edit_laws.specs.Texts.{PictureText, SequenceText, with_pictures}
+use Rattle.dirac_edit_laws.specs.Units.{pictures_bytes, sequence_bytes, sequences_bytes}
+use Rattle.dirac_edit.proofs.Going.{left_at}
+
+-- a unit by its parse code and payload
+pub same_unit : (code code' previous : ℕ) (payload payload' : List ℕ) → code ≡ code' → payload ≡ payload' → unit code previous payload ≡ unit code' previous payload'
+same_unit code code' previous payload payload' codes payloads = ap (λ n. unit n previous payload) codes ∙ ap (unit code' previous) payloads
+
+-- pictures from a place on
+pub pictures_left : (pictures : List PictureText) (i : ℕ) (p : PictureText) (previous : ℕ) → i < length pictures → p ≡ get_or pictures i p
+    → pictures_bytes previous (drop i pictures) ≡ unit p.code previous p.payload ++ pictures_bytes (13 + length p.payload) (drop (i + 1) pictures)
+unfolding pictures_bytes
+pictures_left pictures i p previous inside is = ap (pictures_bytes previous) (left_at pictures i p inside is)
+
+pub no_picture_left : (pictures : List PictureText) (i previous : ℕ) → length pictures ≤ i → pictures_bytes previous (drop i pictures) ≡ end_unit previous
+unfolding pictures_bytes
+no_picture_left pictures i previous past = ap (pictures_bytes previous) (drop_all i pictures past)
+
+-- sequences from a place on: one without pictures, one with pictures, none
+pub empty_left : (sequences : List SequenceText) (i : ℕ) (s : SequenceText) (previous : ℕ) → i < length sequences → s ≡ get_or sequences i s → length s.pictures ≡ 0
+    → sequences_bytes previous (with_pictures (drop i sequences)) ≡ sequences_bytes previous (with_pictures (drop (i + 1) sequences))
+empty_left sequences i s previous inside is none =
+    ap (λ ss. sequences_bytes previous (with_pictures ss)) (left_at sequences i s inside is)
+    ∙ ap (sequences_bytes previous) (cond-false (nat_lt 0 (length s.pictures)) _ _ (le-ltb 0 (length s.pictures) (omega (arith, none))))
+
+pub sequence_left : (sequences : List SequenceText) (i : ℕ) (s : SequenceText) (previous : ℕ) → i < length sequences → s ≡ get_or sequences i s → 0 < length s.pictures
+    → sequences_bytes previous (with_pictures (drop i sequences)) ≡ sequence_bytes previous s ++ sequences_bytes 13 (with_pictures (drop (i + 1) sequences))
+unfolding sequences_bytes
+sequence_left sequences i s previous inside is some =
+    ap (λ ss. sequences_bytes previous (with_pictures ss)) (left_at sequences i s inside is)
+    ∙ ap (sequences_bytes previous) (cond-true (nat_lt 0 (length s.pictures)) _ _ (lt-ltb 0 (length s.pictures) some))
+
+pub no_sequence_left : (sequences : List SequenceText) (i previous : ℕ) → length sequences ≤ i → sequences_bytes previous (with_pictures (drop i sequences)) ≡ []
+unfolding sequences_bytes
+no_sequence_left sequences i previous past = ap (λ ss. sequences_bytes previous (with_pictures ss)) (drop_all i sequences past)

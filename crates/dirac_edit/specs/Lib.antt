@@ -1,0 +1,5 @@
+pub mod Open
+pub mod Edits
+pub mod Steps
+pub mod Units
+pub mod Kept

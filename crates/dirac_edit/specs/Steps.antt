@@ -1,0 +1,61 @@
+-- What the steps of a cut and a joining answer.
+-- Inner: for the proofs of this crate.
+use Rattle.std.specs.Prelude.{◌≡◌, ℕ, List, Option, None, Some, ⊤}
+use Rattle.dirac_units.specs.Cut.{UnitText}
+use Rattle.dirac_decode.specs.Shown.{IsShown, Outcome}
+use Rattle.dirac_edit_laws.specs.Cut.{end_point, part_of}
+use Rattle.dirac_edit_laws.specs.Texts.{SequenceText, points_of, with_pictures}
+use Rattle.dirac_edit.specs.declared.answers.Edited.{Edited}
+use Rattle.dirac_edit.specs.declared.answers.Edited.TheVariants as edited
+use Rattle.dirac_edit.specs.Edits.{ShowsPart, cut_refusal}
+
+-- the answers of a reading that stopped
+abbrev pub StopsReading : Edited → Type 0
+StopsReading edited.Done = ⊥
+StopsReading (edited.Fault fault) = ⊥
+StopsReading (edited.NoSuchPoint n) = ⊥
+StopsReading (edited.OpenCut n) = ⊥
+StopsReading edited.ReadFault = ⊤
+StopsReading edited.WriteFault = ⊥
+StopsReading edited.NoMemory = ⊤
+
+-- the stream of these bytes has no fault
+abbrev pub HasNoFault : List ℕ → Type 0
+HasNoFault bytes = (o : Outcome) × IsShown bytes o × (o.end ≡ None)
+
+-- this answer is why nothing is written, or memory was wanting
+abbrev pub IsReason : Edited → Option Edited → Type 0
+IsReason edited.Done refusal = ⊥
+IsReason (edited.Fault fault) refusal = refusal ≡ Some (edited.Fault fault)
+IsReason (edited.NoSuchPoint n) refusal = refusal ≡ Some (edited.NoSuchPoint n)
+IsReason (edited.OpenCut n) refusal = refusal ≡ Some (edited.OpenCut n)
+IsReason edited.ReadFault refusal = ⊥
+IsReason edited.WriteFault refusal = ⊥
+IsReason edited.NoMemory refusal = ⊤
+
+-- the first fault of the stream of these bytes is the answer, or memory was wanting
+abbrev pub IsRefused : List ℕ → Edited → Type 0
+IsRefused bytes (edited.Fault fault) = (o : Outcome) × IsShown bytes o × (o.end ≡ Some fault)
+IsRefused bytes edited.NoMemory = (o : Outcome) × IsShown bytes o
+IsRefused bytes _ = ⊥
+
+-- a stream without a fault, and its units
+pub record IsChecked (bytes : List ℕ) (units : List UnitText) : Type 0 where
+  pub outcome : Outcome
+  pub stream : IsShown bytes outcome
+  pub none : outcome.end ≡ None
+  pub same : stream.units ≡ units
+
+-- a cut of these bytes isn't refused, and has the pictures of these sequences
+pub record IsPart (bytes : List ℕ) (from : ℕ) (to : Option ℕ) (part : List SequenceText) : Type 0 where
+  pub outcome : Outcome
+  pub stream : IsShown bytes outcome
+  pub allowed : cut_refusal outcome.end stream.units from to ≡ None
+  pub shows : ShowsPart bytes from to
+  pub same : with_pictures part ≡ part_of from (end_point to (points_of stream.units)) stream.units
+
+-- a cut of these bytes is refused by this answer, or memory was wanting
+pub record RefusesCut (bytes : List ℕ) (from : ℕ) (to : Option ℕ) (answer : Edited) : Type 0 where
+  pub outcome : Outcome
+  pub stream : IsShown bytes outcome
+  pub reason : IsReason answer (cut_refusal outcome.end stream.units from to)
