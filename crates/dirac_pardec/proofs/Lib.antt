@@ -1,3 +1,2 @@
 pub mod Sliced
 pub mod Placed
-pub mod Lending
