@@ -21,7 +21,7 @@ use Rattle.dirac_coeffs.specs.declared.layout.CodedBand.{CodedBand}
 use Rattle.dirac_coeffs.specs.Written.{is_zero_band}
 use Rattle.dirac_lift.specs.Level.{analysed}
 use Rattle.dirac_analysis.specs.Analysis.{coded, coded_bands, coded_lowest, differences, padded, reduced_values}
-use Rattle.dirac_analysis.specs.Fits.{AreDifferences, AreLevelBands, AreSamples, IsLevelBand, IsDivisible, grown}
+use Rattle.dirac_analysis.specs.Fits.{AreDifferences, AreLevelBands, AreSamples, IsLevelBand, IsDivisible, IsQuantisable, grown}
 use Rattle.dirac_analysis.specs.Laws.{PlanesFit}
 use Rattle.dirac_analysis.proofs.OneLevel.{length-filled, level_grows, low_divisible, padded_divisible}
 use Rattle.dirac_analysis.proofs.Undone.{differences_sum, front_get}
@@ -81,6 +81,11 @@ band_bound b right below t all =
 
 pub band_under : (b right below : ℕ) (t band : Table) → b < 2 ^ 38 → band ≡ band_of t right below → All (λ v. unsigned_abs v ≤ b) t.values → All (λ v. unsigned_abs v < 2 ^ 38) band.values
 band_under b right below t band few is all = all_under b (2 ^ 38) band.values few (rw is (band_bound b right below t all))
+
+pub band_quantisable : (b right below : ℕ) (t band : Table) → b < 2 ^ 38 → t.width ≤ 8192 → t.height ≤ 8192 → band ≡ band_of t right below → All (λ v. unsigned_abs v ≤ b) t.values → IsQuantisable band
+band_quantisable b right below t band few across down is all =
+    rw is
+    (record { across = omega arith; down = omega arith; small = all_under b (2 ^ 38) (band_of t right below).values few (band_bound b right below t all) })
 
 -- ---- a list of bands
 

@@ -1,3 +1,4 @@
 pub mod OneLevel
 pub mod Undone
 pub mod Fitting
+pub mod Analysing

@@ -120,17 +120,6 @@ length-coded_bands kind wavelet index t zero = refl
 length-coded_bands kind wavelet index t (suc depth) =
     omega (arith, length-append (coded_bands kind wavelet index (band_of (analysed wavelet t) 0 0) depth) (coded_level index (analysed wavelet t)), length-coded_bands kind wavelet index (band_of (analysed wavelet t) 0 0) depth)
 
-pub levels_are : (kind : Kind) (wavelet index depth n : ℕ) (xs bs : List CodedBand) (h l d : CodedBand) (low plane : Table) → depth ≡ suc n → bs ≡ xs ++ h ∷ l ∷ d ∷ [] → xs ≡ coded_bands kind wavelet index low n
-    → low ≡ band_of (analysed wavelet plane) 0 0 → h ≡ coded index (band_of (analysed wavelet plane) 1 0) → l ≡ coded index (band_of (analysed wavelet plane) 0 1) → d ≡ coded index (band_of (analysed wavelet plane) 1 1)
-    → bs ≡ coded_bands kind wavelet index plane depth
-unfolding coded_bands
-levels_are kind wavelet index depth n xs bs h l d low plane next is below low_is h_is l_is d_is =
-    is ∙ rw (below, low_is, h_is, l_is, d_is) refl ∙ ap (coded_bands kind wavelet index plane) (sym next)
-
-pub lowest_are : (kind : Kind) (wavelet index : ℕ) (bs : List CodedBand) (b : CodedBand) (plane : Table) → bs ≡ b ∷ [] → b ≡ coded_lowest kind index plane → bs ≡ coded_bands kind wavelet index plane 0
-unfolding coded_bands
-lowest_are kind wavelet index bs b plane is one = is ∙ ap (λ x. x ∷ []) one
-
 -- ---- padding
 
 -- what was padded is cut off

@@ -50,3 +50,46 @@ coded_bands kind wavelet index t (suc depth) =
 -- the subbands of a plane
 abbrev pub plane_bands : Kind → ℕ → ℕ → ℕ → Table → List CodedBand
 plane_bands kind wavelet depth index t = coded_bands kind wavelet index (padded depth t) depth
+
+-- the LL band of a table that is analysed so often
+unfoldable pub lowest_after : ℕ → Table → ℕ → Table
+lowest_after wavelet t zero = t
+lowest_after wavelet t (suc depth) = lowest_after wavelet (band_of (analysed wavelet t) 0 0) depth
+
+-- HL, LH and HH of an analysed level
+abbrev pub level_bands : Table → List Table
+level_bands t = band_of t 1 0 ∷ band_of t 0 1 ∷ band_of t 1 1 ∷ []
+
+-- its other bands, those of the lowest level first
+unfoldable pub higher_bands : ℕ → Table → ℕ → List Table
+higher_bands wavelet t zero = []
+higher_bands wavelet t (suc depth) =
+    higher_bands wavelet (band_of (analysed wavelet t) 0 0) depth ++ level_bands (analysed wavelet t)
+
+-- an analysed plane: its LL band as it is coded, and its other bands
+pub record Analysis : Type 0 where
+  pub lowest : Table
+  pub higher : List Table
+
+-- LL as it is coded: an intra picture's less its predictions
+abbrev pub as_coded : Kind → Table → Table
+as_coded Intra t = differences t
+as_coded Inter t = t
+
+-- a table that is analysed so often, before it is quantised
+abbrev pub analysis_of : Kind → ℕ → Table → ℕ → Analysis
+analysis_of kind wavelet t depth =
+    record { lowest = as_coded kind (lowest_after wavelet t depth); higher = higher_bands wavelet t depth }
+
+-- a plane before it is quantised
+abbrev pub plane_analysis : Kind → ℕ → ℕ → Table → Analysis
+plane_analysis kind wavelet depth t = analysis_of kind wavelet (padded depth t) depth
+
+-- the index of LL: an intra picture's is 0
+abbrev pub lowest_index : Kind → ℕ → ℕ
+lowest_index Intra index = 0
+lowest_index Inter index = index
+
+-- the subbands of an analysed plane at this index
+abbrev pub quantised : Kind → ℕ → Analysis → List CodedBand
+quantised kind index a = coded (lowest_index kind index) a.lowest ∷ map (λ t. coded index t) a.higher

@@ -2,11 +2,13 @@
 use Rattle.std.specs.Prelude.{◌≡◌, ℕ, ℤ, zero, suc, ◌+◌, ◌-◌, ◌*◌, ◌/◌, ◌^◌, ◌<◌, ◌≤◌, List, length, true, Some, slice_get, unsigned_abs}
 use Rattle.std.specs.List.{All}
 use Rattle.dirac_types.specs.Limits.{IsIndex}
+use Rattle.dirac_types.specs.declared.limits.TheConstants.{LARGEST_TABLE_SIDE}
 use Rattle.dirac_types.specs.Table.{Table}
 use Rattle.dirac_types.specs.Samples.{clip}
 pub use Rattle.dirac_bands.specs.Geometry.{lowest_size}
 use Rattle.dirac_coeffs.specs.declared.layout.CodedBand.{CodedBand}
 use Rattle.dirac_coeffs.specs.Written.{is_zero_band}
+use Rattle.dirac_analysis.specs.Analysis.{Analysis}
 
 -- samples are from -128 to 127: clipping keeps them
 abbrev pub AreSamples : List ℤ → Type 0
@@ -43,3 +45,14 @@ pub record AreLevelBands (across down depth : ℕ) (bands : List CodedBand) : Ty
   pub count : length bands ≡ 3 * depth + 1
   pub each : (n : ℕ) (b : CodedBand) → slice_get bands n ≡ Some b
       → IsLevelBand (across * 2 ^ ((n - 1) / 3)) (down * 2 ^ ((n - 1) / 3)) b
+
+-- a table whose values can be quantised
+pub record IsQuantisable (t : Table) : Type 0 where
+  pub across : t.width ≤ LARGEST_TABLE_SIDE
+  pub down : t.height ≤ LARGEST_TABLE_SIDE
+  pub small : All (λ v. unsigned_abs v < 2 ^ 38) t.values
+
+-- an analysed plane of such tables
+pub record AreQuantisable (a : Analysis) : Type 0 where
+  pub lowest : IsQuantisable a.lowest
+  pub higher : (n : ℕ) (t : Table) → slice_get a.higher n ≡ Some t → IsQuantisable t

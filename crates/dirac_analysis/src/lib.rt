@@ -2,11 +2,15 @@
 //! residual undoes.
 #![tactic(auto)]
 
+mod analysed;
 mod coded;
 mod laws;
 mod levels;
 mod padding;
 mod plane;
+mod quantising;
 
+pub use analysed::AnalysedPlane;
 pub use laws::planes_are_coded;
-pub use plane::analyse_plane;
+pub use plane::{analyse, analyse_plane};
+pub use quantising::quantise_plane;

@@ -20,8 +20,8 @@ fn pad_row(samples: &[i16], line: &mut [i128])
     }
 }
 
-/// A plane padded up to multiples of 2 to the power of the transform's depth: the last sample of each row again, then the
-/// last row again.
+/// A plane padded up to multiples of 2 to the power of the transform's depth: the last sample of each row again, then
+/// the last row again.
 pub(crate) fn pad(alloc: Global, plane: &Plane, depth: u8) -> Result<Wide, NoMemory>
     requires depth { IsEncodedDepth depth }
     requires across { plane.now.width ≤ LARGEST_SIDE }

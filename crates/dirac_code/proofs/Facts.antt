@@ -1,6 +1,7 @@
 -- The coded picture of a planned source fits its sequence, and can be written.
-use Rattle.std.proofs.Common.{◌≡◌, ℕ, Bool, true, false, if◌then◌else◌, List, [], Option, None, Some, Ok, refl, sym, ap, ◌∙◌, subst}
-use Rattle.std.specs.Prelude.{IfSome}
+use Rattle.std.proofs.Common.{◌≡◌, ℕ, Bool, true, false, if◌then◌else◌, List, [], Option, None, Some, Ok, refl, sym, ap, ap₂, ◌∙◌, subst}
+use Rattle.std.specs.Prelude.{IfOk, IfSome, Result}
+use Rattle.dirac_types.specs.declared.memory.NoMemory.{NoMemory}
 use Rattle.dirac_types.specs.declared.picture.Picture.{Picture}
 use Rattle.dirac_types.specs.declared.settings.Settings.{Settings}
 use Rattle.dirac_sequence.specs.declared.sequence.Sequence.{Sequence}
@@ -23,7 +24,8 @@ use Rattle.dirac_stream.proofs.Kept.{kept_with}
 use Rattle.dirac_stream.proofs.Lefts.{motion_fits}
 use Rattle.dirac_stream.proofs.Reading.{Moves, predicting, read_spelled, residual_fits, residual_small}
 use Rattle.dirac_stream.proofs.Reading.Moves.{moves, stays}
-use Rattle.dirac_code.specs.Asked.{HasBlocks, IsAsked}
+use Rattle.dirac_code.specs.declared.picture.Coded.{Coded}
+use Rattle.dirac_code.specs.Asked.{HasBlocks, IsAsked, IsCoding}
 
 -- just an inter picture has motion
 pub moves_of : (t : Settings) (q : Planned) (o : Option BlockTable) → HasBlocks t q.code o → Moves t q (motion_among t o)
@@ -90,3 +92,11 @@ inter_moves t q (Some m) (moves b inter chose) x e = inter
 pub shown_again : (t : Settings) (refs : List Picture) (q : Planned) (p : Picture) (m : Option CodedMotion) → IsAsked t refs q p → Moves t q m → IsWhole p → p.number ≡ q.number → t.index ≡ 0 → rebuilt (sequence_of t) refs (coded_with t refs q p m) ≡ p
 shown_again t refs q p m is known whole number none =
     kept_with t refs q p m is.accepted is.source whole is.planned is.found (intra_moves t q m known) (inter_moves t q m known) number none
+
+-- what is coded with the same motion
+pub coding_by : (t : Settings) (refs : List Picture) (q : Planned) (p : Picture) (m n : Option CodedMotion) (r : Result Coded NoMemory) → m ≡ n → IfOk r (IsCoding t refs q p m) → IfOk r (IsCoding t refs q p n)
+coding_by t refs q p m n r e is = subst (λ (x : Option CodedMotion). IfOk r (IsCoding t refs q p x)) e is
+
+-- a picture that is rebuilt from the same
+pub shown_from : (s u : Sequence) (refs : List Picture) (c d : CodedPicture) → s ≡ u → c ≡ d → rebuilt s refs c ≡ rebuilt u refs d
+shown_from s u refs c d es ec = ap₂ (λ (x : Sequence) (y : CodedPicture). rebuilt x refs y) es ec

@@ -21,7 +21,7 @@ use Rattle.dirac_choose.proofs.Fitting.{chosen_fits}
 use Rattle.dirac_stream.specs.Coded.{IsSource}
 use Rattle.dirac_stream.proofs.Lefts.{named_is, picture_is}
 use Rattle.dirac_code.specs.Asked.{IsAsked, IsMoving}
-use Rattle.dirac_code.specs.declared.making.Moving.{Moving}
+use Rattle.dirac_code.specs.declared.prepared.Moving.{Moving}
 use Rattle.dirac_code.proofs.Choices.{can_choose}
 
 -- a picture that is found is one of the sequence

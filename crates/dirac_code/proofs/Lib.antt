@@ -5,4 +5,5 @@ pub mod Differences
 pub mod Facts
 pub mod Lending
 pub mod Predicting
+pub mod Preparing
 pub mod Taken

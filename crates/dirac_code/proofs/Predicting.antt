@@ -1,5 +1,5 @@
 -- What is predicted for a source is what its definitions say, and can be taken away from it.
-use Rattle.std.proofs.Common.{◌≡◌, ℕ, ◌*◌, ℤ, if◌then◌else◌, List, length, IsSome, Option, None, Some, refl, sym, ap, ap₂, ◌∙◌, subst}
+use Rattle.std.proofs.Common.{◌≡◌, ℕ, ◌*◌, ℤ, List, length, IsSome, Option, None, Some, refl, sym, ap, ap₂, ◌∙◌, subst}
 use Rattle.std.specs.List.{All}
 use Rattle.std.specs.Option.{ForSome}
 use Rattle.dirac_types.specs.declared.formats.Kind.TheVariants.{Inter}
@@ -19,8 +19,7 @@ use Rattle.dirac_picture.specs.declared.coded.CodedResidual.{CodedResidual}
 use Rattle.dirac_residual.specs.Residual.{clipped, with_prediction}
 use Rattle.dirac_decode.specs.Content.{height_of, named, plane_of, predicted_among, rebuilt, residual_among, width_of}
 use Rattle.dirac_plan.specs.declared.planned.Planned.{Planned}
-use Rattle.dirac_plan_laws.specs.Headers.{header_of}
-use Rattle.dirac_stream.specs.Coded.{IsSource, bands_of, coded_with, is_zero_residual, less_prediction, motion_with, residual_of, transform_of}
+use Rattle.dirac_stream.specs.Coded.{IsSource, motion_with}
 use Rattle.dirac_stream.specs.Laws.{IsWhole}
 use Rattle.dirac_choose.specs.Chosen.{IsChosen}
 use Rattle.dirac_choose.specs.Lent.{AreNamed, first_of, second_of}
@@ -29,15 +28,14 @@ use Rattle.dirac_stream.proofs.Lefts.{named_is, predicted_are}
 use Rattle.dirac_stream.proofs.Reading.{predicting, second_found, source_plane}
 use Rattle.dirac_code.specs.declared.predictions.Predictions.{Predictions}
 use Rattle.dirac_code.specs.Asked.{IsAsked}
-use Rattle.dirac_code.specs.Predictions.{ArePredictions, IsPicturePredictedBy, IsPredictedBy, IsPrediction, picture_from, residual_less, residual_whole}
+use Rattle.dirac_code.specs.Predictions.{ArePredictions, IsPicturePredictedBy, IsPredictedBy, IsPrediction, picture_from}
 
--- what is predicted from the references that a header names
-pub named_predictions : (s : Sequence) (refs : List Picture) (q : Planned) (head : PictureHeader) (m : CodedMotion) (ps : Predictions) (r : References) → head ≡ header_of q → AreNamed refs q r
-    → ArePredictions s (Some (first_of r)) (second_of r) m ps → ArePredictions s (named refs head.ref1) (named refs head.ref2) m ps
-named_predictions s refs q head m ps r eh is predicted =
-    subst (λ (h : PictureHeader). ArePredictions s (named refs h.ref1) (named refs h.ref2) m ps) (sym eh)
-    (subst (λ (o : Option Picture). ArePredictions s o (named refs q.ref2) m ps) (sym is.first)
-    (subst (λ (o : Option Picture). ArePredictions s (Some (first_of r)) o m ps) (sym is.second) predicted))
+-- what is predicted from the references of a plan
+pub named_predictions : (s : Sequence) (refs : List Picture) (q : Planned) (m : CodedMotion) (ps : Predictions) (r : References) → AreNamed refs q r
+    → ArePredictions s (Some (first_of r)) (second_of r) m ps → ArePredictions s (named refs q.ref1) (named refs q.ref2) m ps
+named_predictions s refs q m ps r is predicted =
+    subst (λ (o : Option Picture). ArePredictions s o (named refs q.ref2) m ps) (sym is.first)
+    (subst (λ (o : Option Picture). ArePredictions s (Some (first_of r)) o m ps) (sym is.second) predicted)
 
 some_of : (o : Option Picture) → (o ≡ None → ⊥) → IsSome o
 some_of None there = absurd (there refl)
@@ -51,11 +49,10 @@ second_lent t refs q p m b r is em chose lent two =
     (some_of (named refs q.ref2) (second_found refs q is.planned is.found (sym chose.refs ∙ ap (λ (x : CodedMotion). x.blocks.refs) (sym em) ∙ two)))
 
 -- what is predicted, by the definitions
-same_among : (t : Settings) (s : Sequence) (refs : List Picture) (q : Planned) (head : PictureHeader) (m : CodedMotion) (b : BlockTable) (o : Component) (values : List ℤ) → s ≡ sequence_of t → head ≡ header_of q → m ≡ motion_with t b
-    → IsPrediction s (named refs head.ref1) (named refs head.ref2) m o values → values ≡ predicted_among (sequence_of t) (motion_with t b) (named refs q.ref1) (named refs q.ref2) o
-same_among t s refs q head m b o values es eh em is =
-    is.same ∙ ap₂ (λ (x : Sequence) (y : CodedMotion). predicted_among x y (named refs head.ref1) (named refs head.ref2) o) es em
-    ∙ ap (λ (h : PictureHeader). predicted_among (sequence_of t) (motion_with t b) (named refs h.ref1) (named refs h.ref2) o) eh
+pub same_among : (t : Settings) (s : Sequence) (refs : List Picture) (q : Planned) (m : CodedMotion) (b : BlockTable) (o : Component) (values : List ℤ) → s ≡ sequence_of t → m ≡ motion_with t b
+    → IsPrediction s (named refs q.ref1) (named refs q.ref2) m o values → values ≡ predicted_among (sequence_of t) (motion_with t b) (named refs q.ref1) (named refs q.ref2) o
+same_among t s refs q m b o values es em is =
+    is.same ∙ ap₂ (λ (x : Sequence) (y : CodedMotion). predicted_among x y (named refs q.ref1) (named refs q.ref2) o) es em
 
 whole_plane : (p : Picture) (o : Component) → IsWhole p → length (plane_of p o).values ≡ (plane_of p o).width * (plane_of p o).height
 whole_plane p component.Y is = is.y
@@ -63,59 +60,24 @@ whole_plane p component.U is = is.u
 whole_plane p component.V is = is.v
 
 -- it can be taken away from a plane of the source
-plane_asked : (t : Settings) (s : Sequence) (refs : List Picture) (q : Planned) (p : Picture) (head : PictureHeader) (m : CodedMotion) (b : BlockTable) (o : Component) (values : List ℤ) → IsAsked t refs q p → IsWhole p → s ≡ sequence_of t → head ≡ header_of q
-    → m ≡ motion_with t b → IsChosen t q.code b → IsPrediction s (named refs head.ref1) (named refs head.ref2) m o values → IsPredictedBy (plane_of p o) values
-plane_asked t s refs q p head m b o values is whole es eh em chose predicted =
+plane_asked : (t : Settings) (s : Sequence) (refs : List Picture) (q : Planned) (p : Picture) (m : CodedMotion) (b : BlockTable) (o : Component) (values : List ℤ) → IsAsked t refs q p → IsWhole p → s ≡ sequence_of t
+    → m ≡ motion_with t b → IsChosen t q.code b → IsPrediction s (named refs q.ref1) (named refs q.ref2) m o values → IsPredictedBy (plane_of p o) values
+plane_asked t s refs q p m b o values is whole es em chose predicted =
     let one : (x : Option ℕ) → ForSome (named refs x) (IsSource t) = λ x. named_is (IsSource t) refs x is.listed in
     let plane = source_plane t p o is.source in
     let samples = predicted_are t q.code b (named refs q.ref1) (named refs q.ref2) o (predicting t is.accepted) chose (one q.ref1) (one q.ref2) (second_found refs q is.planned is.found) in
     record {
       len = predicted.len ∙ ap (λ (x : Sequence). width_of x o * height_of x o) es ∙ ap₂ (λ (w h : ℕ). w * h) (sym plane.across) (sym plane.down) ∙ sym (whole_plane p o whole);
-      samples = subst (λ (l : List ℤ). All IsSample l) (sym (same_among t s refs q head m b o values es eh em predicted)) samples;
+      samples = subst (λ (l : List ℤ). All IsSample l) (sym (same_among t s refs q m b o values es em predicted)) samples;
     }
 
-pub picture_asked : (t : Settings) (s : Sequence) (refs : List Picture) (q : Planned) (p : Picture) (head : PictureHeader) (m : CodedMotion) (b : BlockTable) (ps : Predictions) → IsAsked t refs q p → IsWhole p → s ≡ sequence_of t → head ≡ header_of q
-    → m ≡ motion_with t b → IsChosen t q.code b → ArePredictions s (named refs head.ref1) (named refs head.ref2) m ps → IsPicturePredictedBy p ps
-picture_asked t s refs q p head m b ps is whole es eh em chose predicted = record {
-  y = plane_asked t s refs q p head m b component.Y ps.y.values is whole es eh em chose predicted.y;
-  u = plane_asked t s refs q p head m b component.U ps.u.values is whole es eh em chose predicted.u;
-  v = plane_asked t s refs q p head m b component.V ps.v.values is whole es eh em chose predicted.v;
+pub picture_asked : (t : Settings) (s : Sequence) (refs : List Picture) (q : Planned) (p : Picture) (m : CodedMotion) (b : BlockTable) (ps : Predictions) → IsAsked t refs q p → IsWhole p → s ≡ sequence_of t
+    → m ≡ motion_with t b → IsChosen t q.code b → ArePredictions s (named refs q.ref1) (named refs q.ref2) m ps → IsPicturePredictedBy p ps
+picture_asked t s refs q p m b ps is whole es em chose predicted = record {
+  y = plane_asked t s refs q p m b component.Y ps.y.values is whole es em chose predicted.y;
+  u = plane_asked t s refs q p m b component.U ps.u.values is whole es em chose predicted.u;
+  v = plane_asked t s refs q p m b component.V ps.v.values is whole es em chose predicted.v;
 }
-
--- the coded residual is the one of the definitions
-residual_same : (t : Settings) (s : Sequence) (refs : List Picture) (q : Planned) (p : Picture) (head : PictureHeader) (m : CodedMotion) (b : BlockTable) (ps : Predictions) → s ≡ sequence_of t → head ≡ header_of q → m ≡ motion_with t b
-    → ArePredictions s (named refs head.ref1) (named refs head.ref2) m ps → residual_less t p ps ≡ residual_of t refs (header_of q) (Some (motion_with t b)) p
-residual_same t s refs q p head m b ps es eh em is =
-    made _ _ _ _ _ _
-    (same_among t s refs q head m b component.Y ps.y.values es eh em is.y) (same_among t s refs q head m b component.U ps.u.values es eh em is.u) (same_among t s refs q head m b component.V ps.v.values es eh em is.v)
-  where
-    of : List ℤ → List ℤ → List ℤ → CodedResidual
-    of ys us vs = record {
-      transform = transform_of t;
-      y = bands_of t Inter (less_prediction p.y ys);
-      u = bands_of t Inter (less_prediction p.u us);
-      v = bands_of t Inter (less_prediction p.v vs);
-    }
-
-    made : (ys us vs ys' us' vs' : List ℤ) → ys ≡ ys' → us ≡ us' → vs ≡ vs' → of ys us vs ≡ of ys' us' vs'
-    made ys us vs ys' us' vs' e f g = ap₂ (λ (a b : List ℤ). of a b vs) e f ∙ ap (λ (c : List ℤ). of ys' us' c) g
-
--- and so is the coded picture
-pub coded_same : (t : Settings) (s : Sequence) (refs : List Picture) (q : Planned) (p : Picture) (head : PictureHeader) (m : CodedMotion) (b : BlockTable) (ps : Predictions) (r : CodedResidual) (o : Option CodedResidual) → s ≡ sequence_of t → head ≡ header_of q
-    → m ≡ motion_with t b → ArePredictions s (named refs head.ref1) (named refs head.ref2) m ps → r ≡ residual_less t p ps → o ≡ (if is_zero_residual r then None else Some r)
-    → let c : CodedPicture = record { code = q.code; header = head; motion = Some m; residual = o } in c ≡ coded_with t refs q p (Some (motion_with t b))
-coded_same t s refs q p head m b ps r o es eh em is er eo =
-    let of : PictureHeader → CodedMotion → Option CodedResidual → CodedPicture = λ h x y. record { code = q.code; header = h; motion = Some x; residual = y } in
-    let left : CodedResidual → Option CodedResidual = λ x. if is_zero_residual x then None else Some x in
-    let same = residual_same t s refs q p head m b ps es eh em is in
-    ap₂ (λ (h : PictureHeader) (x : CodedMotion). of h x o) eh em ∙ ap (of (header_of q) (motion_with t b)) (eo ∙ ap left (er ∙ same))
-
--- the coded picture of an intra picture
-pub intra_same : (t : Settings) (refs : List Picture) (q : Planned) (p : Picture) (head : PictureHeader) (r : CodedResidual) → head ≡ header_of q → r ≡ residual_whole t p
-    → let c : CodedPicture = record { code = q.code; header = head; motion = None; residual = Some r } in c ≡ coded_with t refs q p None
-intra_same t refs q p head r eh er =
-    let of : PictureHeader → CodedResidual → CodedPicture = λ h x. record { code = q.code; header = h; motion = None; residual = Some x } in
-    ap₂ (λ (h : PictureHeader) (x : CodedResidual). of h x) eh er
 
 -- the picture that is made of residual and predictions is the one that decoders rebuild
 pub shown_same : (s : Sequence) (refs : List Picture) (head : PictureHeader) (m : CodedMotion) (ps : Predictions) (code : ℕ) (o : Option CodedResidual) → ArePredictions s (named refs head.ref1) (named refs head.ref2) m ps

@@ -6,6 +6,7 @@ use Rattle.dirac_types.specs.declared.settings.Settings.{Settings}
 use Rattle.dirac_types.specs.Settings.{IsAccepted}
 use Rattle.dirac_sequence.specs.Written.{sequence_of}
 use Rattle.dirac_blocks.specs.Tables.{BlockTable}
+use Rattle.dirac_picture.specs.declared.coded.CodedMotion.{CodedMotion}
 use Rattle.dirac_picture.specs.declared.coded.CodedPicture.{CodedPicture}
 use Rattle.dirac_picture.specs.Grammar.{are_listed, is_intra, picture_read}
 use Rattle.dirac_decode.specs.Content.{rebuilt}
@@ -16,7 +17,7 @@ use Rattle.dirac_stream.specs.Payload.{payload_of}
 use Rattle.dirac_stream.specs.Writable.{AreSmall}
 use Rattle.dirac_choose.specs.Chosen.{IsChosen}
 use Rattle.dirac_choose.specs.Lent.{AreLent, AreNamed}
-use Rattle.dirac_code.specs.declared.making.Moving.{Moving}
+use Rattle.dirac_code.specs.declared.prepared.Moving.{Moving}
 use Rattle.dirac_code.specs.declared.picture.Coded.{Coded}
 
 -- accepted settings, a source and listed pictures of their size, and a planned picture whose references are found
@@ -45,11 +46,11 @@ HasBlocks t code (Some b) = (is_intra code ≡ false) × IsChosen t code b
 abbrev pub coded_by : Settings → List Picture → Planned → Picture → Option BlockTable → CodedPicture
 coded_by t refs q p o = coded_with t refs q p (motion_among t o)
 
--- what the coding of a picture gives, predicted by this block table if there is one
-pub record IsCoding (t : Settings) (refs : List Picture) (q : Planned) (p : Picture) (o : Option BlockTable)
+-- what the coding of a picture with this motion gives
+pub record IsCoding (t : Settings) (refs : List Picture) (q : Planned) (p : Picture) (m : Option CodedMotion)
     (c : Coded) : Type 0 where
-  pub payload : c.payload.items ≡ payload_of t (coded_by t refs q p o)
-  pub shown : c.shown ≡ rebuilt (sequence_of t) refs (coded_by t refs q p o)
-  pub read : picture_read q.code (sequence_of t) refs c.payload.items ≡ Ok (coded_by t refs q p o)
-  pub small : AreSmall (residual_of t refs (header_of q) (motion_among t o) p)
+  pub payload : c.payload.items ≡ payload_of t (coded_with t refs q p m)
+  pub shown : c.shown ≡ rebuilt (sequence_of t) refs (coded_with t refs q p m)
+  pub read : picture_read q.code (sequence_of t) refs c.payload.items ≡ Ok (coded_with t refs q p m)
+  pub small : AreSmall (residual_of t refs (header_of q) m p)
   pub lossless : p.number ≡ q.number → t.index ≡ 0 → c.shown ≡ p

@@ -1,2 +1,4 @@
+pub mod Analyses
 pub mod Asked
 pub mod Predictions
+pub mod Prepared

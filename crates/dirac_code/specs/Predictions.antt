@@ -2,9 +2,8 @@
 use Rattle.std.specs.Prelude.{◌≡◌, ℤ, ◌*◌, ◌≤◌, List, length, Option}
 use Rattle.std.specs.List.{All}
 use Rattle.dirac_types.specs.declared.limits.TheConstants.{LARGEST_SIDE}
-use Rattle.dirac_types.specs.declared.formats.Kind.TheVariants.{Intra, Inter}
+use Rattle.dirac_types.specs.declared.formats.Kind.TheVariants.{Inter}
 use Rattle.dirac_types.specs.declared.picture.Picture.{Picture}
-use Rattle.dirac_types.specs.declared.settings.Settings.{Settings}
 use Rattle.dirac_types.specs.Table.{Table}
 use Rattle.dirac_sequence.specs.declared.sequence.Sequence.{Sequence}
 use Rattle.dirac_upconvert.specs.HalfSamples.{IsSample}
@@ -12,11 +11,9 @@ use Rattle.dirac_types.specs.declared.formats.Component.{Component}
 use Rattle.dirac_types.specs.declared.formats.Component.TheVariants as component
 use Rattle.dirac_picture.specs.declared.coded.CodedMotion.{CodedMotion}
 use Rattle.dirac_picture.specs.declared.coded.CodedPicture.{CodedPicture}
-use Rattle.dirac_picture.specs.declared.coded.CodedResidual.{CodedResidual}
 use Rattle.dirac_residual.specs.Residual.{clipped, with_prediction}
 use Rattle.dirac_analysis.specs.Fits.{AreSamples}
 use Rattle.dirac_decode.specs.Content.{height_of, predicted_among, residual_among, width_of}
-use Rattle.dirac_stream.specs.Coded.{bands_of, less_prediction, transform_of}
 use Rattle.dirac_code.specs.declared.predictions.Predictions.{Predictions}
 
 -- what is predicted for a plane of a picture from these references, by rows: a value for each sample
@@ -54,24 +51,6 @@ pub record IsPicturePredictedBy (p : Picture) (ps : Predictions) : Type 0 where
   pub y : IsPredictedBy p.y ps.y.values
   pub u : IsPredictedBy p.u ps.u.values
   pub v : IsPredictedBy p.v ps.v.values
-
--- the coded residual of a source itself
-abbrev pub residual_whole : Settings → Picture → CodedResidual
-residual_whole t p = record {
-  transform = transform_of t;
-  y = bands_of t Intra p.y;
-  u = bands_of t Intra p.u;
-  v = bands_of t Intra p.v;
-}
-
--- the coded residual of a source less these predictions
-abbrev pub residual_less : Settings → Picture → Predictions → CodedResidual
-residual_less t p ps = record {
-  transform = transform_of t;
-  y = bands_of t Inter (less_prediction p.y ps.y.values);
-  u = bands_of t Inter (less_prediction p.u ps.u.values);
-  v = bands_of t Inter (less_prediction p.v ps.v.values);
-}
 
 -- a plane of a coded picture with these predictions: its residual and they, clipped
 abbrev pub plane_from : Sequence → CodedPicture → Component → List ℤ → Table

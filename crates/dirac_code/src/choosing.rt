@@ -10,11 +10,12 @@ ghost use Rattle.dirac_plan_laws.specs.Headers.{IsPlanned, header_of};
 ghost use Rattle.dirac_stream.specs.Coded.{IsSource, coded_of, motion_of, residual_of};
 ghost use Rattle.dirac_stream.specs.Payload.{payload_of};
 ghost use Rattle.dirac_stream.specs.Writable.{AreSmall};
-ghost use Rattle.dirac_choose.specs.Chosen.{chosen};
-ghost use Rattle.dirac_code.specs.Asked.{IsAsked, IsCoding};
+ghost use Rattle.dirac_choose.specs.Chosen.{IsChosenAtEachIndex, chosen, chosen_unless_intra};
+ghost use Rattle.dirac_code.specs.Asked.{IsAsked};
+ghost use Rattle.dirac_code.specs.Prepared.{IsPrepared, blocks_in};
 
-use crate::making::Moving;
-use crate::picture::{Coded, code_by};
+use crate::picture::{Coded, code_at};
+use crate::prepared::{Moving, Prepared, prepare_by};
 use dirac_choose::{Lumas, choose_from};
 use dirac_decode::named;
 use dirac_io::RowGate;
@@ -25,9 +26,9 @@ use dirac_types::{NoMemory, Picture, Settings};
 use std::alloc::Global;
 use std::thread::Threads;
 
-/// Codes an inter picture. Its references are looked up, and their luma is upconverted once: the search, the choice of
-/// modes and the prediction are lent it.
-fn code_searched<R: Threads + Sync, G: RowGate>(
+/// Prepares an inter picture. Its references are looked up, and their luma is upconverted once: the search, the choice
+/// of modes and the prediction are lent it.
+fn prepare_searched<R: Threads + Sync, G: RowGate>(
     rt: &R,
     alloc: Global,
     planned: &Planned,
@@ -35,11 +36,11 @@ fn code_searched<R: Threads + Sync, G: RowGate>(
     refs: &RefBuffer,
     settings: &Settings,
     gate: &G,
-) -> Result<Coded, NoMemory>
+) -> Result<Prepared, NoMemory>
     requires asked { IsAsked settings.now refs.now planned.now source.now }
     requires inter { is_intra_code planned.now.code ≡ false }
-    ensures { IfOk result (IsCoding settings.now refs.now planned.now source.now
-        (Some (chosen settings.now refs.now planned.now source.now))) }
+    ensures prepared { IfOk result (IsPrepared settings.now refs.now planned.now source.now) }
+    ensures blocks { IfOk result (λ x. blocks_in x ≡ Some (chosen settings.now refs.now planned.now source.now)) }
 {
     let second = named(refs, planned.ref2);
     match named(refs, planned.ref1) {
@@ -52,9 +53,39 @@ fn code_searched<R: Threads + Sync, G: RowGate>(
                 references: &references,
                 blocks: &blocks,
             };
-            code_by(alloc, planned, source, refs, settings, Some(moving))
+            prepare_by(alloc, planned, source, refs, settings, Some(moving))
         }
     }
+}
+
+/// Prepares a picture as it is planned: `code_prepared` then codes it at any quantiser index. An inter picture's blocks
+/// are chosen first, and the gate is called before each row of each stage of the search for them.
+pub fn prepare_picture<R: Threads + Sync, G: RowGate>(
+    rt: &R,
+    alloc: Global,
+    planned: &Planned,
+    source: &Picture,
+    refs: &RefBuffer,
+    settings: &Settings,
+    gate: &G,
+) -> Result<Prepared, NoMemory>
+    requires accepted { IsAccepted settings.now }
+    requires listed { AllByRecursion (IsSource settings.now) refs.now }
+    requires source { IsSource settings.now source.now }
+    requires planned { IsPlanned planned.now }
+    requires found { are_listed refs.now (header_of planned.now) ≡ true }
+    ensures prepared { IfOk result (IsPrepared settings.now refs.now planned.now source.now) }
+    ensures blocks { IfOk result (λ x. blocks_in x ≡ chosen_unless_intra settings.now refs.now planned.now source.now) }
+    // They are the same at each index.
+    ensures without_index { IfOk result (λ x.
+        IsChosenAtEachIndex settings.now refs.now planned.now source.now (blocks_in x)) }
+{
+    if is_intra(planned.code) {
+        let prepared = prepare_by(alloc, planned, source, refs, settings, None)?;
+        return Ok(prepared);
+    }
+    let prepared = prepare_searched(rt, alloc, planned, source, refs, settings, gate)?;
+    Ok(prepared)
 }
 
 /// Codes a picture as it is planned: its payload, and the picture that decoders show for it. An inter picture's blocks
@@ -88,8 +119,6 @@ pub fn code_picture<R: Threads + Sync, G: RowGate>(
     ensures lossless { IfOk result (λ c. source.now.number ≡ planned.now.number → settings.now.index ≡ 0
         → c.shown ≡ source.now) }
 {
-    if is_intra(planned.code) {
-        return code_by(alloc, planned, source, refs, settings, None);
-    }
-    code_searched(rt, alloc, planned, source, refs, settings, gate)
+    let prepared = prepare_picture(rt, alloc, planned, source, refs, settings, gate)?;
+    code_at(alloc, &prepared, planned, source, refs, settings)
 }

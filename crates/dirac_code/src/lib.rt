@@ -9,10 +9,12 @@ mod motion;
 mod payload;
 mod picture;
 mod predictions;
+mod prepared;
 mod residual;
 mod showing;
 mod transform;
 
-pub use choosing::code_picture;
+pub use choosing::{code_picture, prepare_picture};
 pub use dirac_choose::choose_blocks;
-pub use picture::{Coded, code_with_blocks};
+pub use picture::{Coded, code_prepared, code_with_blocks};
+pub use prepared::{Prepared, prepare};

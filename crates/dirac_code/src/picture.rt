@@ -1,31 +1,31 @@
 //! A picture, coded.
 
-ghost use Rattle.std.specs.Prelude.{◌≡◌, ◌++◌, ◌≤◌, ◌<◌, ◌^◌, [], false, true, Ok, Some, IfOk, IfSome};
+ghost use Rattle.std.specs.Prelude.{◌≡◌, ◌≤◌, ◌<◌, ◌^◌, [], true, Ok, IfOk, IfSome};
 ghost use Rattle.std.specs.List.{AllByRecursion};
-ghost use Rattle.std.specs.Option.{ForSome, option_copied};
+ghost use Rattle.std.specs.Option.{option_copied};
 ghost use Rattle.dirac_types.specs.Bits.{bits_of};
+ghost use Rattle.dirac_types.specs.Limits.{IsIndex};
 ghost use Rattle.dirac_types.specs.Settings.{IsAccepted};
 ghost use Rattle.dirac_bits.specs.Writing.{up_to_byte};
 ghost use Rattle.dirac_sequence.specs.Lawful.{IsSequence};
 ghost use Rattle.dirac_sequence.specs.Written.{sequence_of as sequence_for};
 ghost use Rattle.dirac_header.specs.Codes.{is_reference};
 ghost use Rattle.dirac_header.specs.Written.{HasReferences, MayRetire, header_bits};
-ghost use Rattle.dirac_picture.specs.Grammar.{are_listed, is_intra, picture_read};
+ghost use Rattle.dirac_picture.specs.Grammar.{are_listed, picture_read};
 ghost use Rattle.dirac_decode.specs.Content.{rebuilt};
 ghost use Rattle.dirac_plan_laws.specs.Headers.{IsPlanned, header_of};
 ghost use Rattle.dirac_stream.specs.Coded.{IsSource, motion_among, residual_of};
-ghost use Rattle.dirac_stream.specs.Laws.{IsWhole};
 ghost use Rattle.dirac_stream.specs.Payload.{HasSpelledBlocks, payload_of, with_picture};
 ghost use Rattle.dirac_stream.specs.Writable.{AreSmall, IsWritten};
-ghost use Rattle.dirac_code.specs.Asked.{HasBlocks, IsAsked, IsCoding, IsMoving, blocks_of, coded_by};
-ghost use Rattle.dirac_choose.specs.Chosen.{IsChosen};
+ghost use Rattle.dirac_choose.specs.Chosen.{at_index};
+ghost use Rattle.dirac_code.specs.Asked.{HasBlocks, IsCoding, coded_by};
+ghost use Rattle.dirac_code.specs.Prepared.{IsPrepared, blocks_in};
 
-use crate::making::{Moving, Remade, make};
+use crate::making::{Remade, make};
 use crate::payload::write_picture;
+use crate::prepared::{Prepared, prepare};
 use dirac_bits::BitWriter;
 use dirac_blocks::BlockData;
-use dirac_choose::Lumas;
-use dirac_decode::named;
 use dirac_picture::CodedPicture;
 use dirac_plan::Planned;
 use dirac_refs::RefBuffer;
@@ -70,64 +70,59 @@ fn are_bytes(bytes: &[u8])
     ensures { AllByRecursion (λ b. b < 2 ^ 8) bytes.now }
 {}
 
-/// The planes of a picture have as many samples as their sizes tell.
-fn are_whole(picture: &Picture)
-    ensures { IsWhole picture.now }
-{
-    let _y = picture.y.width();
-    let _u = picture.u.width();
-    let _v = picture.v.width();
-}
-
-/// Codes a picture as it is planned, an inter picture predicted by this block table from these references.
-pub(crate) fn code_by(
+/// Codes a prepared picture at the quantiser index of these settings.
+pub(crate) fn code_at(
     alloc: Global,
+    prepared: &Prepared,
     planned: &Planned,
     source: &Picture,
     refs: &RefBuffer,
     settings: &Settings,
-    moving: Option<Moving<'_>>,
 ) -> Result<Coded, NoMemory>
-    requires asked { IsAsked settings.now refs.now planned.now source.now }
-    requires moving { ForSome moving (IsMoving settings.now refs.now planned.now) }
-    requires blocks { HasBlocks settings.now planned.now.code (blocks_of moving) }
-    ensures { IfOk result (IsCoding settings.now refs.now planned.now source.now (blocks_of moving.entry)) }
+    requires prepared { IsPrepared settings.now refs.now planned.now source.now prepared.now }
+    ensures { IfOk result (IsCoding settings.now refs.now planned.now source.now
+        (motion_among settings.now (blocks_in prepared.now))) }
 {
     let sequence = sequence_of(settings);
-    are_whole(source);
-    let Remade { coded, shown } = make(alloc, settings, &sequence, planned, source, refs, moving)?;
+    let Remade { coded, shown } = make(alloc, settings, planned, source, refs, prepared)?;
     let payload = payload_bytes(alloc, settings, &sequence, &coded)?;
     are_bytes(payload.as_slice());
     Ok(Coded { payload, shown })
 }
 
-/// Codes an inter picture by this block table. Its references are looked up, and their luma is upconverted.
-fn code_inter(
+/// Codes a prepared picture at a quantiser index: its payload, and the picture that decoders show for it. The payload
+/// is the one spelling of its coded picture with that index. Nothing that was prepared is done again.
+pub fn code_prepared(
     alloc: Global,
+    prepared: &Prepared,
     planned: &Planned,
     source: &Picture,
     refs: &RefBuffer,
     settings: &Settings,
-    blocks: &BlockData,
+    index: u8,
 ) -> Result<Coded, NoMemory>
-    requires asked { IsAsked settings.now refs.now planned.now source.now }
-    requires inter { is_intra planned.now.code ≡ false }
-    requires blocks { IsChosen settings.now planned.now.code blocks.now }
-    ensures { IfOk result (IsCoding settings.now refs.now planned.now source.now (Some blocks.now)) }
+    requires prepared { IsPrepared settings.now refs.now planned.now source.now prepared.now }
+    requires index { IsIndex index }
+    ensures payload { IfOk result (λ c. c.payload.items ≡ payload_of (at_index settings.now index)
+        (coded_by (at_index settings.now index) refs.now planned.now source.now (blocks_in prepared.now))) }
+    // What is shown is what a decoder rebuilds from it.
+    ensures shown { IfOk result (λ c. c.shown ≡ rebuilt (sequence_for (at_index settings.now index)) refs.now
+        (coded_by (at_index settings.now index) refs.now planned.now source.now (blocks_in prepared.now))) }
+    // The payload is read as that coded picture, with these pictures listed.
+    ensures read { IfOk result (λ c.
+        picture_read planned.now.code (sequence_for (at_index settings.now index)) refs.now c.payload.items
+        ≡ Ok (coded_by (at_index settings.now index) refs.now planned.now source.now (blocks_in prepared.now))) }
+    // Its coefficients stay below 2^38.
+    ensures magnitudes_bounded { IfOk result (λ c. AreSmall (residual_of (at_index settings.now index) refs.now
+        (header_of planned.now) (motion_among (at_index settings.now index) (blocks_in prepared.now)) source.now)) }
+    // At index 0 nothing is lost.
+    ensures lossless { IfOk result (λ c. source.now.number ≡ planned.now.number → index ≡ 0 → c.shown ≡ source.now) }
 {
-    let second = named(refs, planned.ref2);
-    match named(refs, planned.ref1) {
-        None => unreachable!(),
-        Some(first) => {
-            let lumas = Lumas::of(alloc, first, second)?;
-            let references = lumas.lend(first, second);
-            let moving = Moving {
-                references: &references,
-                blocks,
-            };
-            code_by(alloc, planned, source, refs, settings, Some(moving))
-        }
-    }
+    let settings = Settings {
+        index: u32::from(index),
+        ..*settings
+    };
+    code_at(alloc, prepared, planned, source, refs, &settings)
 }
 
 /// Codes a picture as it is planned, an inter picture predicted by this block table: its payload, and the picture that
@@ -163,8 +158,6 @@ pub fn code_with_blocks(
     ensures lossless { IfOk result (λ c. source.now.number ≡ planned.now.number → settings.now.index ≡ 0
         → c.shown ≡ source.now) }
 {
-    match blocks {
-        None => code_by(alloc, planned, source, refs, settings, None),
-        Some(blocks) => code_inter(alloc, planned, source, refs, settings, blocks),
-    }
+    let prepared = prepare(alloc, planned, source, refs, settings, blocks)?;
+    code_at(alloc, &prepared, planned, source, refs, settings)
 }

@@ -1,63 +1,125 @@
-//! The residual of a source, analysed and quantised.
+//! The residual of a source, analysed, and then quantised.
 
 ghost use Rattle.std.specs.Prelude.{◌≡◌, ◌≤◌, IfOk, if◌then◌else◌, Some, None};
-ghost use Rattle.dirac_types.specs.declared.formats.Kind.TheVariants.{Inter};
+ghost use Rattle.dirac_types.specs.declared.formats.Kind.TheVariants.{Inter, Intra};
 ghost use Rattle.dirac_coeffs.specs.Contexts as contexts;
 ghost use Rattle.dirac_coeffs.specs.Written.{is_zero_band};
 ghost use Rattle.dirac_residual.specs.Zeros.{are_zero_bands};
 ghost use Rattle.dirac_analysis.specs.Fits.{AreDifferences};
 ghost use Rattle.dirac_stream.specs.Coded as coding;
 ghost use Rattle.dirac_stream.specs.Writable.{IsCodable};
-ghost use Rattle.dirac_code.specs.Predictions.{IsCodablePlane, IsCodableSource, IsPicturePredictedBy};
-ghost use Rattle.dirac_code.specs.Predictions.{IsPredictedBy, residual_less, residual_whole};
+ghost use Rattle.dirac_code.specs.Analyses.{AreAnalysed, AreQuantisablePlanes, IsAnalysed, quantised_planes};
+ghost use Rattle.dirac_code.specs.Predictions.{IsCodablePlane, IsCodableSource, IsPicturePredictedBy, IsPredictedBy};
 
 use crate::difference::difference;
 use crate::predictions::Predictions;
 use crate::transform::transform_of;
-use dirac_analysis::analyse_plane;
+use dirac_analysis::{AnalysedPlane, analyse, quantise_plane};
 use dirac_coeffs::CodedBand;
 use dirac_picture::{CodedResidual, PlaneBands};
 use dirac_types::{Kind, LARGEST_SIDE, NoMemory, Picture, Plane, Settings};
 use std::alloc::Global;
 
-/// The subbands of a plane of values.
-fn code_plane(
+/// The planes of a picture, or what is left of them, analysed.
+#[derive(Drop)]
+pub(crate) struct AnalysedPlanes {
+    pub(crate) y: AnalysedPlane,
+    pub(crate) u: AnalysedPlane,
+    pub(crate) v: AnalysedPlane,
+}
+
+/// A plane of values, analysed.
+fn analyse_values(
     alloc: Global,
     settings: &Settings,
     kind: Kind,
     plane: &Plane,
-) -> Result<PlaneBands, NoMemory>
+) -> Result<AnalysedPlane, NoMemory>
     requires codable { IsCodable settings.now }
     requires across { plane.now.width ≤ LARGEST_SIDE }
     requires down { plane.now.height ≤ LARGEST_SIDE }
     requires magnitudes_bounded { AreDifferences plane.now.values }
-    ensures value { IfOk result (λ b. b ≡ coding.bands_of settings.now kind plane.now) }
+    ensures { IfOk result (IsAnalysed settings.now kind plane.now) }
 {
-    analyse_plane(
+    let analysed = analyse(
         alloc,
         kind,
         plane,
         settings.wavelet as u8,
         settings.depth as u8,
-        settings.index as u8,
-    )
+    )?;
+    Ok(analysed)
 }
 
-/// The subbands of a plane of samples less what is predicted for them.
-fn code_difference(
+/// A plane of samples less what is predicted for them, analysed.
+fn analyse_difference(
     alloc: Global,
     settings: &Settings,
     plane: &Plane,
     predicted: &[i32],
-) -> Result<PlaneBands, NoMemory>
+) -> Result<AnalysedPlane, NoMemory>
     requires codable { IsCodable settings.now }
     requires plane { IsCodablePlane plane.now }
     requires predicted { IsPredictedBy plane.now predicted.now }
-    ensures value { IfOk result (λ b. b
-        ≡ coding.bands_of settings.now Inter (coding.less_prediction plane.now predicted.now)) }
+    ensures { IfOk result (IsAnalysed settings.now Inter (coding.less_prediction plane.now predicted.now)) }
 {
     let left = difference(alloc, plane, predicted)?;
-    code_plane(alloc, settings, Kind::Inter, &left)
+    analyse_values(alloc, settings, Kind::Inter, &left)
+}
+
+/// The planes of a picture, analysed.
+pub(crate) fn analyse_source(
+    alloc: Global,
+    settings: &Settings,
+    source: &Picture,
+) -> Result<AnalysedPlanes, NoMemory>
+    requires codable { IsCodable settings.now }
+    requires source { IsCodableSource source.now }
+    ensures { IfOk result (AreAnalysed settings.now Intra source.now.y source.now.u source.now.v) }
+{
+    let y = analyse_values(alloc, settings, Kind::Intra, &source.y)?;
+    let u = analyse_values(alloc, settings, Kind::Intra, &source.u)?;
+    let v = analyse_values(alloc, settings, Kind::Intra, &source.v)?;
+    Ok(AnalysedPlanes { y, u, v })
+}
+
+/// The planes of a picture less what is predicted for them, analysed.
+pub(crate) fn analyse_differences(
+    alloc: Global,
+    settings: &Settings,
+    source: &Picture,
+    predictions: &Predictions,
+) -> Result<AnalysedPlanes, NoMemory>
+    requires codable { IsCodable settings.now }
+    requires source { IsCodableSource source.now }
+    requires predicted { IsPicturePredictedBy source.now predictions.now }
+    ensures { IfOk result (AreAnalysed settings.now Inter
+        (coding.less_prediction source.now.y predictions.now.y.values)
+        (coding.less_prediction source.now.u predictions.now.u.values)
+        (coding.less_prediction source.now.v predictions.now.v.values)) }
+{
+    let y = analyse_difference(alloc, settings, &source.y, predictions.y.values())?;
+    let u = analyse_difference(alloc, settings, &source.u, predictions.u.values())?;
+    let v = analyse_difference(alloc, settings, &source.v, predictions.v.values())?;
+    Ok(AnalysedPlanes { y, u, v })
+}
+
+/// The coded residual of analysed planes, quantised at the index of these settings.
+pub(crate) fn quantise_planes(
+    alloc: Global,
+    settings: &Settings,
+    kind: Kind,
+    planes: &AnalysedPlanes,
+) -> Result<CodedResidual, NoMemory>
+    requires codable { IsCodable settings.now }
+    requires fits { AreQuantisablePlanes planes.now }
+    ensures { IfOk result (λ r. r ≡ quantised_planes settings.now kind planes.now) }
+{
+    let index = settings.index as u8;
+    let y = quantise_plane(alloc, kind, &planes.y, index)?;
+    let u = quantise_plane(alloc, kind, &planes.u, index)?;
+    let v = quantise_plane(alloc, kind, &planes.v, index)?;
+    Ok(with_transform(settings, y, u, v))
 }
 
 /// The subbands of the planes of a picture, with the transform parameters of these settings.
@@ -71,40 +133,6 @@ fn with_transform(settings: &Settings, y: PlaneBands, u: PlaneBands, v: PlaneBan
         u,
         v,
     }
-}
-
-/// The coded residual of an intra picture: that of its samples.
-pub(crate) fn code_source(
-    alloc: Global,
-    settings: &Settings,
-    source: &Picture,
-) -> Result<CodedResidual, NoMemory>
-    requires codable { IsCodable settings.now }
-    requires source { IsCodableSource source.now }
-    ensures value { IfOk result (λ r. r ≡ residual_whole settings.now source.now) }
-{
-    let y = code_plane(alloc, settings, Kind::Intra, &source.y)?;
-    let u = code_plane(alloc, settings, Kind::Intra, &source.u)?;
-    let v = code_plane(alloc, settings, Kind::Intra, &source.v)?;
-    Ok(with_transform(settings, y, u, v))
-}
-
-/// The coded residual of an inter picture: that of its samples less what is predicted for them.
-pub(crate) fn code_differences(
-    alloc: Global,
-    settings: &Settings,
-    source: &Picture,
-    predictions: &Predictions,
-) -> Result<CodedResidual, NoMemory>
-    requires codable { IsCodable settings.now }
-    requires source { IsCodableSource source.now }
-    requires predicted { IsPicturePredictedBy source.now predictions.now }
-    ensures value { IfOk result (λ r. r ≡ residual_less settings.now source.now predictions.now) }
-{
-    let y = code_difference(alloc, settings, &source.y, predictions.y.values())?;
-    let u = code_difference(alloc, settings, &source.u, predictions.u.values())?;
-    let v = code_difference(alloc, settings, &source.v, predictions.v.values())?;
-    Ok(with_transform(settings, y, u, v))
 }
 
 /// A value is 0.

@@ -1,15 +1,18 @@
-use Rattle.std.proofs.Common.{◌+◌, ◌^◌, ◌*◌, arith}
-use Rattle.dirac_analysis.proofs.Fitting.{band_under}
+use Rattle.std.proofs.Common.{◌≡◌, ◌+◌, ◌*◌, ◌^◌, ◌≤◌, ap, arith}
+use Rattle.dirac_types.specs.Table.{Table}
+use Rattle.dirac_analysis.proofs.Fitting.{band_quantisable}
 use Rattle.dirac_analysis.proofs.levels.split_level.Goals as goal
 
-pub code_band-requires-clause-magnitudes_below_2_38 : goal.code_band-requires-clause-magnitudes_below_2_38
-code_band-requires-clause-magnitudes_below_2_38 c =
-    band_under (128 * 2 ^ 29 + 32) 1 0 c.analyse_level.new.plane c.in_ok-bands.bands.hl (omega arith) c.in_ok-bands.ensures.hl (c.analyse_level.ensures.growth (2 ^ 29) c.requires.magnitudes_at_most_2_29)
-
-pub code_band-requires-2-clause-magnitudes_below_2_38 : goal.code_band-requires-2-clause-magnitudes_below_2_38
-code_band-requires-2-clause-magnitudes_below_2_38 c =
-    band_under (128 * 2 ^ 29 + 32) 0 1 c.analyse_level.new.plane c.in_ok-bands.bands.lh (omega arith) c.in_ok-bands.ensures.lh (c.analyse_level.ensures.growth (2 ^ 29) c.requires.magnitudes_at_most_2_29)
-
-pub code_band-requires-3-clause-magnitudes_below_2_38 : goal.code_band-requires-3-clause-magnitudes_below_2_38
-code_band-requires-3-clause-magnitudes_below_2_38 c =
-    band_under (128 * 2 ^ 29 + 32) 1 1 c.analyse_level.new.plane c.in_ok-bands.bands.hh (omega arith) c.in_ok-bands.ensures.hh (c.analyse_level.ensures.growth (2 ^ 29) c.requires.magnitudes_at_most_2_29)
+pub returns-clause-fits : goal.returns-clause-fits
+returns-clause-fits c =
+    let mid = c.analyse_level.new.plane in
+    let bands = c.in_ok-bands.bands in
+    let across : mid.width ≡ c.args.plane.width = ap (λ (t : Table). t.width) c.analyse_level.ensures.value in
+    let down : mid.height ≡ c.args.plane.height = ap (λ (t : Table). t.height) c.analyse_level.ensures.value in
+    let few : mid.width ≤ 8192 = omega (arith, across, c.requires.across.1) in
+    let low : mid.height ≤ 8192 = omega (arith, down, c.requires.down.1) in
+    let grows = c.analyse_level.ensures.growth (2 ^ 29) c.requires.magnitudes_at_most_2_29 in (
+      band_quantisable (128 * 2 ^ 29 + 32) 1 0 mid bands.hl (omega arith) few low c.in_ok-bands.ensures.hl grows,
+      band_quantisable (128 * 2 ^ 29 + 32) 0 1 mid bands.lh (omega arith) few low c.in_ok-bands.ensures.lh grows,
+      band_quantisable (128 * 2 ^ 29 + 32) 1 1 mid bands.hh (omega arith) few low c.in_ok-bands.ensures.hh grows,
+    )

@@ -1,70 +1,57 @@
-use Rattle.std.proofs.Common.{Some, ◌∙◌, ap, subst, sym}
-use Rattle.dirac_sequence.specs.declared.sequence.Sequence.{Sequence}
-use Rattle.dirac_decode.specs.Content.{rebuilt}
-use Rattle.dirac_stream.specs.Coded.{motion_with}
+use Rattle.std.proofs.Common.{Some, ◌∙◌, subst, sym}
+use Rattle.dirac_header.specs.declared.header.PictureHeader.{PictureHeader}
+use Rattle.dirac_decode.specs.Content.{named}
 use Rattle.dirac_stream.proofs.Coding.{codable}
 use Rattle.dirac_stream.proofs.Reading.{predicting}
-use Rattle.dirac_stream.proofs.Reading.Moves.{moves}
-use Rattle.dirac_choose.specs.Lent.{AreLent}
-use Rattle.dirac_code.proofs.Asking.{ask_motion, ask_sequence, source_codable}
-use Rattle.dirac_code.proofs.Facts.{coded_fits, written_lawful}
-use Rattle.dirac_code.proofs.Predicting.{coded_same, named_predictions, picture_asked, second_lent, shown_same}
+use Rattle.dirac_code.specs.Predictions.{ArePredictions}
+use Rattle.dirac_code.proofs.Asking.{ask_sequence}
+use Rattle.dirac_code.proofs.Facts.{coded_fits, moves_of, shown_from, written_lawful}
+use Rattle.dirac_code.proofs.Predicting.{shown_same}
+use Rattle.dirac_code.proofs.Preparing.{blocks_at, inter_same, left_quantisable, planes_predicted, some_in}
 use Rattle.dirac_code.proofs.making.make_inter.Goals as goal
 
 pub motion_of-requires-clause-blocks : goal.motion_of-requires-clause-blocks
-motion_of-requires-clause-blocks c = let is = predicting c.args.settings.now c.requires.asked.accepted in (is.some_blocks, is.most_blocks)
+motion_of-requires-clause-blocks c = let is = predicting c.args.settings.now c.requires.prepared.asked.accepted in (is.some_blocks, is.most_blocks)
 
 pub motion_of-requires-clause-precision : goal.motion_of-requires-clause-precision
-motion_of-requires-clause-precision c = (predicting c.args.settings.now c.requires.asked.accepted).precision
+motion_of-requires-clause-precision c = (predicting c.args.settings.now c.requires.prepared.asked.accepted).precision
 
-pub predict_planes-requires-clause-sequence : goal.predict_planes-requires-clause-sequence
-predict_planes-requires-clause-sequence c = ask_sequence c.args.settings.now c.args.sequence.now c.requires.asked.accepted c.requires.sequence
+pub quantise_planes-requires-clause-codable : goal.quantise_planes-requires-clause-codable
+quantise_planes-requires-clause-codable c = codable c.args.settings.now c.requires.prepared.asked.accepted
 
-pub predict_planes-requires-clause-motion : goal.predict_planes-requires-clause-motion
-predict_planes-requires-clause-motion c =
-    ask_motion c.args.settings.now c.args.planned.now.code c.args.sequence.now c.args.moving.blocks.now c.in_ok-motion.motion c.requires.asked.accepted c.requires.sequence c.in_ok-motion.ensures c.requires.blocks
-
-pub predict_planes-requires-clause-lent : goal.predict_planes-requires-clause-lent
-predict_planes-requires-clause-lent c = subst (λ (x : Sequence). AreLent x c.args.moving.references.now) (sym c.requires.sequence) c.requires.moving.lent
-
-pub predict_planes-requires-clause-two : goal.predict_planes-requires-clause-two
-predict_planes-requires-clause-two c =
-    second_lent c.args.settings.now c.args.refs.now c.args.planned.now c.args.source.now c.in_ok-motion.motion c.args.moving.blocks.now c.args.moving.references.now c.requires.asked c.in_ok-motion.ensures
-    c.requires.blocks c.requires.moving.named
-
-pub code_differences-requires-clause-codable : goal.code_differences-requires-clause-codable
-code_differences-requires-clause-codable c = codable c.args.settings.now c.requires.asked.accepted
-
-pub code_differences-requires-clause-source : goal.code_differences-requires-clause-source
-code_differences-requires-clause-source c = source_codable c.args.settings.now c.args.source.now c.requires.asked.accepted c.requires.asked.source
-
-pub code_differences-requires-clause-predicted : goal.code_differences-requires-clause-predicted
-code_differences-requires-clause-predicted c =
-    picture_asked c.args.settings.now c.args.sequence.now c.args.refs.now c.args.planned.now c.args.source.now c.header_of-header.result c.in_ok-motion.motion c.args.moving.blocks.now c.in_ok-predictions.predictions
-    c.requires.asked c.requires.whole c.requires.sequence c.header_of-header.ensures c.in_ok-motion.ensures c.requires.blocks (named_predictions c.args.sequence.now c.args.refs.now c.args.planned.now c.header_of-header.result c.in_ok-motion.motion c.in_ok-predictions.predictions c.args.moving.references.now
-    c.header_of-header.ensures c.requires.moving.named c.in_ok-predictions.ensures)
+pub quantise_planes-requires-clause-fits : goal.quantise_planes-requires-clause-fits
+quantise_planes-requires-clause-fits c = left_quantisable c.args.settings.now c.args.refs.now c.args.planned.now c.args.source.now _ c.args.prepared.now.left c.requires.prepared.left
 
 pub show_predicted-requires-clause-sequence : goal.show_predicted-requires-clause-sequence
-show_predicted-requires-clause-sequence c = ask_sequence c.args.settings.now c.args.sequence.now c.requires.asked.accepted c.requires.sequence
-
-pub show_predicted-requires-clause-residual : goal.show_predicted-requires-clause-residual
-show_predicted-requires-clause-residual c =
-    let same = coded_same c.args.settings.now c.args.sequence.now c.args.refs.now c.args.planned.now c.args.source.now c.header_of-header.result c.in_ok-motion.motion c.args.moving.blocks.now c.in_ok-predictions.predictions
-    c.in_ok-residual.residual c.unless_zero.result c.requires.sequence c.header_of-header.ensures c.in_ok-motion.ensures (named_predictions c.args.sequence.now c.args.refs.now c.args.planned.now c.header_of-header.result c.in_ok-motion.motion c.in_ok-predictions.predictions c.args.moving.references.now
-    c.header_of-header.ensures c.requires.moving.named c.in_ok-predictions.ensures) c.in_ok-residual.ensures.value c.unless_zero.ensures in
-    written_lawful c.args.sequence.now c.unless_zero.result
-    (coded_fits c.args.settings.now c.args.sequence.now c.args.refs.now c.args.planned.now c.args.source.now (Some (motion_with c.args.settings.now c.args.moving.blocks.now)) _ c.requires.asked
-    (moves c.args.moving.blocks.now c.requires.inter c.requires.blocks) c.requires.sequence same).1
+show_predicted-requires-clause-sequence c = ask_sequence c.args.settings.now c.sequence_of-sequence.result c.requires.prepared.asked.accepted c.sequence_of-sequence.ensures.value
 
 pub returns-clause-coded : goal.returns-clause-coded
 returns-clause-coded c =
-    coded_same c.args.settings.now c.args.sequence.now c.args.refs.now c.args.planned.now c.args.source.now c.header_of-header.result c.in_ok-motion.motion c.args.moving.blocks.now c.in_ok-predictions.predictions
-    c.in_ok-residual.residual c.unless_zero.result c.requires.sequence c.header_of-header.ensures c.in_ok-motion.ensures (named_predictions c.args.sequence.now c.args.refs.now c.args.planned.now c.header_of-header.result c.in_ok-motion.motion c.in_ok-predictions.predictions c.args.moving.references.now
-    c.header_of-header.ensures c.requires.moving.named c.in_ok-predictions.ensures) c.in_ok-residual.ensures.value c.unless_zero.ensures
+    inter_same c.args.settings.now c.args.refs.now c.args.planned.now c.args.source.now c.args.prepared.now c.args.compensated.now c.header_of-header.result c.in_ok-motion.motion c.in_ok-residual.residual c.unless_zero.result
+    c.requires.prepared c.requires.inter c.header_of-header.ensures c.in_ok-motion.ensures c.in_ok-residual.ensures c.unless_zero.ensures
+
+pub show_predicted-requires-clause-residual : goal.show_predicted-requires-clause-residual
+show_predicted-requires-clause-residual c =
+    let t = c.args.settings.now in
+    let refs = c.args.refs.now in
+    let q = c.args.planned.now in
+    let p = c.args.source.now in
+    let x = c.args.prepared.now in
+    let o = Some c.args.compensated.now.motion.blocks in
+    written_lawful c.sequence_of-sequence.result c.unless_zero.result
+    (coded_fits t c.sequence_of-sequence.result refs q p _ _ c.requires.prepared.asked (moves_of t q o (blocks_at t refs q p x o c.requires.prepared (some_in x c.args.compensated.now c.requires.inter)))
+    c.sequence_of-sequence.ensures.value
+    (inter_same t refs q p x c.args.compensated.now c.header_of-header.result c.in_ok-motion.motion c.in_ok-residual.residual c.unless_zero.result c.requires.prepared c.requires.inter c.header_of-header.ensures c.in_ok-motion.ensures
+    c.in_ok-residual.ensures c.unless_zero.ensures)).1
 
 pub returns-clause-shown : goal.returns-clause-shown
 returns-clause-shown c =
+    let refs = c.args.refs.now in
+    let s = c.sequence_of-sequence.result in
+    let m = c.in_ok-motion.motion in
+    let ps = c.args.compensated.now.predictions in
+    let known = planes_predicted c.args.settings.now s refs c.args.planned.now c.args.source.now c.args.prepared.now c.args.compensated.now m c.requires.prepared c.requires.inter c.sequence_of-sequence.ensures.value c.in_ok-motion.ensures in
     c.in_ok-shown.ensures.value
-    ∙ shown_same c.args.sequence.now c.args.refs.now c.header_of-header.result c.in_ok-motion.motion c.in_ok-predictions.predictions c.args.planned.now.code c.unless_zero.result (named_predictions c.args.sequence.now c.args.refs.now c.args.planned.now c.header_of-header.result c.in_ok-motion.motion c.in_ok-predictions.predictions c.args.moving.references.now
-    c.header_of-header.ensures c.requires.moving.named c.in_ok-predictions.ensures)
-    ∙ ap (rebuilt c.args.sequence.now c.args.refs.now) (returns-clause-coded c)
+    ∙ shown_same s refs c.header_of-header.result m ps c.args.planned.now.code c.unless_zero.result
+    (subst (λ (h : PictureHeader). ArePredictions s (named refs h.ref1) (named refs h.ref2) m ps) (sym c.header_of-header.ensures) known)
+    ∙ shown_from s _ refs _ _ c.sequence_of-sequence.ensures.value (returns-clause-coded c)

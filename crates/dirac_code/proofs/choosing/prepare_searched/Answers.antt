@@ -1,12 +1,10 @@
-use Rattle.std.proofs.Common.{ap, sym, subst, Some, ◌∙◌}
-use Rattle.std.specs.Prelude.{IfOk}
+use Rattle.std.proofs.Common.{ap, sym, Some, ◌∙◌}
 use Rattle.std.specs.Option.{option_copied}
-use Rattle.dirac_blocks.specs.Tables.{BlockTable}
 use Rattle.dirac_choose.proofs.Asked.{has_luma, have_luma}
-use Rattle.dirac_code.specs.Asked.{IsCoding}
+use Rattle.dirac_residual.proofs.Maps.{ok_weaker}
 use Rattle.dirac_code.proofs.Choices.{can_choose}
 use Rattle.dirac_code.proofs.Lending.{chosen_is, chosen_so, first_is, moving_so, moving_some, second_is}
-use Rattle.dirac_code.proofs.choosing.code_searched.Goals as goal
+use Rattle.dirac_code.proofs.choosing.prepare_searched.Goals as goal
 
 pub of-requires-clause-first : goal.of-requires-clause-first
 of-requires-clause-first g c =
@@ -27,15 +25,15 @@ choose_from-requires-clause-references g c κs within =
     (moving_so c.args.settings.now c.args.refs.now c.args.planned.now c.args.source.now c.in-Some.first.now (option_copied c.named-second.result) c.lend-references.result c.requires.asked
     (sym c.named.ensures ∙ ap option_copied c.in-Some.is) c.named-second.ensures c.lend-references.ensures.first c.lend-references.ensures.second c.lend-references.ensures.lent).1
 
-pub code_by-requires-clause-moving : goal.code_by-requires-clause-moving
-code_by-requires-clause-moving g c m e =
+pub prepare_by-requires-clause-moving : goal.prepare_by-requires-clause-moving
+prepare_by-requires-clause-moving g c m e =
     moving_some c.args.settings.now c.args.refs.now c.args.planned.now _ m
     (moving_so c.args.settings.now c.args.refs.now c.args.planned.now c.args.source.now c.in-Some.first.now (option_copied c.named-second.result) c.lend-references.result c.requires.asked
     (sym c.named.ensures ∙ ap option_copied c.in-Some.is) c.named-second.ensures c.lend-references.ensures.first c.lend-references.ensures.second c.lend-references.ensures.lent)
     e
 
-pub code_by-requires-clause-blocks : goal.code_by-requires-clause-blocks
-code_by-requires-clause-blocks g c =
+pub prepare_by-requires-clause-blocks : goal.prepare_by-requires-clause-blocks
+prepare_by-requires-clause-blocks g c =
     let named = (moving_so c.args.settings.now c.args.refs.now c.args.planned.now c.args.source.now c.in-Some.first.now (option_copied c.named-second.result) c.lend-references.result c.requires.asked
     (sym c.named.ensures ∙ ap option_copied c.in-Some.is) c.named-second.ensures c.lend-references.ensures.first c.lend-references.ensures.second c.lend-references.ensures.lent).0 in (
       c.requires.inter,
@@ -43,9 +41,9 @@ code_by-requires-clause-blocks g c =
           (chosen_so c.args.settings.now c.args.refs.now c.args.planned.now c.args.source.now c.lend-references.result c.in_ok-blocks-in-Some.blocks named c.in_ok-blocks-in-Some.ensures),
     )
 
-pub returns : goal.returns
-returns g c =
+pub returns-clause-blocks : goal.returns-clause-blocks
+returns-clause-blocks g c =
     let named = (moving_so c.args.settings.now c.args.refs.now c.args.planned.now c.args.source.now c.in-Some.first.now (option_copied c.named-second.result) c.lend-references.result c.requires.asked
     (sym c.named.ensures ∙ ap option_copied c.in-Some.is) c.named-second.ensures c.lend-references.ensures.first c.lend-references.ensures.second c.lend-references.ensures.lent).0 in
     let so = chosen_so c.args.settings.now c.args.refs.now c.args.planned.now c.args.source.now c.lend-references.result c.in_ok-blocks-in-Some.blocks named c.in_ok-blocks-in-Some.ensures in
-    subst (λ (b : BlockTable). IfOk c.code_by.result (IsCoding c.args.settings.now c.args.refs.now c.args.planned.now c.args.source.now (Some b))) so c.code_by.ensures
+    ok_weaker c.prepare_by.result (λ x is. is ∙ ap Some so) c.prepare_by.ensures.blocks

@@ -1,0 +1,53 @@
+ghost use Rattle.std.specs.Prelude.{◌≡◌, [], ◌∷◌, IfOk};
+ghost use Rattle.dirac_types.specs.Limits.{IsIndex};
+ghost use Rattle.dirac_analysis.specs.Analysis.{lowest_index as index_of_lowest, quantised};
+ghost use Rattle.dirac_analysis.specs.Fits.{AreQuantisable};
+
+use crate::analysed::AnalysedPlane;
+use crate::coded::code_band;
+use dirac_coeffs::CodedBand;
+use dirac_picture::PlaneBands;
+use dirac_types::{Kind, NoMemory};
+use std::alloc::Global;
+
+/// The index of LL: an intra picture's is 0.
+fn lowest_index(kind: Kind, index: u8) -> u8
+    requires { IsIndex index }
+    ensures value { result ≡ index_of_lowest kind index }
+    ensures fits { IsIndex result }
+{
+    match kind {
+        Kind::Intra => 0,
+        Kind::Inter => index,
+    }
+}
+
+/// A plane's one band.
+fn single(alloc: Global, band: CodedBand) -> Result<PlaneBands, NoMemory>
+    ensures { IfOk result (λ b. b ≡ band ∷ []) }
+{
+    let mut bands = PlaneBands::new(alloc);
+    bands.push(band)?;
+    Ok(bands)
+}
+
+/// The subbands of an analysed plane, quantised at `index`. An intra picture's LL is coded at index 0.
+pub fn quantise_plane(
+    alloc: Global,
+    kind: Kind,
+    plane: &AnalysedPlane,
+    index: u8,
+) -> Result<PlaneBands, NoMemory>
+    requires index { IsIndex index }
+    requires fits { AreQuantisable plane.now }
+    ensures { IfOk result (λ b. b ≡ quantised kind index plane.now) }
+{
+    let lowest = code_band(alloc, plane.lowest(), lowest_index(kind, index))?;
+    let mut bands = single(alloc, lowest)?;
+    let higher = plane.higher();
+    'bands: for n in 0..higher.len() {
+        let band = code_band(alloc, &higher[n], index)?;
+        bands.push(band)?;
+    }
+    Ok(bands)
+}

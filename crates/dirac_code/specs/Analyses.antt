@@ -1,0 +1,36 @@
+-- The planes of a picture, analysed and quantised.
+use Rattle.std.specs.Prelude.{◌≡◌}
+use Rattle.dirac_types.specs.declared.formats.Kind.{Kind}
+use Rattle.dirac_types.specs.declared.settings.Settings.{Settings}
+use Rattle.dirac_types.specs.Table.{Table}
+use Rattle.dirac_picture.specs.declared.coded.CodedResidual.{CodedResidual}
+use Rattle.dirac_analysis.specs.Analysis.{Analysis, plane_analysis, quantised}
+use Rattle.dirac_analysis.specs.Fits.{AreQuantisable}
+use Rattle.dirac_stream.specs.Coded.{transform_of}
+use Rattle.dirac_code.specs.declared.residual.AnalysedPlanes.{AnalysedPlanes}
+
+-- a plane is analysed with these settings, so that it can be quantised
+pub record IsAnalysed (t : Settings) (kind : Kind) (plane : Table) (a : Analysis) : Type 0 where
+  pub same : a ≡ plane_analysis kind t.wavelet t.depth plane
+  pub fits : AreQuantisable a
+
+-- the planes of a picture are
+pub record AreAnalysed (t : Settings) (kind : Kind) (of_y of_u of_v : Table) (a : AnalysedPlanes) : Type 0 where
+  pub y : IsAnalysed t kind of_y a.y
+  pub u : IsAnalysed t kind of_u a.u
+  pub v : IsAnalysed t kind of_v a.v
+
+-- planes that can be quantised
+pub record AreQuantisablePlanes (a : AnalysedPlanes) : Type 0 where
+  pub y : AreQuantisable a.y
+  pub u : AreQuantisable a.u
+  pub v : AreQuantisable a.v
+
+-- the coded residual of analysed planes, at the index of these settings
+abbrev pub quantised_planes : Settings → Kind → AnalysedPlanes → CodedResidual
+quantised_planes t kind a = record {
+  transform = transform_of t;
+  y = quantised kind t.index a.y;
+  u = quantised kind t.index a.u;
+  v = quantised kind t.index a.v;
+}
