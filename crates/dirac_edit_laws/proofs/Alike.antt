@@ -63,13 +63,13 @@ rebuilt_alike s whole inside coded w is =
 
 -- a picture has the header that was read
 -- its fields behind the flag of the residual, behind the gap, and all of them
-abbrev with_residual : ℕ → Sequence → PictureHeader → Option CodedMotion → Bool → Syntax CodedPicture
+abbrev pub with_residual : ℕ → Sequence → PictureHeader → Option CodedMotion → Bool → Syntax CodedPicture
 with_residual code s head m none = residual_unless none s >>= λ coded. done (record { code = code; header = head; motion = m; residual = coded })
 
-abbrev behind_gap : ℕ → Sequence → PictureHeader → Option CodedMotion → Syntax CodedPicture
+abbrev pub behind_gap : ℕ → Sequence → PictureHeader → Option CodedMotion → Syntax CodedPicture
 behind_gap code s head m = align >>= λ gap. (zero_residual code >>= with_residual code s head m)
 
-body_header : (code : ℕ) (s : Sequence) (head : PictureHeader) → Every (λ (x : CodedPicture). x.header ≡ head) (body code s head)
+pub body_header : (code : ℕ) (s : Sequence) (head : PictureHeader) → Every (λ (x : CodedPicture). x.header ≡ head) (body code s head)
 unfolding body
 body_header code s head =
     let P : CodedPicture → Type 0 = λ x. x.header ≡ head in

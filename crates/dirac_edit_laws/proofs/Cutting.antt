@@ -120,7 +120,7 @@ texts_fit (u ∷ units) index points now all fits = elim (kind_of u.info.code) [
 -- ---- their bytes are cut into just their units
 
 -- an end unit before others
-end_cut : IsReadAsWritten → (previous : ℕ) (unit_place : UnitPlace) (rest : List ℕ) (units : List UnitText) → previous < 2 ^ 32 → IsCut (after unit_place (end_info previous)) rest units None
+pub end_cut : IsReadAsWritten → (previous : ℕ) (unit_place : UnitPlace) (rest : List ℕ) (units : List UnitText) → previous < 2 ^ 32 → IsCut (after unit_place (end_info previous)) rest units None
     → IsCut unit_place (end_unit previous ++ rest) (end_for previous ∷ units) None
 end_cut written previous unit_place rest units small more =
     let info = end_info previous in

@@ -25,13 +25,13 @@ remove_front [] vs n l = absurd (omega arith)
 remove_front (w ∷ ws) vs zero l = refl
 remove_front (w ∷ ws) vs (suc n) l = ap (λ t. w ∷ t) (remove_front ws vs n (omega arith))
 
-length_remove : (ws : List Waiting) (n : ℕ) → n < length ws → suc (length (remove ws n)) ≡ length ws
+pub length_remove : (ws : List Waiting) (n : ℕ) → n < length ws → suc (length (remove ws n)) ≡ length ws
 length_remove [] n l = absurd (omega arith)
 length_remove (w ∷ ws) zero l = refl
 length_remove (w ∷ ws) (suc n) l = ap suc (length_remove ws n (omega arith))
 
 -- where more than four wait, one leaves
-abbrev left_from : Bool → List Waiting → Leaving
+abbrev pub left_from : Bool → List Waiting → Leaving
 left_from few ws = if few then record { waiting = ws; gone = [] } else record { waiting = others ws; gone = least ws }
 
 -- ---- what holds of all that are pushed holds of those that wait

@@ -1,11 +1,17 @@
 pub mod Alike
 pub mod Closed
 pub mod Cutting
+pub mod Joining
+pub mod Keys
 pub mod Later
 pub mod Numbers
+pub mod Onward
 pub mod Parts
+pub mod Renumbered
 pub mod Restricted
+pub mod Shifted
 pub mod Showing
+pub mod Spelled
 pub mod UnitKinds
 pub mod Walking
 pub mod Whole

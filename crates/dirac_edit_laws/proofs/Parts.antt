@@ -79,10 +79,10 @@ texts_rise (u ∷ units) index points now is = elim (kind_of u.info.code) [
 
 -- ---- one sequence
 
-filter_in : {X : Type 0} (test : X → Bool) (x : X) (xs : List X) → test x ≡ true → filter test (x ∷ xs) ≡ x ∷ filter test xs
+pub filter_in : {X : Type 0} (test : X → Bool) (x : X) (xs : List X) → test x ≡ true → filter test (x ∷ xs) ≡ x ∷ filter test xs
 filter_in test x xs e = ap (λ (b : Bool). if b then x ∷ filter test xs else filter test xs) e
 
-filter_out : {X : Type 0} (test : X → Bool) (x : X) (xs : List X) → test x ≡ false → filter test (x ∷ xs) ≡ filter test xs
+pub filter_out : {X : Type 0} (test : X → Bool) (x : X) (xs : List X) → test x ≡ false → filter test (x ∷ xs) ≡ filter test xs
 filter_out test x xs e = ap (λ (b : Bool). if b then x ∷ filter test xs else filter test xs) e
 
 -- a rebuilt picture of the part
@@ -209,7 +209,7 @@ pub record IsKept (a b : ℕ) (t : SequenceText) : Type 0 where
   pub read : IsRead (restricted a b t)
   pub same : rebuilt_of (restricted a b t) ≡ part_rebuilt a b t
 
-rebuilt_is : (s : Sequence) (t : SequenceText) → sequence_read t.header ≡ Ok s → rebuilt_of t ≡ rebuilt_from s [] t.pictures
+pub rebuilt_is : (s : Sequence) (t : SequenceText) → sequence_read t.header ≡ Ok s → rebuilt_of t ≡ rebuilt_from s [] t.pictures
 unfolding rebuilt_of
 rebuilt_is s t is = ap (rebuilt_behind t.pictures) is
 
@@ -257,6 +257,7 @@ same_with_pictures (t ∷ ts) all =
 pub record AreAllKept (a b : ℕ) (ts : List SequenceText) : Type 0 where
   pub read : AllByRecursion IsRead (map (restricted a b) ts)
   pub same : all_shown (map (restricted a b) ts) ≡ flat_map (part_shown_of a b) ts
+  pub each : AllByRecursion (λ (t : SequenceText). rebuilt_of (restricted a b t) ≡ part_rebuilt a b t) ts
 
 first_none : (first second : Option ℕ) → first_of first second ≡ None → (first ≡ None) × (second ≡ None)
 first_none None second is = (refl, is)
@@ -264,7 +265,7 @@ first_none (Some n) second is = absurd cc
 
 pub all_kept : (ts : List SequenceText) (a b : ℕ) → AllByRecursion IsRead ts → AllByRecursion RisesAll ts → open_among a b ts ≡ None → AreAllKept a b ts
 unfolding open_among
-all_kept [] a b all rise closed = record { read = tt; same = refl }
+all_kept [] a b all rise closed = record { read = tt; same = refl; each = tt }
 all_kept (t ∷ ts) a b all rise closed =
     let both = first_none (open_from [] (part_rebuilt a b t)) (open_among a b ts) closed in
     let one = is_kept a b t all.0 rise.0 both.0 in
@@ -272,4 +273,5 @@ all_kept (t ∷ ts) a b all rise closed =
     record {
       read = (one.read, rest.read);
       same = ap₂ (λ (rs : List RebuiltText) (l : List Picture). in_order (map picture_in rs) ++ l) one.same rest.same;
+      each = (one.same, rest.each);
     }

@@ -174,7 +174,7 @@ are_there from to points none = elim (cases_Bool (nat_le points from)) [
 
 -- ---- the units of the part fit
 
-each_filter : {X : Type 0} (P : X → Type 0) (test : X → Bool) (xs : List X) → AllByRecursion P xs → AllByRecursion P (filter test xs)
+pub each_filter : {X : Type 0} (P : X → Type 0) (test : X → Bool) (xs : List X) → AllByRecursion P xs → AllByRecursion P (filter test xs)
 each_filter P test [] all = tt
 each_filter P test (x ∷ xs) all =
     elim (test x) as (λ b. AllByRecursion P (if b then x ∷ filter test xs else filter test xs)) [
@@ -182,7 +182,7 @@ each_filter P test (x ∷ xs) all =
       | false ↦ each_filter P test xs all.1
     ]
 
-restricted_fit : (ts : List SequenceText) (a b : ℕ) → AllByRecursion FitsSequence ts → AllByRecursion FitsSequence (map (restricted a b) ts)
+pub restricted_fit : (ts : List SequenceText) (a b : ℕ) → AllByRecursion FitsSequence ts → AllByRecursion FitsSequence (map (restricted a b) ts)
 restricted_fit [] a b all = tt
 restricted_fit (t ∷ ts) a b all = (record { header = all.0.header; pictures = each_filter FitsPicture (is_between a b) t.pictures all.0.pictures }, restricted_fit ts a b all.1)
 

@@ -1,7 +1,7 @@
 //! What holds of all parts and of all joined sequences, as the contracts of functions that do nothing.
 
 ghost use Rattle.dirac_edit_laws.specs.Alike.{ClosedPicturesAreAlike, PicturesOfPartsAreOfTheWhole};
-ghost use Rattle.dirac_edit_laws.specs.Laws.{ClosedPartsShowTheWhole, CutsShowTheirParts, PartsBeginAnywhere, UnitsShowTheirSequences};
+ghost use Rattle.dirac_edit_laws.specs.Laws.{ClosedPartsShowTheWhole, CutsShowTheirParts, JoinedStreamsShowTheSame, PartsBeginAnywhere, UnitsShowTheirSequences};
 ghost use Rattle.dirac_edit_laws.specs.Later.{GreaterKeysLeaveLater};
 ghost use Rattle.dirac_edit_laws.specs.Numbers.{NumbersHaveTheirKeys};
 ghost use Rattle.dirac_edit_laws.specs.Restricted.{PartsKeepTheirLists};
@@ -60,6 +60,13 @@ pub fn units_show_their_sequences()
 /// A cut shows the part's pictures as the whole stream rebuilds them, and has no fault.
 pub fn cuts_show_their_parts()
     ensures { CutsShowTheirParts }
+{
+    infos_are_read_as_written();
+}
+
+/// Joined sequences show the raw pictures of the stream that they come from, in order, and have no fault.
+pub fn joined_streams_show_the_same()
+    ensures { JoinedStreamsShowTheSame }
 {
     infos_are_read_as_written();
 }
