@@ -1,9 +1,8 @@
 -- What a cut answers, of whatever is known of its input.
-use Rattle.std.proofs.Common.{◌≡◌, ◌∙◌, ℕ, List, [], ◌++◌, Option, None, Some, refl, sym, ap, subst}
-use Rattle.std.specs.Prelude.{IfSome, ⊤}
-use Rattle.std.specs.Io.KnownBytes.{Appends, Keeps}
+use Rattle.std.proofs.Common.{◌≡◌, ◌∙◌, ℕ, List, [], Option, None, Some, refl, sym, ap, subst}
+use Rattle.std.specs.Prelude.{IfSome}
+use Rattle.std.specs.Io.KnownBytes.{Appends}
 use Rattle.std.proofs.KnownBytes.{Appends-nil, Keeps-refl}
-use Rattle.dirac_types.specs.declared.faults.Fault.{Fault}
 use Rattle.dirac_io.specs.Writing.{AppendsFront}
 use Rattle.dirac_units.specs.Cut.{EachHasACut, start}
 use Rattle.dirac_decode.specs.StreamState.{begun}

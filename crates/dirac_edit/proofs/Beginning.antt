@@ -1,7 +1,7 @@
 -- The unit that begins bytes in memory.
-use Rattle.std.proofs.Common.{◌≡◌, ◌∙◌, ℕ, ◌+◌, ◌<◌, ◌≤◌, List, [], ◌∷◌, ◌++◌, length, take, drop, slice_range, arith, sym, ap, subst, append_assoc, append-nil, Option, None, Some, Result, Ok, Err, ◌==◌, nat_lt, true, false, inl, inr}
-use Rattle.std.proofs.lemmas.Bool.{cases_Bool, cond-true, cond-false, eqb-false, ne_eqb, lt-ltb, le-ltb}
-use Rattle.dirac_types.specs.declared.faults.Cause.TheVariants.{MissingEnd, Truncated}
+use Rattle.std.proofs.Common.{◌≡◌, ◌∙◌, ℕ, ◌+◌, ◌<◌, ◌≤◌, List, [], ◌∷◌, ◌++◌, length, take, drop, slice_range, arith, sym, ap, subst, append_assoc, append-nil, Option, Some, Ok, Err, ◌==◌, nat_lt, inl, inr}
+use Rattle.std.proofs.lemmas.Bool.{cases_Bool, cond-true, cond-false, ne_eqb, lt-ltb, le-ltb}
+use Rattle.dirac_types.specs.declared.faults.Cause.TheVariants.{Truncated}
 use Rattle.dirac_types.specs.declared.faults.Fault.{Fault}
 use Rattle.dirac_types.specs.declared.faults.Refusal.{Refusal}
 use Rattle.dirac_units.specs.declared.info.ParseInfo.{ParseInfo}

@@ -1,25 +1,24 @@
 -- A stream that was checked, and why a cut of it is refused.
-use Rattle.std.proofs.Common.{◌≡◌, ◌∙◌, ℕ, ◌<◌, ◌^◌, List, [], ◌∷◌, Option, None, Some, Result, Ok, Err, refl, sym, ap, ap₂, subst}
+use Rattle.std.proofs.Common.{◌≡◌, ◌∙◌, ℕ, ◌<◌, ◌^◌, List, [], ◌∷◌, Option, None, Some, Ok, Err, refl, sym, ap, ap₂, subst}
 use Rattle.std.specs.Prelude.{option_map, unwrap_or}
 use Rattle.std.specs.List.{AllByRecursion}
 use Rattle.std.specs.Option.{option_or}
 use Rattle.dirac_types.specs.declared.faults.Fault.{Fault}
-use Rattle.dirac_types.specs.declared.faults.Refusal.{Refusal}
 use Rattle.dirac_units.specs.declared.unit_place.UnitPlace.{UnitPlace}
 use Rattle.dirac_units.specs.Cut.{IsCut, NoneHasTwoCuts, UnitText, after, start}
-use Rattle.dirac_decode.specs.StreamState.{StreamState, StreamStep, begun, unit_step}
+use Rattle.dirac_decode.specs.StreamState.{StreamState, begun, unit_step}
 use Rattle.dirac_decode.specs.Shown.{IsShown, Outcome, follows, outcome}
-use Rattle.dirac_edit_laws.specs.Cut.{cut_bytes, end_point, open_among, open_cut, part_of, part_shown, restricted, wrong_point}
+use Rattle.dirac_edit_laws.specs.Cut.{cut_bytes, end_point, open_cut, part_of, part_shown, wrong_point}
 use Rattle.dirac_edit_laws.specs.Laws.{CutsShowTheirParts, IsFaultless, ShowsJust, UnitsShowTheirSequences}
 use Rattle.dirac_edit_laws.specs.Rebuilt.{IsRead}
 use Rattle.dirac_edit_laws.specs.Texts.{SequenceText, points_of, sequences, with_pictures}
 use Rattle.dirac_edit.specs.declared.answers.Edited.{Edited}
 use Rattle.dirac_edit.specs.declared.answers.Edited.TheVariants as edited
 use Rattle.dirac_edit.specs.declared.bounds.Part.{Part}
-use Rattle.dirac_edit.specs.Edits.{ShowsPart, cut_refusal}
+use Rattle.dirac_edit.specs.Edits.{cut_refusal}
 use Rattle.dirac_edit.specs.Kept.{kept_of}
 use Rattle.dirac_edit.specs.Open.{first_open_among}
-use Rattle.dirac_edit.specs.Steps.{HasNoFault, IsChecked, IsPart, IsReason, IsRefused, RefusesCut}
+use Rattle.dirac_edit.specs.Steps.{HasNoFault, IsChecked, IsPart, IsRefused, RefusesCut}
 use Rattle.dirac_edit.specs.Units.{IsCutInto}
 use Rattle.dirac_edit.proofs.Keeping.{part_kept}
 use Rattle.dirac_edit.proofs.Opening.{open_is}

@@ -1,6 +1,5 @@
 -- Loops over the units, sequences and pictures of a stream: what is left of a list, one step on.
-use Rattle.std.proofs.Common.{◌≡◌, ◌∙◌, ℕ, suc, ◌+◌, ◌<◌, ◌≤◌, Bool, true, false, cond, List, [], ◌∷◌, ◌++◌, length, drop, get_or, refl, sym, ap, subst, arith, add-one, Option, None, Some}
-use Rattle.std.proofs.lemmas.Bool.{cond-true, cond-false}
+use Rattle.std.proofs.Common.{◌≡◌, ◌∙◌, ℕ, suc, ◌+◌, ◌<◌, ◌≤◌, Bool, true, false, cond, List, [], ◌∷◌, length, drop, get_or, sym, ap, arith, add-one, Option, None, Some}
 use Rattle.std.proofs.lemmas.List.{drop_all, drop_more}
 use Rattle.dirac_types.specs.declared.picture.Picture.{Picture}
 use Rattle.dirac_units.specs.Codes.{is_intra}
@@ -8,7 +7,7 @@ use Rattle.dirac_units.specs.Cut.{UnitText}
 use Rattle.dirac_edit_laws.specs.Cut.{first_of}
 use Rattle.dirac_edit_laws.specs.Texts.{PictureText, SequenceText, points_of, points_with}
 use Rattle.dirac_edit.specs.declared.bounds.Part.{Part}
-use Rattle.dirac_edit.specs.Kept.{Walked, all_of, begun, kept_of, walked, walked_from}
+use Rattle.dirac_edit.specs.Kept.{Walked, all_of, kept_of, walked, walked_from}
 use Rattle.dirac_edit.specs.Open.{first_open, first_open_among, header_in, list_with, open_or}
 
 -- the item at a place, and what is behind it

@@ -1,8 +1,7 @@
 -- The sequences that are kept while units are gone through are those of the stream, with the pictures that are kept.
-use Rattle.std.proofs.Common.{◌≡◌, ◌∙◌, ℕ, suc, ◌==◌, Bool, true, false, if◌then◌else◌, List, [], ◌∷◌, ◌++◌, map, Option, None, Some, refl, sym, ap, append_assoc, append-nil, inl, inr}
+use Rattle.std.proofs.Common.{◌≡◌, ◌∙◌, ℕ, suc, ◌==◌, Bool, true, false, if◌then◌else◌, List, [], ◌∷◌, ◌++◌, map, Option, None, Some, refl, sym, ap, append_assoc, append-nil}
 use Rattle.std.specs.Prelude.{option_map}
 use Rattle.std.specs.List.{filter}
-use Rattle.std.proofs.lemmas.Bool.{cases_Bool}
 use Rattle.std.proofs.lemmas.List.{map-append}
 use Rattle.std.proofs.lemmas.List.Elements.{filter-append}
 use Rattle.dirac_units.specs.declared.codes.TheConstants.{END_OF_SEQUENCE, SEQUENCE_HEADER}
@@ -11,7 +10,7 @@ use Rattle.dirac_units.specs.Info.{is_picture}
 use Rattle.dirac_edit_laws.specs.Cut.{restricted}
 use Rattle.dirac_edit_laws.specs.Texts.{PictureText, SequenceText, closed_off, opened_by, picture_text, points_with, sequences, sequences_from, with_picture}
 use Rattle.dirac_edit.specs.declared.bounds.Part.{Part}
-use Rattle.dirac_edit.specs.Kept.{Walked, all_of, begun, keeps, kept_of, walked, walked_from, with_kept}
+use Rattle.dirac_edit.specs.Kept.{Walked, all_of, keeps, kept_of, walked_from, with_kept}
 
 -- a sequence with its pictures that are kept
 abbrev cut_down : Option Part → SequenceText → SequenceText

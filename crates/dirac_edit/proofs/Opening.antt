@@ -1,8 +1,7 @@
 -- What headers say of a part is what its rebuilt pictures say.
-use Rattle.std.proofs.Common.{◌≡◌, ◌∙◌, ℕ, ◌==◌, Bool, true, false, not, ◌&&◌, ◌||◌, if◌then◌else◌, List, [], ◌∷◌, ◌++◌, length, drop, map, nat_le, Option, None, Some, Result, Ok, Err, refl, sym, ap, ap₂, subst, inl, inr}
-use Rattle.std.specs.Prelude.{is_some, option_map}
+use Rattle.std.proofs.Common.{◌≡◌, ◌∙◌, ℕ, ◌==◌, Bool, true, false, not, ◌&&◌, ◌||◌, if◌then◌else◌, List, [], ◌∷◌, ◌++◌, length, drop, map, nat_le, Option, None, Some, Result, Ok, Err, refl, sym, ap, ap₂, subst}
+use Rattle.std.specs.Prelude.{is_some}
 use Rattle.std.specs.List.{AllByRecursion, filter, list_any}
-use Rattle.std.proofs.lemmas.Bool.{cases_Bool, cond-false, cond-true}
 use Rattle.std.proofs.lemmas.List.{length-map, map-append}
 use Rattle.dirac_types.specs.Chain.{◌>>=◌ as ◌>>◌}
 use Rattle.dirac_types.specs.declared.faults.Cause.TheVariants.{MissingReference}
@@ -14,7 +13,6 @@ use Rattle.dirac_bits.specs.Syntax.{Syntax, done, refuse, ◌>>=◌, align, read
 use Rattle.dirac_bits.specs.Then.{read_then}
 use Rattle.dirac_units.specs.Codes.{is_reference}
 use Rattle.dirac_sequence.specs.declared.sequence.Sequence.{Sequence}
-use Rattle.dirac_sequence.specs.Grammar.{sequence_read}
 use Rattle.dirac_header.specs.declared.header.PictureHeader.{PictureHeader}
 use Rattle.dirac_header.specs.Header.{header}
 use Rattle.dirac_refs.specs.declared.ref_buffer.TheConstants.{MOST_REFERENCES}
@@ -23,7 +21,6 @@ use Rattle.dirac_picture.specs.declared.coded.CodedMotion.{CodedMotion}
 use Rattle.dirac_picture.specs.declared.coded.CodedPicture.{CodedPicture}
 use Rattle.dirac_picture.specs.Grammar.{are_listed, body, is_listed, motion, picture, picture_read, residual_unless, zero_residual}
 use Rattle.dirac_picture.proofs.Every.{Every, every_any, every_read, every_then}
-use Rattle.dirac_decode.specs.Content.{rebuilt}
 use Rattle.dirac_edit_laws.specs.Cut.{first_of, is_between, open_among, open_from, part_rebuilt, restricted}
 use Rattle.dirac_edit_laws.specs.Rebuilt.{AreRead, IsRead, RebuiltText, list_behind, rebuilt_behind, rebuilt_from, rebuilt_of, rebuilt_on, rebuilt_text}
 use Rattle.dirac_edit_laws.specs.Texts.{PictureText, SequenceText}

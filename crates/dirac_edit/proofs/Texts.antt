@@ -1,8 +1,7 @@
 -- The bytes of sequences and their pictures, piece by piece.
-use Rattle.std.proofs.Common.{◌≡◌, ◌∙◌, ℕ, ◌+◌, ◌<◌, ◌≤◌, List, [], ◌∷◌, ◌++◌, length, drop, get_or, nat_lt, sym, ap, arith, if◌then◌else◌}
+use Rattle.std.proofs.Common.{◌≡◌, ◌∙◌, ℕ, ◌+◌, ◌<◌, ◌≤◌, List, [], ◌++◌, length, drop, get_or, nat_lt, ap, arith}
 use Rattle.std.proofs.lemmas.Bool.{cond-false, cond-true, le-ltb, lt-ltb}
 use Rattle.std.proofs.lemmas.List.{drop_all}
-use Rattle.dirac_units.specs.declared.codes.TheConstants.{SEQUENCE_HEADER}
 use Rattle.dirac_stream.specs.Stream.{end_unit, unit}
 use Rattle.dirac_edit_laws.specs.Texts.{PictureText, SequenceText, with_pictures}
 use Rattle.dirac_edit_laws.specs.Units.{pictures_bytes, sequence_bytes, sequences_bytes}

@@ -37,7 +37,7 @@ abbrev pub open_or : ℕ → (List Picture → Option ℕ) → Option (List Pict
 open_or index next None = Some index
 open_or index next (Some list) = next list
 
--- the first of these pictures that has a reference which isn't in the list of those before it; these are listed at first
+-- the first of these pictures that has a reference which isn't listed behind those before it; these are listed at first
 unfoldable pub first_open : List Picture → List PictureText → Option ℕ
 first_open list [] = None
 first_open list (p ∷ pictures) =

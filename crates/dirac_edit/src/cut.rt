@@ -30,7 +30,8 @@ pub fn cut_stream<S: Source, K: Sink>(
     from: u64,
     to: Option<u64>,
 ) -> Edited
-    ensures cut { IfSome (S.held source.old) (λ bytes. IsCutBy bytes from to result (K.taken out.old) (K.taken out.new)) }
+    ensures cut { IfSome (S.held source.old) (λ bytes. IsCutBy bytes from to result
+        (K.taken out.old) (K.taken out.new)) }
     // The cut has no fault, and shows just the pictures of the part as the whole stream rebuilds them.
     ensures shows { IfSome (S.held source.old) (λ bytes. result ≡ Edited.Done → ShowsPart bytes from to) }
     // A refusal and a failed read leave the sink as it was.

@@ -10,7 +10,7 @@ use dirac_refs::RefBuffer;
 use dirac_types::{NoMemory, Picture, Plane, Table};
 use std::alloc::Global;
 
-/// The index of the first unit of these sequences whose picture has a reference that isn't among the pictures before it.
+/// The index of the first unit of these sequences whose picture has a reference that isn't among those before it.
 pub(crate) fn first_open(
     alloc: Global,
     sequences: &[HeldSequence<'_>],

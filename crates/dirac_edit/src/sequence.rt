@@ -5,8 +5,8 @@ use dirac_types::NoMemory;
 use std::alloc::Global;
 use std::marker::Model;
 
-/// A picture that is written again, its unit's index in the stream, and how many points there are up to it, itself among
-/// them.
+/// A picture that is written again, its unit's index in the stream, and how many points there are up to it, itself
+/// among them.
 #[derive(Drop)]
 pub(crate) struct HeldPicture<'a> {
     index: u64,

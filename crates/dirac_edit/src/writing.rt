@@ -57,7 +57,8 @@ pub(crate) fn put_end<K: Sink>(out: &mut K, previous: u32) -> Put
 
 /// Writes the units of pictures behind a unit of `previous` bytes, and an end unit.
 fn put_pictures<K: Sink>(out: &mut K, previous: u32, pictures: &[HeldPicture<'_>]) -> Put
-    ensures all { result ≡ Put.All → Appends (K.taken out.old) (K.taken out.new) (pictures_bytes previous pictures.now) }
+    ensures all { result ≡ Put.All → Appends (K.taken out.old) (K.taken out.new)
+        (pictures_bytes previous pictures.now) }
     ensures front { AppendsFront (K.taken out.old) (K.taken out.new) (pictures_bytes previous pictures.now) }
     ensures failed { result ≡ Put.Failed → Rose (K.faults out.old) (K.faults out.new) }
     ensures count { K.faults out.old ≤ K.faults out.new }
@@ -77,7 +78,8 @@ fn put_pictures<K: Sink>(out: &mut K, previous: u32, pictures: &[HeldPicture<'_>
 
 /// Writes the units of a sequence behind a unit of `previous` bytes.
 fn put_sequence<K: Sink>(out: &mut K, previous: u32, sequence: &HeldSequence<'_>) -> Put
-    ensures all { result ≡ Put.All → Appends (K.taken out.old) (K.taken out.new) (sequence_bytes previous sequence.now) }
+    ensures all { result ≡ Put.All → Appends (K.taken out.old) (K.taken out.new)
+        (sequence_bytes previous sequence.now) }
     ensures front { AppendsFront (K.taken out.old) (K.taken out.new) (sequence_bytes previous sequence.now) }
     ensures failed { result ≡ Put.Failed → Rose (K.faults out.old) (K.faults out.new) }
     ensures count { K.faults out.old ≤ K.faults out.new }

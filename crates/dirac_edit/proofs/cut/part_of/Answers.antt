@@ -1,5 +1,3 @@
-use Rattle.std.proofs.Common.{◌≡◌, ◌∙◌, List, sym}
-use Rattle.dirac_units.specs.Cut.{UnitText}
 use Rattle.dirac_edit.specs.Steps.{IsChecked}
 use Rattle.dirac_edit.proofs.Checking.{IsFound, checked, fault_refused, found, open_refused, part_allowed, point_wrong, wrong_refused}
 use Rattle.dirac_edit.proofs.cut.part_of.Goals as goal

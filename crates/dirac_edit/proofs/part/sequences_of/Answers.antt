@@ -1,5 +1,5 @@
-use Rattle.std.proofs.Common.{◌≡◌, ◌∙◌, ◌+◌, List, drop, arith, sym, ap, subst}
-use Rattle.dirac_edit.specs.Kept.{Walked, all_of, kept_of, walked_from}
+use Rattle.std.proofs.Common.{◌∙◌, ◌+◌, drop, arith, sym, ap}
+use Rattle.dirac_edit.specs.Kept.{Walked, all_of, walked_from}
 use Rattle.dirac_edit.proofs.Going.{walked_all, walked_more}
 use Rattle.dirac_edit.proofs.part.sequences_of.Goals as goal
 

@@ -1,4 +1,4 @@
-use Rattle.std.proofs.Common.{arith, refl, sym, ap, ◌∙◌, ◌≡◌, ◌≤◌, ℕ, drop, slice_range, length}
+use Rattle.std.proofs.Common.{arith, sym, ap, ◌∙◌, ◌≡◌, ◌≤◌, ℕ, drop, slice_range, length}
 use Rattle.std.proofs.lemmas.List.{take_rest}
 use Rattle.dirac_units.specs.Info.{span_of}
 use Rattle.dirac_edit.proofs.Beginning.{not_read, too_few, too_long, whole_unit}

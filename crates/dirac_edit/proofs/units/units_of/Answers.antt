@@ -1,4 +1,4 @@
-use Rattle.std.proofs.Common.{List, subst, sym, arith, length, ◌<◌, ◌+◌, ◌≤◌}
+use Rattle.std.proofs.Common.{List, subst, sym, arith}
 use Rattle.dirac_units.specs.Cut.{UnitText}
 use Rattle.dirac_edit.proofs.Beginning.{Completes, all_cut, fewer_left, none_cut, one_more_cut}
 use Rattle.dirac_edit.proofs.units.units_of.Goals as goal

@@ -1,7 +1,4 @@
-use Rattle.std.proofs.Common.{◌++◌, ◌<◌, ◌^◌, ℕ, List, length, Option}
-use Rattle.dirac_types.specs.declared.faults.Fault.{Fault}
-use Rattle.dirac_units.specs.declared.unit_place.UnitPlace.{UnitPlace}
-use Rattle.dirac_units.specs.Cut.{IsCut, UnitText, start}
+use Rattle.std.proofs.Common.{◌<◌, ◌^◌, length}
 use Rattle.dirac_edit.proofs.Beginning.{Completes}
 use Rattle.dirac_edit.proofs.units.units_of.Given as goal
 

@@ -1,4 +1,4 @@
-use Rattle.std.proofs.Common.{◌≡◌, ◌∙◌, ℕ, List, ◌+◌, ◌++◌, ap, length, refl, subst}
+use Rattle.std.proofs.Common.{◌≡◌, ◌∙◌, ℕ, List, ◌+◌, ap, length, refl, subst}
 use Rattle.std.specs.Io.KnownBytes.{Appends}
 use Rattle.dirac_io.specs.Writing.{AppendsFront}
 use Rattle.dirac_units.specs.declared.codes.TheConstants.{SEQUENCE_HEADER}
