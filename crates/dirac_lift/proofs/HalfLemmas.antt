@@ -10,6 +10,7 @@ use Rattle.std.proofs.Math.Nat.{div-le_self}
 use Rattle.std.proofs.Math.Pow.{pow_mono}
 use lib.Signed.{shr_z}
 use mir.Val.{SFits}
+use Rattle.dirac_types.proofs.Bounds.{values_bound}
 use Rattle.dirac_types.proofs.Shifts.{shr_sum_is}
 use Rattle.dirac_lift.specs.Lifting.{Step, moved, rounded, weighted}
 use Rattle.dirac_lift.specs.Halves.{HalfLifted, half_read, half_value}
@@ -47,10 +48,7 @@ rounded_small x k l h =
 
 -- any place of a list whose values are small
 pub abs-read : (b : ℕ) (xs : List ℤ) (p : ℕ) → All (λ v. unsigned_abs v ≤ b) xs → unsigned_abs (get_or xs p (pos 0)) ≤ b
-abs-read b xs p all = elim (cases_lt p (length xs)) [
-  | inl inside ↦ all p (pos 0) inside
-  | inr past ↦ rw (get_or_past xs p (pos 0) past) (omega arith)
-]
+abs-read b xs p all = values_bound b xs all p
 
 pub abs-read_is : (b : ℕ) (xs : List ℤ) (p : ℕ) (v : ℤ) → All (λ v. unsigned_abs v ≤ b) xs → v ≡ get_or xs p (pos 0) → unsigned_abs v ≤ b
 abs-read_is b xs p v all e = rw e (abs-read b xs p all)

@@ -4,6 +4,7 @@ use Rattle.std.specs.List.{All, sum_by}
 use Rattle.std.proofs.lemmas.Bool.{and_parts, leb-true}
 use Rattle.std.proofs.lemmas.Nat.{pow_pos, div-add-mod', div_below, mod_below}
 use Rattle.std.proofs.lemmas.List.{get_or_default}
+use Rattle.dirac_types.proofs.Bounds.{all_weaker}
 use Rattle.dirac_bands.proofs.Sizes.{div_mono}
 use Rattle.dirac_lift.specs.Level.{column}
 use Rattle.dirac_lift.specs.Lifting.{Step, grown, lift, rounded, weighted}
@@ -60,9 +61,6 @@ narrow_parts s changed read t =
     let a = and_parts (nat_le s.shift 12) (nat_le changed (2 ^ 21) && nat_le (sum_by unsigned_abs s.taps * read) (2 ^ 31 - 2 ^ 22)) t in
     let b = and_parts (nat_le changed (2 ^ 21)) (nat_le (sum_by unsigned_abs s.taps * read) (2 ^ 31 - 2 ^ 22)) a.1 in
     (leb-true s.shift 12 a.0, leb-true changed (2 ^ 21) b.0, leb-true (sum_by unsigned_abs s.taps * read) (2 ^ 31 - 2 ^ 22) b.1)
-
-all_weaker : (a b : ℕ) (xs : List ℤ) → a ≤ b → All (λ v. unsigned_abs v ≤ a) xs → All (λ v. unsigned_abs v ≤ b) xs
-all_weaker a b xs l all k d i = omega (arith, l, all k d i)
 
 -- a step of the even places
 pub even_readable : (m : Bool) (sh ld : ℕ) (ts : List ℤ) (ss : List Step) (w h : ℕ) (es os : List ℤ) → AreNarrow (even_step m sh ld ts ∷ ss) w h es os → IsReadable ts os

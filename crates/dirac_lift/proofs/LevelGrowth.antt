@@ -2,20 +2,16 @@
 use Rattle.std.proofs.Common.{◌≡◌, ℕ, ℤ, pos, ◌+◌, ◌*◌, ◌/◌, ◌%◌, ◌<◌, ◌≤◌, unsigned_abs, List, length, get_or, arith, sym, ap, ◌∙◌}
 use Rattle.std.specs.List.{All}
 use Rattle.std.proofs.lemmas.List.{ext_get_or}
-use Rattle.std.proofs.lemmas.List.FromFn.{length-map-range_with_len}
 use Rattle.dirac_types.specs.Table.{Table, filled}
 use Rattle.dirac_types.proofs.Rows.{filled_at}
 use Rattle.dirac_lift.specs.Level.{column, columns_by, row_in, rows_by, synthesised}
 use Rattle.dirac_lift.specs.Places.{ColumnsBecome, RowsBecome}
 use Rattle.dirac_lift.specs.Wavelets.{run, steps_of, synth, synth_bound}
 use Rattle.dirac_lift.proofs.ColumnLemmas.{column_at, length-column}
+use Rattle.dirac_lift.proofs.HalfPlanes.{filled_len}
 use Rattle.dirac_lift.proofs.LevelLemmas.{level_bound, synth_columns_grow, synth_rows_grow}
 use Rattle.dirac_lift.proofs.RowLemmas.{length-row, row_at}
 use Rattle.dirac_lift.proofs.Runs.{length-run}
-
-filled_len : (w h : ℕ) (f : ℕ → ℕ → ℤ) → length (filled w h f) ≡ w * h
-unfolding filled
-filled_len w h f = length-map-range_with_len (λ p. f (p % w) (p / w)) 0 (w * h)
 
 length-synth : (k : ℕ) (xs : List ℤ) → length (synth k xs) ≡ length xs
 unfolding synth
