@@ -10,7 +10,7 @@ use Rattle.dirac_refs.specs.Delivery.{Leaving, deliver, flushed, pushed_all}
 use Rattle.dirac_decode.proofs.Flushing.{pushed_append}
 use Rattle.dirac_stream.specs.declared.answers.Encoded.{Encoded}
 use Rattle.dirac_stream.specs.declared.answers.Encoded.TheVariants as encoded
-use Rattle.dirac_stream.specs.Coding.{Job, Made, coded_from, made, pushed, refs_after, shown_of, waiting_of}
+use Rattle.dirac_stream.specs.Coding.{IndexRule, Job, Made, coded_under, made_under, pushed, refs_after, shown_of, waiting_of}
 use Rattle.dirac_stream.specs.Encoding.{Encoding, before_long, encoding_by, first_long, is_short, stream_before}
 use Rattle.dirac_stream.specs.Standing.{AreShort, Leave, pushed_now}
 use Rattle.dirac_stream.specs.Steps.{last_units, leaving, picture_units}
@@ -175,18 +175,18 @@ none_left (x ∷ xs) zero few = absurd (omega (arith, few))
 none_left (x ∷ xs) (suc n) few = none_left xs n (omega (arith, few))
 
 -- the next job is known: what it becomes joins those that are coded
-pub coded_more : (t : Settings) (all : List Made) (done : List Made) (refs : List Picture) (jobs : List Job) (n : ℕ) (j : Job) → all ≡ done ++ coded_from t refs (drop n jobs) → slice_get jobs n ≡ Some j
-    → all ≡ (done ++ made t refs j ∷ []) ++ coded_from t (refs_after refs (made t refs j)) (drop (n + 1) jobs)
-unfolding coded_from
-coded_more t all done refs jobs n j is there =
-    is ∙ ap (λ l. done ++ coded_from t refs l) (dropped_next jobs n j there)
-    ∙ sym (append_assoc done (made t refs j ∷ []) (coded_from t (refs_after refs (made t refs j)) (drop (n + 1) jobs)))
+pub coded_more : (f : IndexRule) (t : Settings) (all : List Made) (done : List Made) (refs : List Picture) (jobs : List Job) (n : ℕ) (j : Job) → all ≡ done ++ coded_under f t refs (drop n jobs) → slice_get jobs n ≡ Some j
+    → all ≡ (done ++ made_under f t refs j ∷ []) ++ coded_under f t (refs_after refs (made_under f t refs j)) (drop (n + 1) jobs)
+unfolding coded_under
+coded_more f t all done refs jobs n j is there =
+    is ∙ ap (λ l. done ++ coded_under f t refs l) (dropped_next jobs n j there)
+    ∙ sym (append_assoc done (made_under f t refs j ∷ []) (coded_under f t (refs_after refs (made_under f t refs j)) (drop (n + 1) jobs)))
 
 -- no job is left: all are coded
-pub coded_all : (t : Settings) (all done : List Made) (refs : List Picture) (jobs : List Job) (n : ℕ) → all ≡ done ++ coded_from t refs (drop n jobs) → length jobs ≤ n → all ≡ done
-unfolding coded_from
-coded_all t all done refs jobs n is few =
-    is ∙ ap (λ l. done ++ coded_from t refs l) (none_left jobs n few) ∙ append-nil done
+pub coded_all : (f : IndexRule) (t : Settings) (all done : List Made) (refs : List Picture) (jobs : List Job) (n : ℕ) → all ≡ done ++ coded_under f t refs (drop n jobs) → length jobs ≤ n → all ≡ done
+unfolding coded_under
+coded_all f t all done refs jobs n is few =
+    is ∙ ap (λ l. done ++ coded_under f t refs l) (none_left jobs n few) ∙ append-nil done
 
 -- the last units, by the count of pictures
 pub closing_is : (t : Settings) (ms : List Made) → closing t ms ≡ last_units t (length ms) (last_length 0 ms)

@@ -27,14 +27,16 @@ use Rattle.dirac_analysis.proofs.Undone.{planes_kept}
 use Rattle.dirac_decode.specs.Content.{bands_of as bands_in, compensation, height_of, named, plane_of, predicted_among, rebuilt, residual_among, samples_from, width_of}
 use Rattle.dirac_plan.specs.declared.planned.Planned.{Planned}
 use Rattle.dirac_stream.specs.Coded.{IsSource, are_zero_bands, bands_of, coded_of, coded_with, is_zero_residual, kind_of, left_of, less_prediction, motion_of, residual_of, residual_unless_zero}
-use Rattle.dirac_stream.specs.Coding.{blank, coded_from, job_of, made, refs_after, shown_of}
-use Rattle.dirac_stream.specs.Laws.{AreMade, AreNumbered, IsWhole, JobsAreKept, SourcesAreKept}
+use Rattle.dirac_stream.specs.Coding.{IndexRule, Job, blank, coded_under, job_of, made_under, own_index, refs_after, shown_of}
+use Rattle.dirac_stream.specs.Laws.{AreMade, AreNumbered, GivesIndices, IsWhole, JobsAreKept, SourcesAreKept, SourcesAreKeptUnder}
 use Rattle.dirac_stream.specs.Tables.{TablesAreChosen}
 use Rattle.dirac_stream.specs.Writable.{IsCodable}
 use Rattle.dirac_stream.proofs.Coding.{clipped_again, codable}
 use Rattle.dirac_stream.proofs.Lefts.{found_is}
 use Rattle.dirac_stream.proofs.Reading.{jobs_read, source_plane}
-use Rattle.dirac_stream.proofs.Sourcing.{picture_at, sources_made}
+use Rattle.dirac_stream.proofs.Indices.{accepted_at, own_gives, source_with, sources_under}
+use Rattle.dirac_stream.proofs.Sourcing.{jobs_read_under, picture_at, sources_made}
+use Rattle.dirac_choose.specs.Chosen.{at_index}
 use Rattle.dirac_residual.proofs.ZeroBands.{length-filled, zeros_stand}
 use Rattle.dirac_plan.specs.Plan.{plan}
 use Rattle.dirac_plan_laws.specs.Headers.{IsPlanned, header_of}
@@ -197,26 +199,33 @@ each_numbered : (pictures : List Picture) (qs : List Planned) → AreNumbered 0 
 each_numbered pictures [] all below = tt
 each_numbered pictures (q ∷ qs) all below = (omega (arith, numbered_at pictures 0 q.number all below.0), each_numbered pictures qs all below.1)
 
-kept_from : (t : Settings) (pictures refs : List Picture) (qs : List Planned) → IsAccepted t → AllByRecursion (IsSource t) pictures → AllByRecursion IsWhole pictures → AllByRecursion (λ (q : Planned). q.number < length pictures) qs
-    → AllByRecursion IsPlanned qs → AllByRecursion (λ (q : Planned). (source_of pictures q).number ≡ q.number) qs → AreMade t refs (coded_from t refs (map (job_of pictures) qs)) → t.index ≡ 0
-    → map shown_of (coded_from t refs (map (job_of pictures) qs)) ≡ map (source_of pictures) qs
-unfolding coded_from
-kept_from t pictures refs [] accepted sources whole below planned numbers all none = refl
-kept_from t pictures refs (q ∷ qs) accepted sources whole below planned numbers all none =
-    let m = made t refs (job_of pictures q) in
-    let one = source_kept t refs q (source_of pictures q) accepted (picture_at (IsSource t) pictures q.number sources below.0) (picture_at IsWhole pictures q.number whole below.0) planned.0 all.0.found numbers.0 none in
-    ap₂ (λ (x : Picture) (xs : List Picture). x ∷ xs) one (kept_from t pictures (refs_after refs m) qs accepted sources whole below.1 planned.1 numbers.1 all.1 none)
+kept_from : (f : IndexRule) → GivesIndices f → (t : Settings) (pictures refs : List Picture) (qs : List Planned) → IsAccepted t → AllByRecursion (IsSource t) pictures → AllByRecursion IsWhole pictures → AllByRecursion (λ (q : Planned). q.number < length pictures) qs
+    → AllByRecursion IsPlanned qs → AllByRecursion (λ (q : Planned). (source_of pictures q).number ≡ q.number) qs → AreMade t refs (coded_under f t refs (map (job_of pictures) qs)) → ((refs : List Picture) (j : Job) → f t refs j ≡ 0)
+    → map shown_of (coded_under f t refs (map (job_of pictures) qs)) ≡ map (source_of pictures) qs
+unfolding coded_under
+kept_from f gives t pictures refs [] accepted sources whole below planned numbers all none = refl
+kept_from f gives t pictures refs (q ∷ qs) accepted sources whole below planned numbers all none =
+    let j = job_of pictures q in
+    let m = made_under f t refs j in
+    let index = f t refs j in
+    let source : IsSource t (source_of pictures q) = picture_at (IsSource t) pictures q.number sources below.0 in
+    let one = source_kept (at_index t index) refs q (source_of pictures q) (accepted_at t index accepted (gives t refs j accepted)) (source_with t index (source_of pictures q) source) (picture_at IsWhole pictures q.number whole below.0) planned.0 all.0.found numbers.0 (none refs j) in
+    ap₂ (λ (x : Picture) (xs : List Picture). x ∷ xs) one (kept_from f gives t pictures (refs_after refs m) qs accepted sources whole below.1 planned.1 numbers.1 all.1 none)
 
 pub jobs_kept : JobsAreKept
 jobs_kept t refs j accepted source whole planned found number none = source_kept t refs j.planned j.source accepted source whole planned found number none
 
-pub sources_kept : PlansCanBeCoded → TablesAreChosen → SourcesAreKept
-sources_kept plans tables t pictures is numbered whole none =
+pub kept_under : PlansCanBeCoded → TablesAreChosen → SourcesAreKeptUnder
+kept_under plans tables f gives t pictures is numbered whole none =
     let n = length pictures in
     let qs = plan n t in
     let law = plans t n is.accepted (omega (arith, is.few)) in
-    let all = sources_made plans (jobs_read tables) t pictures is in
+    let all = sources_made plans (jobs_read_under (jobs_read tables)) f gives t pictures is in
     let numbers = each_numbered pictures qs numbered law.below in
-    ap (by_number n) (kept_from t pictures [] qs is.accepted is.each whole law.below law.each numbers all.0 none)
+    ap (by_number n) (kept_from f gives t pictures [] qs is.accepted is.each whole law.below law.each numbers all.0 none)
     ∙ by_take pictures (map (source_of pictures) qs) n (omega arith) (λ k l. let found = law.all k l in number_listed pictures qs k found.0 found.1 found.2 found.3 numbers)
     ∙ take_all n pictures (omega arith)
+
+-- with the settings' index
+pub sources_kept : PlansCanBeCoded → TablesAreChosen → SourcesAreKept
+sources_kept plans tables t pictures is numbered whole none = kept_under plans tables own_index own_gives t pictures (sources_under t pictures is) numbered whole (λ refs j. none)

@@ -2,6 +2,8 @@ pub mod Cutting
 pub mod InBytes
 pub mod Headers
 pub mod Showing
+pub mod Indices
+pub mod Fitting
 pub mod Sourcing
 pub mod Encodings
 pub mod Behind

@@ -17,18 +17,19 @@ use Rattle.dirac_decode.specs.Raw.{raws}
 use Rattle.dirac_decode.specs.Shown.{Outcome, IsShown}
 use Rattle.dirac_analysis.specs.Fits.{AreSamples}
 use Rattle.dirac_stream.specs.Coded.{IsSource}
-use Rattle.dirac_stream.specs.Encoding.{IsRecovered, first_long, is_short}
+use Rattle.dirac_stream.specs.Encoding.{IsRecovered, IsRecoveredUnder, first_long, is_short}
 use Rattle.dirac_stream.specs.Raw.{chroma_bytes, luma_bytes, picture_from, pictures_in, raw_length, sample_of, sources, whole_pictures}
-use Rattle.dirac_stream.specs.Coding.{Made, coding, reconstructions}
-use Rattle.dirac_stream.specs.Laws.{AreSources, IsWhole, RawPicturesAreRecovered, StreamsShowTheirPictures}
+use Rattle.dirac_stream.specs.Coding.{IndexRule, Made, coding_under, own_index, reconstructions_under}
+use Rattle.dirac_stream.specs.Laws.{AreSourcesUnder, GivesIndices, IsWhole, RawPicturesAreRecovered, RawPicturesAreRecoveredUnder, StreamsShowTheirPictures}
 use Rattle.dirac_stream.specs.Tables.{TablesAreChosen}
-use Rattle.dirac_stream.specs.Stream.{StreamsAreCut, picture_length, stream_of, stream_units}
+use Rattle.dirac_stream.specs.Stream.{StreamsAreCut, picture_length, stream_under, units_under}
 use Rattle.dirac_stream.proofs.Accepted.{most_bytes, most_pictures}
 use Rattle.std.proofs.lemmas.Bool.{leb-true}
-use Rattle.dirac_stream.proofs.Kept.{sources_kept}
+use Rattle.dirac_stream.proofs.Kept.{kept_under}
 use Rattle.dirac_stream.proofs.Reading.{jobs_read}
 use Rattle.dirac_stream.proofs.Showing.{each_unit}
-use Rattle.dirac_stream.proofs.Sourcing.{sources_made, sources_shown}
+use Rattle.dirac_stream.proofs.Sourcing.{jobs_read_under, shown_under, sources_made}
+use Rattle.dirac_stream.proofs.Indices.{own_gives}
 use Rattle.dirac_stream.proofs.RawBytes.{below_drop, below_take, raw_again}
 use Rattle.dirac_stream.proofs.Sources.{length-pictures_in, numbered_in}
 use Rattle.dirac_plan_laws.specs.Plans.{PlansCanBeCoded}
@@ -138,19 +139,19 @@ each_short t (m ∷ ms) accepted none =
 
 -- ---- all together
 
-pub recovered : StreamsShowTheirPictures → StreamsAreCut → PlansCanBeCoded → TablesAreChosen → (t : Settings) (n : ℕ) (bytes : List ℕ) → IsAccepted t → n * raw_length t ≤ length bytes → n ≤ t.pictures → AreBytes (take (n * raw_length t) bytes)
-    → sources t bytes ≡ pictures_in t n 0 bytes → first_long t (coding t (sources t bytes)) ≡ None → IsRecovered t bytes
-recovered law cuts plans tables t n bytes accepted some few all is short =
+pub recovered : StreamsShowTheirPictures → StreamsAreCut → PlansCanBeCoded → TablesAreChosen → (f : IndexRule) → GivesIndices f → (t : Settings) (n : ℕ) (bytes : List ℕ) → IsAccepted t → n * raw_length t ≤ length bytes → n ≤ t.pictures → AreBytes (take (n * raw_length t) bytes)
+    → sources t bytes ≡ pictures_in t n 0 bytes → first_long t (coding_under f t (sources t bytes)) ≡ None → IsRecoveredUnder f t bytes
+recovered law cuts plans tables f gives t n bytes accepted some few all is short =
     let ps = pictures_in t n 0 bytes in
     let count : length ps ≡ n = length-pictures_in t n 0 bytes in
-    let lengths = each_short t (coding t ps) accepted (subst (λ (l : List Picture). first_long t (coding t l) ≡ None) is short) in
-    let sourced : AreSources t ps = record { accepted = accepted; few = omega (arith, count, few, most_pictures t accepted); each = sources_in t n 0 bytes all; short = lengths } in
-    let made = sources_made plans (jobs_read tables) t ps sourced in
-    let shows = sources_shown law jobs_read plans tables t ps sourced in
+    let lengths = each_short t (coding_under f t ps) accepted (subst (λ (l : List Picture). first_long t (coding_under f t l) ≡ None) is short) in
+    let sourced : AreSourcesUnder f t ps = record { accepted = accepted; few = omega (arith, count, few, most_pictures t accepted); each = sources_in t n 0 bytes all; short = lengths } in
+    let made = sources_made plans (jobs_read_under (jobs_read tables)) f gives t ps sourced in
+    let shows = shown_under law (jobs_read tables) plans f gives t ps sourced in
     record {
-      cut = subst (λ (l : List Picture). IsCut start (stream_of t l) (stream_units t l) None) (sym is) (cuts t (coding t ps) (each_unit t [] (coding t ps) made.0));
-      shows = subst (λ (l : List Picture). (o : Outcome) × IsShown (stream_of t l) o × (o.shown ≡ reconstructions t l) × (o.end ≡ None)) (sym is) shows;
-      lossless = λ none. subst (λ (l : List Picture). reconstructions t l ≡ l) (sym is) (sources_kept plans tables t ps sourced (numbered_in t n 0 bytes) (wholes_in t n 0 bytes some) none);
+      cut = subst (λ (l : List Picture). IsCut start (stream_under f t l) (units_under f t l) None) (sym is) (cuts t (coding_under f t ps) (each_unit t [] (coding_under f t ps) made.0));
+      shows = subst (λ (l : List Picture). (o : Outcome) × IsShown (stream_under f t l) o × (o.shown ≡ reconstructions_under f t l) × (o.end ≡ None)) (sym is) shows;
+      lossless = λ none. subst (λ (l : List Picture). reconstructions_under f t l ≡ l) (sym is) (kept_under plans tables f gives t ps sourced (numbered_in t n 0 bytes) (wholes_in t n 0 bytes some) none);
       raw = subst (λ (l : List Picture). raws l ≡ take (length l * raw_length t) bytes) (sym is) (raws_in t n 0 bytes all ∙ ap (λ k. take (k * raw_length t) bytes) (sym count));
     }
 
@@ -162,7 +163,14 @@ whole_fit t bytes =
     let fits : whole * r ≤ length bytes = div-mul-le_self (length bytes) r in
     omega (arith, fits, mul-le (min whole t.pictures) r whole r (omega arith) (omega arith))
 
-pub raws_recovered : StreamsShowTheirPictures → StreamsAreCut → PlansCanBeCoded → TablesAreChosen → RawPicturesAreRecovered
-raws_recovered law cuts plans tables t bytes accepted all short =
+pub under_recovered : StreamsShowTheirPictures → StreamsAreCut → PlansCanBeCoded → TablesAreChosen → RawPicturesAreRecoveredUnder
+under_recovered law cuts plans tables f gives t bytes accepted all short =
     let n = min (whole_pictures t bytes) t.pictures in
-    recovered law cuts plans tables t n bytes accepted (whole_fit t bytes) (omega arith) (below_take (n * raw_length t) bytes all) refl short
+    recovered law cuts plans tables f gives t n bytes accepted (whole_fit t bytes) (omega arith) (below_take (n * raw_length t) bytes all) refl short
+
+-- with the settings' index
+pub own_recovered : (t : Settings) (bytes : List ℕ) → IsRecoveredUnder own_index t bytes → IsRecovered t bytes
+own_recovered t bytes is = record { cut = is.cut; shows = is.shows; lossless = λ none. is.lossless (λ refs j. none); raw = is.raw }
+
+pub raws_recovered : StreamsShowTheirPictures → StreamsAreCut → PlansCanBeCoded → TablesAreChosen → RawPicturesAreRecovered
+raws_recovered law cuts plans tables t bytes accepted all short = own_recovered t bytes (under_recovered law cuts plans tables own_index own_gives t bytes accepted all short)

@@ -1,5 +1,5 @@
 -- What a plan's sources become is read and rebuilt again: the encoder's list of references is the decoder's.
-use Rattle.std.proofs.Common.{◌≡◌, ℕ, zero, suc, ℤ, pos, negsuc, ◌<◌, ◌^◌, if◌then◌else◌, Bool, true, false, List, [], ◌∷◌, ◌++◌, length, map, get_or, refl, ap, ◌∙◌, arith, Option, None, Some}
+use Rattle.std.proofs.Common.{◌≡◌, ℕ, zero, suc, ℤ, pos, negsuc, ◌<◌, ◌^◌, if◌then◌else◌, Bool, true, false, List, [], ◌∷◌, ◌++◌, length, map, get_or, refl, ap, ◌∙◌, arith, Option, None, Some, Ok, sym, subst}
 use Rattle.std.specs.Prelude.{drop, slice_index_or, nat_le, not, ◌==◌}
 use Rattle.std.specs.List.{AllByRecursion, filter}
 use Rattle.std.proofs.lemmas.Int.{ints}
@@ -28,9 +28,12 @@ use Rattle.dirac_decode.specs.StreamState.{as_reference}
 use Rattle.dirac_header.specs.Codes.{is_reference}
 use Rattle.dirac_plan.specs.declared.planned.Planned.{Planned}
 use Rattle.dirac_stream.specs.Coded.{IsPlane, IsSource}
-use Rattle.dirac_stream.specs.Coding.{Made, blank, coded_from, coding, job_of, made, pushed, reconstructions, refs_after, shown_of, waiting_of}
-use Rattle.dirac_stream.specs.Laws.{AreMade, AreSources, Begins, IsMade, JobsAreRead, SourcesShowReconstructions, StreamsShowTheirPictures}
+use Rattle.dirac_stream.specs.Coding.{IndexRule, Job, Made, blank, coded_under, coding_under, job_of, made_under, own_index, pushed, reconstructions_under, refs_after, shown_of, waiting_of}
+use Rattle.dirac_stream.specs.Laws.{AreMade, AreSourcesUnder, Begins, GivesIndices, IsMade, JobsAreRead, JobsAreReadUnder, SourcesShowReconstructions, SourcesShowReconstructionsUnder, StreamsShowTheirPictures}
+use Rattle.dirac_choose.specs.Chosen.{at_index}
+use Rattle.dirac_picture.specs.Grammar.{picture_read}
 use Rattle.dirac_stream.specs.Tables.{TablesAreChosen}
+use Rattle.dirac_stream.proofs.Indices.{accepted_at, own_gives, sequence_at, source_with, sources_with, sources_under}
 use Rattle.dirac_stream.specs.Stream.{picture_length}
 use Rattle.dirac_plan.specs.Plan.{plan}
 use Rattle.dirac_plan_laws.specs.Headers.{IsPlanned}
@@ -126,60 +129,78 @@ picture_at P (p ∷ pictures) (suc k) all l = picture_at P pictures k all.1 (ome
 
 -- ---- the recursion
 
+-- what is shown under a rule
+pub shown_source : (f : IndexRule) (t : Settings) (refs : List Picture) (j : Job) → IsSource t (made_under f t refs j).shown
+shown_source f t refs j =
+    let c = (made_under f t refs j).coded in
+    subst (λ (s : Sequence). IsSource t (rebuilt s refs c)) (sym (sequence_at t (f t refs j))) (rebuilt_source t refs c)
+
+-- a planned source is read as it was coded, whichever index the rule gives it
+pub jobs_read_under : JobsAreRead → JobsAreReadUnder
+jobs_read_under law f gives t refs j accepted listed source planned found short =
+    let index = f t refs j in
+    let m = made_under f t refs j in
+    let read = law (at_index t index) refs j (accepted_at t index accepted (gives t refs j accepted)) (sources_with t index refs listed) (source_with t index j.source source) planned found short in
+    record {
+      fits = record { code = planned.code; short = short };
+      found = found;
+      read = subst (λ (s : Sequence). picture_read j.planned.code s refs m.payload ≡ Ok m.coded) (sequence_at t index) read;
+      shows = ap (λ (s : Sequence). rebuilt s refs m.coded) (sequence_at t index);
+    }
+
 -- the pictures that become of planned ones have their numbers
-pub are_planned : (t : Settings) (pictures refs : List Picture) (qs : List Planned) → ArePlanned qs (map shown_of (coded_from t refs (map (job_of pictures) qs)))
-unfolding coded_from
-are_planned t pictures refs [] = refl
-are_planned t pictures refs (q ∷ qs) = ap (λ ns. q.number ∷ ns) (are_planned t pictures (refs_after refs (made t refs (job_of pictures q))) qs)
+pub are_planned : (f : IndexRule) (t : Settings) (pictures refs : List Picture) (qs : List Planned) → ArePlanned qs (map shown_of (coded_under f t refs (map (job_of pictures) qs)))
+unfolding coded_under
+are_planned f t pictures refs [] = refl
+are_planned f t pictures refs (q ∷ qs) = ap (λ ns. q.number ∷ ns) (are_planned f t pictures (refs_after refs (made_under f t refs (job_of pictures q))) qs)
 
-all_made : JobsAreRead → (t : Settings) (pictures refs : List Picture) (qs : List Planned) → IsAccepted t → AllByRecursion (IsSource t) pictures → AllByRecursion (IsSource t) refs
+all_made : JobsAreReadUnder → (f : IndexRule) → GivesIndices f → (t : Settings) (pictures refs : List Picture) (qs : List Planned) → IsAccepted t → AllByRecursion (IsSource t) pictures → AllByRecursion (IsSource t) refs
     → AllByRecursion (λ (q : Planned). q.number < length pictures) qs → AllByRecursion IsPlanned qs
-    → AreFound refs qs (map shown_of (coded_from t refs (map (job_of pictures) qs)))
-    → AllByRecursion (λ m. picture_length m < 2 ^ 32) (coded_from t refs (map (job_of pictures) qs))
-    → AreMade t refs (coded_from t refs (map (job_of pictures) qs))
-unfolding coded_from
-all_made law t pictures refs [] accepted sources listed below codes found short = tt
-all_made law t pictures refs (q ∷ qs) accepted sources listed below codes found short =
+    → AreFound refs qs (map shown_of (coded_under f t refs (map (job_of pictures) qs)))
+    → AllByRecursion (λ m. picture_length m < 2 ^ 32) (coded_under f t refs (map (job_of pictures) qs))
+    → AreMade t refs (coded_under f t refs (map (job_of pictures) qs))
+unfolding coded_under
+all_made law f gives t pictures refs [] accepted sources listed below codes found short = tt
+all_made law f gives t pictures refs (q ∷ qs) accepted sources listed below codes found short =
     let j = job_of pictures q in
-    let m = made t refs j in
+    let m = made_under f t refs j in
     let source : IsSource t j.source = picture_at (IsSource t) pictures q.number sources below.0 in
-    let is : IsMade t refs m = record {
-      fits = record { code = codes.0.code; short = short.0 };
-      found = found.0;
-      read = law t refs j accepted listed source codes.0 found.0 short.0;
-      shows = refl;
-    } in
-    let more = all_committed (IsSource t) refs q.retire q.code m.shown listed (rebuilt_source t refs m.coded) in
-    (is, all_made law t pictures (refs_after refs m) qs accepted sources more below.1 codes.1 found.1 short.1)
+    let is : IsMade t refs m = law f gives t refs j accepted listed source codes.0 found.0 short.0 in
+    let more = all_committed (IsSource t) refs q.retire q.code m.shown listed (shown_source f t refs j) in
+    (is, all_made law f gives t pictures (refs_after refs m) qs accepted sources more below.1 codes.1 found.1 short.1)
 
-begins : (t : Settings) (pictures : List Picture) (qs : List Planned) → BeginsPlan qs → Begins (coded_from t [] (map (job_of pictures) qs))
-unfolding coded_from
-begins t pictures [] is = tt
-begins t pictures (q ∷ qs) is = (is.0, is.1)
+begins : (f : IndexRule) (t : Settings) (pictures : List Picture) (qs : List Planned) → BeginsPlan qs → Begins (coded_under f t [] (map (job_of pictures) qs))
+unfolding coded_under
+begins f t pictures [] is = tt
+begins f t pictures (q ∷ qs) is = (is.0, is.1)
 
 pushed_shown : (ms : List Made) → pushed ms ≡ map as_waiting (map shown_of ms)
 pushed_shown [] = refl
 pushed_shown (m ∷ ms) = ap (λ ws. waiting_of m ∷ ws) (pushed_shown ms)
 
 -- the list of what sources become, with nothing listed at first
-pub sources_made : PlansCanBeCoded → JobsAreRead → (t : Settings) (pictures : List Picture) → AreSources t pictures → AreMade t [] (coding t pictures) × Begins (coding t pictures)
-sources_made plans law t pictures is =
+pub sources_made : PlansCanBeCoded → JobsAreReadUnder → (f : IndexRule) → GivesIndices f → (t : Settings) (pictures : List Picture) → AreSourcesUnder f t pictures → AreMade t [] (coding_under f t pictures) × Begins (coding_under f t pictures)
+sources_made plans law f gives t pictures is =
     let n = length pictures in
     let qs = plan n t in
     let is_plan = plans t n is.accepted (omega (arith, is.few)) in (
-      all_made law t pictures [] qs is.accepted is.each tt is_plan.below is_plan.each (is_plan.found (map shown_of (coding t pictures)) (are_planned t pictures [] qs)) is.short,
-      begins t pictures qs is_plan.begins,
+      all_made law f gives t pictures [] qs is.accepted is.each tt is_plan.below is_plan.each (is_plan.found (map shown_of (coding_under f t pictures)) (are_planned f t pictures [] qs)) is.short,
+      begins f t pictures qs is_plan.begins,
     )
 
 -- they leave by rising number
-pub sources_leave : PlansCanBeCoded → (t : Settings) (pictures : List Picture) → IsAccepted t → length pictures < 2 ^ 31 → flush (pushed (coding t pictures)) ≡ reconstructions t pictures
-sources_leave plans t pictures accepted few =
+pub sources_leave : PlansCanBeCoded → (f : IndexRule) (t : Settings) (pictures : List Picture) → IsAccepted t → length pictures < 2 ^ 31 → flush (pushed (coding_under f t pictures)) ≡ reconstructions_under f t pictures
+sources_leave plans f t pictures accepted few =
     let n = length pictures in
-    let ms = coding t pictures in
-    ap flush (pushed_shown ms) ∙ (plans t n accepted (omega (arith, few))).order (map shown_of ms) (are_planned t pictures [] (plan n t))
+    let ms = coding_under f t pictures in
+    ap flush (pushed_shown ms) ∙ (plans t n accepted (omega (arith, few))).order (map shown_of ms) (are_planned f t pictures [] (plan n t))
 
+pub shown_under : StreamsShowTheirPictures → JobsAreRead → PlansCanBeCoded → SourcesShowReconstructionsUnder
+shown_under shown reads plans f gives t pictures is =
+    let all = sources_made plans (jobs_read_under reads) f gives t pictures is in
+    let o = shown t (coding_under f t pictures) is.accepted all.0 all.1 in
+    (o.0, o.1, o.2 ∙ sources_leave plans f t pictures is.accepted is.few, o.3)
+
+-- with the settings' index
 pub sources_shown : StreamsShowTheirPictures → (TablesAreChosen → JobsAreRead) → PlansCanBeCoded → TablesAreChosen → SourcesShowReconstructions
-sources_shown shown reads plans tables t pictures is =
-    let all = sources_made plans (reads tables) t pictures is in
-    let o = shown t (coding t pictures) is.accepted all.0 all.1 in
-    (o.0, o.1, o.2 ∙ sources_leave plans t pictures is.accepted is.few, o.3)
+sources_shown shown reads plans tables t pictures is = shown_under shown (reads tables) plans own_index own_gives t pictures (sources_under t pictures is)

@@ -1,4 +1,5 @@
--- The recursion over coding order: each picture is coded with the reconstructions that are listed by then.
+-- The recursion over coding order: each picture is coded with the reconstructions that are listed by then, and with the
+-- quantiser index that a rule gives it.
 use Rattle.std.specs.Prelude.{ℕ, List, [], ◌∷◌, length, map, slice_index_or}
 use Rattle.dirac_types.specs.declared.picture.Picture.{Picture}
 use Rattle.dirac_types.specs.declared.settings.Settings.{Settings}
@@ -12,6 +13,7 @@ use Rattle.dirac_plan.specs.declared.planned.Planned.{Planned}
 use Rattle.dirac_stream.specs.Coded.{coded_of}
 use Rattle.dirac_stream.specs.Payload.{payload_of}
 use Rattle.dirac_plan.specs.Plan.{plan}
+use Rattle.dirac_choose.specs.Chosen.{at_index}
 pub use Rattle.dirac_plan_laws.specs.Order.{as_waiting, by_number}
 
 -- a planned picture and its source
@@ -41,10 +43,24 @@ made t refs j = made_from t refs (coded_of t refs j.planned j.source)
 abbrev pub refs_after : List Picture → Made → List Picture
 refs_after refs m = committed refs m.coded.header.retire (as_reference m.coded.code m.shown)
 
--- what planned sources become one after another, with these pictures listed before the first
-unfoldable pub coded_from : Settings → List Picture → List Job → List Made
-coded_from t refs [] = []
-coded_from t refs (j ∷ jobs) = made t refs j ∷ coded_from t (refs_after refs (made t refs j)) jobs
+-- a rule for the quantiser index of each picture: by the settings, the pictures listed by then, and the planned picture
+-- with its source
+abbrev pub IndexRule : Type 0
+IndexRule = Settings → List Picture → Job → ℕ
+
+-- every picture has the settings' index
+abbrev pub own_index : IndexRule
+own_index t refs j = t.index
+
+-- what a planned source becomes under a rule: what it becomes with the index that the rule gives
+abbrev pub made_under : IndexRule → Settings → List Picture → Job → Made
+made_under f t refs j = made (at_index t (f t refs j)) refs j
+
+-- what planned sources become under a rule, one after another, with these pictures listed before the first
+unfoldable pub coded_under : IndexRule → Settings → List Picture → List Job → List Made
+coded_under f t refs [] = []
+coded_under f t refs (j ∷ jobs) =
+    made_under f t refs j ∷ coded_under f t (refs_after refs (made_under f t refs j)) jobs
 
 -- a picture without samples
 abbrev pub blank : Picture
@@ -63,17 +79,25 @@ job_of pictures q = record { planned = q; source = slice_index_or pictures q.num
 abbrev pub jobs_of : Settings → List Picture → List Job
 jobs_of t pictures = map (job_of pictures) (plan (length pictures) t)
 
--- what these pictures become, in coding order; no picture is listed before the first
+-- what these pictures become under a rule, in coding order; no picture is listed before the first
+abbrev pub coding_under : IndexRule → Settings → List Picture → List Made
+coding_under f t pictures = coded_under f t [] (jobs_of t pictures)
+
+-- with the settings' index
 abbrev pub coding : Settings → List Picture → List Made
-coding t pictures = coded_from t [] (jobs_of t pictures)
+coding t pictures = coding_under own_index t pictures
 
 -- the reconstruction
 abbrev pub shown_of : Made → Picture
 shown_of m = m.shown
 
--- the reconstructions of these pictures, by number
+-- the reconstructions of these pictures under a rule, by number
+abbrev pub reconstructions_under : IndexRule → Settings → List Picture → List Picture
+reconstructions_under f t pictures = by_number (length pictures) (map shown_of (coding_under f t pictures))
+
+-- with the settings' index
 abbrev pub reconstructions : Settings → List Picture → List Picture
-reconstructions t pictures = by_number (length pictures) (map shown_of (coding t pictures))
+reconstructions t pictures = reconstructions_under own_index t pictures
 
 -- a reconstruction with its key
 abbrev pub waiting_of : Made → Waiting

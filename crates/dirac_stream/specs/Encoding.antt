@@ -10,9 +10,9 @@ use Rattle.dirac_decode.specs.Raw.{raws}
 use Rattle.dirac_decode.specs.Shown.{Outcome, IsShown}
 use Rattle.dirac_stream.specs.declared.answers.Encoded.{Encoded}
 use Rattle.dirac_stream.specs.declared.answers.Encoded.TheVariants as encoded
-use Rattle.dirac_stream.specs.Coding.{Made, coding, pushed, reconstructions, shown_of}
+use Rattle.dirac_stream.specs.Coding.{IndexRule, Job, Made, coding_under, own_index, pushed, reconstructions, reconstructions_under, shown_of}
 use Rattle.dirac_stream.specs.Raw.{left_over, raw_length, sources, whole_pictures}
-use Rattle.dirac_stream.specs.Stream.{header_before, last_length, picture_length, stream_from, stream_of, stream_units, units_of}
+use Rattle.dirac_stream.specs.Stream.{header_before, last_length, picture_length, stream_from, stream_of, stream_under, stream_units, units_of, units_under}
 use Rattle.dirac_plan_laws.specs.Order.{by_number}
 
 -- the unit of a picture, parse info and payload, is no longer than the settings allow
@@ -62,10 +62,15 @@ abbrev pub ending : Settings → List ℕ → Encoded
 ending t bytes =
     if nat_le (whole_pictures t bytes) t.pictures then behind (left_over t bytes) else encoded.TooManyPictures
 
--- the encoding of raw pictures with these settings
-unfoldable pub encoding : Settings → List ℕ → Encoding
-encoding t bytes =
-    encoding_by t (ending t bytes) (coding t (sources t bytes)) (first_long t (coding t (sources t bytes)))
+-- the encoding of raw pictures with these settings, under a rule for their indices
+unfoldable pub encoding_under : IndexRule → Settings → List ℕ → Encoding
+encoding_under f t bytes =
+    encoding_by t (ending t bytes) (coding_under f t (sources t bytes))
+    (first_long t (coding_under f t (sources t bytes)))
+
+-- with the settings' index
+abbrev pub encoding : Settings → List ℕ → Encoding
+encoding t bytes = encoding_under own_index t bytes
 
 -- what both sinks took: all of the stream, and all raw pictures delivered beside it
 abbrev pub WritesAll : Encoding →
@@ -92,6 +97,17 @@ EndsStream encoded.Done = ⊤
 EndsStream (encoded.PartialPicture n) = ⊤
 EndsStream encoded.TooManyPictures = ⊤
 EndsStream answer = ⊥
+
+-- under a rule for their indices the stream of these bytes' pictures is cut into its units, has no fault and shows
+-- their reconstructions; where every index is 0 these are the pictures themselves; the raw bytes of the pictures are the
+-- first of these bytes
+pub record IsRecoveredUnder (f : IndexRule) (t : Settings) (bytes : List ℕ) : Type 0 where
+  pub cut : IsCut start (stream_under f t (sources t bytes)) (units_under f t (sources t bytes)) None
+  pub shows : (o : Outcome) × IsShown (stream_under f t (sources t bytes)) o
+      × (o.shown ≡ reconstructions_under f t (sources t bytes)) × (o.end ≡ None)
+  pub lossless : ((refs : List Picture) (j : Job) → f t refs j ≡ 0)
+      → reconstructions_under f t (sources t bytes) ≡ sources t bytes
+  pub raw : raws (sources t bytes) ≡ take (length (sources t bytes) * raw_length t) bytes
 
 -- the stream of these bytes' pictures is cut into its units, has no fault and shows their reconstructions; with
 -- quantiser index 0 these are the pictures themselves; the raw bytes of the pictures are the first of these bytes

@@ -3,6 +3,7 @@ use Rattle.std.specs.Prelude.{◌≡◌, ℕ, ◌+◌, ◌<◌, ◌^◌, ◌*◌
 use Rattle.std.specs.List.{AllByRecursion}
 use Rattle.dirac_types.specs.declared.picture.Picture.{Picture}
 use Rattle.dirac_types.specs.declared.settings.Settings.{Settings}
+use Rattle.dirac_types.specs.Limits.{IsIndex}
 use Rattle.dirac_types.specs.Settings.{IsAccepted}
 use Rattle.dirac_sequence.specs.Written.{sequence_of}
 use Rattle.dirac_refs.specs.Delivery.{flush}
@@ -10,12 +11,12 @@ use Rattle.dirac_picture.specs.Grammar.{are_listed, is_intra, picture_read}
 use Rattle.dirac_decode.specs.Content.{rebuilt}
 use Rattle.dirac_decode.specs.Shown.{Outcome, IsShown}
 use Rattle.dirac_stream.specs.Coded.{IsSource, coded_of, motion_of, residual_of}
-use Rattle.dirac_stream.specs.Coding.{Job, Made, coding, made, pushed, reconstructions, refs_after}
-use Rattle.dirac_stream.specs.Encoding.{IsRecovered, first_long}
+use Rattle.dirac_stream.specs.Coding.{IndexRule, Job, Made, coding, coding_under, made, made_under, pushed, reconstructions, reconstructions_under, refs_after}
+use Rattle.dirac_stream.specs.Encoding.{IsRecovered, IsRecoveredUnder, first_long}
 use Rattle.dirac_stream.specs.Raw.{sources}
 use Rattle.dirac_stream.specs.Payload.{payload_of}
 use Rattle.dirac_stream.specs.Writable.{AreSmall}
-use Rattle.dirac_stream.specs.Stream.{IsUnit, picture_length, stream_from, stream_of}
+use Rattle.dirac_stream.specs.Stream.{IsUnit, picture_length, stream_from, stream_of, stream_under}
 use Rattle.dirac_plan_laws.specs.Headers.{IsPlanned, header_of}
 
 -- a picture whose payload is read as it was coded and rebuilt as it is shown, with these pictures listed
@@ -100,3 +101,45 @@ abbrev pub RawPicturesAreRecovered : Type 0
 RawPicturesAreRecovered =
     (t : Settings) (bytes : List ℕ) → IsAccepted t → AllByRecursion (λ b. b < 2 ^ 8) bytes
     → first_long t (coding t (sources t bytes)) ≡ None → IsRecovered t bytes
+
+-- ---- under a rule for the indices
+
+-- a rule that gives each picture a quantiser index
+abbrev pub GivesIndices : IndexRule → Type 0
+GivesIndices f = (t : Settings) (refs : List Picture) (j : Job) → IsAccepted t → IsIndex (f t refs j)
+
+-- a planned source whose references are found is read as it was coded under a rule
+abbrev pub JobsAreReadUnder : Type 0
+JobsAreReadUnder =
+    (f : IndexRule) → GivesIndices f → (t : Settings) (refs : List Picture) (j : Job)
+    → IsAccepted t → AllByRecursion (IsSource t) refs → IsSource t j.source → IsPlanned j.planned
+    → are_listed refs (header_of j.planned) ≡ true → picture_length (made_under f t refs j) < 2 ^ 32
+    → IsMade t refs (made_under f t refs j)
+
+-- fewer than 2^31 sources of accepted settings, whose units under a rule have lengths that their offsets can hold
+pub record AreSourcesUnder (f : IndexRule) (t : Settings) (pictures : List Picture) : Type 0 where
+  pub accepted : IsAccepted t
+  pub few : length pictures < 2 ^ 31
+  pub each : AllByRecursion (IsSource t) pictures
+  pub short : AllByRecursion (λ m. picture_length m < 2 ^ 32) (coding_under f t pictures)
+
+-- their stream has no fault, and shows their reconstructions in order
+abbrev pub SourcesShowReconstructionsUnder : Type 0
+SourcesShowReconstructionsUnder =
+    (f : IndexRule) → GivesIndices f → (t : Settings) (pictures : List Picture) → AreSourcesUnder f t pictures
+    → (o : Outcome) × IsShown (stream_under f t pictures) o
+    × (o.shown ≡ reconstructions_under f t pictures) × (o.end ≡ None)
+
+-- where every index is 0 these are the sources
+abbrev pub SourcesAreKeptUnder : Type 0
+SourcesAreKeptUnder =
+    (f : IndexRule) → GivesIndices f → (t : Settings) (pictures : List Picture) → AreSourcesUnder f t pictures
+    → AreNumbered 0 pictures → AllByRecursion IsWhole pictures
+    → ((refs : List Picture) (j : Job) → f t refs j ≡ 0) → reconstructions_under f t pictures ≡ pictures
+
+-- raw pictures are recovered from their stream where no unit is longer than the settings allow
+abbrev pub RawPicturesAreRecoveredUnder : Type 0
+RawPicturesAreRecoveredUnder =
+    (f : IndexRule) → GivesIndices f → (t : Settings) (bytes : List ℕ)
+    → IsAccepted t → AllByRecursion (λ b. b < 2 ^ 8) bytes
+    → first_long t (coding_under f t (sources t bytes)) ≡ None → IsRecoveredUnder f t bytes

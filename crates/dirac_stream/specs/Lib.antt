@@ -2,6 +2,7 @@ pub mod Coded
 pub mod Payload
 pub mod Coding
 pub mod Stream
+pub mod Fit
 pub mod Raw
 pub mod Encoding
 pub mod Writable

@@ -6,7 +6,7 @@ use Rattle.dirac_types.specs.declared.picture.Picture.{Picture}
 use Rattle.dirac_types.specs.declared.settings.Settings.{Settings}
 use Rattle.dirac_refs.specs.Delivery.{Leaving, flush, pushed_all}
 use Rattle.dirac_decode.specs.Raw.{raws}
-use Rattle.dirac_stream.specs.Coding.{Job, Made, coded_from, coding, jobs_of, pushed, shown_of}
+use Rattle.dirac_stream.specs.Coding.{IndexRule, Job, Made, coded_under, coding_under, jobs_of, pushed, shown_of}
 use Rattle.dirac_stream.specs.Encoding.{is_short}
 use Rattle.dirac_stream.specs.Raw.{sources}
 use Rattle.dirac_stream.specs.Steps.{Progress}
@@ -25,19 +25,19 @@ pushed_now ps = pushed_all [] (pushed ps)
 abbrev pub Leave : List Made → Type 0
 Leave ms = flush (pushed ms) ≡ by_number (length ms) (map shown_of ms)
 
--- the jobs of these bytes, and all that becomes of them
+-- the jobs of these bytes, and all that becomes of them under a rule for their indices
 abbrev pub jobs_in : Settings → List ℕ → List Job
 jobs_in t bytes = jobs_of t (sources t bytes)
 
-abbrev pub coding_in : Settings → List ℕ → List Made
-coding_in t bytes = coding t (sources t bytes)
+abbrev pub coding_in : IndexRule → Settings → List ℕ → List Made
+coding_in f t bytes = coding_under f t (sources t bytes)
 
 -- the first pictures of the plan are coded: so much is written, so much is delivered, and the coding goes on from these
 -- references
-pub record Stands (t : Settings) (bytes : List ℕ) (p : Progress)
+pub record Stands (f : IndexRule) (t : Settings) (bytes : List ℕ) (p : Progress)
     (out0 out side0 side : Option (List ℕ)) : Type 0 where
   pub done : List Made
-  pub all : coding_in t bytes ≡ done ++ coded_from t p.refs (drop p.count (jobs_in t bytes))
+  pub all : coding_in f t bytes ≡ done ++ coded_under f t p.refs (drop p.count (jobs_in t bytes))
   pub count : length done ≡ p.count
   pub previous : p.previous ≡ last_length 0 done
   pub waiting : p.delivery ≡ (pushed_now done).waiting

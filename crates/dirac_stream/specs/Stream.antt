@@ -12,7 +12,7 @@ use Rattle.dirac_sequence.specs.Grammar.{sequence_read}
 use Rattle.dirac_sequence.specs.Written.{sequence_of, sequence_payload}
 use Rattle.dirac_picture.specs.Grammar.{is_intra}
 pub use Rattle.dirac_plan_laws.specs.Headers.{IsPictureCode}
-use Rattle.dirac_stream.specs.Coding.{Made, coding}
+use Rattle.dirac_stream.specs.Coding.{IndexRule, Made, coding_under, own_index}
 
 -- a unit's parse info: its next offset is the unit's length
 abbrev pub info_for : ℕ → ℕ → List ℕ → ParseInfo
@@ -74,9 +74,13 @@ closing t (m ∷ ms) = end_unit (last_length 0 (m ∷ ms))
 abbrev pub stream_from : Settings → List Made → List ℕ
 stream_from t ms = units_of t 0 ms ++ closing t ms
 
--- the stream of these sources
+-- the stream of these sources under a rule for their indices
+abbrev pub stream_under : IndexRule → Settings → List Picture → List ℕ
+stream_under f t pictures = stream_from t (coding_under f t pictures)
+
+-- with the settings' index
 abbrev pub stream_of : Settings → List Picture → List ℕ
-stream_of t pictures = stream_from t (coding t pictures)
+stream_of t pictures = stream_under own_index t pictures
 
 -- those units, each with its parse info and its payload
 unfoldable pub header_text : Settings → ℕ → UnitText
@@ -107,9 +111,13 @@ abbrev pub units_in : Settings → List Made → List UnitText
 units_in t [] = header_text t 0 ∷ end_text (header_length t) ∷ []
 units_in t (m ∷ ms) = units_from t 0 (m ∷ ms)
 
--- the units of the stream of these sources
+-- the units of the stream of these sources under a rule for their indices
+abbrev pub units_under : IndexRule → Settings → List Picture → List UnitText
+units_under f t pictures = units_in t (coding_under f t pictures)
+
+-- with the settings' index
 abbrev pub stream_units : Settings → List Picture → List UnitText
-stream_units t pictures = units_in t (coding t pictures)
+stream_units t pictures = units_under own_index t pictures
 
 -- a picture whose unit has a length that its offset can hold
 pub record IsUnit (m : Made) : Type 0 where

@@ -1,7 +1,8 @@
 //! What holds of every stream, as the contract of a function that does nothing.
 
 ghost use Rattle.dirac_stream.specs.Stream.{HeadersAreRead, StreamsAreCut};
-ghost use Rattle.dirac_stream.specs.Laws.{JobsAreKept, JobsAreRead, JobsAreSmall, RawPicturesAreRecovered, SourcesAreKept, SourcesShowReconstructions, StreamsShowTheirPictures};
+ghost use Rattle.dirac_stream.specs.Fit.{BudgetsAreKept};
+ghost use Rattle.dirac_stream.specs.Laws.{JobsAreKept, JobsAreRead, JobsAreReadUnder, JobsAreSmall, RawPicturesAreRecovered, RawPicturesAreRecoveredUnder, SourcesAreKept, SourcesAreKeptUnder, SourcesShowReconstructions, SourcesShowReconstructionsUnder, StreamsShowTheirPictures};
 ghost use Rattle.dirac_stream.specs.Tables.{TablesAreChosen};
 
 use dirac_choose::chosen_tables_fit;
@@ -32,6 +33,18 @@ pub fn streams_show_their_pictures()
     // Where no unit is longer than the settings allow, the stream of raw pictures shows their reconstructions, at
     // index 0 the pictures themselves.
     ensures recovered { RawPicturesAreRecovered }
+
+    // The same four under any rule that gives each picture a quantiser index, by the settings, the pictures listed by
+    // then, and the planned picture with its source: a planned source is read as it was coded,
+    ensures sources_under { JobsAreReadUnder }
+    // the stream of sources has no fault and shows their reconstructions,
+    ensures shown_under { SourcesShowReconstructionsUnder }
+    // where every index is 0 these are the sources,
+    ensures kept_under { SourcesAreKeptUnder }
+    // and the stream of raw pictures shows their reconstructions.
+    ensures recovered_under { RawPicturesAreRecoveredUnder }
+    // With the least index whose unit fits a budget, each unit fits it, or no index from the settings' on does.
+    ensures budgets { BudgetsAreKept }
 {
     infos_are_read_as_written();
     plans_can_be_coded();

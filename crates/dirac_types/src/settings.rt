@@ -4,7 +4,7 @@ ghost use Rattle.dirac_types.specs.Settings as settings;
 
 use crate::ranges::{first_bad, format_of, table};
 
-/// A setting of the encoder, or the count of generated pictures.
+/// A setting of the encoder, the count of generated pictures, or the budget of a picture's unit.
 #[derive(Clone, Copy, Debug, PartialEq, Eq)]
 pub enum Name {
     Base,
@@ -31,6 +31,7 @@ pub enum Name {
     Pictures,
     UnitBytes,
     Count,
+    Budget,
 }
 
 impl Name {
@@ -63,6 +64,7 @@ impl Name {
             Name::Pictures => "pictures",
             Name::UnitBytes => "unit_bytes",
             Name::Count => "count",
+            Name::Budget => "budget",
         }
     }
 }

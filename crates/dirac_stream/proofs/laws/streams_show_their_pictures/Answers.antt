@@ -1,9 +1,10 @@
 use Rattle.dirac_stream.proofs.Headers.{header_read, header_short}
 use Rattle.dirac_stream.proofs.Showing.{streams_cut, streams_shown}
-use Rattle.dirac_stream.proofs.Kept.{jobs_kept, sources_kept}
+use Rattle.dirac_stream.proofs.Fitting.{budgets_kept}
+use Rattle.dirac_stream.proofs.Kept.{jobs_kept, kept_under, sources_kept}
 use Rattle.dirac_stream.proofs.Reading.{jobs_read, jobs_small, tables_chosen}
-use Rattle.dirac_stream.proofs.Recovered.{raws_recovered}
-use Rattle.dirac_stream.proofs.Sourcing.{sources_shown}
+use Rattle.dirac_stream.proofs.Recovered.{raws_recovered, under_recovered}
+use Rattle.dirac_stream.proofs.Sourcing.{jobs_read_under, shown_under, sources_shown}
 use Rattle.dirac_stream.proofs.laws.streams_show_their_pictures.Goals as goal
 
 pub returns-clause-headers : goal.returns-clause-headers
@@ -35,3 +36,18 @@ returns-clause-recovered c = raws_recovered (streams_shown c.infos_are_read_as_w
 
 pub returns-clause-tables : goal.returns-clause-tables
 returns-clause-tables c = tables_chosen c.chosen_tables_fit.ensures
+
+pub returns-clause-sources_under : goal.returns-clause-sources_under
+returns-clause-sources_under c = jobs_read_under (jobs_read (tables_chosen c.chosen_tables_fit.ensures))
+
+pub returns-clause-shown_under : goal.returns-clause-shown_under
+returns-clause-shown_under c = shown_under (streams_shown c.infos_are_read_as_written.ensures) (jobs_read (tables_chosen c.chosen_tables_fit.ensures)) c.plans_can_be_coded.ensures
+
+pub returns-clause-kept_under : goal.returns-clause-kept_under
+returns-clause-kept_under c = kept_under c.plans_can_be_coded.ensures (tables_chosen c.chosen_tables_fit.ensures)
+
+pub returns-clause-recovered_under : goal.returns-clause-recovered_under
+returns-clause-recovered_under c = under_recovered (streams_shown c.infos_are_read_as_written.ensures) (streams_cut c.infos_are_read_as_written.ensures) c.plans_can_be_coded.ensures (tables_chosen c.chosen_tables_fit.ensures)
+
+pub returns-clause-budgets : goal.returns-clause-budgets
+returns-clause-budgets c = budgets_kept
