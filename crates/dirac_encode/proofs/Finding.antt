@@ -11,11 +11,11 @@ use Rattle.dirac_picture.specs.Grammar.{are_listed}
 use Rattle.dirac_refs.specs.References.{committed}
 use Rattle.dirac_decode.specs.StreamState.{as_reference}
 use Rattle.dirac_plan.specs.declared.planned.Planned.{Planned}
-use Rattle.dirac_stream.specs.Coded.{IsSource, coded_of}
-use Rattle.dirac_stream.specs.Coding.{blank, made}
+use Rattle.dirac_stream.specs.Coded.{IsSource}
+use Rattle.dirac_stream.specs.Coding.{IndexRule, blank, made_under}
 use Rattle.dirac_stream.specs.Steps.{IsCoded, Progress}
 use Rattle.dirac_stream.proofs.Encodings.{all_more}
-use Rattle.dirac_stream.proofs.Sourcing.{all_committed, rebuilt_source}
+use Rattle.dirac_stream.proofs.Sourcing.{all_committed, shown_source}
 use Rattle.dirac_encode.proofs.Going.{taken}
 use Rattle.dirac_plan_laws.specs.References.{AreFound, planned_number}
 use Rattle.dirac_plan_laws.specs.Plans.{PlansCanBeCoded}
@@ -95,10 +95,10 @@ lists_found plans t ended p p' c q s accepted same l takes =
       l.listed,
     )
 
-pub lists_more : (t : Settings) (ended : Bool) (p p' : Planning) (c c' : Progress) (q : Planned) (s : Picture) (out out' side side' : Option (List ℕ)) → p.settings ≡ t → Lists t ended p c → Takes ended p p' q s
-    → IsCoded t (made t c.refs (record { planned = q; source = s })) c c' out out' side side' → Lists t ended p' c'
-lists_more t ended p p' c c' q s out out' side side' same l takes coded =
-    let shown = (made t c.refs (record { planned = q; source = s })).shown in
+pub lists_more : (f : IndexRule) (t : Settings) (ended : Bool) (p p' : Planning) (c c' : Progress) (q : Planned) (s : Picture) (out out' side side' : Option (List ℕ)) → p.settings ≡ t → Lists t ended p c → Takes ended p p' q s
+    → IsCoded t (made_under f t c.refs (record { planned = q; source = s })) c c' out out' side side' → Lists t ended p' c'
+lists_more f t ended p p' c c' q s out out' side side' same l takes coded =
+    let shown = (made_under f t c.refs (record { planned = q; source = s })).shown in
     record {
       qs = l.qs ++ q ∷ [];
       shown = l.shown ++ shown ∷ [];
@@ -112,7 +112,7 @@ lists_more t ended p p' c c' q s out out' side side' same l takes coded =
       count = omega (arith, length-append l.qs (q ∷ []), l.count, coded.count);
       given = omega (arith, takes.given, l.given, coded.count);
       refs = coded.refs ∙ ap (λ r. committed r q.retire (as_reference q.code shown)) l.refs ∙ sym (refs_more [] l.qs q l.shown shown (same_length l.qs l.shown l.numbers));
-      listed = subst (λ (r : List Picture). AllByRecursion (IsSource t) r) (sym coded.refs) (all_committed (IsSource t) c.refs q.retire q.code shown l.listed (rebuilt_source t c.refs (coded_of t c.refs q s)));
+      listed = subst (λ (r : List Picture). AllByRecursion (IsSource t) r) (sym coded.refs) (all_committed (IsSource t) c.refs q.retire q.code shown l.listed (shown_source f t c.refs (record { planned = q; source = s })));
       sources = subst (λ (ws : List Picture). AllByRecursion (IsSource t) ws) (sym takes.waiting) (taken (IsSource t) takes.before takes.after s (subst (λ (ws : List Picture). AllByRecursion (IsSource t) ws) takes.waited l.sources)).1;
       in_range = omega (arith, takes.accepted, l.in_range);
     }

@@ -2,4 +2,5 @@ pub mod Waiting
 pub mod Stepping
 pub mod Going
 pub mod Finding
+pub mod AtIndex
 pub mod Reading

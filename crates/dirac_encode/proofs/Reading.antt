@@ -11,10 +11,10 @@ use Rattle.dirac_types.specs.Settings.{IsAccepted}
 use Rattle.dirac_refs.specs.Delivery.{flush}
 use Rattle.dirac_stream.specs.declared.answers.Encoded.{Encoded}
 use Rattle.dirac_stream.specs.declared.answers.Encoded.TheVariants as encoded
-use Rattle.dirac_stream.specs.Coding.{Job, coded_from, coding, job_of, made, pushed, refs_after, shown_of}
-use Rattle.dirac_stream.specs.Encoding.{AnswersEncode, Encoding, EndsStream, IsRecovered, WritesAll, WritesFront, behind, encoding, ending, first_long}
+use Rattle.dirac_stream.specs.Coding.{IndexRule, Job, coded_under, coding_under, job_of, made_under, pushed, refs_after, shown_of}
+use Rattle.dirac_stream.specs.Encoding.{AnswersEncode, Encoding, EndsStream, IsRecoveredUnder, WritesAll, WritesFront, behind, encoding_under, ending, first_long}
 use Rattle.dirac_stream.specs.Stream.{StreamsAreCut}
-use Rattle.dirac_stream.specs.Laws.{StreamsShowTheirPictures}
+use Rattle.dirac_stream.specs.Laws.{GivesIndices, StreamsShowTheirPictures}
 use Rattle.dirac_stream.specs.Tables.{TablesAreChosen}
 use Rattle.dirac_stream.proofs.Recovered.{AreBytes, below_more, recovered}
 use Rattle.dirac_stream.specs.Raw.{left_over, picture_from, pictures_in, raw_length, sources, whole_pictures}
@@ -35,10 +35,10 @@ use Rattle.dirac_encode.specs.Going.{Goes, LeadsOn, Stops}
 
 -- ---- all sources of some bytes
 
-length-coded : (t : Settings) (refs : List Picture) (jobs : List Job) → length (coded_from t refs jobs) ≡ length jobs
-unfolding coded_from
-length-coded t refs [] = refl
-length-coded t refs (j ∷ jobs) = ap suc (length-coded t (refs_after refs (made t refs j)) jobs)
+length-coded : (f : IndexRule) (t : Settings) (refs : List Picture) (jobs : List Job) → length (coded_under f t refs jobs) ≡ length jobs
+unfolding coded_under
+length-coded f t refs [] = refl
+length-coded f t refs (j ∷ jobs) = ap suc (length-coded f t (refs_after refs (made_under f t refs j)) jobs)
 
 few_sources : (t : Settings) (bytes : List ℕ) → IsAccepted t → length (sources t bytes) < 2 ^ 31
 few_sources t bytes accepted = omega (arith, length-pictures_in t (min (whole_pictures t bytes) t.pictures) 0 bytes, most_pictures t accepted)
@@ -48,34 +48,34 @@ count_jobs plans t bytes accepted =
     let n = length (sources t bytes) in
     length-map (plan n t) (job_of (sources t bytes)) ∙ (plans t n accepted (omega (arith, few_sources t bytes accepted))).count
 
-all_leave : PlansCanBeCoded → (t : Settings) (bytes : List ℕ) → IsAccepted t → Leave (coding t (sources t bytes))
-all_leave plans t bytes accepted =
-    let count : length (coding t (sources t bytes)) ≡ length (sources t bytes) = length-coded t [] (jobs_in t bytes) ∙ count_jobs plans t bytes accepted in
-    subst (λ (n : ℕ). flush (pushed (coding t (sources t bytes))) ≡ by_number n (map shown_of (coding t (sources t bytes)))) (sym count) (sources_leave plans t (sources t bytes) accepted (few_sources t bytes accepted))
+all_leave : PlansCanBeCoded → (f : IndexRule) (t : Settings) (bytes : List ℕ) → IsAccepted t → Leave (coding_under f t (sources t bytes))
+all_leave plans f t bytes accepted =
+    let count : length (coding_under f t (sources t bytes)) ≡ length (sources t bytes) = length-coded f t [] (jobs_in t bytes) ∙ count_jobs plans t bytes accepted in
+    subst (λ (n : ℕ). flush (pushed (coding_under f t (sources t bytes))) ≡ by_number n (map shown_of (coding_under f t (sources t bytes)))) (sym count) (sources_leave plans f t (sources t bytes) accepted (few_sources t bytes accepted))
 
 -- ---- so far
 
-pub record Runs (t : Settings) (bytes : List ℕ) (p : Planning) (c : Progress) (held out0 out side0 side : Option (List ℕ)) : Type 0 where
-  pub goes : Goes t bytes false p c out0 out side0 side
+pub record Runs (f : IndexRule) (t : Settings) (bytes : List ℕ) (p : Planning) (c : Progress) (held out0 out side0 side : Option (List ℕ)) : Type 0 where
+  pub goes : Goes f t bytes false p c out0 out side0 side
   pub is_held : held ≡ Some (drop (p.accepted * raw_length t) bytes)
   pub fits : p.accepted * raw_length t ≤ length bytes
   pub below : AreBytes (take (p.accepted * raw_length t) bytes)
 
-abbrev pub SoFar : Settings → Option (List ℕ) → Planning → Progress → Option (List ℕ) → Option (List ℕ) → Option (List ℕ) → Option (List ℕ) → Option (List ℕ) → Type 0
-SoFar t None p c held out0 out side0 side = Unit {0}
-SoFar t (Some bytes) p c held out0 out side0 side = Runs t bytes p c held out0 out side0 side
+abbrev pub SoFar : IndexRule → Settings → Option (List ℕ) → Planning → Progress → Option (List ℕ) → Option (List ℕ) → Option (List ℕ) → Option (List ℕ) → Option (List ℕ) → Type 0
+SoFar f t None p c held out0 out side0 side = Unit {0}
+SoFar f t (Some bytes) p c held out0 out side0 side = Runs f t bytes p c held out0 out side0 side
 
 no_times : (n : ℕ) → 0 * n ≡ 0
 no_times n = omega arith
 
-pub so_far_first : (t : Settings) (first : Option (List ℕ)) (p : Planning) (c : Progress) (out side : Option (List ℕ)) → p.accepted ≡ 0 → p.waiting ≡ [] → p.given ≡ 0 → c.count ≡ 0 → c.previous ≡ 0 → c.refs ≡ [] → c.delivery ≡ []
-    → SoFar t first p c first out out side side
-so_far_first t None p c out side accepted waiting given count previous refs delivery = tt
-so_far_first t (Some bytes) p c out side accepted waiting given count previous refs delivery =
+pub so_far_first : (f : IndexRule) (t : Settings) (first : Option (List ℕ)) (p : Planning) (c : Progress) (out side : Option (List ℕ)) → p.accepted ≡ 0 → p.waiting ≡ [] → p.given ≡ 0 → c.count ≡ 0 → c.previous ≡ 0 → c.refs ≡ [] → c.delivery ≡ []
+    → SoFar f t first p c first out out side side
+so_far_first f t None p c out side accepted waiting given count previous refs delivery = tt
+so_far_first f t (Some bytes) p c out side accepted waiting given count previous refs delivery =
     let none : p.accepted * raw_length t ≡ 0 = ap (λ k. k * raw_length t) accepted ∙ no_times (raw_length t) in
     record {
       goes = record {
-        stands = stands_first t bytes c out side count previous refs delivery;
+        stands = stands_first f t bytes c out side count previous refs delivery;
         among = subst (AreAmong (sources t bytes)) (sym waiting) tt;
         given = given ∙ sym count;
         within = omega (arith, accepted);
@@ -87,9 +87,9 @@ so_far_first t (Some bytes) p c out side accepted waiting given count previous r
     }
 
 -- at a fault between pictures
-pub stops_here : PlansCanBeCoded → (t : Settings) (first : Option (List ℕ)) (p : Planning) (c : Progress) (held out0 out side0 side : Option (List ℕ)) → IsAccepted t → SoFar t first p c held out0 out side0 side → IfSome first (λ bytes. WritesFront (encoding t bytes) out0 out side0 side)
-stops_here plans t None p c held out0 out side0 side accepted so = tt
-stops_here plans t (Some bytes) p c held out0 out side0 side accepted so = stops_between t bytes c out0 out side0 side (all_leave plans t bytes accepted) so.goes.stands
+pub stops_here : PlansCanBeCoded → (f : IndexRule) (t : Settings) (first : Option (List ℕ)) (p : Planning) (c : Progress) (held out0 out side0 side : Option (List ℕ)) → IsAccepted t → SoFar f t first p c held out0 out side0 side → IfSome first (λ bytes. WritesFront (encoding_under f t bytes) out0 out side0 side)
+stops_here plans f t None p c held out0 out side0 side accepted so = tt
+stops_here plans f t (Some bytes) p c held out0 out side0 side accepted so = stops_between f t bytes c out0 out side0 side (all_leave plans f t bytes accepted) so.goes.stands
 
 -- what a source gave of the bytes that it held
 gave : (held held' : Option (List ℕ)) (rest chunk : List ℕ) → held ≡ Some rest → Consumes held held' chunk → (left : List ℕ) × (held' ≡ Some left) × (rest ≡ chunk ++ left)
@@ -126,47 +126,47 @@ closes_many t bytes n chunk left is whole fit some all =
     }
 
 -- no more pictures come
-pub record Ending (t : Settings) (bytes : List ℕ) (p : Planning) (c : Progress) (answer : Encoded) (out0 out side0 side : Option (List ℕ)) : Type 0 where
+pub record Ending (f : IndexRule) (t : Settings) (bytes : List ℕ) (p : Planning) (c : Progress) (answer : Encoded) (out0 out side0 side : Option (List ℕ)) : Type 0 where
   pub closes : Closes t bytes p.accepted answer
-  pub goes : Goes t bytes true p c out0 out side0 side
+  pub goes : Goes f t bytes true p c out0 out side0 side
   pub fits : p.accepted * raw_length t ≤ length bytes
   pub below : AreBytes (take (p.accepted * raw_length t) bytes)
 
 -- where the source tells
-pub Ends : Settings → Option (List ℕ) → Planning → Progress → Encoded → Option (List ℕ) → Option (List ℕ) → Option (List ℕ) → Option (List ℕ) → Type 0
-Ends t None p c answer out0 out side0 side = Unit {0}
-Ends t (Some bytes) p c answer out0 out side0 side = Ending t bytes p c answer out0 out side0 side
+pub Ends : IndexRule → Settings → Option (List ℕ) → Planning → Progress → Encoded → Option (List ℕ) → Option (List ℕ) → Option (List ℕ) → Option (List ℕ) → Type 0
+Ends f t None p c answer out0 out side0 side = Unit {0}
+Ends f t (Some bytes) p c answer out0 out side0 side = Ending f t bytes p c answer out0 out side0 side
 
-ends_so : (t : Settings) (bytes : List ℕ) (p : Planning) (c : Progress) (answer : Encoded) (held out0 out side0 side : Option (List ℕ)) → Runs t bytes p c held out0 out side0 side → Closes t bytes p.accepted answer → Ending t bytes p c answer out0 out side0 side
-ends_so t bytes p c answer held out0 out side0 side so closes = record {
+ends_so : (f : IndexRule) (t : Settings) (bytes : List ℕ) (p : Planning) (c : Progress) (answer : Encoded) (held out0 out side0 side : Option (List ℕ)) → Runs f t bytes p c held out0 out side0 side → Closes t bytes p.accepted answer → Ending f t bytes p c answer out0 out side0 side
+ends_so f t bytes p c answer held out0 out side0 side so closes = record {
   closes = closes;
   goes = record { stands = so.goes.stands; among = so.goes.among; given = so.goes.given; within = so.goes.within; all = λ e. closes.all };
   fits = so.fits;
   below = so.below;
 }
 
-pub part_ends : (t : Settings) (first : Option (List ℕ)) (p : Planning) (c : Progress) (held held' out0 out side0 side : Option (List ℕ)) (buf : List ℕ) (k : ℕ) → SoFar t first p c held out0 out side0 side → Consumes held held' (take k buf) → IsAtEnd held' → k < length buf → length buf ≡ raw_length t → p.accepted ≤ t.pictures
-    → Ends t first p c (behind k) out0 out side0 side
+pub part_ends : (f : IndexRule) (t : Settings) (first : Option (List ℕ)) (p : Planning) (c : Progress) (held held' out0 out side0 side : Option (List ℕ)) (buf : List ℕ) (k : ℕ) → SoFar f t first p c held out0 out side0 side → Consumes held held' (take k buf) → IsAtEnd held' → k < length buf → length buf ≡ raw_length t → p.accepted ≤ t.pictures
+    → Ends f t first p c (behind k) out0 out side0 side
 unfolding Ends
-part_ends t None p c held held' out0 out side0 side buf k so got end short whole few = tt
-part_ends t (Some bytes) p c held held' out0 out side0 side buf k so got end short whole few =
+part_ends f t None p c held held' out0 out side0 side buf k so got end short whole few = tt
+part_ends f t (Some bytes) p c held held' out0 out side0 side buf k so got end short whole few =
     let rest = gave held held' (drop (p.accepted * raw_length t) bytes) (take k buf) so.is_held got in
-    ends_so t bytes p c (behind k) held out0 out side0 side so
+    ends_so f t bytes p c (behind k) held out0 out side0 side so
     (closes_part t bytes p.accepted k (take k buf) rest.0 rest.2 (subst IsAtEnd rest.1 end) (length-take-le k buf (omega (arith, short))) (omega (arith, short, whole)) so.fits few)
 
-pub many_ends : (t : Settings) (first : Option (List ℕ)) (p : Planning) (c : Progress) (held held' out0 out side0 side : Option (List ℕ)) (chunk : List ℕ) → SoFar t first p c held out0 out side0 side → Consumes held held' chunk → length chunk ≡ raw_length t → 1 ≤ raw_length t → p.accepted ≡ t.pictures
-    → Ends t first p c encoded.TooManyPictures out0 out side0 side
+pub many_ends : (f : IndexRule) (t : Settings) (first : Option (List ℕ)) (p : Planning) (c : Progress) (held held' out0 out side0 side : Option (List ℕ)) (chunk : List ℕ) → SoFar f t first p c held out0 out side0 side → Consumes held held' chunk → length chunk ≡ raw_length t → 1 ≤ raw_length t → p.accepted ≡ t.pictures
+    → Ends f t first p c encoded.TooManyPictures out0 out side0 side
 unfolding Ends
-many_ends t None p c held held' out0 out side0 side chunk so got whole some all = tt
-many_ends t (Some bytes) p c held held' out0 out side0 side chunk so got whole some all =
+many_ends f t None p c held held' out0 out side0 side chunk so got whole some all = tt
+many_ends f t (Some bytes) p c held held' out0 out side0 side chunk so got whole some all =
     let rest = gave held held' (drop (p.accepted * raw_length t) bytes) chunk so.is_held got in
-    ends_so t bytes p c encoded.TooManyPictures held out0 out side0 side so (closes_many t bytes p.accepted chunk rest.0 rest.2 whole so.fits some all)
+    ends_so f t bytes p c encoded.TooManyPictures held out0 out side0 side so (closes_many t bytes p.accepted chunk rest.0 rest.2 whole so.fits some all)
 
-pub end_stops : PlansCanBeCoded → (t : Settings) (first : Option (List ℕ)) (p : Planning) (c : Progress) (last answer : Encoded) (out0 out out' side0 side side' : Option (List ℕ)) → IsAccepted t → Ends t first p c last out0 out side0 side → Stops t true p c answer out out' side side'
-    → IfSome first (λ bytes. AnswersEncode answer (encoding t bytes) out0 out' side0 side')
+pub end_stops : PlansCanBeCoded → (f : IndexRule) (t : Settings) (first : Option (List ℕ)) (p : Planning) (c : Progress) (last answer : Encoded) (out0 out out' side0 side side' : Option (List ℕ)) → IsAccepted t → Ends f t first p c last out0 out side0 side → Stops f t true p c answer out out' side side'
+    → IfSome first (λ bytes. AnswersEncode answer (encoding_under f t bytes) out0 out' side0 side')
 unfolding Ends
-end_stops plans t None p c last answer out0 out out' side0 side side' accepted ends stops = tt
-end_stops plans t (Some bytes) p c last answer out0 out out' side0 side side' accepted ends stops = stops bytes out0 side0 (all_leave plans t bytes accepted) ends.goes
+end_stops plans f t None p c last answer out0 out out' side0 side side' accepted ends stops = tt
+end_stops plans f t (Some bytes) p c last answer out0 out out' side0 side side' accepted ends stops = stops bytes out0 side0 (all_leave plans f t bytes accepted) ends.goes
 
 answers_fault : (fault : Encoded) (e : Encoding) (out out' side side' : Option (List ℕ)) → IsFault fault → WritesFront e out out' side side' → AnswersEncode fault e out out' side side'
 answers_fault encoded.WriteFault e out out' side side' is front = front
@@ -178,57 +178,57 @@ answers_fault (encoded.UnitTooLong n) e out out' side side' is front = absurd is
 answers_fault encoded.TooManyPictures e out out' side side' is front = absurd is
 answers_fault encoded.ReadFault e out out' side side' is front = absurd is
 
-jobs_done : PlansCanBeCoded → (t : Settings) (bytes : List ℕ) (p p' : Planning) (c' : Progress) (answer : Encoded) (out0 out side0 side : Option (List ℕ)) → IsAccepted t → Closes t bytes p.accepted answer → Goes t bytes true p' c' out0 out side0 side → p'.given ≡ p'.accepted → p'.accepted ≡ p.accepted
+jobs_done : PlansCanBeCoded → (f : IndexRule) (t : Settings) (bytes : List ℕ) (p p' : Planning) (c' : Progress) (answer : Encoded) (out0 out side0 side : Option (List ℕ)) → IsAccepted t → Closes t bytes p.accepted answer → Goes f t bytes true p' c' out0 out side0 side → p'.given ≡ p'.accepted → p'.accepted ≡ p.accepted
     → length (jobs_in t bytes) ≤ c'.count
-jobs_done plans t bytes p p' c' answer out0 out side0 side accepted closes goes given same = omega (arith, count_jobs plans t bytes accepted, closes.all, goes.given, given, same)
+jobs_done plans f t bytes p p' c' answer out0 out side0 side accepted closes goes given same = omega (arith, count_jobs plans t bytes accepted, closes.all, goes.given, given, same)
 
-pub end_early : PlansCanBeCoded → (t : Settings) (first : Option (List ℕ)) (p p' : Planning) (c c' : Progress) (answer fault : Encoded) (out0 out mid out' side0 side amid side' : Option (List ℕ)) → IsAccepted t → Ends t first p c answer out0 out side0 side
-    → LeadsOn t true p p' c c' out mid side amid → p'.given ≡ p'.accepted → p'.accepted ≡ p.accepted → IsFault fault → EndsEarly t c' mid out' amid side' → IfSome first (λ bytes. AnswersEncode fault (encoding t bytes) out0 out' side0 side')
+pub end_early : PlansCanBeCoded → (f : IndexRule) (t : Settings) (first : Option (List ℕ)) (p p' : Planning) (c c' : Progress) (answer fault : Encoded) (out0 out mid out' side0 side amid side' : Option (List ℕ)) → IsAccepted t → Ends f t first p c answer out0 out side0 side
+    → LeadsOn f t true p p' c c' out mid side amid → p'.given ≡ p'.accepted → p'.accepted ≡ p.accepted → IsFault fault → EndsEarly t c' mid out' amid side' → IfSome first (λ bytes. AnswersEncode fault (encoding_under f t bytes) out0 out' side0 side')
 unfolding Ends
-end_early plans t None p p' c c' answer fault out0 out mid out' side0 side amid side' accepted ends led given same is early = tt
-end_early plans t (Some bytes) p p' c c' answer fault out0 out mid out' side0 side amid side' accepted ends led given same is early =
+end_early plans f t None p p' c c' answer fault out0 out mid out' side0 side amid side' accepted ends led given same is early = tt
+end_early plans f t (Some bytes) p p' c c' answer fault out0 out mid out' side0 side amid side' accepted ends led given same is early =
     let goes = led bytes out0 side0 ends.goes in
-    answers_fault fault (encoding t bytes) out0 out' side0 side' is
-    (ended_early t bytes c' answer out0 mid out' side0 amid side' (all_leave plans t bytes accepted) goes.stands (jobs_done plans t bytes p p' c' answer out0 mid side0 amid accepted ends.closes goes given same) ends.closes.answers early)
+    answers_fault fault (encoding_under f t bytes) out0 out' side0 side' is
+    (ended_early f t bytes c' answer out0 mid out' side0 amid side' (all_leave plans f t bytes accepted) goes.stands (jobs_done plans f t bytes p p' c' answer out0 mid side0 amid accepted ends.closes goes given same) ends.closes.answers early)
 
 answers_behind : (k : ℕ) (b : Bool) (e : Encoding) (out out' side side' : Option (List ℕ)) → (e.answer ≡ (if b then encoded.Done else encoded.PartialPicture k)) × WritesAll e out out' side side'
     → AnswersEncode (if b then encoded.Done else encoded.PartialPicture k) e out out' side side'
 answers_behind k true e out out' side side' is = (sym is.0, is.1)
 answers_behind k false e out out' side side' is = (sym is.0, is.1)
 
-pub part_ended : PlansCanBeCoded → (t : Settings) (first : Option (List ℕ)) (p p' : Planning) (c c' : Progress) (k : ℕ) (out0 out mid out' side0 side amid side' : Option (List ℕ)) → IsAccepted t → Ends t first p c (behind k) out0 out side0 side
-    → LeadsOn t true p p' c c' out mid side amid → p'.given ≡ p'.accepted → p'.accepted ≡ p.accepted → IsEnded t c' mid out' amid side' → IfSome first (λ bytes. AnswersEncode (behind k) (encoding t bytes) out0 out' side0 side')
+pub part_ended : PlansCanBeCoded → (f : IndexRule) (t : Settings) (first : Option (List ℕ)) (p p' : Planning) (c c' : Progress) (k : ℕ) (out0 out mid out' side0 side amid side' : Option (List ℕ)) → IsAccepted t → Ends f t first p c (behind k) out0 out side0 side
+    → LeadsOn f t true p p' c c' out mid side amid → p'.given ≡ p'.accepted → p'.accepted ≡ p.accepted → IsEnded t c' mid out' amid side' → IfSome first (λ bytes. AnswersEncode (behind k) (encoding_under f t bytes) out0 out' side0 side')
 unfolding Ends
-part_ended plans t None p p' c c' k out0 out mid out' side0 side amid side' accepted ends led given same ended = tt
-part_ended plans t (Some bytes) p p' c c' k out0 out mid out' side0 side amid side' accepted ends led given same ended =
+part_ended plans f t None p p' c c' k out0 out mid out' side0 side amid side' accepted ends led given same ended = tt
+part_ended plans f t (Some bytes) p p' c c' k out0 out mid out' side0 side amid side' accepted ends led given same ended =
     let goes = led bytes out0 side0 ends.goes in
-    answers_behind k (k == 0) (encoding t bytes) out0 out' side0 side'
-    (ended_all t bytes c' (behind k) out0 mid out' side0 amid side' (all_leave plans t bytes accepted) goes.stands (jobs_done plans t bytes p p' c' (behind k) out0 mid side0 amid accepted ends.closes goes given same) ends.closes.answers ended)
+    answers_behind k (k == 0) (encoding_under f t bytes) out0 out' side0 side'
+    (ended_all f t bytes c' (behind k) out0 mid out' side0 amid side' (all_leave plans f t bytes accepted) goes.stands (jobs_done plans f t bytes p p' c' (behind k) out0 mid side0 amid accepted ends.closes goes given same) ends.closes.answers ended)
 
-pub many_ended : PlansCanBeCoded → (t : Settings) (first : Option (List ℕ)) (p p' : Planning) (c c' : Progress) (out0 out mid out' side0 side amid side' : Option (List ℕ)) → IsAccepted t → Ends t first p c encoded.TooManyPictures out0 out side0 side
-    → LeadsOn t true p p' c c' out mid side amid → p'.given ≡ p'.accepted → p'.accepted ≡ p.accepted → IsEnded t c' mid out' amid side' → IfSome first (λ bytes. AnswersEncode encoded.TooManyPictures (encoding t bytes) out0 out' side0 side')
+pub many_ended : PlansCanBeCoded → (f : IndexRule) (t : Settings) (first : Option (List ℕ)) (p p' : Planning) (c c' : Progress) (out0 out mid out' side0 side amid side' : Option (List ℕ)) → IsAccepted t → Ends f t first p c encoded.TooManyPictures out0 out side0 side
+    → LeadsOn f t true p p' c c' out mid side amid → p'.given ≡ p'.accepted → p'.accepted ≡ p.accepted → IsEnded t c' mid out' amid side' → IfSome first (λ bytes. AnswersEncode encoded.TooManyPictures (encoding_under f t bytes) out0 out' side0 side')
 unfolding Ends
-many_ended plans t None p p' c c' out0 out mid out' side0 side amid side' accepted ends led given same ended = tt
-many_ended plans t (Some bytes) p p' c c' out0 out mid out' side0 side amid side' accepted ends led given same ended =
+many_ended plans f t None p p' c c' out0 out mid out' side0 side amid side' accepted ends led given same ended = tt
+many_ended plans f t (Some bytes) p p' c c' out0 out mid out' side0 side amid side' accepted ends led given same ended =
     let goes = led bytes out0 side0 ends.goes in
-    let is = ended_all t bytes c' encoded.TooManyPictures out0 mid out' side0 amid side' (all_leave plans t bytes accepted) goes.stands (jobs_done plans t bytes p p' c' encoded.TooManyPictures out0 mid side0 amid accepted ends.closes goes given same) ends.closes.answers ended in
+    let is = ended_all f t bytes c' encoded.TooManyPictures out0 mid out' side0 amid side' (all_leave plans f t bytes accepted) goes.stands (jobs_done plans f t bytes p p' c' encoded.TooManyPictures out0 mid side0 amid accepted ends.closes goes given same) ends.closes.answers ended in
     (sym is.0, is.1)
 
-recovers : StreamsShowTheirPictures → StreamsAreCut → PlansCanBeCoded → TablesAreChosen → (t : Settings) (bytes : List ℕ) (p p' : Planning) (c c' : Progress) (answer : Encoded) (out0 out mid side0 side amid : Option (List ℕ)) → IsAccepted t → p.accepted ≤ t.pictures → Ending t bytes p c answer out0 out side0 side
-    → Goes t bytes true p' c' out0 mid side0 amid → p'.given ≡ p'.accepted → p'.accepted ≡ p.accepted → IsRecovered t bytes
-recovers law cuts plans tables t bytes p p' c c' answer out0 out mid side0 side amid accepted few ends goes given same =
+recovers : StreamsShowTheirPictures → StreamsAreCut → PlansCanBeCoded → TablesAreChosen → (f : IndexRule) → GivesIndices f → (t : Settings) (bytes : List ℕ) (p p' : Planning) (c c' : Progress) (answer : Encoded) (out0 out mid side0 side amid : Option (List ℕ)) → IsAccepted t → p.accepted ≤ t.pictures → Ending f t bytes p c answer out0 out side0 side
+    → Goes f t bytes true p' c' out0 mid side0 amid → p'.given ≡ p'.accepted → p'.accepted ≡ p.accepted → IsRecoveredUnder f t bytes
+recovers law cuts plans tables f gives t bytes p p' c c' answer out0 out mid side0 side amid accepted few ends goes given same =
     let n = p.accepted in
-    let all = coded_all t (coding_in t bytes) goes.stands.done c'.refs (jobs_in t bytes) c'.count goes.stands.all (jobs_done plans t bytes p p' c' answer out0 mid side0 amid accepted ends.closes goes given same) in
-    let short : first_long t (coding_in t bytes) ≡ None = ap (first_long t) all ∙ none_long t goes.stands.done goes.stands.short in
+    let all = coded_all f t (coding_in f t bytes) goes.stands.done c'.refs (jobs_in t bytes) c'.count goes.stands.all (jobs_done plans f t bytes p p' c' answer out0 mid side0 amid accepted ends.closes goes given same) in
+    let short : first_long t (coding_in f t bytes) ≡ None = ap (first_long t) all ∙ none_long t goes.stands.done goes.stands.short in
     let first : sources t bytes ≡ pictures_in t n 0 bytes = ap (λ k. pictures_in t k 0 bytes) (sym (ends.closes.all ∙ length-pictures_in t (min (whole_pictures t bytes) t.pictures) 0 bytes)) in
-    recovered law cuts plans tables t n bytes accepted ends.fits few ends.below first short
+    recovered law cuts plans tables f gives t n bytes accepted ends.fits few ends.below first short
 
-pub ends_recovered : StreamsShowTheirPictures → StreamsAreCut → PlansCanBeCoded → TablesAreChosen → (t : Settings) (first : Option (List ℕ)) (p p' : Planning) (c c' : Progress) (answer last : Encoded) (out0 out mid side0 side amid : Option (List ℕ)) → IsAccepted t → p.accepted ≤ t.pictures
-    → Ends t first p c answer out0 out side0 side → LeadsOn t true p p' c c' out mid side amid → p'.given ≡ p'.accepted → p'.accepted ≡ p.accepted → IfSome first (λ bytes. EndsStream last → IsRecovered t bytes)
+pub ends_recovered : StreamsShowTheirPictures → StreamsAreCut → PlansCanBeCoded → TablesAreChosen → (f : IndexRule) → GivesIndices f → (t : Settings) (first : Option (List ℕ)) (p p' : Planning) (c c' : Progress) (answer last : Encoded) (out0 out mid side0 side amid : Option (List ℕ)) → IsAccepted t → p.accepted ≤ t.pictures
+    → Ends f t first p c answer out0 out side0 side → LeadsOn f t true p p' c c' out mid side amid → p'.given ≡ p'.accepted → p'.accepted ≡ p.accepted → IfSome first (λ bytes. EndsStream last → IsRecoveredUnder f t bytes)
 unfolding Ends
-ends_recovered law cuts plans tables t None p p' c c' answer last out0 out mid side0 side amid accepted few ends led given same = tt
-ends_recovered law cuts plans tables t (Some bytes) p p' c c' answer last out0 out mid side0 side amid accepted few ends led given same =
-    λ whole. recovers law cuts plans tables t bytes p p' c c' answer out0 out mid side0 side amid accepted few ends (led bytes out0 side0 ends.goes) given same
+ends_recovered law cuts plans tables f gives t None p p' c c' answer last out0 out mid side0 side amid accepted few ends led given same = tt
+ends_recovered law cuts plans tables f gives t (Some bytes) p p' c c' answer last out0 out mid side0 side amid accepted few ends led given same =
+    λ whole. recovers law cuts plans tables f gives t bytes p p' c c' answer out0 out mid side0 side amid accepted few ends (led bytes out0 side0 ends.goes) given same
 
 no_end : (answer : Encoded) → StopsCoding answer → EndsStream answer → ⊥
 no_end encoded.WriteFault is ends = ends
@@ -241,9 +241,9 @@ no_end (encoded.PartialPicture n) is ends = absurd is
 no_end encoded.TooManyPictures is ends = absurd is
 
 -- where coding stops there is no whole stream
-pub stopped_before_the_end : (t : Settings) (first : Option (List ℕ)) (answer : Encoded) → StopsCoding answer → IfSome first (λ bytes. EndsStream answer → IsRecovered t bytes)
-stopped_before_the_end t None answer is = tt
-stopped_before_the_end t (Some bytes) answer is = λ ends. absurd (no_end answer is ends)
+pub stopped_before_the_end : (f : IndexRule) (t : Settings) (first : Option (List ℕ)) (answer : Encoded) → StopsCoding answer → IfSome first (λ bytes. EndsStream answer → IsRecoveredUnder f t bytes)
+stopped_before_the_end f t None answer is = tt
+stopped_before_the_end f t (Some bytes) answer is = λ ends. absurd (no_end answer is ends)
 
 pub fault_stops_coding : (answer : Encoded) → IsFault answer → StopsCoding answer
 fault_stops_coding encoded.WriteFault is = tt
@@ -279,9 +279,9 @@ behind_some k n is = part_some (k == 0) k n refl is
 
 -- ---- one raw picture more
 
-next_so : (t : Settings) (bytes : List ℕ) (p : Planning) (c : Progress) (held held' out0 out side0 side : Option (List ℕ)) (chunk : List ℕ) → Runs t bytes p c held out0 out side0 side → Consumes held held' chunk → AreBytes chunk → length chunk ≡ raw_length t → 1 ≤ raw_length t → p.accepted < t.pictures
-    → Runs t bytes (with_picture p (picture_from t p.accepted chunk)) c held' out0 out side0 side
-next_so t bytes p c held held' out0 out side0 side chunk so got are_bytes whole some few =
+next_so : (f : IndexRule) (t : Settings) (bytes : List ℕ) (p : Planning) (c : Progress) (held held' out0 out side0 side : Option (List ℕ)) (chunk : List ℕ) → Runs f t bytes p c held out0 out side0 side → Consumes held held' chunk → AreBytes chunk → length chunk ≡ raw_length t → 1 ≤ raw_length t → p.accepted < t.pictures
+    → Runs f t bytes (with_picture p (picture_from t p.accepted chunk)) c held' out0 out side0 side
+next_so f t bytes p c held held' out0 out side0 side chunk so got are_bytes whole some few =
     let n = p.accepted in
     let r = raw_length t in
     let rest = gave held held' (drop (n * r) bytes) chunk so.is_held got in
@@ -302,17 +302,17 @@ next_so t bytes p c held held' out0 out side0 side chunk so got are_bytes whole 
       below = subst AreBytes (sym (front_more n r ((n + 1) * r) bytes chunk rest.0 rest.2 whole refl)) (below_more (take (n * r) bytes) chunk so.below are_bytes);
     }
 
-pub next_stops : PlansCanBeCoded → (t : Settings) (first : Option (List ℕ)) (p q : Planning) (c : Progress) (answer : Encoded) (held held' out0 out out' side0 side side' : Option (List ℕ)) (chunk : List ℕ) → IsAccepted t → SoFar t first p c held out0 out side0 side → Consumes held held' chunk → AreBytes chunk → length chunk ≡ raw_length t
-    → 1 ≤ raw_length t → p.accepted < t.pictures → q ≡ with_picture p (picture_from t p.accepted chunk) → Stops t false q c answer out out' side side' → IfSome first (λ bytes. AnswersEncode answer (encoding t bytes) out0 out' side0 side')
-next_stops plans t None p q c answer held held' out0 out out' side0 side side' chunk accepted so got are_bytes whole some few is stops = tt
-next_stops plans t (Some bytes) p q c answer held held' out0 out out' side0 side side' chunk accepted so got are_bytes whole some few is stops =
-    stops bytes out0 side0 (all_leave plans t bytes accepted) (subst (λ (x : Planning). Goes t bytes false x c out0 out side0 side) (sym is) (next_so t bytes p c held held' out0 out side0 side chunk so got are_bytes whole some few).goes)
+pub next_stops : PlansCanBeCoded → (f : IndexRule) (t : Settings) (first : Option (List ℕ)) (p q : Planning) (c : Progress) (answer : Encoded) (held held' out0 out out' side0 side side' : Option (List ℕ)) (chunk : List ℕ) → IsAccepted t → SoFar f t first p c held out0 out side0 side → Consumes held held' chunk → AreBytes chunk → length chunk ≡ raw_length t
+    → 1 ≤ raw_length t → p.accepted < t.pictures → q ≡ with_picture p (picture_from t p.accepted chunk) → Stops f t false q c answer out out' side side' → IfSome first (λ bytes. AnswersEncode answer (encoding_under f t bytes) out0 out' side0 side')
+next_stops plans f t None p q c answer held held' out0 out out' side0 side side' chunk accepted so got are_bytes whole some few is stops = tt
+next_stops plans f t (Some bytes) p q c answer held held' out0 out out' side0 side side' chunk accepted so got are_bytes whole some few is stops =
+    stops bytes out0 side0 (all_leave plans f t bytes accepted) (subst (λ (x : Planning). Goes f t bytes false x c out0 out side0 side) (sym is) (next_so f t bytes p c held held' out0 out side0 side chunk so got are_bytes whole some few).goes)
 
-pub next_leads : (t : Settings) (first : Option (List ℕ)) (p q p' : Planning) (c c' : Progress) (held held' out0 out out' side0 side side' : Option (List ℕ)) (chunk : List ℕ) → SoFar t first p c held out0 out side0 side → Consumes held held' chunk → AreBytes chunk → length chunk ≡ raw_length t
-    → 1 ≤ raw_length t → p.accepted < t.pictures → q ≡ with_picture p (picture_from t p.accepted chunk) → LeadsOn t false q p' c c' out out' side side' → p'.accepted ≡ q.accepted → SoFar t first p' c' held' out0 out' side0 side'
-next_leads t None p q p' c c' held held' out0 out out' side0 side side' chunk so got are_bytes whole some few is led same = tt
-next_leads t (Some bytes) p q p' c c' held held' out0 out out' side0 side side' chunk so got are_bytes whole some few is led same =
-    let next = subst (λ (x : Planning). Runs t bytes x c held' out0 out side0 side) (sym is) (next_so t bytes p c held held' out0 out side0 side chunk so got are_bytes whole some few) in
+pub next_leads : (f : IndexRule) (t : Settings) (first : Option (List ℕ)) (p q p' : Planning) (c c' : Progress) (held held' out0 out out' side0 side side' : Option (List ℕ)) (chunk : List ℕ) → SoFar f t first p c held out0 out side0 side → Consumes held held' chunk → AreBytes chunk → length chunk ≡ raw_length t
+    → 1 ≤ raw_length t → p.accepted < t.pictures → q ≡ with_picture p (picture_from t p.accepted chunk) → LeadsOn f t false q p' c c' out out' side side' → p'.accepted ≡ q.accepted → SoFar f t first p' c' held' out0 out' side0 side'
+next_leads f t None p q p' c c' held held' out0 out out' side0 side side' chunk so got are_bytes whole some few is led same = tt
+next_leads f t (Some bytes) p q p' c c' held held' out0 out out' side0 side side' chunk so got are_bytes whole some few is led same =
+    let next = subst (λ (x : Planning). Runs f t bytes x c held' out0 out side0 side) (sym is) (next_so f t bytes p c held held' out0 out side0 side chunk so got are_bytes whole some few) in
     record {
       goes = led bytes out0 side0 next.goes;
       is_held = next.is_held ∙ ap (λ k. Some (drop (k * raw_length t) bytes)) (sym same);

@@ -18,7 +18,7 @@ use Rattle.dirac_decode.specs.Raw.{raws}
 use Rattle.dirac_stream.specs.declared.answers.Encoded.{Encoded}
 use Rattle.dirac_stream.specs.declared.answers.Encoded.TheVariants as encoded
 use Rattle.dirac_stream.specs.Coded.{coded_of}
-use Rattle.dirac_stream.specs.Coding.{Job, made}
+use Rattle.dirac_stream.specs.Coding.{IndexRule, Job, made_under}
 use Rattle.dirac_stream.specs.Payload.{payload_of}
 use Rattle.dirac_stream.specs.Steps.{BreaksOff, IsCoded, IsFault, IsTooLong, Progress, StopsPicture}
 use Rattle.dirac_stream.specs.Stream.{header_before, length_before, picture_length, picture_unit, unit}
@@ -29,23 +29,23 @@ pub header_fits : (t : Settings) (header : List ℕ) → header ≡ sequence_pay
 header_fits t header is = omega (arith, ap length is, header_few t)
 
 -- what came of the coding of a picture
-pub record Parts (t : Settings) (refs : List Picture) (j : Job) (payload : List ℕ) (shown : Picture) : Type 0 where
-  pub payload_is : payload ≡ payload_of t (coded_of t refs j.planned j.source)
-  pub shown_is : shown ≡ rebuilt (sequence_of t) refs (coded_of t refs j.planned j.source)
+pub record Parts (f : IndexRule) (t : Settings) (refs : List Picture) (j : Job) (payload : List ℕ) (shown : Picture) : Type 0 where
+  pub payload_is : payload ≡ (made_under f t refs j).payload
+  pub shown_is : shown ≡ (made_under f t refs j).shown
 
 -- the length of the unit before a picture
-pub previous_is : (t : Settings) (refs : List Picture) (j : Job) (header : List ℕ) (old k : ℕ) → header ≡ sequence_payload t → k ≡ (if is_intra j.planned.code then 13 + length header else old) → k ≡ length_before t (made t refs j) old
-previous_is t refs j header old k is e = e ∙ ap (λ (l : List ℕ). if is_intra j.planned.code then 13 + length l else old) is
+pub previous_is : (f : IndexRule) (t : Settings) (refs : List Picture) (j : Job) (header : List ℕ) (old k : ℕ) → header ≡ sequence_payload t → k ≡ (if is_intra j.planned.code then 13 + length header else old) → k ≡ length_before t (made_under f t refs j) old
+previous_is f t refs j header old k is e = e ∙ ap (λ (l : List ℕ). if is_intra j.planned.code then 13 + length l else old) is
 
-same_unit : (t : Settings) (refs : List Picture) (j : Job) (payload : List ℕ) (shown : Picture) (old k : ℕ) → Parts t refs j payload shown → k ≡ length_before t (made t refs j) old → unit j.planned.code k payload ≡ picture_unit t (made t refs j) old
-same_unit t refs j payload shown old k is e = ap (λ n. unit j.planned.code n payload) e ∙ ap (unit j.planned.code (length_before t (made t refs j) old)) is.payload_is
+same_unit : (f : IndexRule) (t : Settings) (refs : List Picture) (j : Job) (payload : List ℕ) (shown : Picture) (old k : ℕ) → Parts f t refs j payload shown → k ≡ length_before t (made_under f t refs j) old → unit j.planned.code k payload ≡ picture_unit t (made_under f t refs j) old
+same_unit f t refs j payload shown old k is e = ap (λ n. unit j.planned.code n payload) e ∙ ap (unit j.planned.code (length_before t (made_under f t refs j) old)) is.payload_is
 
-pub step_coded : (t : Settings) (j : Job) (old new : Progress) (k : ℕ) (payload : List ℕ) (shown : Picture) (out mid out' side side' : Option (List ℕ)) → Parts t old.refs j payload shown → k ≡ length_before t (made t old.refs j) old.previous
+pub step_coded : (f : IndexRule) (t : Settings) (j : Job) (old new : Progress) (k : ℕ) (payload : List ℕ) (shown : Picture) (out mid out' side side' : Option (List ℕ)) → Parts f t old.refs j payload shown → k ≡ length_before t (made_under f t old.refs j) old.previous
     → 13 + length payload ≤ t.unit_bytes → new.count ≡ old.count + 1 → new.previous ≡ 13 + length payload → new.refs ≡ committed old.refs j.planned.retire (as_reference j.planned.code shown) → new.delivery ≡ (delivered (joined old.delivery j.planned.number shown)).waiting
-    → Appends out mid (header_before t (made t old.refs j) old.previous) → Appends mid out' (unit j.planned.code k payload) → Appends side side' (raws (delivered (joined old.delivery j.planned.number shown)).gone)
-    → IsCoded t (made t old.refs j) old new out out' side side'
-step_coded t j old new k payload shown out mid out' side side' is e short count previous refs waiting first second third =
-    let m = made t old.refs j in
+    → Appends out mid (header_before t (made_under f t old.refs j) old.previous) → Appends mid out' (unit j.planned.code k payload) → Appends side side' (raws (delivered (joined old.delivery j.planned.number shown)).gone)
+    → IsCoded t (made_under f t old.refs j) old new out out' side side'
+step_coded f t j old new k payload shown out mid out' side side' is e short count previous refs waiting first second third =
+    let m = made_under f t old.refs j in
     let len : length payload ≡ length m.payload = ap length is.payload_is in
     record {
       short = le-leb (picture_length m) t.unit_bytes (omega (arith, len, short));
@@ -55,38 +55,38 @@ step_coded t j old new k payload shown out mid out' side side' is e short count 
       waiting = waiting ∙ ap (λ (q : Picture). (delivered (joined old.delivery j.planned.number q)).waiting) is.shown_is;
       written =
           Appends-trans out mid out' (header_before t m old.previous) (picture_unit t m old.previous) first
-          (subst (λ (l : List ℕ). Appends mid out' l) (same_unit t old.refs j payload shown old.previous k is e) second);
+          (subst (λ (l : List ℕ). Appends mid out' l) (same_unit f t old.refs j payload shown old.previous k is e) second);
       delivered = subst (λ (q : Picture). Appends side side' (raws (delivered (joined old.delivery j.planned.number q)).gone)) is.shown_is third;
     }
 
-fault_stops : (t : Settings) (refs : List Picture) (j : Job) (old : Progress) (answer : Encoded) (out out' side side' : Option (List ℕ)) → IsFault answer → BreaksOff t (made t refs j) old out out' side side' → StopsPicture t (made t refs j) old answer out out' side side'
-fault_stops t refs j old encoded.WriteFault out out' side side' is breaks = breaks
-fault_stops t refs j old encoded.SideFault out out' side side' is breaks = breaks
-fault_stops t refs j old encoded.NoMemory out out' side side' is breaks = breaks
-fault_stops t refs j old encoded.Done out out' side side' is breaks = absurd is
-fault_stops t refs j old (encoded.PartialPicture n) out out' side side' is breaks = absurd is
-fault_stops t refs j old (encoded.UnitTooLong n) out out' side side' is breaks = absurd is
-fault_stops t refs j old encoded.TooManyPictures out out' side side' is breaks = absurd is
-fault_stops t refs j old encoded.ReadFault out out' side side' is breaks = absurd is
+fault_stops : (f : IndexRule) (t : Settings) (refs : List Picture) (j : Job) (old : Progress) (answer : Encoded) (out out' side side' : Option (List ℕ)) → IsFault answer → BreaksOff t (made_under f t refs j) old out out' side side' → StopsPicture t (made_under f t refs j) old answer out out' side side'
+fault_stops f t refs j old encoded.WriteFault out out' side side' is breaks = breaks
+fault_stops f t refs j old encoded.SideFault out out' side side' is breaks = breaks
+fault_stops f t refs j old encoded.NoMemory out out' side side' is breaks = breaks
+fault_stops f t refs j old encoded.Done out out' side side' is breaks = absurd is
+fault_stops f t refs j old (encoded.PartialPicture n) out out' side side' is breaks = absurd is
+fault_stops f t refs j old (encoded.UnitTooLong n) out out' side side' is breaks = absurd is
+fault_stops f t refs j old encoded.TooManyPictures out out' side side' is breaks = absurd is
+fault_stops f t refs j old encoded.ReadFault out out' side side' is breaks = absurd is
 
-pub step_stopped : (t : Settings) (j : Job) (old : Progress) (answer : Encoded) (k : ℕ) (payload : List ℕ) (shown : Picture) (out mid out' side side' : Option (List ℕ)) → Parts t old.refs j payload shown → k ≡ length_before t (made t old.refs j) old.previous
+pub step_stopped : (f : IndexRule) (t : Settings) (j : Job) (old : Progress) (answer : Encoded) (k : ℕ) (payload : List ℕ) (shown : Picture) (out mid out' side side' : Option (List ℕ)) → Parts f t old.refs j payload shown → k ≡ length_before t (made_under f t old.refs j) old.previous
     → 13 + length payload ≤ t.unit_bytes → IsFault answer
-    → Appends out mid (header_before t (made t old.refs j) old.previous) → AppendsFront mid out' (unit j.planned.code k payload) → AppendsFront side side' (raws (delivered (joined old.delivery j.planned.number shown)).gone)
-    → StopsPicture t (made t old.refs j) old answer out out' side side'
-step_stopped t j old answer k payload shown out mid out' side side' is e short fault first second third =
-    let m = made t old.refs j in
-    fault_stops t old.refs j old answer out out' side side' fault (inr (
+    → Appends out mid (header_before t (made_under f t old.refs j) old.previous) → AppendsFront mid out' (unit j.planned.code k payload) → AppendsFront side side' (raws (delivered (joined old.delivery j.planned.number shown)).gone)
+    → StopsPicture t (made_under f t old.refs j) old answer out out' side side'
+step_stopped f t j old answer k payload shown out mid out' side side' is e short fault first second third =
+    let m = made_under f t old.refs j in
+    fault_stops f t old.refs j old answer out out' side side' fault (inr (
       le-leb (picture_length m) t.unit_bytes (omega (arith, ap length is.payload_is, short)),
       behind_front out mid out' (header_before t m old.previous) (picture_unit t m old.previous) first
-          (subst (λ (l : List ℕ). AppendsFront mid out' l) (same_unit t old.refs j payload shown old.previous k is e) second),
+          (subst (λ (l : List ℕ). AppendsFront mid out' l) (same_unit f t old.refs j payload shown old.previous k is e) second),
       subst (λ (q : Picture). AppendsFront side side' (raws (delivered (joined old.delivery j.planned.number q)).gone)) is.shown_is third,
     ))
 
-pub step_long : (t : Settings) (j : Job) (old : Progress) (payload : List ℕ) (shown : Picture) (out mid side : Option (List ℕ)) → Parts t old.refs j payload shown → t.unit_bytes < 13 + length payload
-    → Appends out mid (header_before t (made t old.refs j) old.previous) → IsTooLong t (made t old.refs j) j.planned.number old out mid side side
-step_long t j old payload shown out mid side is long first = record {
+pub step_long : (f : IndexRule) (t : Settings) (j : Job) (old : Progress) (payload : List ℕ) (shown : Picture) (out mid side : Option (List ℕ)) → Parts f t old.refs j payload shown → t.unit_bytes < 13 + length payload
+    → Appends out mid (header_before t (made_under f t old.refs j) old.previous) → IsTooLong t (made_under f t old.refs j) j.planned.number old out mid side side
+step_long f t j old payload shown out mid side is long first = record {
   same = refl;
-  long = lt-leb (picture_length (made t old.refs j)) t.unit_bytes (omega (arith, ap length is.payload_is, long));
+  long = lt-leb (picture_length (made_under f t old.refs j)) t.unit_bytes (omega (arith, ap length is.payload_is, long));
   written = first;
   kept = Keeps-refl side;
 }

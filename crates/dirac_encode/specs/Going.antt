@@ -1,4 +1,4 @@
--- How far the coding of raw pictures is, while a planner gives them.
+-- How far the coding of raw pictures is, while a planner gives them and a rule their quantiser indices.
 -- Inner: for the proofs of this crate.
 use Rattle.std.specs.Prelude.{◌≡◌, ℕ, ◌≤◌, ◌^◌, Bool, true, List, [], ◌∷◌, ◌++◌, length, Option}
 use Rattle.std.specs.List.{AllByRecursion}
@@ -12,8 +12,8 @@ use Rattle.dirac_plan.specs.Planning.{Planning}
 use Rattle.dirac_plan_laws.specs.References.{ArePlanned, list_with}
 use Rattle.dirac_stream.specs.declared.answers.Encoded.{Encoded}
 use Rattle.dirac_stream.specs.Coded.{IsSource}
-use Rattle.dirac_stream.specs.Coding.{coding}
-use Rattle.dirac_stream.specs.Encoding.{AnswersEncode, encoding}
+use Rattle.dirac_stream.specs.Coding.{IndexRule, coding_under}
+use Rattle.dirac_stream.specs.Encoding.{AnswersEncode, encoding_under}
 use Rattle.dirac_stream.specs.Raw.{sources}
 use Rattle.dirac_stream.specs.Standing.{AreAmong, Leave, Stands}
 use Rattle.dirac_stream.specs.Steps as steps
@@ -28,27 +28,28 @@ abbrev pub joined : List Waiting → ℕ → Picture → List Waiting
 joined waiting number shown = waiting ++ record { key = key_of 0 number; picture = shown } ∷ []
 
 -- of these bytes so much is coded; those that wait are sources of theirs; once the pictures have ended all are accepted
-pub record Goes (t : Settings) (bytes : List ℕ) (ended : Bool) (p : Planning) (c : steps.Progress)
-    (out0 out side0 side : Option (List ℕ)) : Type 0 where
-  pub stands : Stands t bytes c out0 out side0 side
+pub record Goes (f : IndexRule) (t : Settings) (bytes : List ℕ) (ended : Bool) (p : Planning)
+    (c : steps.Progress) (out0 out side0 side : Option (List ℕ)) : Type 0 where
+  pub stands : Stands f t bytes c out0 out side0 side
   pub among : AreAmong (sources t bytes) p.waiting
   pub given : p.given ≡ c.count
   pub within : p.accepted ≤ length (sources t bytes)
   pub all : ended ≡ true → p.accepted ≡ length (sources t bytes)
 
 -- whatever the bytes are, the coding goes on
-abbrev pub LeadsOn : Settings → Bool → Planning → Planning → steps.Progress → steps.Progress →
+abbrev pub LeadsOn : IndexRule → Settings → Bool → Planning → Planning → steps.Progress → steps.Progress →
     Option (List ℕ) → Option (List ℕ) → Option (List ℕ) → Option (List ℕ) → Type 0
-LeadsOn t ended p p' c c' out out' side side' =
+LeadsOn f t ended p p' c c' out out' side side' =
     (bytes : List ℕ) (out0 side0 : Option (List ℕ))
-    → Goes t bytes ended p c out0 out side0 side → Goes t bytes ended p' c' out0 out' side0 side'
+    → Goes f t bytes ended p c out0 out side0 side → Goes f t bytes ended p' c' out0 out' side0 side'
 
 -- or it stops with the answer of their encoding
-abbrev pub Stops : Settings → Bool → Planning → steps.Progress → Encoded →
+abbrev pub Stops : IndexRule → Settings → Bool → Planning → steps.Progress → Encoded →
     Option (List ℕ) → Option (List ℕ) → Option (List ℕ) → Option (List ℕ) → Type 0
-Stops t ended p c answer out out' side side' =
-    (bytes : List ℕ) (out0 side0 : Option (List ℕ)) → Leave (coding t (sources t bytes))
-    → Goes t bytes ended p c out0 out side0 side → AnswersEncode answer (encoding t bytes) out0 out' side0 side'
+Stops f t ended p c answer out out' side side' =
+    (bytes : List ℕ) (out0 side0 : Option (List ℕ)) → Leave (coding_under f t (sources t bytes))
+    → Goes f t bytes ended p c out0 out side0 side
+    → AnswersEncode answer (encoding_under f t bytes) out0 out' side0 side'
 
 -- the list of references where planned pictures became these
 abbrev pub list_behind : List Picture → List Planned → List Picture → List Picture

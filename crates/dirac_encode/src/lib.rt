@@ -4,6 +4,7 @@
 mod coder;
 mod delivering;
 mod ending;
+mod fitting;
 mod pictures;
 mod planned;
 mod progress;
@@ -15,5 +16,6 @@ mod units;
 
 pub use dirac_code::{Coded, choose_blocks, code_picture, code_with_blocks};
 pub use dirac_stream::{Encoded, streams_show_their_pictures};
+pub use fitting::fit_picture;
 pub use raw::{picture_of, raw_length};
-pub use stream::encode_stream;
+pub use stream::{StreamCoder, encode_by, encode_stream};

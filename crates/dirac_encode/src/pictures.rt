@@ -7,7 +7,8 @@ ghost use Rattle.dirac_io.specs.Faults.{Rose};
 ghost use Rattle.dirac_types.specs.Settings.{IsAccepted};
 ghost use Rattle.dirac_sequence.specs.Written.{sequence_payload};
 ghost use Rattle.dirac_plan.specs.Planning.{empty_planning};
-ghost use Rattle.dirac_stream.specs.Encoding.{AnswersEncode, EndsStream, IsRecovered, behind, encoding};
+ghost use Rattle.dirac_stream.specs.Encoding.{AnswersEncode, EndsStream, IsRecoveredUnder, behind, encoding_under};
+ghost use Rattle.dirac_stream.specs.Fit.{rule_of};
 ghost use Rattle.dirac_stream.specs.Raw.{raw_length as length_of};
 ghost use Rattle.dirac_stream.specs.Steps.{no_progress};
 ghost use Rattle.dirac_encode.specs.Going.{so_far};
@@ -54,10 +55,11 @@ pub(crate) fn put_pictures<R: Threads + Sync, S: Source, K: Sink, N: Sink, G: Ro
     requires bytes { length bytes.old ≡ length_of coder.now.settings.now }
     requires planner { planner.old ≡ empty_planning coder.now.settings.now }
     requires coding { so_far coding.old ≡ no_progress }
-    ensures encoded { IfSome (S.held source.old) (λ held. AnswersEncode result (encoding coder.now.settings.now held)
+    ensures encoded { IfSome (S.held source.old) (λ held. AnswersEncode result
+        (encoding_under (rule_of coder.now.budget) coder.now.settings.now held)
         (K.taken out.old) (K.taken out.new) (N.taken side.old) (N.taken side.new)) }
     ensures recovered { IfSome (S.held source.old) (λ held.
-        EndsStream result → IsRecovered coder.now.settings.now held) }
+        EndsStream result → IsRecoveredUnder (rule_of coder.now.budget) coder.now.settings.now held) }
     ensures whole { result ≡ Encoded.Done → IsAtEnd (S.held source.new) }
     ensures partial { (n : ℕ) → result ≡ Encoded.PartialPicture n → (1 ≤ n) × IsAtEnd (S.held source.new) }
     ensures read { result ≡ Encoded.ReadFault → Rose (S.faults source.old) (S.faults source.new) }

@@ -5,6 +5,7 @@ ghost use Rattle.dirac_io.specs.Faults.{Rose};
 ghost use Rattle.dirac_types.specs.Settings.{IsAccepted};
 ghost use Rattle.dirac_sequence.specs.Written.{sequence_payload};
 ghost use Rattle.dirac_plan.specs.Planning.{is_closed};
+ghost use Rattle.dirac_stream.specs.Fit.{rule_of};
 ghost use Rattle.dirac_stream.specs.Steps.{StopsCoding};
 ghost use Rattle.dirac_encode.specs.Going.{LeadsOn, Lists, Stops, so_far};
 
@@ -32,7 +33,7 @@ pub(crate) fn put_planned<R: Threads + Sync, K: Sink, N: Sink, G: RowGate>(
     requires ended { planner.old.ended ≡ true → ended ≡ true }
     requires lists { Lists coder.now.settings.now ended planner.old (so_far coding.old) }
     ensures lists { OnOk result (Lists coder.now.settings.now ended planner.new (so_far coding.new)) }
-    ensures led { OnOk result (LeadsOn coder.now.settings.now ended planner.old planner.new
+    ensures led { OnOk result (LeadsOn (rule_of coder.now.budget) coder.now.settings.now ended planner.old planner.new
         (so_far coding.old) (so_far coding.new)
         (K.taken out.old) (K.taken out.new) (N.taken side.old) (N.taken side.new)) }
     // Once the pictures have ended, all that were accepted are coded; else the next one will be accepted.
@@ -41,8 +42,8 @@ pub(crate) fn put_planned<R: Threads + Sync, K: Sink, N: Sink, G: RowGate>(
     ensures told { OnOk result (planner.new.ended ≡ ended) }
     ensures accepted { planner.new.accepted ≡ planner.old.accepted }
     ensures settings { planner.new.settings ≡ coder.now.settings.now }
-    ensures stopped { IfErr result (λ answer. Stops coder.now.settings.now ended planner.old (so_far coding.old) answer
-        (K.taken out.old) (K.taken out.new) (N.taken side.old) (N.taken side.new)) }
+    ensures stopped { IfErr result (λ answer. Stops (rule_of coder.now.budget) coder.now.settings.now ended planner.old
+        (so_far coding.old) answer (K.taken out.old) (K.taken out.new) (N.taken side.old) (N.taken side.new)) }
     ensures stops { IfErr result StopsCoding }
     ensures write_fault { result ≡ Err Encoded.WriteFault → Rose (K.faults out.old) (K.faults out.new) }
     ensures side_fault { result ≡ Err Encoded.SideFault → Rose (N.faults side.old) (N.faults side.new) }

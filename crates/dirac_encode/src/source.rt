@@ -14,13 +14,15 @@ ghost use Rattle.dirac_decode.specs.StreamState.{as_reference};
 ghost use Rattle.dirac_decode.specs.Raw.{raws};
 ghost use Rattle.dirac_plan_laws.specs.Headers.{IsPlanned, header_of};
 ghost use Rattle.dirac_stream.specs.Coded.{IsSource};
-ghost use Rattle.dirac_stream.specs.Coding.{made};
+ghost use Rattle.dirac_stream.specs.Coding.{made_under};
+ghost use Rattle.dirac_stream.specs.Fit.{rule_of};
 ghost use Rattle.dirac_stream.specs.Steps.{IsCoded, IsFault, StopsCoding, StopsPicture};
 ghost use Rattle.dirac_stream.specs.Stream.{unit};
 ghost use Rattle.dirac_encode.specs.Going.{joined, so_far};
 
 use crate::coder::Coder;
 use crate::delivering::deliver;
+use crate::fitting::fit_picture;
 use crate::progress::Progress;
 use crate::units::{put_header, put_unit};
 use dirac_code::{Coded, code_picture};
@@ -28,6 +30,7 @@ use dirac_header::is_reference;
 use dirac_io::{Put, RowGate, Sink};
 use dirac_picture::is_intra;
 use dirac_plan::Planned;
+use dirac_refs::RefBuffer;
 use dirac_stream::Encoded;
 use dirac_types::{NoMemory, Picture};
 use dirac_units::PARSE_INFO_LENGTH;
@@ -114,6 +117,52 @@ fn length_before(code: u8, header: &[u8], previous: u32) -> u32
     }
 }
 
+/// Codes a planned picture: with the settings' index, or under a budget with the least by which its unit fits.
+fn code_source<R: Threads + Sync, G: RowGate>(
+    coder: &Coder<R, G>,
+    planned: &Planned,
+    source: &Picture,
+    refs: &RefBuffer,
+) -> Result<Coded, NoMemory>
+    requires accepted { IsAccepted coder.now.settings.now }
+    requires listed { AllByRecursion (IsSource coder.now.settings.now) refs.now }
+    requires source { IsSource coder.now.settings.now source.now }
+    requires planned { IsPlanned planned.now }
+    requires found { are_listed refs.now (header_of planned.now) ≡ true }
+    ensures payload { IfOk result (λ c. c.payload.items
+        ≡ (made_under (rule_of coder.now.budget) coder.now.settings.now refs.now
+        (record { planned = planned.now; source = source.now })).payload) }
+    ensures shown { IfOk result (λ c. c.shown
+        ≡ (made_under (rule_of coder.now.budget) coder.now.settings.now refs.now
+        (record { planned = planned.now; source = source.now })).shown) }
+{
+    let settings = coder.settings;
+    match coder.budget {
+        None => code_picture(
+            coder.rt,
+            coder.alloc,
+            planned,
+            source,
+            refs,
+            settings,
+            coder.gate,
+        ),
+        Some(budget) => {
+            let (coded, _index) = fit_picture(
+                coder.rt,
+                coder.alloc,
+                planned,
+                source,
+                refs,
+                settings,
+                budget,
+                coder.gate,
+            )?;
+            Ok(coded)
+        }
+    }
+}
+
 /// Codes a planned picture and writes its unit, an intra picture's behind a sequence header.
 pub(crate) fn put_source<R: Threads + Sync, K: Sink, N: Sink, G: RowGate>(
     coder: &Coder<R, G>,
@@ -132,11 +181,13 @@ pub(crate) fn put_source<R: Threads + Sync, K: Sink, N: Sink, G: RowGate>(
     requires found { are_listed coding.old.refs (header_of planned.now) ≡ true }
     requires in_range { coding.old.count + 1 < 2 ^ 32 }
     ensures coded { OnOk result (IsCoded coder.now.settings.now
-        (made coder.now.settings.now coding.old.refs (record { planned = planned.now; source = source.now }))
+        (made_under (rule_of coder.now.budget) coder.now.settings.now coding.old.refs
+        (record { planned = planned.now; source = source.now }))
         (so_far coding.old) (so_far coding.new)
         (K.taken out.old) (K.taken out.new) (N.taken side.old) (N.taken side.new)) }
     ensures stopped { IfErr result (λ answer. StopsPicture coder.now.settings.now
-        (made coder.now.settings.now coding.old.refs (record { planned = planned.now; source = source.now }))
+        (made_under (rule_of coder.now.budget) coder.now.settings.now coding.old.refs
+        (record { planned = planned.now; source = source.now }))
         (so_far coding.old) answer (K.taken out.old) (K.taken out.new) (N.taken side.old) (N.taken side.new)) }
     ensures stops { IfErr result StopsCoding }
     ensures write_fault { result ≡ Err Encoded.WriteFault → Rose (K.faults out.old) (K.faults out.new) }
@@ -150,15 +201,7 @@ pub(crate) fn put_source<R: Threads + Sync, K: Sink, N: Sink, G: RowGate>(
         Put::Failed => return Err(Encoded::WriteFault),
         Put::NoMemory => return Err(Encoded::NoMemory),
     }
-    let Ok(coded) = code_picture(
-        coder.rt,
-        coder.alloc,
-        planned,
-        source,
-        &coding.refs,
-        settings,
-        coder.gate,
-    ) else {
+    let Ok(coded) = code_source(coder, planned, source, &coding.refs) else {
         return Err(Encoded::NoMemory);
     };
     if (PARSE_INFO_LENGTH + coded.payload.len()) as u64 > u64::from(settings.unit_bytes) {

@@ -4,7 +4,8 @@ ghost use Rattle.std.specs.Prelude.{◌≡◌, ◌≤◌, ℕ, length, IfSome, I
 ghost use Rattle.std.specs.Io.KnownBytes.{IsAtEnd};
 ghost use Rattle.dirac_io.specs.Faults.{Rose};
 ghost use Rattle.dirac_types.specs.Settings.{IsAccepted};
-ghost use Rattle.dirac_stream.specs.Encoding.{AnswersEncode, EndsStream, IsRecovered, encoding};
+ghost use Rattle.dirac_stream.specs.Encoding.{AnswersEncode, EndsStream, IsRecovered, IsRecoveredUnder, encoding, encoding_under};
+ghost use Rattle.dirac_stream.specs.Fit.{rule_of};
 
 use crate::coder::Coder;
 use crate::pictures::put_pictures;
@@ -47,6 +48,60 @@ pub fn encode_stream<R: Threads + Sync, S: Source, K: Sink, N: Sink, G: RowGate>
     ensures writes { K.faults out.old ≤ K.faults out.new }
     ensures sides { N.faults side.old ≤ N.faults side.new }
 {
+    encode_by(
+        &StreamCoder {
+            rt,
+            alloc,
+            settings,
+            budget: None,
+            gate,
+        },
+        source,
+        out,
+        side,
+    )
+}
+
+/// What a stream is coded with.
+#[derive(Drop)]
+pub struct StreamCoder<'a, R, G> {
+    pub rt: &'a R,
+    pub alloc: Global,
+    pub settings: &'a Settings,
+    /// The most bytes of a picture's unit, where each picture gets the least quantiser index, from the settings' on, by
+    /// which its unit has no more. Without a budget each has the settings' index.
+    pub budget: Option<u32>,
+    /// Called before each row of each stage of the search; it changes no answer and no byte.
+    pub gate: &'a G,
+}
+
+/// Encodes raw pictures until the source ends: the stream goes to `out`, and the pictures that decoders show for it, in
+/// order of display, as raw pictures to `side`.
+pub fn encode_by<R: Threads + Sync, S: Source, K: Sink, N: Sink, G: RowGate>(
+    coder: &StreamCoder<R, G>,
+    source: &mut S,
+    out: &mut K,
+    side: &mut N,
+) -> Encoded
+    requires { IsAccepted coder.now.settings.now }
+    // The answer, and what both sinks took, are those of the encoding under the rule of the budget.
+    ensures encoded { IfSome (S.held source.old) (λ bytes. AnswersEncode result
+        (encoding_under (rule_of coder.now.budget) coder.now.settings.now bytes)
+        (K.taken out.old) (K.taken out.new) (N.taken side.old) (N.taken side.new)) }
+    // A whole stream is decoded to what the side got, and with index 0 for all pictures to the input.
+    ensures recovered { IfSome (S.held source.old) (λ bytes.
+        EndsStream result → IsRecoveredUnder (rule_of coder.now.budget) coder.now.settings.now bytes) }
+    ensures whole { result ≡ Encoded.Done → IsAtEnd (S.held source.new) }
+    ensures partial { (n : ℕ) → result ≡ Encoded.PartialPicture n → (1 ≤ n) × IsAtEnd (S.held source.new) }
+    ensures read { result ≡ Encoded.ReadFault → Rose (S.faults source.old) (S.faults source.new) }
+    ensures write { result ≡ Encoded.WriteFault → Rose (K.faults out.old) (K.faults out.new) }
+    ensures side { result ≡ Encoded.SideFault → Rose (N.faults side.old) (N.faults side.new) }
+    ensures reads { S.faults source.old ≤ S.faults source.new }
+    ensures writes { K.faults out.old ≤ K.faults out.new }
+    ensures sides { N.faults side.old ≤ N.faults side.new }
+{
+    let alloc = coder.alloc;
+    let settings = coder.settings;
     let Ok(header) = write_sequence(alloc, settings) else {
         return Encoded::NoMemory;
     };
@@ -57,11 +112,12 @@ pub fn encode_stream<R: Threads + Sync, S: Source, K: Sink, N: Sink, G: RowGate>
         return Encoded::NoMemory;
     };
     let coder = Coder {
-        rt,
+        rt: coder.rt,
         alloc,
         settings,
         header: header.as_slice(),
-        gate,
+        budget: coder.budget,
+        gate: coder.gate,
     };
     let mut coding = Progress::new(alloc);
     put_pictures(

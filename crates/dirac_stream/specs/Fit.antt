@@ -36,15 +36,15 @@ abbrev pub rule_of : Option ℕ → IndexRule
 rule_of None = own_index
 rule_of (Some budget) = fit budget
 
--- the least index from the settings' on, at which the unit of these lengths fits the budget; at all before it, it is too
--- long
+-- the least index, from the first on, at which a unit of these lengths fits the budget, or the last index; at each
+-- before it the unit is too long
 pub record IsLeast (lengths : ℕ → ℕ) (budget first index : ℕ) : Type 0 where
   pub from : first ≤ index
   pub last : index ≤ LARGEST_INDEX
   pub before : (i : ℕ) → first ≤ i → i < index → budget < lengths i
   pub fits : (lengths index ≤ budget) ⊎ (index ≡ LARGEST_INDEX)
 
--- a planned source's unit fits the budget, or at no index from the settings' on it does, and it has the last
+-- a planned source's unit fits the budget, or at no index from the settings' on does it, and it has the last
 abbrev pub FitsOrNone : ℕ → Settings → List Picture → Job → Type 0
 FitsOrNone budget t refs j =
     (picture_length (made_under (fit budget) t refs j) ≤ budget)

@@ -3,7 +3,9 @@ use Rattle.dirac_plan.specs.Planning.{Planning, is_closed, with_picture}
 use Rattle.std.specs.Prelude.{IfSome}
 use Rattle.dirac_stream.specs.declared.answers.Encoded.{Encoded}
 use Rattle.dirac_stream.specs.declared.answers.Encoded.TheVariants as encoded
-use Rattle.dirac_stream.specs.Encoding.{AnswersEncode, encoding}
+use Rattle.dirac_stream.specs.Encoding.{AnswersEncode, encoding_under}
+use Rattle.dirac_stream.specs.Fit.{rule_of}
+use Rattle.dirac_stream.proofs.Fitting.{rule_gives}
 use Rattle.dirac_stream.specs.Raw.{picture_from}
 use Rattle.dirac_stream.specs.Steps.{Progress}
 use Rattle.dirac_stream.proofs.Accepted.{most_pictures, raw_some}
@@ -14,11 +16,12 @@ use Rattle.dirac_encode.proofs.pictures.put_pictures.Goals as goal
 
 pub pictures-init : goal.pictures-init
 pictures-init g c =
+    let f = rule_of c.args.coder.now.budget in
     let t = c.args.coder.now.settings.now in
     let p = c.args.planner.now in
     let k = so_far c.args.coding.now in
     record {
-      runs = so_far_first t (g.S.Source.held c.args.source.now) p k (g.K.Sink.taken c.args.out.now) (g.N.Sink.taken c.args.side.now)
+      runs = so_far_first f t (g.S.Source.held c.args.source.now) p k (g.K.Sink.taken c.args.out.now) (g.N.Sink.taken c.args.side.now)
           (ap (λ (q : Planning). q.accepted) c.requires.planner) (ap (λ (q : Planning). q.waiting) c.requires.planner) (ap (λ (q : Planning). q.given) c.requires.planner)
           (ap (λ (q : Progress). q.count) c.requires.coding) (ap (λ (q : Progress). q.previous) c.requires.coding) (ap (λ (q : Progress). q.refs) c.requires.coding) (ap (λ (q : Progress). q.delivery) c.requires.coding);
       lists = lists_first t p k (ap (λ (q : Planning). q.accepted) c.requires.planner) (ap (λ (q : Planning). q.given) c.requires.planner)
@@ -35,22 +38,23 @@ pictures-init g c =
 
 pub returns-in-Failed-clause-encoded : goal.returns-in-Failed-clause-encoded
 returns-in-Failed-clause-encoded g c =
-    stops_here c.plans_can_be_coded.ensures c.args.coder.now.settings.now (g.S.Source.held c.args.source.now) c.pictures.planner (so_far c.pictures.coding) (g.S.Source.held c.pictures.source) (g.K.Sink.taken c.args.out.now) (g.K.Sink.taken c.pictures.out)
+    stops_here c.plans_can_be_coded.ensures (rule_of c.args.coder.now.budget) c.args.coder.now.settings.now (g.S.Source.held c.args.source.now) c.pictures.planner (so_far c.pictures.coding) (g.S.Source.held c.pictures.source) (g.K.Sink.taken c.args.out.now) (g.K.Sink.taken c.pictures.out)
     (g.N.Sink.taken c.args.side.now) (g.N.Sink.taken c.pictures.side) c.requires.accepted c.pictures.invariant.runs
 
 pub returns-in-Err-clause-encoded : goal.returns-in-Err-clause-encoded
 returns-in-Err-clause-encoded g c =
+    let f = rule_of c.args.coder.now.budget in
     let t = c.args.coder.now.settings.now in
     let first = g.S.Source.held c.args.source.now in
-    let ends = part_ends t first c.pictures.planner (so_far c.pictures.coding) (g.S.Source.held c.pictures.source) (g.S.Source.held c.fill.new.source) (g.K.Sink.taken c.args.out.now) (g.K.Sink.taken c.pictures.out) (g.N.Sink.taken c.args.side.now) (g.N.Sink.taken c.pictures.side)
+    let ends = part_ends f t first c.pictures.planner (so_far c.pictures.coding) (g.S.Source.held c.pictures.source) (g.S.Source.held c.fill.new.source) (g.K.Sink.taken c.args.out.now) (g.K.Sink.taken c.pictures.out) (g.N.Sink.taken c.args.side.now) (g.N.Sink.taken c.pictures.side)
     c.fill.new.buf c.in-Ended.n c.pictures.invariant.runs (c.in-Ended.ensures.part c.in-Ended.n refl) (c.in-Ended.ensures.end c.in-Ended.n refl)
     (omega (arith, c.in-Ended.ensures.short c.in-Ended.n refl, c.fill.ensures.size)) (c.fill.ensures.size ∙ c.pictures.invariant.size) c.pictures.invariant.in_range in
-    end_stops c.plans_can_be_coded.ensures t first c.pictures.planner (so_far c.pictures.coding) _ c.in-Err.answer (g.K.Sink.taken c.args.out.now) (g.K.Sink.taken c.pictures.out) (g.K.Sink.taken c.put_planned.new.out)
+    end_stops c.plans_can_be_coded.ensures f t first c.pictures.planner (so_far c.pictures.coding) _ c.in-Err.answer (g.K.Sink.taken c.args.out.now) (g.K.Sink.taken c.pictures.out) (g.K.Sink.taken c.put_planned.new.out)
     (g.N.Sink.taken c.args.side.now) (g.N.Sink.taken c.pictures.side) (g.N.Sink.taken c.put_planned.new.side) c.requires.accepted ends c.in-Err.ensures.stopped
 
 pub returns-in-Err-clause-recovered : goal.returns-in-Err-clause-recovered
 returns-in-Err-clause-recovered g c =
-    stopped_before_the_end c.args.coder.now.settings.now (g.S.Source.held c.args.source.now) c.in-Err.answer c.in-Err.ensures.stops
+    stopped_before_the_end (rule_of c.args.coder.now.budget) c.args.coder.now.settings.now (g.S.Source.held c.args.source.now) c.in-Err.answer c.in-Err.ensures.stops
 
 pub returns-in-Err-clause-partial : goal.returns-in-Err-clause-partial
 returns-in-Err-clause-partial g c =
@@ -58,19 +62,20 @@ returns-in-Err-clause-partial g c =
 
 pub returns-in-Err-put_last-clause-encoded : goal.returns-in-Err-put_last-clause-encoded
 returns-in-Err-put_last-clause-encoded g c =
+    let f = rule_of c.args.coder.now.budget in
     let t = c.args.coder.now.settings.now in
     let first = g.S.Source.held c.args.source.now in
-    let ends = part_ends t first c.pictures.planner (so_far c.pictures.coding) (g.S.Source.held c.pictures.source) (g.S.Source.held c.fill.new.source) (g.K.Sink.taken c.args.out.now) (g.K.Sink.taken c.pictures.out) (g.N.Sink.taken c.args.side.now) (g.N.Sink.taken c.pictures.side)
+    let ends = part_ends f t first c.pictures.planner (so_far c.pictures.coding) (g.S.Source.held c.pictures.source) (g.S.Source.held c.fill.new.source) (g.K.Sink.taken c.args.out.now) (g.K.Sink.taken c.pictures.out) (g.N.Sink.taken c.args.side.now) (g.N.Sink.taken c.pictures.side)
     c.fill.new.buf c.in-Ended.n c.pictures.invariant.runs (c.in-Ended.ensures.part c.in-Ended.n refl) (c.in-Ended.ensures.end c.in-Ended.n refl)
     (omega (arith, c.in-Ended.ensures.short c.in-Ended.n refl, c.fill.ensures.size)) (c.fill.ensures.size ∙ c.pictures.invariant.size) c.pictures.invariant.in_range in
-    end_early c.plans_can_be_coded.ensures t first c.pictures.planner c.put_planned.new.planner (so_far c.pictures.coding) (so_far c.put_planned.new.coding) _ c.in-Err-put_last.fault
+    end_early c.plans_can_be_coded.ensures f t first c.pictures.planner c.put_planned.new.planner (so_far c.pictures.coding) (so_far c.put_planned.new.coding) _ c.in-Err-put_last.fault
     (g.K.Sink.taken c.args.out.now) (g.K.Sink.taken c.pictures.out) (g.K.Sink.taken c.put_planned.new.out) (g.K.Sink.taken c.put_last.new.out)
     (g.N.Sink.taken c.args.side.now) (g.N.Sink.taken c.pictures.side) (g.N.Sink.taken c.put_planned.new.side) (g.N.Sink.taken c.put_last.new.side)
     c.requires.accepted ends c.in_default.ensures.led (c.in_default.ensures.all_given refl) c.in_default.ensures.accepted c.in-Err-put_last.ensures.stopped c.in-Err-put_last.ensures.ends_early
 
 pub returns-in-Err-put_last-clause-recovered : goal.returns-in-Err-put_last-clause-recovered
 returns-in-Err-put_last-clause-recovered g c =
-    stopped_before_the_end c.args.coder.now.settings.now (g.S.Source.held c.args.source.now) c.in-Err-put_last.fault (fault_stops_coding c.in-Err-put_last.fault c.in-Err-put_last.ensures.stopped)
+    stopped_before_the_end (rule_of c.args.coder.now.budget) c.args.coder.now.settings.now (g.S.Source.held c.args.source.now) c.in-Err-put_last.fault (fault_stops_coding c.in-Err-put_last.fault c.in-Err-put_last.ensures.stopped)
 
 pub returns-in-Err-put_last-clause-partial : goal.returns-in-Err-put_last-clause-partial
 returns-in-Err-put_last-clause-partial g c =
@@ -78,25 +83,27 @@ returns-in-Err-put_last-clause-partial g c =
 
 pub returns-in-Ended-clause-encoded : goal.returns-in-Ended-clause-encoded
 returns-in-Ended-clause-encoded g c =
+    let f = rule_of c.args.coder.now.budget in
     let t = c.args.coder.now.settings.now in
     let first = g.S.Source.held c.args.source.now in
-    let ends = part_ends t first c.pictures.planner (so_far c.pictures.coding) (g.S.Source.held c.pictures.source) (g.S.Source.held c.fill.new.source) (g.K.Sink.taken c.args.out.now) (g.K.Sink.taken c.pictures.out) (g.N.Sink.taken c.args.side.now) (g.N.Sink.taken c.pictures.side)
+    let ends = part_ends f t first c.pictures.planner (so_far c.pictures.coding) (g.S.Source.held c.pictures.source) (g.S.Source.held c.fill.new.source) (g.K.Sink.taken c.args.out.now) (g.K.Sink.taken c.pictures.out) (g.N.Sink.taken c.args.side.now) (g.N.Sink.taken c.pictures.side)
     c.fill.new.buf c.in-Ended.n c.pictures.invariant.runs (c.in-Ended.ensures.part c.in-Ended.n refl) (c.in-Ended.ensures.end c.in-Ended.n refl)
     (omega (arith, c.in-Ended.ensures.short c.in-Ended.n refl, c.fill.ensures.size)) (c.fill.ensures.size ∙ c.pictures.invariant.size) c.pictures.invariant.in_range in
-    let is = part_ended c.plans_can_be_coded.ensures t first c.pictures.planner c.put_planned.new.planner (so_far c.pictures.coding) (so_far c.put_planned.new.coding) c.in-Ended.n
+    let is = part_ended c.plans_can_be_coded.ensures f t first c.pictures.planner c.put_planned.new.planner (so_far c.pictures.coding) (so_far c.put_planned.new.coding) c.in-Ended.n
     (g.K.Sink.taken c.args.out.now) (g.K.Sink.taken c.pictures.out) (g.K.Sink.taken c.put_planned.new.out) (g.K.Sink.taken c.put_last.new.out)
     (g.N.Sink.taken c.args.side.now) (g.N.Sink.taken c.pictures.side) (g.N.Sink.taken c.put_planned.new.side) (g.N.Sink.taken c.put_last.new.side)
     c.requires.accepted ends c.in_default.ensures.led (c.in_default.ensures.all_given refl) c.in_default.ensures.accepted c.in_default-put_last.ensures.ended in
-    subst (λ (a : Encoded). IfSome first (λ bytes. AnswersEncode a (encoding t bytes) (g.K.Sink.taken c.args.out.now) (g.K.Sink.taken c.put_last.new.out) (g.N.Sink.taken c.args.side.now) (g.N.Sink.taken c.put_last.new.side))) (sym c.behind_whole.ensures) is
+    subst (λ (a : Encoded). IfSome first (λ bytes. AnswersEncode a (encoding_under f t bytes) (g.K.Sink.taken c.args.out.now) (g.K.Sink.taken c.put_last.new.out) (g.N.Sink.taken c.args.side.now) (g.N.Sink.taken c.put_last.new.side))) (sym c.behind_whole.ensures) is
 
 pub returns-in-Ended-clause-recovered : goal.returns-in-Ended-clause-recovered
 returns-in-Ended-clause-recovered g c =
+    let f = rule_of c.args.coder.now.budget in
     let t = c.args.coder.now.settings.now in
     let first = g.S.Source.held c.args.source.now in
-    let ends = part_ends t first c.pictures.planner (so_far c.pictures.coding) (g.S.Source.held c.pictures.source) (g.S.Source.held c.fill.new.source) (g.K.Sink.taken c.args.out.now) (g.K.Sink.taken c.pictures.out) (g.N.Sink.taken c.args.side.now) (g.N.Sink.taken c.pictures.side)
+    let ends = part_ends f t first c.pictures.planner (so_far c.pictures.coding) (g.S.Source.held c.pictures.source) (g.S.Source.held c.fill.new.source) (g.K.Sink.taken c.args.out.now) (g.K.Sink.taken c.pictures.out) (g.N.Sink.taken c.args.side.now) (g.N.Sink.taken c.pictures.side)
     c.fill.new.buf c.in-Ended.n c.pictures.invariant.runs (c.in-Ended.ensures.part c.in-Ended.n refl) (c.in-Ended.ensures.end c.in-Ended.n refl)
     (omega (arith, c.in-Ended.ensures.short c.in-Ended.n refl, c.fill.ensures.size)) (c.fill.ensures.size ∙ c.pictures.invariant.size) c.pictures.invariant.in_range in
-    ends_recovered c.streams_show_their_pictures.ensures.shown c.streams_show_their_pictures.ensures.cut c.plans_can_be_coded.ensures c.streams_show_their_pictures.ensures.tables t first c.pictures.planner c.put_planned.new.planner (so_far c.pictures.coding) (so_far c.put_planned.new.coding) _ c.behind_whole.result
+    ends_recovered c.streams_show_their_pictures.ensures.shown c.streams_show_their_pictures.ensures.cut c.plans_can_be_coded.ensures c.streams_show_their_pictures.ensures.tables f (rule_gives c.args.coder.now.budget) t first c.pictures.planner c.put_planned.new.planner (so_far c.pictures.coding) (so_far c.put_planned.new.coding) _ c.behind_whole.result
     (g.K.Sink.taken c.args.out.now) (g.K.Sink.taken c.pictures.out) (g.K.Sink.taken c.put_planned.new.out) (g.N.Sink.taken c.args.side.now) (g.N.Sink.taken c.pictures.side) (g.N.Sink.taken c.put_planned.new.side)
     c.requires.accepted (omega (arith, c.pictures.invariant.in_range)) ends c.in_default.ensures.led (c.in_default.ensures.all_given refl) c.in_default.ensures.accepted
 
@@ -106,16 +113,17 @@ returns-in-Ended-clause-partial g c =
 
 pub returns-in-Err-put_planned-clause-encoded : goal.returns-in-Err-put_planned-clause-encoded
 returns-in-Err-put_planned-clause-encoded g c =
+    let f = rule_of c.args.coder.now.budget in
     let t = c.args.coder.now.settings.now in
     let first = g.S.Source.held c.args.source.now in
-    let ends = many_ends t first c.pictures.planner (so_far c.pictures.coding) (g.S.Source.held c.pictures.source) (g.S.Source.held c.fill.new.source) (g.K.Sink.taken c.args.out.now) (g.K.Sink.taken c.pictures.out) (g.N.Sink.taken c.args.side.now) (g.N.Sink.taken c.pictures.side)
+    let ends = many_ends f t first c.pictures.planner (so_far c.pictures.coding) (g.S.Source.held c.pictures.source) (g.S.Source.held c.fill.new.source) (g.K.Sink.taken c.args.out.now) (g.K.Sink.taken c.pictures.out) (g.N.Sink.taken c.args.side.now) (g.N.Sink.taken c.pictures.side)
     c.fill.new.buf c.pictures.invariant.runs (c.in-Whole.ensures.whole refl) (c.fill.ensures.size ∙ c.pictures.invariant.size) (raw_some t c.requires.accepted) (omega (arith, c.accepted-number.ensures.value, c.if-number-settings.true)) in
-    end_stops c.plans_can_be_coded.ensures t first c.pictures.planner (so_far c.pictures.coding) _ c.in-Err-put_planned.answer (g.K.Sink.taken c.args.out.now) (g.K.Sink.taken c.pictures.out) (g.K.Sink.taken c.put_planned-then-number-settings.new.out)
+    end_stops c.plans_can_be_coded.ensures f t first c.pictures.planner (so_far c.pictures.coding) _ c.in-Err-put_planned.answer (g.K.Sink.taken c.args.out.now) (g.K.Sink.taken c.pictures.out) (g.K.Sink.taken c.put_planned-then-number-settings.new.out)
     (g.N.Sink.taken c.args.side.now) (g.N.Sink.taken c.pictures.side) (g.N.Sink.taken c.put_planned-then-number-settings.new.side) c.requires.accepted ends c.in-Err-put_planned.ensures.stopped
 
 pub returns-in-Err-put_planned-clause-recovered : goal.returns-in-Err-put_planned-clause-recovered
 returns-in-Err-put_planned-clause-recovered g c =
-    stopped_before_the_end c.args.coder.now.settings.now (g.S.Source.held c.args.source.now) c.in-Err-put_planned.answer c.in-Err-put_planned.ensures.stops
+    stopped_before_the_end (rule_of c.args.coder.now.budget) c.args.coder.now.settings.now (g.S.Source.held c.args.source.now) c.in-Err-put_planned.answer c.in-Err-put_planned.ensures.stops
 
 pub returns-in-Err-put_planned-clause-partial : goal.returns-in-Err-put_planned-clause-partial
 returns-in-Err-put_planned-clause-partial g c =
@@ -123,18 +131,19 @@ returns-in-Err-put_planned-clause-partial g c =
 
 pub returns-in-Err-put_last-2-clause-encoded : goal.returns-in-Err-put_last-2-clause-encoded
 returns-in-Err-put_last-2-clause-encoded g c =
+    let f = rule_of c.args.coder.now.budget in
     let t = c.args.coder.now.settings.now in
     let first = g.S.Source.held c.args.source.now in
-    let ends = many_ends t first c.pictures.planner (so_far c.pictures.coding) (g.S.Source.held c.pictures.source) (g.S.Source.held c.fill.new.source) (g.K.Sink.taken c.args.out.now) (g.K.Sink.taken c.pictures.out) (g.N.Sink.taken c.args.side.now) (g.N.Sink.taken c.pictures.side)
+    let ends = many_ends f t first c.pictures.planner (so_far c.pictures.coding) (g.S.Source.held c.pictures.source) (g.S.Source.held c.fill.new.source) (g.K.Sink.taken c.args.out.now) (g.K.Sink.taken c.pictures.out) (g.N.Sink.taken c.args.side.now) (g.N.Sink.taken c.pictures.side)
     c.fill.new.buf c.pictures.invariant.runs (c.in-Whole.ensures.whole refl) (c.fill.ensures.size ∙ c.pictures.invariant.size) (raw_some t c.requires.accepted) (omega (arith, c.accepted-number.ensures.value, c.if-number-settings.true)) in
-    end_early c.plans_can_be_coded.ensures t first c.pictures.planner c.put_planned-then-number-settings.new.planner (so_far c.pictures.coding) (so_far c.put_planned-then-number-settings.new.coding) _ c.in-Err-put_last-2.fault
+    end_early c.plans_can_be_coded.ensures f t first c.pictures.planner c.put_planned-then-number-settings.new.planner (so_far c.pictures.coding) (so_far c.put_planned-then-number-settings.new.coding) _ c.in-Err-put_last-2.fault
     (g.K.Sink.taken c.args.out.now) (g.K.Sink.taken c.pictures.out) (g.K.Sink.taken c.put_planned-then-number-settings.new.out) (g.K.Sink.taken c.put_last-then-number-settings.new.out)
     (g.N.Sink.taken c.args.side.now) (g.N.Sink.taken c.pictures.side) (g.N.Sink.taken c.put_planned-then-number-settings.new.side) (g.N.Sink.taken c.put_last-then-number-settings.new.side)
     c.requires.accepted ends c.in_default-put_planned.ensures.led (c.in_default-put_planned.ensures.all_given refl) c.in_default-put_planned.ensures.accepted c.in-Err-put_last-2.ensures.stopped c.in-Err-put_last-2.ensures.ends_early
 
 pub returns-in-Err-put_last-2-clause-recovered : goal.returns-in-Err-put_last-2-clause-recovered
 returns-in-Err-put_last-2-clause-recovered g c =
-    stopped_before_the_end c.args.coder.now.settings.now (g.S.Source.held c.args.source.now) c.in-Err-put_last-2.fault (fault_stops_coding c.in-Err-put_last-2.fault c.in-Err-put_last-2.ensures.stopped)
+    stopped_before_the_end (rule_of c.args.coder.now.budget) c.args.coder.now.settings.now (g.S.Source.held c.args.source.now) c.in-Err-put_last-2.fault (fault_stops_coding c.in-Err-put_last-2.fault c.in-Err-put_last-2.ensures.stopped)
 
 pub returns-in-Err-put_last-2-clause-partial : goal.returns-in-Err-put_last-2-clause-partial
 returns-in-Err-put_last-2-clause-partial g c =
@@ -142,44 +151,47 @@ returns-in-Err-put_last-2-clause-partial g c =
 
 pub returns-then-number-settings-clause-encoded : goal.returns-then-number-settings-clause-encoded
 returns-then-number-settings-clause-encoded g c =
+    let f = rule_of c.args.coder.now.budget in
     let t = c.args.coder.now.settings.now in
     let first = g.S.Source.held c.args.source.now in
-    let ends = many_ends t first c.pictures.planner (so_far c.pictures.coding) (g.S.Source.held c.pictures.source) (g.S.Source.held c.fill.new.source) (g.K.Sink.taken c.args.out.now) (g.K.Sink.taken c.pictures.out) (g.N.Sink.taken c.args.side.now) (g.N.Sink.taken c.pictures.side)
+    let ends = many_ends f t first c.pictures.planner (so_far c.pictures.coding) (g.S.Source.held c.pictures.source) (g.S.Source.held c.fill.new.source) (g.K.Sink.taken c.args.out.now) (g.K.Sink.taken c.pictures.out) (g.N.Sink.taken c.args.side.now) (g.N.Sink.taken c.pictures.side)
     c.fill.new.buf c.pictures.invariant.runs (c.in-Whole.ensures.whole refl) (c.fill.ensures.size ∙ c.pictures.invariant.size) (raw_some t c.requires.accepted) (omega (arith, c.accepted-number.ensures.value, c.if-number-settings.true)) in
-    many_ended c.plans_can_be_coded.ensures t first c.pictures.planner c.put_planned-then-number-settings.new.planner (so_far c.pictures.coding) (so_far c.put_planned-then-number-settings.new.coding)
+    many_ended c.plans_can_be_coded.ensures f t first c.pictures.planner c.put_planned-then-number-settings.new.planner (so_far c.pictures.coding) (so_far c.put_planned-then-number-settings.new.coding)
     (g.K.Sink.taken c.args.out.now) (g.K.Sink.taken c.pictures.out) (g.K.Sink.taken c.put_planned-then-number-settings.new.out) (g.K.Sink.taken c.put_last-then-number-settings.new.out)
     (g.N.Sink.taken c.args.side.now) (g.N.Sink.taken c.pictures.side) (g.N.Sink.taken c.put_planned-then-number-settings.new.side) (g.N.Sink.taken c.put_last-then-number-settings.new.side)
     c.requires.accepted ends c.in_default-put_planned.ensures.led (c.in_default-put_planned.ensures.all_given refl) c.in_default-put_planned.ensures.accepted c.in_default-put_last-2.ensures.ended
 
 pub returns-then-number-settings-clause-recovered : goal.returns-then-number-settings-clause-recovered
 returns-then-number-settings-clause-recovered g c =
+    let f = rule_of c.args.coder.now.budget in
     let t = c.args.coder.now.settings.now in
     let first = g.S.Source.held c.args.source.now in
-    let ends = many_ends t first c.pictures.planner (so_far c.pictures.coding) (g.S.Source.held c.pictures.source) (g.S.Source.held c.fill.new.source) (g.K.Sink.taken c.args.out.now) (g.K.Sink.taken c.pictures.out) (g.N.Sink.taken c.args.side.now) (g.N.Sink.taken c.pictures.side)
+    let ends = many_ends f t first c.pictures.planner (so_far c.pictures.coding) (g.S.Source.held c.pictures.source) (g.S.Source.held c.fill.new.source) (g.K.Sink.taken c.args.out.now) (g.K.Sink.taken c.pictures.out) (g.N.Sink.taken c.args.side.now) (g.N.Sink.taken c.pictures.side)
     c.fill.new.buf c.pictures.invariant.runs (c.in-Whole.ensures.whole refl) (c.fill.ensures.size ∙ c.pictures.invariant.size) (raw_some t c.requires.accepted) (omega (arith, c.accepted-number.ensures.value, c.if-number-settings.true)) in
-    ends_recovered c.streams_show_their_pictures.ensures.shown c.streams_show_their_pictures.ensures.cut c.plans_can_be_coded.ensures c.streams_show_their_pictures.ensures.tables t first c.pictures.planner c.put_planned-then-number-settings.new.planner (so_far c.pictures.coding) (so_far c.put_planned-then-number-settings.new.coding) encoded.TooManyPictures encoded.TooManyPictures
+    ends_recovered c.streams_show_their_pictures.ensures.shown c.streams_show_their_pictures.ensures.cut c.plans_can_be_coded.ensures c.streams_show_their_pictures.ensures.tables f (rule_gives c.args.coder.now.budget) t first c.pictures.planner c.put_planned-then-number-settings.new.planner (so_far c.pictures.coding) (so_far c.put_planned-then-number-settings.new.coding) encoded.TooManyPictures encoded.TooManyPictures
     (g.K.Sink.taken c.args.out.now) (g.K.Sink.taken c.pictures.out) (g.K.Sink.taken c.put_planned-then-number-settings.new.out) (g.N.Sink.taken c.args.side.now) (g.N.Sink.taken c.pictures.side) (g.N.Sink.taken c.put_planned-then-number-settings.new.side)
     c.requires.accepted (omega (arith, c.pictures.invariant.in_range)) ends c.in_default-put_planned.ensures.led (c.in_default-put_planned.ensures.all_given refl) c.in_default-put_planned.ensures.accepted
 
 pub returns-in_default-picture_of-clause-encoded : goal.returns-in_default-picture_of-clause-encoded
 returns-in_default-picture_of-clause-encoded g c =
-    stops_here c.plans_can_be_coded.ensures c.args.coder.now.settings.now (g.S.Source.held c.args.source.now) c.pictures.planner (so_far c.pictures.coding) (g.S.Source.held c.pictures.source) (g.K.Sink.taken c.args.out.now) (g.K.Sink.taken c.pictures.out)
+    stops_here c.plans_can_be_coded.ensures (rule_of c.args.coder.now.budget) c.args.coder.now.settings.now (g.S.Source.held c.args.source.now) c.pictures.planner (so_far c.pictures.coding) (g.S.Source.held c.pictures.source) (g.K.Sink.taken c.args.out.now) (g.K.Sink.taken c.pictures.out)
     (g.N.Sink.taken c.args.side.now) (g.N.Sink.taken c.pictures.side) c.requires.accepted c.pictures.invariant.runs
 
 pub returns-in-Err-put_planned-2-clause-encoded : goal.returns-in-Err-put_planned-2-clause-encoded
 returns-in-Err-put_planned-2-clause-encoded g c =
+    let f = rule_of c.args.coder.now.budget in
     let t = c.args.coder.now.settings.now in
     let first = g.S.Source.held c.args.source.now in
     let few : c.pictures.planner.accepted < t.pictures = omega (arith, c.accepted-number.ensures.value, c.if-number-settings.false, c.pictures.invariant.in_range) in
     let source : c.in-Ok.picture ≡ picture_from t c.pictures.planner.accepted c.fill.new.buf = c.in-Ok.ensures.value ∙ ap (λ n. picture_from t n c.fill.new.buf) c.accepted-number.ensures.value in
     let is : c.push.new.self ≡ with_picture c.pictures.planner (picture_from t c.pictures.planner.accepted c.fill.new.buf) = c.in-Ok-push.ensures.accepted ∙ ap (with_picture c.pictures.planner) source in
-    next_stops c.plans_can_be_coded.ensures t first c.pictures.planner c.push.new.self (so_far c.pictures.coding) c.in-Err-put_planned-2.answer (g.S.Source.held c.pictures.source) (g.S.Source.held c.fill.new.source)
+    next_stops c.plans_can_be_coded.ensures f t first c.pictures.planner c.push.new.self (so_far c.pictures.coding) c.in-Err-put_planned-2.answer (g.S.Source.held c.pictures.source) (g.S.Source.held c.fill.new.source)
     (g.K.Sink.taken c.args.out.now) (g.K.Sink.taken c.pictures.out) (g.K.Sink.taken c.put_planned-in-pictures.new.out) (g.N.Sink.taken c.args.side.now) (g.N.Sink.taken c.pictures.side) (g.N.Sink.taken c.put_planned-in-pictures.new.side)
     c.fill.new.buf c.requires.accepted c.pictures.invariant.runs (c.in-Whole.ensures.whole refl) c.are_bytes.ensures (c.fill.ensures.size ∙ c.pictures.invariant.size) (raw_some t c.requires.accepted) few is c.in-Err-put_planned-2.ensures.stopped
 
 pub returns-in-Err-put_planned-2-clause-recovered : goal.returns-in-Err-put_planned-2-clause-recovered
 returns-in-Err-put_planned-2-clause-recovered g c =
-    stopped_before_the_end c.args.coder.now.settings.now (g.S.Source.held c.args.source.now) c.in-Err-put_planned-2.answer c.in-Err-put_planned-2.ensures.stops
+    stopped_before_the_end (rule_of c.args.coder.now.budget) c.args.coder.now.settings.now (g.S.Source.held c.args.source.now) c.in-Err-put_planned-2.answer c.in-Err-put_planned-2.ensures.stops
 
 pub returns-in-Err-put_planned-2-clause-partial : goal.returns-in-Err-put_planned-2-clause-partial
 returns-in-Err-put_planned-2-clause-partial g c =
@@ -187,6 +199,7 @@ returns-in-Err-put_planned-2-clause-partial g c =
 
 pub pictures-preserved : goal.pictures-preserved
 pictures-preserved g c =
+    let f = rule_of c.args.coder.now.budget in
     let t = c.args.coder.now.settings.now in
     let first = g.S.Source.held c.args.source.now in
     let few : c.pictures.planner.accepted < t.pictures = omega (arith, c.accepted-number.ensures.value, c.if-number-settings.false, c.pictures.invariant.in_range) in
@@ -194,7 +207,7 @@ pictures-preserved g c =
     let is : c.push.new.self ≡ with_picture c.pictures.planner (picture_from t c.pictures.planner.accepted c.fill.new.buf) = c.in-Ok-push.ensures.accepted ∙ ap (with_picture c.pictures.planner) source in
     let same = c.in_default-put_planned-2.ensures.accepted in
     record {
-      runs = next_leads t first c.pictures.planner c.push.new.self c.put_planned-in-pictures.new.planner (so_far c.pictures.coding) (so_far c.put_planned-in-pictures.new.coding) (g.S.Source.held c.pictures.source) (g.S.Source.held c.fill.new.source)
+      runs = next_leads f t first c.pictures.planner c.push.new.self c.put_planned-in-pictures.new.planner (so_far c.pictures.coding) (so_far c.put_planned-in-pictures.new.coding) (g.S.Source.held c.pictures.source) (g.S.Source.held c.fill.new.source)
           (g.K.Sink.taken c.args.out.now) (g.K.Sink.taken c.pictures.out) (g.K.Sink.taken c.put_planned-in-pictures.new.out) (g.N.Sink.taken c.args.side.now) (g.N.Sink.taken c.pictures.side) (g.N.Sink.taken c.put_planned-in-pictures.new.side)
           c.fill.new.buf c.pictures.invariant.runs (c.in-Whole.ensures.whole refl) c.are_bytes.ensures (c.fill.ensures.size ∙ c.pictures.invariant.size) (raw_some t c.requires.accepted) few is c.in_default-put_planned-2.ensures.led same;
       lists = c.in_default-put_planned-2.ensures.lists;

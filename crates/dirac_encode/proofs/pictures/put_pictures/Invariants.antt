@@ -1,5 +1,6 @@
 use Rattle.std.proofs.Common.{◌≡◌, ◌≤◌, ◌-◌, length, false}
 use Rattle.dirac_plan.specs.Planning.{is_closed}
+use Rattle.dirac_stream.specs.Fit.{rule_of}
 use Rattle.dirac_stream.specs.Raw.{raw_length}
 use Rattle.dirac_encode.specs.Going.{Lists, so_far}
 use Rattle.dirac_encode.proofs.Reading.{SoFar}
@@ -7,7 +8,7 @@ use Rattle.dirac_encode.proofs.pictures.put_pictures.Given as goal
 
 abbrev pub invariant-pictures : goal.invariant-pictures
 invariant-pictures g l = record {
-  runs : SoFar l.coder.settings.now (g.S.Source.held l.initial.source) l.planner (so_far l.coding) (g.S.Source.held l.source) (g.K.Sink.taken l.initial.out) (g.K.Sink.taken l.out) (g.N.Sink.taken l.initial.side) (g.N.Sink.taken l.side);
+  runs : SoFar (rule_of l.coder.budget) l.coder.settings.now (g.S.Source.held l.initial.source) l.planner (so_far l.coding) (g.S.Source.held l.source) (g.K.Sink.taken l.initial.out) (g.K.Sink.taken l.out) (g.N.Sink.taken l.initial.side) (g.N.Sink.taken l.side);
   lists : Lists l.coder.settings.now false l.planner (so_far l.coding);
   settings : l.planner.settings ≡ l.coder.settings.now;
   going : l.planner.ended ≡ false;

@@ -1,4 +1,5 @@
 use Rattle.std.proofs.Common.{◌∙◌, sym, arith}
+use Rattle.dirac_stream.specs.Fit.{rule_of}
 use Rattle.dirac_encode.specs.Going.{so_far}
 use Rattle.dirac_encode.proofs.Finding.{lists_found, lists_more, lists_told}
 use Rattle.dirac_encode.proofs.Going.{goes_more, goes_told, stops_more}
@@ -6,19 +7,20 @@ use Rattle.dirac_encode.proofs.planned.put_planned.Goals as goal
 
 pub returns-in-Err-clause-stopped : goal.returns-in-Err-clause-stopped
 returns-in-Err-clause-stopped g c bytes out0 side0 leave start =
-    stops_more c.args.coder.now.settings.now c.args.ended c.planned.planner c.take.new.self (so_far c.planned.coding) c.in-Some.planned c.in-Some.source c.in-Err.answer
+    stops_more (rule_of c.args.coder.now.budget) c.args.coder.now.settings.now c.args.ended c.planned.planner c.take.new.self (so_far c.planned.coding) c.in-Some.planned c.in-Some.source c.in-Err.answer
     (g.K.Sink.taken c.planned.out) (g.K.Sink.taken c.put_source.new.out) (g.N.Sink.taken c.planned.side) (g.N.Sink.taken c.put_source.new.side)
     c.planned.invariant.settings c.in-Some.ensures.takes c.in-Err.ensures.stopped bytes out0 side0 leave (c.planned.invariant.led bytes out0 side0 start)
 
 pub planned-preserved : goal.planned-preserved
 planned-preserved g c =
+    let f = rule_of c.args.coder.now.budget in
     let t = c.args.coder.now.settings.now in
     record {
       led = λ bytes out0 side0 start.
-          goes_more t c.args.ended c.planned.planner c.take.new.self (so_far c.planned.coding) (so_far c.put_source.new.coding) c.in-Some.planned c.in-Some.source
+          goes_more f t c.args.ended c.planned.planner c.take.new.self (so_far c.planned.coding) (so_far c.put_source.new.coding) c.in-Some.planned c.in-Some.source
           (g.K.Sink.taken c.planned.out) (g.K.Sink.taken c.put_source.new.out) (g.N.Sink.taken c.planned.side) (g.N.Sink.taken c.put_source.new.side)
           c.planned.invariant.settings c.in-Some.ensures.takes c.in_default-put_source.ensures.coded bytes out0 side0 (c.planned.invariant.led bytes out0 side0 start);
-      lists = lists_more t c.args.ended c.planned.planner c.take.new.self (so_far c.planned.coding) (so_far c.put_source.new.coding) c.in-Some.planned c.in-Some.source
+      lists = lists_more f t c.args.ended c.planned.planner c.take.new.self (so_far c.planned.coding) (so_far c.put_source.new.coding) c.in-Some.planned c.in-Some.source
           (g.K.Sink.taken c.planned.out) (g.K.Sink.taken c.put_source.new.out) (g.N.Sink.taken c.planned.side) (g.N.Sink.taken c.put_source.new.side) c.planned.invariant.settings c.planned.invariant.lists c.in-Some.ensures.takes c.in_default-put_source.ensures.coded;
       settings = c.take.ensures.settings ∙ c.planned.invariant.settings;
       accepted = c.take.ensures.accepted ∙ c.planned.invariant.accepted;
@@ -29,7 +31,7 @@ planned-preserved g c =
 
 pub returns-clause-led : goal.returns-clause-led
 returns-clause-led g c bytes out0 side0 start =
-    goes_told c.args.coder.now.settings.now bytes c.args.ended c.args.ended c.planned.planner c.take.new.self (so_far c.planned.coding) out0 (g.K.Sink.taken c.planned.out) side0 (g.N.Sink.taken c.planned.side)
+    goes_told (rule_of c.args.coder.now.budget) c.args.coder.now.settings.now bytes c.args.ended c.args.ended c.planned.planner c.take.new.self (so_far c.planned.coding) out0 (g.K.Sink.taken c.planned.out) side0 (g.N.Sink.taken c.planned.side)
     c.in_default.ensures.in_vain (c.planned.invariant.led bytes out0 side0 start)
 
 pub returns-clause-lists : goal.returns-clause-lists

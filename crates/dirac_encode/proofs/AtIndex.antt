@@ -1,0 +1,62 @@
+-- A picture at another quantiser index.
+use Rattle.std.proofs.Common.{◌≡◌, ℕ, ◌+◌, ◌<◌, ◌≤◌, if◌then◌else◌, Bool, true, false, List, length, refl, sym, ap, ◌∙◌, subst, arith, Option, None, Some, inl, inr}
+use Rattle.std.specs.Prelude.{◌⊎◌, is_none}
+use Rattle.std.proofs.lemmas.Bool.{cases_lt}
+use Rattle.std.specs.Option.{ForSome}
+use Rattle.dirac_types.specs.Limits.{IsIndex}
+use Rattle.dirac_types.specs.declared.picture.Picture.{Picture}
+use Rattle.dirac_types.specs.declared.settings.Settings.{Settings}
+use Rattle.dirac_types.specs.Settings.{IsAccepted}
+use Rattle.dirac_sequence.specs.Written.{sequence_of}
+use Rattle.dirac_blocks.specs.Tables.{BlockTable}
+use Rattle.dirac_picture.specs.declared.coded.CodedMotion.{CodedMotion}
+use Rattle.dirac_picture.specs.Grammar.{is_intra}
+use Rattle.dirac_plan.specs.declared.planned.Planned.{Planned}
+use Rattle.dirac_choose.specs.Chosen.{IsChosen, IsChosenAtEachIndex, at_index, chosen, chosen_unless_intra}
+use Rattle.dirac_code.specs.Asked.{HasBlocks, coded_by}
+use Rattle.dirac_stream.specs.Coding.{Job, made, made_under}
+use Rattle.dirac_stream.specs.Fit.{IsLeast, fit, length_at}
+use Rattle.dirac_stream.proofs.Fitting.{fit_is}
+use Rattle.dirac_stream.specs.Coded.{coded_of, coded_with, motion_among, motion_with}
+
+-- a chosen table fits its picture at each index
+pub chosen_with : (t : Settings) (index code : ℕ) (b : BlockTable) → IsChosen t code b → IsChosen (at_index t index) code b
+unfolding sequence_of
+chosen_with t index code b is = record { across = is.across; down = is.down; refs = is.refs; table = is.table; dcs = is.dcs }
+
+pub blocks_with : (t : Settings) (index code : ℕ) (o : Option BlockTable) → HasBlocks t code o → HasBlocks (at_index t index) code o
+blocks_with t index code None is = is
+blocks_with t index code (Some b) is = (is.0, chosen_with t index code b is.1)
+
+pub has_blocks : (t : Settings) (code : ℕ) (o : Option BlockTable) → ForSome o (IsChosen t code) → is_none o ≡ is_intra code → HasBlocks t code o
+has_blocks t code None fits none = sym none
+has_blocks t code (Some b) fits none = (sym none, fits b refl)
+
+-- the coded picture by the blocks that are chosen
+motion_by : (t : Settings) (intra : Bool) (b : BlockTable) → motion_among t (if intra then None else Some b) ≡ (if intra then None else Some (motion_with t b))
+motion_by t true b = refl
+motion_by t false b = refl
+
+pub coded_chosen : (t : Settings) (refs : List Picture) (q : Planned) (p : Picture) (o : Option BlockTable) → o ≡ chosen_unless_intra t refs q p → coded_by t refs q p o ≡ coded_of t refs q p
+coded_chosen t refs q p o is = ap (coded_by t refs q p) is ∙ ap (coded_with t refs q p) (motion_by t (is_intra q.code) (chosen t refs q p))
+
+-- one index more at which the unit is too long
+pub more_long : (lengths : ℕ → ℕ) (budget first n : ℕ) → ((i : ℕ) → first ≤ i → i < n → budget < lengths i) → budget < lengths n → (i : ℕ) → first ≤ i → i < n + 1 → budget < lengths i
+more_long lengths budget first n before here i after below = elim (cases_lt i n) [
+  | inl less ↦ before i after less
+  | inr more ↦ let same : n ≡ i = omega (arith, more, below) in subst (λ (k : ℕ). budget < lengths k) same here
+]
+
+same_at : {X : Type 0} (f : ℕ → X) (x : X) (m n : ℕ) → m ≡ n → x ≡ f m → x ≡ f n
+same_at f x m n same is = subst (λ (k : ℕ). x ≡ f k) same is
+
+-- payload and reconstruction at the least index are those under the rule
+pub payload_at_fit : (budget : ℕ) (t : Settings) (refs : List Picture) (j : Job) (index : ℕ) (payload : List ℕ) → IsAccepted t → IsLeast (length_at t refs j) budget t.index index → payload ≡ (made (at_index t index) refs j).payload
+    → payload ≡ (made_under (fit budget) t refs j).payload
+payload_at_fit budget t refs j index payload accepted least is =
+    same_at (λ (k : ℕ). (made (at_index t k) refs j).payload) payload index (fit budget t refs j) (fit_is budget t refs j index accepted least) is
+
+pub shown_at_fit : (budget : ℕ) (t : Settings) (refs : List Picture) (j : Job) (index : ℕ) (shown : Picture) → IsAccepted t → IsLeast (length_at t refs j) budget t.index index → shown ≡ (made (at_index t index) refs j).shown
+    → shown ≡ (made_under (fit budget) t refs j).shown
+shown_at_fit budget t refs j index shown accepted least is =
+    same_at (λ (k : ℕ). (made (at_index t k) refs j).shown) shown index (fit budget t refs j) (fit_is budget t refs j index accepted least) is

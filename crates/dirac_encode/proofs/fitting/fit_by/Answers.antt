@@ -1,0 +1,23 @@
+use Rattle.std.proofs.Common.{◌+◌, ◌<◌, ◌≤◌, length, ap, refl, inr, arith}
+use Rattle.dirac_stream.specs.Coding.{Job}
+use Rattle.dirac_stream.specs.Fit.{length_at}
+use Rattle.dirac_stream.proofs.Coding.{codable}
+use Rattle.dirac_encode.proofs.AtIndex.{more_long}
+use Rattle.dirac_encode.proofs.fitting.fit_by.Goals as goal
+
+pub indices-preserved : goal.indices-preserved
+indices-preserved c =
+    let t = c.args.settings.now in
+    let j : Job = record { planned = c.args.planned.now; source = c.args.source.now } in
+    let long : c.args.budget < length_at t c.args.refs.now j c.indices.index = omega (arith, c.if-len-from.false, ap length c.in_ok-coded.ensures.payload) in
+    more_long (length_at t c.args.refs.now j) c.args.budget t.index c.indices.index c.indices.invariant long
+
+pub returns-clause-least : goal.returns-clause-least
+returns-clause-least c =
+    let first : c.args.settings.now.index ≤ 99 = (codable c.args.settings.now c.requires.accepted).index in
+    record {
+      from = omega (arith, first);
+      last = omega arith;
+      before = λ i after below. c.indices.invariant i after (omega (arith, c.indices-test.false, below));
+      fits = inr refl;
+    }
