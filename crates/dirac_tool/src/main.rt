@@ -2,6 +2,9 @@
 //! with a status. All that it promises stands on `run`.
 #![tactic(auto)]
 
+mod cut;
+#[cfg(test)]
+mod cut_tests;
 mod decode;
 mod encode;
 #[cfg(test)]
@@ -15,6 +18,7 @@ mod make;
 #[cfg(test)]
 mod make_tests;
 mod options;
+mod points;
 mod run;
 #[cfg(test)]
 mod tests;

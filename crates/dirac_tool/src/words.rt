@@ -1,8 +1,9 @@
 ghost use Rattle.std.specs.Prelude.{◌≡◌, ◌++◌, [], ◌∷◌, OnOk, OnErr, map, string_bytes, option_copied, slice_range, length};
 ghost use Rattle.dirac_types.specs.Settings.{first_bad, table};
-ghost use Rattle.dirac_tool.specs.Words.{command_read, path_read, path_accepted, encode_read, make_read, alone as command_alone};
+ghost use Rattle.dirac_tool.specs.Words.{command_read, path_read, path_accepted, cut_read, encode_read, make_read, alone as command_alone};
 
 use crate::options::{OptionsOf, count_given, first_unfit, path_given, settings_given};
+use crate::points::Points;
 use dirac_types::{NoMemory, Settings};
 use std::alloc::Global;
 use std::marker::Model;
@@ -54,6 +55,8 @@ pub enum Command {
     Encode(Settings),
     /// Encodes so many generated pictures, and tells the sizes and how many come out exactly.
     Make(Settings, u32),
+    /// Cuts a stream from a point up to, and without, another, or to its end.
+    Cut(u64, Option<u64>),
 }
 
 /// Why words aren't run.
@@ -64,8 +67,8 @@ pub enum WordsStop {
 }
 
 /// Reads the words: the first is the command. A command that isn't built doesn't fit. `list` and `decode` take
-/// no further word, `encode` its settings and the path of its reconstructions, in any order, and `make` its settings
-/// and the number of pictures.
+/// no further word, `encode` its settings and the path of its reconstructions, in any order, `make` its settings
+/// and the number of pictures, and `cut` its points.
 pub fn read_words(words: &Words) -> Result<Command, WordsStop>
     ensures { result ≡ command_read words.now }
 {
@@ -80,6 +83,8 @@ pub fn read_words(words: &Words) -> Result<Command, WordsStop>
         encode(others)
     } else if first.as_str() == "make" {
         make(others)
+    } else if first.as_str() == "cut" {
+        cut(others)
     } else {
         Err(WordsStop::Usage(0))
     }
@@ -116,6 +121,22 @@ fn make(others: &[String]) -> Result<Command, WordsStop>
     }
 }
 
+// `cut` with the points that these words say, each of which is said at most once.
+fn cut(others: &[String]) -> Result<Command, WordsStop>
+    ensures { result ≡ cut_read (map string_bytes others.now) }
+{
+    let mut number = 1;
+    let mut points = Points::none();
+    'words: for word in others {
+        let Some(next) = points.with(word.as_str()) else {
+            return Err(WordsStop::Usage(number));
+        };
+        points = next;
+        number += 1;
+    }
+    Ok(Command::Cut(points.from.unwrap_or(0), points.to))
+}
+
 /// The path of the reconstructions, where the words fit `encode`, give one, and the settings are accepted.
 #[tactic(auto, unfolding(crate::specs::Words::path_read))]
 pub fn recon_path(words: &Words) -> Option<&str>
@@ -127,6 +148,7 @@ pub fn recon_path(words: &Words) -> Option<&str>
         Ok(Command::List) => None,
         Ok(Command::Decode) => None,
         Ok(Command::Make(_, _)) => None,
+        Ok(Command::Cut(_, _)) => None,
         Err(_) => None,
     }
 }
