@@ -1,10 +1,12 @@
 pub mod Behind
 pub mod Decoded
+pub mod Edits
 mod Examples
 pub mod Listed
 pub mod Loans
 pub mod Making
 pub mod Numbers
+pub mod CutWords
 pub mod Room
 pub mod Unfit
 pub mod Workers

@@ -20,6 +20,8 @@ status_of ended.ReadFault = 8
 status_of ended.WriteFault = 9
 status_of ended.SideFault = 10
 status_of ended.NoMemory = 11
+status_of (ended.NoSuchPoint n) = 13
+status_of (ended.OpenCut n) = 14
 
 -- a fault: its unit, its place in bytes, and its cause by name
 abbrev pub fault_text : Fault → List ℕ
@@ -44,6 +46,8 @@ text_of ended.ReadFault = codes "read fault"
 text_of ended.WriteFault = codes "write fault"
 text_of ended.SideFault = codes "side fault"
 text_of ended.NoMemory = codes "no memory"
+text_of (ended.NoSuchPoint n) = codes "no such point: " ++ decimal n
+text_of (ended.OpenCut n) = codes "open cut: unit " ++ decimal n
 
 -- the answer after both sinks were flushed: a flush that fails behind `Done` is a fault of its sink, of the first one first
 abbrev pub after_flushes : Ended → Bool → Bool → Ended

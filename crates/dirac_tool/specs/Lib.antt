@@ -1,4 +1,5 @@
 pub mod Options
+pub mod Points
 pub mod Words
 pub mod Ended
 pub mod Line
@@ -7,5 +8,6 @@ pub mod Decoding
 pub mod Encoding
 pub mod Making
 pub mod Unmade
+pub mod Cutting
 pub mod Running
 pub mod Workers

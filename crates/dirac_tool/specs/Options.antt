@@ -52,6 +52,10 @@ some_path path = if length path == 0 then None else Some path
 unfoldable pub path_in : List ℕ → Option (List ℕ)
 path_in word = option_and_then some_path (behind (codes "--recon=") word)
 
+-- the number of the point that a word gives behind this front
+abbrev pub point_in : List ℕ → List ℕ → Option ℕ
+point_in front word = option_and_then number_read (behind front word)
+
 -- the value that these words give to the setting of this name
 abbrev pub value_given : Name → List (List ℕ) → Option ℕ
 value_given name [] = None

@@ -10,6 +10,7 @@ use Rattle.dirac_tool.specs.declared.words.Command.{Command}
 use Rattle.dirac_tool.specs.declared.words.Command.TheVariants as command
 use Rattle.dirac_tool.specs.declared.words.WordsStop.{WordsStop}
 use Rattle.dirac_tool.specs.declared.words.WordsStop.TheVariants.{Usage}
+use Rattle.dirac_tool.specs.Cutting.{Cuts}
 use Rattle.dirac_tool.specs.Decoding.{IsDecoded, IsDecodeAnswer, TellsFew}
 use Rattle.dirac_tool.specs.Encoding.{IsEncoded, IsEncodeAnswer}
 use Rattle.dirac_tool.specs.Listing.{IsListed, IsListAnswer}
@@ -73,6 +74,8 @@ RunsTo (Ok command.Decode) old new answer = Decodes old new answer
 RunsTo (Ok (command.Encode t)) old new answer = EncodesUnless (first_bad (table t)) t old new answer
 RunsTo (Ok (command.Make t count)) old new answer = MakesUnless (first_bad_for_make t count) t count old new answer
 RunsTo (Ok (command.Pardecode workers)) old new answer = DecodesUnless (bad_workers workers) old new answer
+RunsTo (Ok (command.Cut from to)) old new answer =
+    Cuts from to old.held new.held old.out new.out answer × (new.side ≡ old.side)
 
 -- the first setting that is out of its range, where the words fit a command with settings
 abbrev pub bad_setting : Result Command WordsStop → Option BadSetting

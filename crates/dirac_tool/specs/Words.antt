@@ -1,5 +1,5 @@
 -- What the words of a command line say.
-use Rattle.std.specs.Prelude.{ℕ, List, [], ◌∷◌, drop, codes, bytes_eq, if◌then◌else◌, Option, None, Some, Result, Ok, Err}
+use Rattle.std.specs.Prelude.{ℕ, ◌+◌, List, [], ◌∷◌, drop, codes, bytes_eq, if◌then◌else◌, Option, None, Some, unwrap_or, Result, Ok, Err}
 use Rattle.dirac_types.specs.declared.settings.BadSetting.{BadSetting}
 use Rattle.dirac_types.specs.Settings.{first_bad, table}
 use Rattle.dirac_tool.specs.declared.words.Command.{Command}
@@ -8,6 +8,8 @@ use Rattle.dirac_tool.specs.declared.words.WordsStop.{WordsStop}
 use Rattle.dirac_tool.specs.declared.words.WordsStop.TheVariants.{Usage}
 use Rattle.dirac_tool.specs.declared.options.OptionsOf.TheVariants as options_of
 use Rattle.dirac_tool.specs.Options.{count_given, first_unfit, path_given, settings_given, workers_given}
+use Rattle.dirac_tool.specs.declared.points.Points.{Points}
+use Rattle.dirac_tool.specs.Points.{none_given, points_with}
 
 -- a command that takes no further word
 abbrev pub alone : Command → List (List ℕ) → Result Command WordsStop
@@ -33,6 +35,21 @@ unfoldable pub pardecode_read : List (List ℕ) → Result Command WordsStop
 pardecode_read words =
     where_all_fit (command.Pardecode (workers_given words)) (first_unfit options_of.Pardecode [] words)
 
+-- a word that doesn't fit, or what is behind it
+abbrev pub where_it_fits : ℕ → (Points → Result Command WordsStop) → Option Points → Result Command WordsStop
+where_it_fits number next None = Err (Usage number)
+where_it_fits number next (Some points) = next points
+
+-- `cut` with these points and those that the words say, of which the first has this number
+abbrev pub cut_behind : ℕ → Points → List (List ℕ) → Result Command WordsStop
+cut_behind number points [] = Ok (command.Cut (unwrap_or points.from 0) points.to)
+cut_behind number points (word ∷ words) =
+    where_it_fits number (λ next. cut_behind (number + 1) next words) (points_with points word)
+
+-- `cut` with the points that these words say
+unfoldable pub cut_read : List (List ℕ) → Result Command WordsStop
+cut_read words = cut_behind 1 none_given words
+
 -- the command, or the number of the first word that doesn't fit
 abbrev pub command_read : List (List ℕ) → Result Command WordsStop
 command_read [] = Err (Usage 0)
@@ -42,6 +59,7 @@ command_read (word ∷ words) =
     else if bytes_eq word (codes "encode") then encode_read words
     else if bytes_eq word (codes "make") then make_read words
     else if bytes_eq word (codes "pardecode") then pardecode_read words
+    else if bytes_eq word (codes "cut") then cut_read words
     else Err (Usage 0)
 
 -- the path that these words give, where all settings are in their ranges

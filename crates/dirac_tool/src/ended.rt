@@ -23,6 +23,10 @@ pub enum Ended {
     WriteFault,
     SideFault,
     NoMemory,
+    /// The number that is no point of the stream that is cut, or ends no part of it.
+    NoSuchPoint(u64),
+    /// The index of the first unit of a part whose picture has a reference outside it.
+    OpenCut(u64),
 }
 
 /// The exit status of the program.
@@ -41,6 +45,8 @@ pub fn status(ended: &Ended) -> u8
         Ended::WriteFault => 9,
         Ended::SideFault => 10,
         Ended::NoMemory => 11,
+        Ended::NoSuchPoint(_) => 13,
+        Ended::OpenCut(_) => 14,
     }
 }
 
@@ -72,6 +78,8 @@ pub fn ended_text(alloc: Global, ended: &Ended) -> Result<String, NoMemory>
         Ended::WriteFault => String::from_str(alloc, "write fault")?,
         Ended::SideFault => String::from_str(alloc, "side fault")?,
         Ended::NoMemory => String::from_str(alloc, "no memory")?,
+        Ended::NoSuchPoint(n) => format!(in alloc; "no such point: {n}")?,
+        Ended::OpenCut(n) => format!(in alloc; "open cut: unit {n}")?,
     };
     Ok(text)
 }

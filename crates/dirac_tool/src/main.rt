@@ -2,6 +2,9 @@
 //! with a status. All that it promises stands on `run`.
 #![tactic(auto)]
 
+mod cut;
+#[cfg(test)]
+mod cut_tests;
 mod decode;
 #[cfg(test)]
 mod device_tests;
@@ -19,6 +22,7 @@ mod make;
 #[cfg(test)]
 mod make_tests;
 mod options;
+mod points;
 mod run;
 #[cfg(test)]
 mod shape_streams;

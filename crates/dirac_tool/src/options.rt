@@ -91,6 +91,15 @@ fn path_in(word: &str) -> Option<&str>
     if path.is_empty() { None } else { Some(path) }
 }
 
+/// The number of the point that a word gives behind this front.
+pub fn point_in(front: &str, word: &str) -> Option<u64>
+    ensures { result ≡ options.point_in front.now word.now }
+{
+    let text = behind(word, front)?;
+    let number = number_of(text)?;
+    Some(u64::from(number))
+}
+
 // The value that these words give to the setting of this name.
 fn value_given(name: Name, words: &[String]) -> Option<u32>
     ensures { result ≡ options.value_given name (map string_bytes words.now) }

@@ -1,4 +1,4 @@
-ghost use Rattle.std.specs.Prelude.{◌≡◌, ℕ, ◌≤◌, ◌↔◌, Some, Ok, Err};
+ghost use Rattle.std.specs.Prelude.{◌≡◌, ℕ, ◌≤◌, ◌↔◌, Option, Some, Ok, Err};
 ghost use Rattle.std.specs.Io.KnownBytes.{IsAtEnd};
 ghost use Rattle.dirac_io.specs.Faults.{Rose};
 ghost use Rattle.dirac_types.specs.declared.settings.BadSetting.{BadSetting};
@@ -6,6 +6,7 @@ ghost use Rattle.dirac_types.specs.declared.settings.Settings.{Settings};
 ghost use Rattle.dirac_tool.specs.Words.{command_read};
 ghost use Rattle.dirac_tool.specs.Running.{RunsTo, bad_setting};
 
+use crate::cut::cut;
 use crate::decode::{check_workers, decode};
 use crate::encode::encode;
 use crate::ended::Ended;
@@ -46,6 +47,8 @@ pub fn run<R: Threads + Sync, S: Source, K: Sink, N: Sink, G: RowGate>(
     ensures list_side { command_read words.now ≡ Ok Command.List → side.new ≡ side.old }
     ensures make_untouched { (t : Settings) (count : ℕ) → command_read words.now ≡ Ok (Command.Make t count)
         → (source.new ≡ source.old) × (side.new ≡ side.old) }
+    ensures cut_side { (from : ℕ) (to : Option ℕ) → command_read words.now ≡ Ok (Command.Cut from to)
+        → side.new ≡ side.old }
 
     // A fault of the outside comes only where its count rose in this call.
     ensures read { result ≡ Ended.ReadFault → Rose (S.faults source.old) (S.faults source.new) }
@@ -71,5 +74,6 @@ pub fn run<R: Threads + Sync, S: Source, K: Sink, N: Sink, G: RowGate>(
             Ok(()) => decode(rt, alloc, source, out, side, Some(workers), gate),
             Err(bad) => Ended::BadSettings(bad),
         },
+        Ok(Command::Cut(from, to)) => cut(alloc, source, out, from, to),
     }
 }

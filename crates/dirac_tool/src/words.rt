@@ -1,10 +1,11 @@
 ghost use Rattle.std.specs.Prelude.{◌≡◌, ◌++◌, [], ◌∷◌, OnOk, OnErr, map, string_bytes, option_copied, slice_range, length};
 ghost use Rattle.dirac_types.specs.Settings.{first_bad, table};
-ghost use Rattle.dirac_tool.specs.Words.{command_read, path_read, path_accepted, encode_read, make_read, pardecode_read, alone as command_alone};
+ghost use Rattle.dirac_tool.specs.Words.{command_read, path_read, path_accepted, cut_read, encode_read, make_read, pardecode_read, alone as command_alone};
 
 use crate::options::{
     OptionsOf, count_given, first_unfit, path_given, settings_given, workers_given,
 };
+use crate::points::Points;
 use dirac_types::{NoMemory, Settings};
 use std::alloc::Global;
 use std::marker::Model;
@@ -58,6 +59,8 @@ pub enum Command {
     Make(Settings, u32),
     /// Decodes a stream as `Decode`, by so many workers.
     Pardecode(u32),
+    /// Cuts a stream from a point up to, and without, another, or to its end.
+    Cut(u64, Option<u64>),
 }
 
 /// Why words aren't run.
@@ -69,7 +72,7 @@ pub enum WordsStop {
 
 /// Reads the words: the first is the command. A command that isn't built doesn't fit. `list` and `decode` take
 /// no further word, `encode` its settings and the path of its reconstructions, in any order, `make` its settings and
-/// the number of pictures, and `pardecode` the number of workers.
+/// the number of pictures, `pardecode` the number of workers, and `cut` its points.
 pub fn read_words(words: &Words) -> Result<Command, WordsStop>
     ensures { result ≡ command_read words.now }
 {
@@ -86,6 +89,8 @@ pub fn read_words(words: &Words) -> Result<Command, WordsStop>
         make(others)
     } else if first.as_str() == "pardecode" {
         pardecode(others)
+    } else if first.as_str() == "cut" {
+        cut(others)
     } else {
         Err(WordsStop::Usage(0))
     }
@@ -132,6 +137,22 @@ fn pardecode(others: &[String]) -> Result<Command, WordsStop>
     }
 }
 
+// `cut` with the points that these words say, each of which is said at most once.
+fn cut(others: &[String]) -> Result<Command, WordsStop>
+    ensures { result ≡ cut_read (map string_bytes others.now) }
+{
+    let mut number = 1;
+    let mut points = Points::none();
+    'words: for word in others {
+        let Some(next) = points.with(word.as_str()) else {
+            return Err(WordsStop::Usage(number));
+        };
+        points = next;
+        number += 1;
+    }
+    Ok(Command::Cut(points.from.unwrap_or(0), points.to))
+}
+
 /// The path of the reconstructions, where the words fit `encode`, give one, and the settings are accepted.
 #[tactic(auto, unfolding(crate::specs::Words::path_read))]
 pub fn recon_path(words: &Words) -> Option<&str>
@@ -144,6 +165,7 @@ pub fn recon_path(words: &Words) -> Option<&str>
         Ok(Command::Decode) => None,
         Ok(Command::Make(_, _)) => None,
         Ok(Command::Pardecode(_)) => None,
+        Ok(Command::Cut(_, _)) => None,
         Err(_) => None,
     }
 }
