@@ -54,8 +54,11 @@ def single_picture(depth):
     return opened(LARGEST).intra(0, empty(depth), INTRA_UNLISTED).end().data
 
 
+# The bytes below are such that the largest picture has no fault: found by trying all of them.
+
+
 def short_bands(depth):
-    return intra_of_short_bands(opened(LARGEST), 0, 0x2E, depth).end().data
+    return intra_of_short_bands(opened(LARGEST), 0, {1: 0x12, 4: 0x28}[depth], depth).end().data
 
 
 def inter_picture(blocks, byte):
@@ -90,19 +93,21 @@ def grey(count, size):
 
 
 def bombs():
-    """A name, a command, a stream and the status that it ends with."""
+    """A name, a command, how the stream is made, and the status that it ends with."""
     one = (0, 1, 1, 1, 1)
-    yield "4,096 by 2,304, 4:4:4: one picture, all bands empty, depth 1", "decode", single_picture(1), 0
-    yield "the same, depth 5", "decode", single_picture(5), 0
-    yield "the same, each band a byte, depth 1", "decode", short_bands(1), 0
-    yield "and a picture of one reference, block index 2, each list a byte", "decode", inter_picture((2,), 0x2E), 4
-    yield "the same, blocks of 1 by 1", "decode", inter_picture(one, 0x2E), 4
-    yield "the same, of two references", "decode", two_references(one, 0x2E), 4
-    yield "300 pictures of 704 by 576, all bands empty", "decode", grey(300, (704, 576)), 0
-    yield "100,000 sequences of a picture of 1 by 1", "decode", many_sequences(100_000), 0
-    yield "100,000 sequences of 4,096 by 2,304 without a picture", "decode", headers_alone(100_000), 0
-    yield "a million units of 13 bytes", "decode", padding(1_000_000), 0
-    yield "the same", "list", padding(1_000_000), 0
+    yield "4,096 by 2,304, 4:4:4: one picture, all bands empty, depth 1", "decode", lambda: single_picture(1), 0
+    yield "the same, depth 5", "decode", lambda: single_picture(5), 0
+    yield "the same, each band a byte, depth 1", "decode", lambda: short_bands(1), 0
+    yield "the same, depth 4", "decode", lambda: short_bands(4), 0
+    what = "an empty picture and one of one reference, block index 2, each list a byte"
+    yield what, "decode", lambda: inter_picture((2,), 0x55), 4
+    yield "the same, blocks of 1 by 1", "decode", lambda: inter_picture(one, 0x55), 4
+    yield "the same, of two references", "decode", lambda: two_references(one, 0x09), 4
+    yield "300 pictures of 704 by 576, all bands empty", "decode", lambda: grey(300, (704, 576)), 0
+    yield "100,000 sequences of a picture of 1 by 1", "decode", lambda: many_sequences(100_000), 0
+    yield "100,000 sequences of 4,096 by 2,304 without a picture", "decode", lambda: headers_alone(100_000), 0
+    yield "a million units of 13 bytes", "decode", lambda: padding(1_000_000), 0
+    yield "the same", "list", lambda: padding(1_000_000), 0
 
 
 class Cost:
@@ -122,6 +127,11 @@ class Cost:
 
 
 def main():
+    if sys.argv[1:2] == ["--write"]:
+        # in a process of its own, since a child's peak isn't below its parent's
+        _, _, make, _ = list(bombs())[int(sys.argv[2])]
+        sys.stdout.buffer.write(make())
+        return
     if len(sys.argv) != 2:
         sys.exit("usage: bombs.py PROGRAM")
     print("| Stream | Bytes | Command | Shown, MB | Time, s | Peak memory, MB | Ends |")
@@ -129,10 +139,11 @@ def main():
     failed = False
     with tempfile.TemporaryDirectory() as name:
         path = pathlib.Path(name, "stream")
-        for what, command, stream, status in bombs():
-            path.write_bytes(stream)
+        for number, (what, command, _, status) in enumerate(bombs()):
+            with open(path, "wb") as out:
+                subprocess.run([sys.executable, __file__, "--write", str(number)], stdout=out, check=True)
             cost = Cost(sys.argv[1], command, path)
-            cells = [what, f"{len(stream):,}", f"`{command}`", f"{cost.shown / 1e6:.1f}", f"{cost.seconds:.2f}"]
+            cells = [what, f"{path.stat().st_size:,}", f"`{command}`", f"{cost.shown / 1e6:.1f}", f"{cost.seconds:.2f}"]
             cells += [f"{cost.megabytes:.0f}", cost.text.split("; ")[-1] or f"status {cost.status}"]
             print("| " + " | ".join(cells) + " |", flush=True)
             failed |= cost.status != status

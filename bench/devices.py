@@ -4,8 +4,8 @@
 devices.py PROGRAM              each row of a table: standard input that can't be read, outputs that are full, closed or
                                 whose reader has gone, a file that can't be made, and every other answer
 devices.py PROGRAM --memory     refuses each allocation in turn, one a run, of some runs (wants `cc`)
-devices.py PROGRAM --damaged [COUNT [SEED]]     decodes COUNT damaged streams (2000) twice: as they are, and with the
-                                address space limited to 1 GB
+devices.py PROGRAM --damaged [COUNT [SEED]]     decodes COUNT streams (2000), damaged ones and a few of large pictures,
+                                twice: as they are, and with the address space limited to 1 GB
 
 PROGRAM is dirac_tool, built (`./run list < /dev/null` builds it at crates/dirac_tool/out/dirac_tool). Prints a row of a
 table for each run or kind of runs, and each that isn't as it is to be; ends with 1 where there is one.
@@ -28,11 +28,13 @@ sys.dont_write_bytecode = True
 FOLDER = pathlib.Path(__file__).resolve().parent
 sys.path.insert(0, str(FOLDER / "reference"))
 
+import bombs
 import compare
 
 LONGEST_RUN = 300
 NO_MEMORY = (11, "no memory\n")
 ADDRESS_SPACE = 2**30
+LARGE = 0.01
 
 PARSE_INFO = "42424344"
 SEQUENCE = f"{PARSE_INFO}00 00000013 00000000 6FC183083079"
@@ -277,6 +279,31 @@ def damaged_stream(source, streams):
     return bytes(stream)
 
 
+def large_stream(source):
+    """Up to twelve pictures of up to the largest size, whose bands or lists are empty or of one byte."""
+    size = (2 * source.randrange(1, 2049), 2 * source.randrange(1, 1153))
+    made = bombs.opened(source.choice([size, bombs.LARGEST]), source.randrange(3))
+    for number in range(source.randrange(1, 13)):
+        kind = source.randrange(4)
+        if number == 0 or kind == 0:
+            made.intra(number, bombs.empty(source.randrange(1, 6)))
+        elif kind == 1:
+            bombs.intra_of_short_bands(made, number, source.randrange(255), source.randrange(1, 6))
+        else:
+            blocks = source.choice([(2,), (4,), (0, 4, 4, 4, 4)])
+            code, offsets = source.choice([(bombs.INTER_1, (-1,)), (bombs.INTER_2, (-1, -number))])
+            bombs.inter_of_short_lists(made, code, number, offsets, blocks, 0xFE)
+    return made.end().data
+
+
+def many_largest():
+    """Fourteen pictures of the largest size; eight are listed and four wait, which is more than the limit allows."""
+    made = bombs.opened(bombs.LARGEST)
+    for number in range(14):
+        made.intra(number, bombs.empty())
+    return made.end().data
+
+
 def limited_run(program, stream, limit):
     def prepare():
         resource.setrlimit(resource.RLIMIT_AS, (limit, limit))
@@ -292,7 +319,10 @@ def limit_memory(program, count=2000, seed=1):
     streams = [path.read_bytes() for path in paths]
     statuses, differing, longest = collections.Counter(), 0, 0
     for number in range(count):
-        stream = damaged_stream(random.Random(f"damaged {seed} {number}"), streams)
+        source = random.Random(f"damaged {seed} {number}")
+        stream = large_stream(source) if source.random() < LARGE else damaged_stream(source, streams)
+        if number == 0:
+            stream = many_largest()
         done = limited_run(program, stream, ADDRESS_SPACE)
         whole = limited_run(program, stream, 8 * ADDRESS_SPACE)
         statuses[done.returncode] += 1
