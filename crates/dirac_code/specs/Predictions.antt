@@ -29,6 +29,12 @@ pub record ArePredictions (s : Sequence) (first second : Option Picture) (m : Co
   pub u : IsPrediction s first second m component.U ps.u.values
   pub v : IsPrediction s first second m component.V ps.v.values
 
+-- those of one plane, by rows
+abbrev pub values_of : Predictions → Component → List ℤ
+values_of ps component.Y = ps.y.values
+values_of ps component.U = ps.u.values
+values_of ps component.V = ps.v.values
+
 -- a plane of samples, of a size that can be analysed
 pub record IsCodablePlane (plane : Table) : Type 0 where
   pub across : plane.width ≤ LARGEST_SIDE

@@ -15,7 +15,7 @@ ghost use Rattle.dirac_code.specs.Asked.{IsAsked};
 ghost use Rattle.dirac_code.specs.Prepared.{IsPrepared, blocks_in};
 
 use crate::picture::{Coded, code_at};
-use crate::prepared::{Moving, Prepared, prepare_by};
+use crate::prepared::{Moving, Prepared, prepare_by, prepare_side_by_side};
 use dirac_choose::{Lumas, choose_from};
 use dirac_decode::named;
 use dirac_io::RowGate;
@@ -53,7 +53,7 @@ fn prepare_searched<R: Threads + Sync, G: RowGate>(
                 references: &references,
                 blocks: &blocks,
             };
-            prepare_by(alloc, planned, source, refs, settings, Some(moving))
+            prepare_side_by_side(rt, alloc, planned, source, refs, settings, moving)
         }
     }
 }

@@ -2,6 +2,7 @@
 #![tactic(auto)]
 
 mod bands;
+mod beside;
 mod choosing;
 mod difference;
 mod making;

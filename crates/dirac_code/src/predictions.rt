@@ -7,6 +7,7 @@ ghost use Rattle.dirac_picture.specs.Fits.{IsMotion};
 ghost use Rattle.dirac_choose.specs.Lent.{AreLent, first_of, second_of};
 ghost use Rattle.dirac_code.specs.Predictions.{ArePredictions, IsPrediction};
 
+use crate::beside::{Planes, side_by_side};
 use dirac_choose::References;
 use dirac_decode::{predict_from, predict_with};
 use dirac_obmc::{Component, Predicted};
@@ -14,6 +15,8 @@ use dirac_picture::CodedMotion;
 use dirac_sequence::Sequence;
 use dirac_types::NoMemory;
 use std::alloc::Global;
+use std::marker::Sync;
+use std::thread::Threads;
 
 /// What is predicted for each plane of an inter picture, not clipped. It is taken away from the source, and added again
 /// to what is left of it, so that each plane is predicted once.
@@ -93,5 +96,55 @@ pub(crate) fn predict_planes(
     let y = predict_luma(alloc, code, sequence, references, motion)?;
     let u = predict_chroma(alloc, code, sequence, references, motion, Component::U)?;
     let v = predict_chroma(alloc, code, sequence, references, motion, Component::V)?;
+    Ok(Predictions { y, u, v })
+}
+
+/// Predicts a plane.
+fn predict_plane(
+    alloc: Global,
+    code: u8,
+    sequence: &Sequence,
+    references: &References<'_>,
+    motion: &CodedMotion,
+    component: Component,
+) -> Result<Predicted, NoMemory>
+    requires sequence { IsSequence sequence.now }
+    requires motion { IsMotion code sequence.now motion.now }
+    requires lent { AreLent sequence.now references.now }
+    requires two { motion.now.blocks.refs ≡ 2 → IsSome (second_of references.now) }
+    ensures { IfOk result (λ t. IsPrediction sequence.now (Some (first_of references.now)) (second_of references.now)
+        motion.now component t.values) }
+{
+    match component {
+        Component::Y => predict_luma(alloc, code, sequence, references, motion),
+        Component::U => predict_chroma(alloc, code, sequence, references, motion, Component::U),
+        Component::V => predict_chroma(alloc, code, sequence, references, motion, Component::V),
+    }
+}
+
+/// Predicts the planes of an inter picture side by side.
+pub(crate) fn predict_side_by_side<R: Threads + Sync>(
+    rt: &R,
+    alloc: Global,
+    code: u8,
+    sequence: &Sequence,
+    references: &References<'_>,
+    motion: &CodedMotion,
+) -> Result<Predictions, NoMemory>
+    requires sequence { IsSequence sequence.now }
+    requires motion { IsMotion code sequence.now motion.now }
+    requires lent { AreLent sequence.now references.now }
+    requires two { motion.now.blocks.refs ≡ 2 → IsSome (second_of references.now) }
+    ensures { IfOk result (ArePredictions sequence.now (Some (first_of references.now)) (second_of references.now)
+        motion.now) }
+{
+    let work = |component: Component| -> Result<Predicted, NoMemory>
+        requires { IsSequence sequence.now × IsMotion code sequence.now motion.now
+            × AreLent sequence.now references.now
+            × (motion.now.blocks.refs ≡ 2 → IsSome (second_of references.now)) }
+        ensures { IfOk result (λ t. IsPrediction sequence.entry.now (Some (first_of references.entry.now))
+            (second_of references.entry.now) motion.entry.now component t.values) }
+    { predict_plane(alloc, code, sequence, references, motion, component) };
+    let Planes { y, u, v } = side_by_side(rt, &work)?;
     Ok(Predictions { y, u, v })
 }

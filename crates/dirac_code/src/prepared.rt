@@ -14,8 +14,8 @@ ghost use Rattle.dirac_code.specs.Asked.{HasBlocks, IsAsked, IsMoving, blocks_of
 ghost use Rattle.dirac_code.specs.Prepared.{IsPrepared, blocks_in};
 
 use crate::motion::motion_of;
-use crate::predictions::{Predictions, predict_planes};
-use crate::residual::{AnalysedPlanes, analyse_differences, analyse_source};
+use crate::predictions::{Predictions, predict_planes, predict_side_by_side};
+use crate::residual::{AnalysedPlanes, analyse_differences, analyse_side_by_side, analyse_source};
 use dirac_blocks::BlockData;
 use dirac_choose::{Lumas, References};
 use dirac_decode::named;
@@ -25,6 +25,8 @@ use dirac_refs::RefBuffer;
 use dirac_sequence::{Sequence, sequence_of};
 use dirac_types::{NoMemory, Picture, Settings};
 use std::alloc::Global;
+use std::marker::Sync;
+use std::thread::Threads;
 
 /// What an inter picture is predicted from, and the block table by which it is.
 #[derive(Clone, Copy)]
@@ -101,6 +103,49 @@ fn prepare_inter(
     let motion = motion_of(alloc, settings, moving.blocks)?;
     let predictions = predict_planes(alloc, planned.code, sequence, moving.references, &motion)?;
     let left = analyse_differences(alloc, settings, source, &predictions)?;
+    let compensated = Compensated {
+        motion,
+        predictions,
+    };
+    Ok(Prepared {
+        compensated: Some(compensated),
+        left,
+    })
+}
+
+/// Prepares an inter picture likewise, its planes side by side where there are two workers.
+pub(crate) fn prepare_side_by_side<R: Threads + Sync>(
+    rt: &R,
+    alloc: Global,
+    planned: &Planned,
+    source: &Picture,
+    refs: &RefBuffer,
+    settings: &Settings,
+    moving: Moving<'_>,
+) -> Result<Prepared, NoMemory>
+    requires asked { IsAsked settings.now refs.now planned.now source.now }
+    requires inter { is_intra planned.now.code ≡ false }
+    requires moving { IsMoving settings.now refs.now planned.now moving }
+    requires blocks { IsChosen settings.now planned.now.code moving.blocks.now }
+    ensures prepared { IfOk result (IsPrepared settings.now refs.now planned.now source.now) }
+    ensures blocks { IfOk result (λ x. blocks_in x ≡ Some moving.entry.blocks.now) }
+{
+    are_whole(source);
+    let sequence = sequence_of(settings);
+    if settings.workers <= 1 {
+        return prepare_inter(alloc, planned, source, refs, settings, &sequence, moving);
+    }
+    let references = moving.references;
+    let motion = motion_of(alloc, settings, moving.blocks)?;
+    let predictions = predict_side_by_side(
+        rt,
+        alloc,
+        planned.code,
+        &sequence,
+        references,
+        &motion,
+    )?;
+    let left = analyse_side_by_side(rt, alloc, settings, source, &predictions)?;
     let compensated = Compensated {
         motion,
         predictions,

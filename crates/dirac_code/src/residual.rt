@@ -6,19 +6,24 @@ ghost use Rattle.dirac_coeffs.specs.Contexts as contexts;
 ghost use Rattle.dirac_coeffs.specs.Written.{is_zero_band};
 ghost use Rattle.dirac_residual.specs.Zeros.{are_zero_bands};
 ghost use Rattle.dirac_analysis.specs.Fits.{AreDifferences};
+ghost use Rattle.dirac_decode.specs.Content.{plane_of};
 ghost use Rattle.dirac_stream.specs.Coded as coding;
 ghost use Rattle.dirac_stream.specs.Writable.{IsCodable};
 ghost use Rattle.dirac_code.specs.Analyses.{AreAnalysed, AreQuantisablePlanes, IsAnalysed, quantised_planes};
 ghost use Rattle.dirac_code.specs.Predictions.{IsCodablePlane, IsCodableSource, IsPicturePredictedBy, IsPredictedBy};
+ghost use Rattle.dirac_code.specs.Predictions.{values_of};
 
+use crate::beside::{Planes, side_by_side};
 use crate::difference::difference;
 use crate::predictions::Predictions;
 use crate::transform::transform_of;
 use dirac_analysis::{AnalysedPlane, analyse, quantise_plane};
 use dirac_coeffs::CodedBand;
 use dirac_picture::{CodedResidual, PlaneBands};
-use dirac_types::{Kind, LARGEST_SIDE, NoMemory, Picture, Plane, Settings};
+use dirac_types::{Component, Kind, LARGEST_SIDE, NoMemory, Picture, Plane, Settings};
 use std::alloc::Global;
+use std::marker::Sync;
+use std::thread::Threads;
 
 /// The planes of a picture, or what is left of them, analysed.
 #[derive(Drop)]
@@ -101,6 +106,54 @@ pub(crate) fn analyse_differences(
     let y = analyse_difference(alloc, settings, &source.y, predictions.y.values())?;
     let u = analyse_difference(alloc, settings, &source.u, predictions.u.values())?;
     let v = analyse_difference(alloc, settings, &source.v, predictions.v.values())?;
+    Ok(AnalysedPlanes { y, u, v })
+}
+
+/// A plane of a picture less what is predicted for it, analysed.
+fn analyse_rest(
+    alloc: Global,
+    settings: &Settings,
+    source: &Picture,
+    predictions: &Predictions,
+    component: Component,
+) -> Result<AnalysedPlane, NoMemory>
+    requires codable { IsCodable settings.now }
+    requires source { IsCodableSource source.now }
+    requires predicted { IsPicturePredictedBy source.now predictions.now }
+    ensures { IfOk result (IsAnalysed settings.now Inter
+        (coding.less_prediction (plane_of source.now component) (values_of predictions.now component))) }
+{
+    match component {
+        Component::Y => analyse_difference(alloc, settings, &source.y, predictions.y.values()),
+        Component::U => analyse_difference(alloc, settings, &source.u, predictions.u.values()),
+        Component::V => analyse_difference(alloc, settings, &source.v, predictions.v.values()),
+    }
+}
+
+/// The planes of a picture less what is predicted for them, analysed side by side.
+pub(crate) fn analyse_side_by_side<R: Threads + Sync>(
+    rt: &R,
+    alloc: Global,
+    settings: &Settings,
+    source: &Picture,
+    predictions: &Predictions,
+) -> Result<AnalysedPlanes, NoMemory>
+    requires codable { IsCodable settings.now }
+    requires source { IsCodableSource source.now }
+    requires predicted { IsPicturePredictedBy source.now predictions.now }
+    ensures { IfOk result (AreAnalysed settings.now Inter
+        (coding.less_prediction source.now.y predictions.now.y.values)
+        (coding.less_prediction source.now.u predictions.now.u.values)
+        (coding.less_prediction source.now.v predictions.now.v.values)) }
+{
+    let work = |component: Component| -> Result<AnalysedPlane, NoMemory>
+        requires { IsCodable settings.now × IsCodableSource source.now
+            × IsPicturePredictedBy source.now predictions.now }
+        ensures { IfOk result (IsAnalysed settings.entry.now Inter
+            (coding.less_prediction (plane_of source.entry.now component)
+            (values_of predictions.entry.now component))) }
+    { analyse_rest(alloc, settings, source, predictions, component) };
+    let Planes { y, u, v } = side_by_side(rt, &work)?;
     Ok(AnalysedPlanes { y, u, v })
 }
 
