@@ -26,6 +26,8 @@ mod lists;
 #[cfg(test)]
 mod motion_search;
 #[cfg(test)]
+mod narrow;
+#[cfg(test)]
 mod planning;
 #[cfg(test)]
 mod predictions;
