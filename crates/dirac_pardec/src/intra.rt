@@ -11,9 +11,9 @@ ghost use Rattle.dirac_pardec.specs.Planes.{IsResidualAt};
 use crate::residuals::residuals;
 use dirac_io::RowGate;
 use dirac_picture::{CodedPicture, CodedResidual};
-use dirac_residual::clipped;
+use dirac_residual::{Residual, clipped};
 use dirac_sequence::Sequence;
-use dirac_types::{Kind, NoMemory, Picture, Plane, Wide};
+use dirac_types::{Kind, NoMemory, Picture, Plane};
 use std::alloc::Global;
 use std::marker::Sync;
 use std::thread::Threads;
@@ -23,7 +23,7 @@ fn intra_samples(
     alloc: Global,
     sequence: &Sequence,
     residual: &Option<CodedResidual>,
-    residuals: &[Wide],
+    residuals: &[Residual],
     plane: u32,
 ) -> Result<Plane, NoMemory>
     requires sequence { IsSequence sequence.now }

@@ -8,9 +8,10 @@ use crate::places::component_at;
 use dirac_decode::residual_of;
 use dirac_io::RowGate;
 use dirac_picture::CodedResidual;
+use dirac_residual::Residual;
 use dirac_rows::map_rows;
 use dirac_sequence::Sequence;
-use dirac_types::{Kind, NoMemory, Wide};
+use dirac_types::{Kind, NoMemory};
 use std::alloc::Global;
 use std::marker::Sync;
 use std::thread::Threads;
@@ -24,13 +25,13 @@ fn coded_residuals<R: Threads + Sync, G: RowGate>(
     residual: &Option<CodedResidual>,
     workers: u32,
     gate: &G,
-) -> Result<Vec<Wide>, NoMemory>
+) -> Result<Vec<Residual>, NoMemory>
     requires sequence { IsSequence sequence.now }
     requires fits { IfSome residual.now (IsResidual sequence.now) }
     requires workers { (1 ≤ workers) × (workers ≤ 64) }
     ensures { IfOk result (λ v. AnswerRows (IsResidualAt sequence.now kind residual.now) 3 v.items) }
 {
-    let work = |row: u32| -> Result<Wide, NoMemory>
+    let work = |row: u32| -> Result<Residual, NoMemory>
         requires { IsSequence sequence.now × IfSome residual.now (IsResidual sequence.now) }
         ensures { IfOk result (λ t. IsResidualAt sequence.entry.now kind residual.entry.now row t) }
     { residual_of(alloc, sequence, kind, component_at(row), residual) };
@@ -46,7 +47,7 @@ pub(crate) fn residuals<R: Threads + Sync, G: RowGate>(
     residual: &Option<CodedResidual>,
     workers: u32,
     gate: &G,
-) -> Result<Vec<Wide>, NoMemory>
+) -> Result<Vec<Residual>, NoMemory>
     requires sequence { IsSequence sequence.now }
     requires fits { IfSome residual.now (IsResidual sequence.now) }
     requires workers { (1 ≤ workers) × (workers ≤ 64) }

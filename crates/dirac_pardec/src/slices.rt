@@ -14,8 +14,8 @@ ghost use Rattle.dirac_pardec.specs.Slices.{AreSlices};
 use crate::inter::Inter;
 use crate::places::{component_at, first_slice, slices_in};
 use dirac_obmc::Predicted;
-use dirac_residual::clipped_sum;
-use dirac_types::{LARGEST_TABLE_SIDE, NoMemory, Plane, Wide};
+use dirac_residual::{Residual, clipped_sum};
+use dirac_types::{LARGEST_TABLE_SIDE, NoMemory, Plane};
 use std::alloc::Global;
 
 /// The values of a plane from its slices, which are `count` items from item `first` on.
@@ -54,7 +54,7 @@ fn joined_plane(
 }
 
 /// Lends the residual of the plane of this number.
-fn residual_at<'a>(inter: &Inter<'_>, residuals: &'a [Wide], plane: u32) -> &'a Wide
+fn residual_at<'a>(inter: &Inter<'_>, residuals: &'a [Residual], plane: u32) -> &'a Residual
     requires residuals { AnswerRows (IsResidualAt (given inter.now).sequence OfInter (given inter.now).residual) 3
         residuals.now }
     requires plane { plane < 3 }
@@ -64,7 +64,7 @@ fn residual_at<'a>(inter: &Inter<'_>, residuals: &'a [Wide], plane: u32) -> &'a 
 }
 
 /// Each value of a residual with its prediction, clipped.
-fn sums(alloc: Global, residual: &Wide, predicted: &[i32]) -> Result<Plane, NoMemory>
+fn sums(alloc: Global, residual: &Residual, predicted: &[i32]) -> Result<Plane, NoMemory>
     requires across { residual.now.width ≤ LARGEST_TABLE_SIDE }
     requires down { residual.now.height ≤ LARGEST_TABLE_SIDE }
     requires predicted { length predicted.now ≡ residual.now.width * residual.now.height }
@@ -80,7 +80,7 @@ fn sums(alloc: Global, residual: &Wide, predicted: &[i32]) -> Result<Plane, NoMe
 pub(crate) fn inter_samples(
     alloc: Global,
     inter: &Inter<'_>,
-    residuals: &[Wide],
+    residuals: &[Residual],
     slices: &[Predicted],
     plane: u32,
 ) -> Result<Plane, NoMemory>
