@@ -1,0 +1,65 @@
+//! A stream whose pictures fit a budget.
+
+ghost use Rattle.std.specs.Prelude.{◌≡◌, ◌≤◌, ℕ, List, [], IfSome};
+ghost use Rattle.std.specs.Io.KnownBytes.{IsAtEnd};
+ghost use Rattle.dirac_io.specs.Faults.{Rose};
+ghost use Rattle.dirac_types.specs.Settings.{IsAccepted};
+ghost use Rattle.dirac_stream.specs.Encoding.{AnswersEncode, EndsStream, IsRecoveredUnder, encoding_under};
+ghost use Rattle.dirac_stream.specs.Fit.{AllFitOrNone, fit};
+ghost use Rattle.dirac_stream.specs.Standing.{jobs_in};
+
+use dirac_encode::{Encoded, StreamCoder, encode_by, streams_show_their_pictures};
+use dirac_io::{RowGate, Sink, Source};
+use dirac_types::Settings;
+use std::alloc::Global;
+use std::thread::Threads;
+
+/// Encodes raw pictures until the source ends, each with the least quantiser index, from the settings' on, by which its
+/// unit has at most `budget` bytes, and with the last where there is none: the stream goes to `out`, and the pictures
+/// that decoders show for it, in order of display, as raw pictures to `side`. The gate changes no answer and no byte.
+pub fn rate_stream<R: Threads + Sync, S: Source, K: Sink, N: Sink, G: RowGate>(
+    rt: &R,
+    alloc: Global,
+    source: &mut S,
+    out: &mut K,
+    side: &mut N,
+    settings: &Settings,
+    budget: u32,
+    gate: &G,
+) -> Encoded
+    requires { IsAccepted settings.now }
+    // The answer, and what both sinks took, are those of the encoding with these indices; a fault or want of memory
+    // leaves a front of each.
+    ensures encoded { IfSome (S.held source.old) (λ bytes. AnswersEncode result
+        (encoding_under (fit budget) settings.now bytes)
+        (K.taken out.old) (K.taken out.new) (N.taken side.old) (N.taken side.new)) }
+    // A whole stream is decoded to what the side got.
+    ensures recovered { IfSome (S.held source.old) (λ bytes.
+        EndsStream result → IsRecoveredUnder (fit budget) settings.now bytes) }
+    // Each unit fits the budget, or at no index from the settings' on it does.
+    ensures fits { (bytes : List ℕ) → AllFitOrNone budget settings.now [] (jobs_in settings.now bytes) }
+    ensures whole { result ≡ Encoded.Done → IsAtEnd (S.held source.new) }
+    ensures partial { (n : ℕ) → result ≡ Encoded.PartialPicture n → (1 ≤ n) × IsAtEnd (S.held source.new) }
+
+    // A fault of the outside comes only where its count rose in this call.
+    ensures read { result ≡ Encoded.ReadFault → Rose (S.faults source.old) (S.faults source.new) }
+    ensures write { result ≡ Encoded.WriteFault → Rose (K.faults out.old) (K.faults out.new) }
+    ensures side { result ≡ Encoded.SideFault → Rose (N.faults side.old) (N.faults side.new) }
+    ensures reads { S.faults source.old ≤ S.faults source.new }
+    ensures writes { K.faults out.old ≤ K.faults out.new }
+    ensures sides { N.faults side.old ≤ N.faults side.new }
+{
+    streams_show_their_pictures();
+    encode_by(
+        &StreamCoder {
+            rt,
+            alloc,
+            settings,
+            budget: Some(budget),
+            gate,
+        },
+        source,
+        out,
+        side,
+    )
+}
