@@ -18,7 +18,7 @@ use Rattle.dirac_picture.specs.Grammar.{chroma_height, chroma_width}
 use Rattle.dirac_stream.specs.declared.answers.Encoded.{Encoded}
 use Rattle.dirac_stream.specs.declared.answers.Encoded.TheVariants as encoded
 use Rattle.dirac_stream.specs.Coding.{Made}
-use Rattle.dirac_stream.specs.Encoding.{Encoding, behind, encoding, encoding_by, ending}
+use Rattle.dirac_stream.specs.Encoding.{Encoding, behind, encoding, encoding_by, encoding_under, ending}
 use Rattle.dirac_stream.specs.Raw.{left_over, raw_length, sources, whole_pictures}
 use Rattle.dirac_generator.specs.Generated.{chroma_across, chroma_down, generated_from, picture_count}
 use Rattle.dirac_generator.proofs.Lengths.{pictures_length}
@@ -109,7 +109,7 @@ by_first t answer pictures None n never is = never is
 by_first t answer pictures (Some p) n never is = cc
 
 pub never_partial : (t : Settings) (count n : ℕ) → IsAccepted t → (making t count).answer ≡ encoded.PartialPicture n → ⊥
-unfolding encoding
+unfolding encoding_under
 never_partial t count n accepted is =
     by_first t _ _ _ n (ending_whole _ n (left_over t (generated_from t count 0)) (none_left t count accepted)) is
 
