@@ -1,6 +1,7 @@
 pub mod Behind
 pub mod Decoded
 mod Examples
+pub mod LastRow
 pub mod Listed
 pub mod Loans
 pub mod Making

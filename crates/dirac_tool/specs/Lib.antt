@@ -1,4 +1,5 @@
 pub mod Options
+pub mod Rating
 pub mod Words
 pub mod Ended
 pub mod Line

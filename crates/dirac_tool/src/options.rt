@@ -39,6 +39,8 @@ pub enum OptionsOf {
     Encode,
     /// Settings, and the number of pictures.
     Make,
+    /// The words of `encode`, and the budget.
+    Rate,
 }
 
 // What stands behind this front, where the word begins with it.
@@ -152,6 +154,11 @@ fn fits(of: OptionsOf, before: &[String], word: &str) -> bool
         OptionsOf::Make => {
             is_new_among(before, word, &NAMES) || is_new_setting(before, word, Name::Count)
         }
+        OptionsOf::Rate => {
+            is_new_among(before, word, &NAMES)
+                || is_new_path(before, word)
+                || is_new_setting(before, word, Name::Budget)
+        }
     }
 }
 
@@ -229,4 +236,11 @@ pub fn count_given(words: &[String]) -> u32
     ensures { result ≡ options.count_given (map string_bytes words.now) }
 {
     value_or(words, Name::Count, 12)
+}
+
+/// The budget that these words say.
+pub fn budget_given(words: &[String]) -> u32
+    ensures { result ≡ options.budget_given (map string_bytes words.now) }
+{
+    value_or(words, Name::Budget, 65_536)
 }

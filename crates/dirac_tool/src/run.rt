@@ -11,6 +11,7 @@ use crate::encode::encode;
 use crate::ended::Ended;
 use crate::list::list;
 use crate::make::{check_make, make};
+use crate::rate::{check_rate, rate};
 use crate::words::{Command, Words, WordsStop, read_words};
 use dirac_io::{RowGate, Sink, Source};
 use std::alloc::Global;
@@ -65,6 +66,10 @@ pub fn run<R: Threads + Sync, S: Source, K: Sink, N: Sink, G: RowGate>(
         },
         Ok(Command::Make(settings, count)) => match check_make(&settings, count) {
             Ok(()) => make(rt, alloc, &settings, count, out, gate),
+            Err(bad) => Ended::BadSettings(bad),
+        },
+        Ok(Command::Rate(settings, budget)) => match check_rate(&settings, budget) {
+            Ok(()) => rate(rt, alloc, source, out, side, &settings, budget, gate),
             Err(bad) => Ended::BadSettings(bad),
         },
     }

@@ -1,9 +1,14 @@
-ghost use Rattle.std.specs.Prelude.{◌≡◌, ◌++◌, [], ◌∷◌, OnOk, OnErr, map, string_bytes, option_copied, slice_range, length};
-ghost use Rattle.dirac_types.specs.Settings.{first_bad, table};
-ghost use Rattle.dirac_tool.specs.Words.{command_read, path_read, path_accepted, encode_read, make_read, alone as command_alone};
+ghost use Rattle.std.specs.Prelude.{◌≡◌, ◌++◌, [], ◌∷◌, OnOk, OnErr, Option, map, string_bytes, option_copied, slice_range, length};
+ghost use Rattle.dirac_types.specs.Settings.{first_bad, table, verdict};
+ghost use Rattle.dirac_types.specs.declared.settings.BadSetting.{BadSetting as Bad};
+ghost use Rattle.dirac_tool.specs.Words.{command_read, path_read, path_accepted, encode_read, make_read, rate_read, alone as command_alone};
+ghost use Rattle.dirac_tool.specs.Rating.{first_bad_for_rate};
 
-use crate::options::{OptionsOf, count_given, first_unfit, path_given, settings_given};
-use dirac_types::{NoMemory, Settings};
+use crate::options::{
+    OptionsOf, budget_given, count_given, first_unfit, path_given, settings_given,
+};
+use crate::rate::check_rate;
+use dirac_types::{BadSetting, NoMemory, Settings};
 use std::alloc::Global;
 use std::marker::Model;
 
@@ -54,6 +59,8 @@ pub enum Command {
     Encode(Settings),
     /// Encodes so many generated pictures, and tells the sizes and how many come out exactly.
     Make(Settings, u32),
+    /// Encodes raw pictures, so that each picture's unit has at most so many bytes.
+    Rate(Settings, u32),
 }
 
 /// Why words aren't run.
@@ -64,8 +71,8 @@ pub enum WordsStop {
 }
 
 /// Reads the words: the first is the command. A command that isn't built doesn't fit. `list` and `decode` take
-/// no further word, `encode` its settings and the path of its reconstructions, in any order, and `make` its settings
-/// and the number of pictures.
+/// no further word, `encode` its settings and the path of its reconstructions, in any order, `make` its settings
+/// and the number of pictures, and `rate` the words of `encode` and a budget.
 pub fn read_words(words: &Words) -> Result<Command, WordsStop>
     ensures { result ≡ command_read words.now }
 {
@@ -80,6 +87,8 @@ pub fn read_words(words: &Words) -> Result<Command, WordsStop>
         encode(others)
     } else if first.as_str() == "make" {
         make(others)
+    } else if first.as_str() == "rate" {
+        rate(others)
     } else {
         Err(WordsStop::Usage(0))
     }
@@ -116,14 +125,26 @@ fn make(others: &[String]) -> Result<Command, WordsStop>
     }
 }
 
-/// The path of the reconstructions, where the words fit `encode`, give one, and the settings are accepted.
+// `rate` with the settings and the budget that these words say.
+fn rate(others: &[String]) -> Result<Command, WordsStop>
+    ensures { result ≡ rate_read (map string_bytes others.now) }
+{
+    match first_unfit(OptionsOf::Rate, others) {
+        None => Ok(Command::Rate(settings_given(others), budget_given(others))),
+        Some(number) => Err(WordsStop::Usage(number)),
+    }
+}
+
+/// The path of the reconstructions, where the words fit `encode` or `rate`, give one, and the settings and the budget
+/// are accepted.
 #[tactic(auto, unfolding(crate::specs::Words::path_read))]
 pub fn recon_path(words: &Words) -> Option<&str>
     ensures { option_copied result ≡ path_read words.now }
 {
     let (_, others) = words.list.split_first()?;
     match read_words(words) {
-        Ok(Command::Encode(settings)) => accepted_path(&settings, others),
+        Ok(Command::Encode(settings)) => accepted_path(settings.check(), others),
+        Ok(Command::Rate(settings, budget)) => accepted_path(check_rate(&settings, budget), others),
         Ok(Command::List) => None,
         Ok(Command::Decode) => None,
         Ok(Command::Make(_, _)) => None,
@@ -132,10 +153,11 @@ pub fn recon_path(words: &Words) -> Option<&str>
 }
 
 // The path that these words give, where all settings are in their ranges.
-fn accepted_path<'a>(settings: &Settings, others: &'a [String]) -> Option<&'a str>
-    ensures { option_copied result ≡ path_accepted (first_bad (table settings.now)) (map string_bytes others.now) }
+fn accepted_path(checked: Result<(), BadSetting>, others: &[String]) -> Option<&str>
+    ensures { (o : Option Bad) → checked ≡ verdict o
+        → option_copied result ≡ path_accepted o (map string_bytes others.now) }
 {
-    match settings.check() {
+    match checked {
         Ok(()) => path_given(others),
         Err(_) => None,
     }
