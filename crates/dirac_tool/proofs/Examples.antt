@@ -2,10 +2,10 @@
 use Rattle.std.proofs.Common.{◌≡◌, [], ◌∷◌, None, Some, Ok, Err, refl}
 use Rattle.std.specs.Prelude.{codes}
 use Rattle.dirac_types.specs.Settings.{format_of, of_base, table}
-use Rattle.dirac_tool.specs.declared.words.Command.TheVariants.{Encode, Make}
+use Rattle.dirac_tool.specs.declared.words.Command.TheVariants.{Encode, Make, Rate}
 use Rattle.dirac_tool.specs.declared.words.WordsStop.TheVariants.{Usage}
 use Rattle.dirac_tool.specs.Options.{fits, is_new_path, is_new_setting, number_read, path_in, settings_given, value_in, value_or}
-use Rattle.dirac_tool.specs.Words.{command_read, encode_read, make_read, path_read}
+use Rattle.dirac_tool.specs.Words.{command_read, encode_read, make_read, path_read, rate_read}
 
 -- settings by name, in any order, beside the defaults of base 0
 small : command_read (codes "encode" ∷ codes "--width=8" ∷ codes "--height=8" ∷ codes "--depth=1" ∷ [])
@@ -105,3 +105,20 @@ make_path = refl
 make_twice : command_read (codes "make" ∷ codes "--count=3" ∷ codes "--count=3" ∷ []) ≡ Err (Usage 2)
 unfolding make_read value_in number_read fits is_new_setting
 make_twice = refl
+
+-- `rate` takes the words of `encode` and a budget, which is 65,536 where no word says it
+rate_words : command_read (codes "rate" ∷ codes "--budget=33" ∷ codes "--base=8" ∷ codes "--recon=a" ∷ []) ≡ Ok (Rate (of_base 8) 33)
+unfolding rate_read settings_given value_or value_in number_read fits is_new_setting is_new_path path_in format_of
+rate_words = refl
+
+rate_default : command_read (codes "rate" ∷ []) ≡ Ok (Rate (of_base 0) 65536)
+unfolding rate_read settings_given value_or value_in number_read format_of
+rate_default = refl
+
+rate_path : path_read (codes "rate" ∷ codes "--budget=14" ∷ codes "--recon=a.raw" ∷ []) ≡ Some (codes "a.raw")
+unfolding path_read rate_read settings_given value_or value_in number_read fits is_new_setting is_new_path path_in format_of table
+rate_path = refl
+
+rate_path_refused : path_read (codes "rate" ∷ codes "--budget=13" ∷ codes "--recon=a.raw" ∷ []) ≡ None
+unfolding path_read rate_read settings_given value_or value_in number_read fits is_new_setting is_new_path path_in format_of table
+rate_path_refused = refl

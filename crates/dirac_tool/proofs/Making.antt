@@ -24,49 +24,13 @@ use Rattle.dirac_generator.specs.Generated.{chroma_across, chroma_down, generate
 use Rattle.dirac_generator.proofs.Lengths.{pictures_length}
 use Rattle.dirac_tool.specs.Making.{first_bad_for_make, line_with, making}
 
--- one row more of a table of settings
-behind_bad : (here : Bool) (rest last all : Option BadSetting) (bad : BadSetting) → all ≡ option_or rest last → (if here then all else Some bad) ≡ option_or (if here then rest else Some bad) last
-behind_bad true rest last all bad e = e
-behind_bad false rest last all bad e = refl
-
-pub last_row : (rows : List Ranged) (r : Ranged) → first_bad (rows ++ r ∷ []) ≡ option_or (first_bad rows) (first_bad (r ∷ []))
-last_row [] r = refl
-last_row (x ∷ rows) r =
-    behind_bad (is_in_range x) (first_bad rows) (first_bad (r ∷ [])) (first_bad (rows ++ r ∷ [])) (record { name = x.name; value = x.value }) (last_row rows r)
-
 -- the number of pictures, which is checked behind the settings
-count_in : (count : ℕ) → count ≤ 1000 → is_in_range (setting name.Count count 0 1000 1) ≡ true
+pub count_in : (count : ℕ) → count ≤ 1000 → is_in_range (setting name.Count count 0 1000 1) ≡ true
 count_in count few =
     ap₂ (λ (a b : Bool). a && b) (ap₂ (λ (a b : Bool). a && b) (le-leb 0 count (omega arith)) (le-leb count 1000 few)) (eq-eqb (count % 1) 0 (omega arith))
 
-count_out : (count : ℕ) → 1000 < count → is_in_range (setting name.Count count 0 1000 1) ≡ false
+pub count_out : (count : ℕ) → 1000 < count → is_in_range (setting name.Count count 0 1000 1) ≡ false
 count_out count many = ap₂ (λ (a b : Bool). (a && b) && (count % 1 == 0)) (le-leb 0 count (omega arith)) (lt-leb count 1000 many)
-
-behind_good : (o last : Option BadSetting) → Ok tt ≡ verdict o → verdict (option_or o last) ≡ verdict last
-behind_good None last ok = refl
-behind_good (Some bad) last ok = cc
-
-behind_refused : (o last : Option BadSetting) (bad : BadSetting) → Err bad ≡ verdict o → Err bad ≡ verdict (option_or o last)
-behind_refused None last bad refused = cc
-behind_refused (Some b) last bad refused = refused
-
-abbrev alone : ℕ → Bool → Option BadSetting
-alone count good = if good then None else Some (record { name = name.Count; value = count })
-
-pub all_accepted : (t : Settings) (count : ℕ) → Ok tt ≡ verdict (first_bad (table t)) → count ≤ 1000 → Ok tt ≡ verdict (first_bad_for_make t count)
-all_accepted t count good few =
-    let row = setting name.Count count 0 1000 1 in
-    sym (ap verdict (last_row (table t) row) ∙ behind_good (first_bad (table t)) (first_bad (row ∷ [])) good ∙ ap (λ b. verdict (alone count b)) (count_in count few))
-
-pub count_refused : (t : Settings) (count : ℕ) → Ok tt ≡ verdict (first_bad (table t)) → 1000 < count → Err (record { name = name.Count; value = count }) ≡ verdict (first_bad_for_make t count)
-count_refused t count good many =
-    let row = setting name.Count count 0 1000 1 in
-    sym (ap verdict (last_row (table t) row) ∙ behind_good (first_bad (table t)) (first_bad (row ∷ [])) good ∙ ap (λ b. verdict (alone count b)) (count_out count many))
-
-pub setting_refused : (t : Settings) (count : ℕ) (bad : BadSetting) → Err bad ≡ verdict (first_bad (table t)) → Err bad ≡ verdict (first_bad_for_make t count)
-setting_refused t count bad refused =
-    let row = setting name.Count count 0 1000 1 in
-    behind_refused (first_bad (table t)) (first_bad (row ∷ [])) bad refused ∙ sym (ap verdict (last_row (table t) row))
 
 -- chroma's sizes are those of the sequence header
 across_of : (a b : Bool) → ratio_across (if a then C444 else if b then C422 else C420) ≡ (if a then 1 else 2)

@@ -1,4 +1,5 @@
--- How many more words can fit: each that does gives a setting its value, or the path, or the number of pictures.
+-- How many more words can fit: each that does gives a setting its value, or the path, or the number of pictures, or the
+-- budget.
 use Rattle.std.proofs.Common.{◌≡◌, Bool, ℕ, zero, suc, ◌+◌, ◌≤◌, ◌&&◌, ◌||◌, true, false, cond, drop, List, [], ◌∷◌, ◌++◌, refl, ap, ◌∙◌, inl, inr, Option, Some, None, arith}
 use Rattle.std.specs.Prelude.{is_some, is_none}
 use Rattle.std.specs.List.{list_any}
@@ -21,10 +22,12 @@ without_value before (name ∷ names) = wanting (value_given name before) + with
 
 -- how many more words can fit behind these
 unfoldable pub room : List (List ℕ) → ℕ
-room before = without_value before names + (wanting (path_given before) + wanting (value_given name.Count before))
+room before =
+    without_value before names
+    + (wanting (path_given before) + (wanting (value_given name.Count before) + wanting (value_given name.Budget before)))
 
--- at first all settings, the path and the number
-pub room_first : room [] ≡ 25
+-- at first all settings, the path, the number and the budget
+pub room_first : room [] ≡ 26
 unfolding room
 room_first = refl
 
@@ -94,25 +97,41 @@ workers_named f is = any_behind f 20 names (ap (λ b. b || list_any f (name.Pict
 -- a word that fits takes some of the room
 pub room_taken : (of : OptionsOf) (before : List (List ℕ)) (word : List ℕ) → fits of before word ≡ true → room (before ++ word ∷ []) + 1 ≤ room before
 unfolding room fits is_new_path is_new_setting
-room_taken options_of.Encode before word fit =
-    let pushed = ap wanting (path_pushed before word) in
-    let counted = ap wanting (value_pushed name.Count before word) in
-    let count = fewer (value_given name.Count before) (value_in name.Count word) in
-    elim (or_cases (list_any (is_new_setting before word) names) (is_new_path before word) fit) [
-      | inl set ↦ omega (arith, one_set before word names set, fewer (path_given before) (path_in word), pushed, counted, count)
-      | inr new ↦ omega (arith, kept before word names, one_fewer (path_given before) (path_in word) new, pushed, counted, count)
-    ]
-room_taken options_of.Make before word fit =
-    let pushed = ap wanting (path_pushed before word) in
-    let counted = ap wanting (value_pushed name.Count before word) in
-    let path = fewer (path_given before) (path_in word) in
-    elim (or_cases (list_any (is_new_setting before word) names) (is_new_setting before word name.Count) fit) [
-      | inl set ↦ omega (arith, one_set before word names set, fewer (value_given name.Count before) (value_in name.Count word), pushed, counted, path)
-      | inr new ↦ omega (arith, kept before word names, one_fewer (value_given name.Count before) (value_in name.Count word) new, pushed, counted, path)
-    ]
-room_taken options_of.Pardecode before word fit =
-    let pushed = ap wanting (path_pushed before word) in
-    let counted = ap wanting (value_pushed name.Count before word) in
-    let path = fewer (path_given before) (path_in word) in
-    let count = fewer (value_given name.Count before) (value_in name.Count word) in
-    omega (arith, one_set before word names (workers_named (is_new_setting before word) fit), pushed, counted, count, path)
+room_taken of before word fit = by of fit
+  where
+    pushed : wanting (path_given (before ++ word ∷ [])) ≡ wanting (option_or (path_given before) (path_in word))
+    pushed = ap wanting (path_pushed before word)
+
+    valued : (n : Name) → wanting (value_given n (before ++ word ∷ [])) ≡ wanting (option_or (value_given n before) (value_in n word))
+    valued n = ap wanting (value_pushed n before word)
+
+    path : wanting (option_or (path_given before) (path_in word)) ≤ wanting (path_given before)
+    path = fewer (path_given before) (path_in word)
+
+    value : (n : Name) → wanting (option_or (value_given n before) (value_in n word)) ≤ wanting (value_given n before)
+    value n = fewer (value_given n before) (value_in n word)
+
+    -- a setting, or the path, or a value beside the settings
+    set : list_any (is_new_setting before word) names ≡ true → room (before ++ word ∷ []) + 1 ≤ room before
+    set any = omega (arith, one_set before word names any, path, pushed, valued name.Count, value name.Count, valued name.Budget, value name.Budget)
+
+    to : is_new_path before word ≡ true → room (before ++ word ∷ []) + 1 ≤ room before
+    to new = omega (arith, kept before word names, one_fewer (path_given before) (path_in word) new, pushed, valued name.Count, value name.Count, valued name.Budget, value name.Budget)
+
+    counted : is_new_setting before word name.Count ≡ true → room (before ++ word ∷ []) + 1 ≤ room before
+    counted new = omega (arith, kept before word names, one_fewer (value_given name.Count before) (value_in name.Count word) new, path, pushed, valued name.Count, valued name.Budget, value name.Budget)
+
+    budgeted : is_new_setting before word name.Budget ≡ true → room (before ++ word ∷ []) + 1 ≤ room before
+    budgeted new = omega (arith, kept before word names, one_fewer (value_given name.Budget before) (value_in name.Budget word) new, path, pushed, valued name.Count, value name.Count, valued name.Budget)
+
+    by : (of : OptionsOf) → fits of before word ≡ true → room (before ++ word ∷ []) + 1 ≤ room before
+    by options_of.Encode fit =
+        elim (or_cases (list_any (is_new_setting before word) names) (is_new_path before word) fit) [ inl any ↦ set any | inr new ↦ to new ]
+    by options_of.Make fit =
+        elim (or_cases (list_any (is_new_setting before word) names) (is_new_setting before word name.Count) fit) [ inl any ↦ set any | inr new ↦ counted new ]
+    by options_of.Rate fit =
+        elim (or_cases (list_any (is_new_setting before word) names || is_new_path before word) (is_new_setting before word name.Budget) fit) [
+          | inl other ↦ elim (or_cases (list_any (is_new_setting before word) names) (is_new_path before word) other) [ inl any ↦ set any | inr new ↦ to new ]
+          | inr new ↦ budgeted new
+        ]
+    by options_of.Pardecode fit = set (workers_named (is_new_setting before word) fit)

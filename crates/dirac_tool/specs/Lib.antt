@@ -1,5 +1,6 @@
 pub mod Options
 pub mod Points
+pub mod Rating
 pub mod Words
 pub mod Ended
 pub mod Line

@@ -1,5 +1,5 @@
--- The words behind `encode`, `make` and `pardecode`: settings by name, the path of the reconstructions, the number of
--- pictures, the number of workers.
+-- The words behind `encode`, `make`, `pardecode` and `rate`: settings by name, the path of the reconstructions, the number
+-- of pictures, the number of workers, the budget.
 use Rattle.std.specs.Prelude.{ℕ, ◌+◌, ◌-◌, ◌*◌, nat_le, ◌==◌, Bool, ◌&&◌, ◌||◌, if◌then◌else◌, List, [], ◌∷◌, ◌++◌, length, codes, Option, None, Some, is_some, is_none, option_and_then, unwrap_or}
 use Rattle.std.specs.List.{list_any}
 use Rattle.std.specs.Option.{option_or}
@@ -74,12 +74,14 @@ is_new_setting before word name = is_some (value_in name word) && is_none (value
 unfoldable pub is_new_path : List (List ℕ) → List ℕ → Bool
 is_new_path before word = is_some (path_in word) && is_none (path_given before)
 
--- a word fits behind these: it gives a setting its value, or for `encode` the path and for `make` the number of
--- pictures; for `pardecode` just the number of workers
+-- a word fits behind these: it gives a setting its value, or for `encode` the path, for `make` the number of pictures,
+-- and for `rate` the path or the budget; for `pardecode` just the number of workers
 unfoldable pub fits : OptionsOf → List (List ℕ) → List ℕ → Bool
 fits options_of.Encode before word = list_any (is_new_setting before word) names || is_new_path before word
 fits options_of.Make before word = list_any (is_new_setting before word) names || is_new_setting before word name.Count
 fits options_of.Pardecode before word = is_new_setting before word name.Workers
+fits options_of.Rate before word =
+    (list_any (is_new_setting before word) names || is_new_path before word) || is_new_setting before word name.Budget
 
 -- the number of the first word that doesn't fit, where the command and these stand before
 abbrev pub first_unfit : OptionsOf → List (List ℕ) → List (List ℕ) → Option ℕ
@@ -134,3 +136,7 @@ count_given words = value_or words name.Count 12
 -- the number of workers that these words say, or else 2
 abbrev pub workers_given : List (List ℕ) → ℕ
 workers_given words = value_or words name.Workers 2
+
+-- the budget that these words say, or else 65,536
+abbrev pub budget_given : List (List ℕ) → ℕ
+budget_given words = value_or words name.Budget 65536

@@ -1,9 +1,11 @@
 -- What a run answers, reads and writes, command by command.
-use Rattle.std.specs.Prelude.{◌≡◌, ℕ, ◌≤◌, List, Option, None, Some, IfSome, Result, Ok, Err}
+use Rattle.std.specs.Prelude.{◌≡◌, ℕ, ◌≤◌, List, Option, None, Some, IfSome, Result, Ok, Err, []}
 use Rattle.std.specs.Io.KnownBytes.{IsAtEnd}
 use Rattle.dirac_types.specs.declared.settings.BadSetting.{BadSetting}
 use Rattle.dirac_types.specs.declared.settings.Settings.{Settings}
 use Rattle.dirac_types.specs.Settings.{first_bad, table}
+use Rattle.dirac_stream.specs.Fit.{AllFitOrNone}
+use Rattle.dirac_stream.specs.Standing.{jobs_in}
 use Rattle.dirac_tool.specs.declared.ended.Ended.{Ended}
 use Rattle.dirac_tool.specs.declared.ended.Ended.TheVariants as ended
 use Rattle.dirac_tool.specs.declared.words.Command.{Command}
@@ -16,6 +18,7 @@ use Rattle.dirac_tool.specs.Encoding.{IsEncoded, IsEncodeAnswer}
 use Rattle.dirac_tool.specs.Listing.{IsListed, IsListAnswer}
 use Rattle.dirac_tool.specs.Making.{AnswersMake, first_bad_for_make}
 use Rattle.dirac_tool.specs.Workers.{bad_workers}
+use Rattle.dirac_tool.specs.Rating.{IsRated, first_bad_for_rate}
 
 -- the bytes that the source holds and that the two sinks took, where they tell them
 pub record Held : Type 0 where
@@ -66,6 +69,20 @@ abbrev pub MakesUnless : Option BadSetting → Settings → ℕ → Held → Hel
 MakesUnless (Some bad) t count old new answer = (answer ≡ ended.BadSettings bad) × (new ≡ old)
 MakesUnless None t count old new answer = Makes t count old new answer
 
+-- `rate` with accepted settings and budget: as `encode`, with the least index for each picture by which its unit fits;
+-- each unit fits, or at no index from the settings' on does
+pub record Rates (t : Settings) (budget : ℕ) (old new : Held) (answer : Ended) : Type 0 where
+  pub answers : IsEncodeAnswer answer
+  pub rated : IfSome old.held (λ bytes. IsRated t budget bytes answer old.out new.out old.side new.side)
+  pub fits : (bytes : List ℕ) → AllFitOrNone budget t [] (jobs_in t bytes)
+  pub whole : answer ≡ ended.Done → IsAtEnd new.held
+  pub partial : (n : ℕ) → answer ≡ ended.PartialPicture n → (1 ≤ n) × IsAtEnd new.held
+
+-- `rate`: the first setting that is out of its range, or else the budget, is answered and nothing is read or written
+abbrev pub RatesUnless : Option BadSetting → Settings → ℕ → Held → Held → Ended → Type 0
+RatesUnless (Some bad) t budget old new answer = (answer ≡ ended.BadSettings bad) × (new ≡ old)
+RatesUnless None t budget old new answer = Rates t budget old new answer
+
 -- what the words ask for
 abbrev pub RunsTo : Result Command WordsStop → Held → Held → Ended → Type 0
 RunsTo (Err (Usage n)) old new answer = (answer ≡ ended.Usage n) × (new ≡ old)
@@ -76,10 +93,13 @@ RunsTo (Ok (command.Make t count)) old new answer = MakesUnless (first_bad_for_m
 RunsTo (Ok (command.Pardecode workers)) old new answer = DecodesUnless (bad_workers workers) old new answer
 RunsTo (Ok (command.Cut from to)) old new answer =
     Cuts from to old.held new.held old.out new.out answer × (new.side ≡ old.side)
+RunsTo (Ok (command.Rate t budget)) old new answer =
+    RatesUnless (first_bad_for_rate t budget) t budget old new answer
 
 -- the first setting that is out of its range, where the words fit a command with settings
 abbrev pub bad_setting : Result Command WordsStop → Option BadSetting
 bad_setting (Ok (command.Encode t)) = first_bad (table t)
 bad_setting (Ok (command.Make t count)) = first_bad_for_make t count
 bad_setting (Ok (command.Pardecode workers)) = bad_workers workers
+bad_setting (Ok (command.Rate t budget)) = first_bad_for_rate t budget
 bad_setting _ = None

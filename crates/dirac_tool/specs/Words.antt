@@ -7,9 +7,10 @@ use Rattle.dirac_tool.specs.declared.words.Command.TheVariants as command
 use Rattle.dirac_tool.specs.declared.words.WordsStop.{WordsStop}
 use Rattle.dirac_tool.specs.declared.words.WordsStop.TheVariants.{Usage}
 use Rattle.dirac_tool.specs.declared.options.OptionsOf.TheVariants as options_of
-use Rattle.dirac_tool.specs.Options.{count_given, first_unfit, path_given, settings_given, workers_given}
+use Rattle.dirac_tool.specs.Options.{budget_given, count_given, first_unfit, path_given, settings_given, workers_given}
 use Rattle.dirac_tool.specs.declared.points.Points.{Points}
 use Rattle.dirac_tool.specs.Points.{none_given, points_with}
+use Rattle.dirac_tool.specs.Rating.{first_bad_for_rate}
 
 -- a command that takes no further word
 abbrev pub alone : Command → List (List ℕ) → Result Command WordsStop
@@ -50,6 +51,11 @@ cut_behind number points (word ∷ words) =
 unfoldable pub cut_read : List (List ℕ) → Result Command WordsStop
 cut_read words = cut_behind 1 none_given words
 
+-- `rate` with the settings and the budget that these words say
+unfoldable pub rate_read : List (List ℕ) → Result Command WordsStop
+rate_read words =
+    where_all_fit (command.Rate (settings_given words) (budget_given words)) (first_unfit options_of.Rate [] words)
+
 -- the command, or the number of the first word that doesn't fit
 abbrev pub command_read : List (List ℕ) → Result Command WordsStop
 command_read [] = Err (Usage 0)
@@ -60,6 +66,7 @@ command_read (word ∷ words) =
     else if bytes_eq word (codes "make") then make_read words
     else if bytes_eq word (codes "pardecode") then pardecode_read words
     else if bytes_eq word (codes "cut") then cut_read words
+    else if bytes_eq word (codes "rate") then rate_read words
     else Err (Usage 0)
 
 -- the path that these words give, where all settings are in their ranges
@@ -67,11 +74,12 @@ abbrev pub path_accepted : Option BadSetting → List (List ℕ) → Option (Lis
 path_accepted None words = path_given words
 path_accepted (Some bad) words = None
 
--- the path behind a command: only `encode` has one
+-- the path behind a command: only `encode` and `rate` have one
 abbrev pub path_behind : Result Command WordsStop → List (List ℕ) → Option (List ℕ)
 path_behind (Ok (command.Encode s)) words = path_accepted (first_bad (table s)) words
+path_behind (Ok (command.Rate s budget)) words = path_accepted (first_bad_for_rate s budget) words
 path_behind _ words = None
 
--- the path of the reconstructions, where the words fit `encode`, give one, and the settings are accepted
+-- the path of the reconstructions, where the words fit `encode` or `rate`, give one, and the settings are accepted
 unfoldable pub path_read : List (List ℕ) → Option (List ℕ)
 path_read words = path_behind (command_read words) (drop 1 words)

@@ -9,13 +9,13 @@ use std::test::Fail;
 use std::thread::Threads;
 
 // Two pictures of 8 by 8 samples, 4:2:0, of which all samples are grey, as bytes, and four bytes behind them.
-const GREY: [u8; 196] = [0x80; 196];
+pub(crate) const GREY: [u8; 196] = [0x80; 196];
 
 // The settings of these pictures.
-const SIZES: [&str; 3] = ["--width=8", "--height=8", "--depth=1"];
+pub(crate) const SIZES: [&str; 3] = ["--width=8", "--height=8", "--depth=1"];
 
 // A setting at its default.
-const PLAIN: &str = "--index=12";
+pub(crate) const PLAIN: &str = "--index=12";
 
 // The words `encode`, these, and these.
 fn encode_words(alloc: Global, first: &[&str], more: &[&str]) -> Result<Words, Fail> {
@@ -31,7 +31,7 @@ fn encode_words(alloc: Global, first: &[&str], more: &[&str]) -> Result<Words, F
 }
 
 // Encodes raw pictures in pieces, and compares the answer, the stream, and what was said beside it.
-fn encodes<R: Abort + Threads + Sync>(
+pub(crate) fn encodes<R: Abort + Threads + Sync>(
     rt: &R,
     alloc: Global,
     words: &Words,

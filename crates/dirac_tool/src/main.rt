@@ -23,6 +23,9 @@ mod make;
 mod make_tests;
 mod options;
 mod points;
+mod rate;
+#[cfg(test)]
+mod rate_tests;
 mod run;
 #[cfg(test)]
 mod shape_streams;
@@ -71,7 +74,7 @@ fn main(rt: HostRuntime) -> ExitCode {
             };
             run_beside(&rt, alloc, &words, input, output, file)
         }
-        None if is_encode(&words) => run_on(&rt, alloc, &words, input, output, &mut NullSink),
+        None if has_recon(&words) => run_on(&rt, alloc, &words, input, output, &mut NullSink),
         None => run_beside(&rt, alloc, &words, input, output, rt.stderr()),
     };
     if let Ok(text) = ended_text(alloc, &ended) {
@@ -82,9 +85,12 @@ fn main(rt: HostRuntime) -> ExitCode {
     ExitCode::from(status(&ended))
 }
 
-// Whether the words fit `encode`.
-fn is_encode(words: &Words) -> bool {
-    matches!(read_words(words), Ok(Command::Encode(_)))
+// Whether the words fit a command that tells reconstructions beside it.
+fn has_recon(words: &Words) -> bool {
+    matches!(
+        read_words(words),
+        Ok(Command::Encode(_) | Command::Rate(_, _))
+    )
 }
 
 // Runs the words on an input and an output, and flushes what came out.

@@ -41,6 +41,8 @@ pub enum OptionsOf {
     Make,
     /// The number of workers.
     Pardecode,
+    /// The words of `encode`, and the budget.
+    Rate,
 }
 
 // What stands behind this front, where the word begins with it.
@@ -164,6 +166,11 @@ fn fits(of: OptionsOf, before: &[String], word: &str) -> bool
             is_new_among(before, word, &NAMES) || is_new_setting(before, word, Name::Count)
         }
         OptionsOf::Pardecode => is_new_setting(before, word, Name::Workers),
+        OptionsOf::Rate => {
+            is_new_among(before, word, &NAMES)
+                || is_new_path(before, word)
+                || is_new_setting(before, word, Name::Budget)
+        }
     }
 }
 
@@ -248,4 +255,11 @@ pub fn workers_given(words: &[String]) -> u32
     ensures { result ≡ options.workers_given (map string_bytes words.now) }
 {
     value_or(words, Name::Workers, 2)
+}
+
+/// The budget that these words say.
+pub fn budget_given(words: &[String]) -> u32
+    ensures { result ≡ options.budget_given (map string_bytes words.now) }
+{
+    value_or(words, Name::Budget, 65_536)
 }

@@ -12,6 +12,7 @@ use crate::encode::encode;
 use crate::ended::Ended;
 use crate::list::list;
 use crate::make::{check_make, make};
+use crate::rate::{check_rate, rate};
 use crate::words::{Command, Words, WordsStop, read_words};
 use dirac_io::{RowGate, Sink, Source};
 use std::alloc::Global;
@@ -75,5 +76,9 @@ pub fn run<R: Threads + Sync, S: Source, K: Sink, N: Sink, G: RowGate>(
             Err(bad) => Ended::BadSettings(bad),
         },
         Ok(Command::Cut(from, to)) => cut(alloc, source, out, from, to),
+        Ok(Command::Rate(settings, budget)) => match check_rate(&settings, budget) {
+            Ok(()) => rate(rt, alloc, source, out, side, &settings, budget, gate),
+            Err(bad) => Ended::BadSettings(bad),
+        },
     }
 }

@@ -1,12 +1,15 @@
-ghost use Rattle.std.specs.Prelude.{◌≡◌, ◌++◌, [], ◌∷◌, OnOk, OnErr, map, string_bytes, option_copied, slice_range, length};
-ghost use Rattle.dirac_types.specs.Settings.{first_bad, table};
-ghost use Rattle.dirac_tool.specs.Words.{command_read, path_read, path_accepted, cut_read, encode_read, make_read, pardecode_read, alone as command_alone};
+ghost use Rattle.std.specs.Prelude.{◌≡◌, ◌++◌, [], ◌∷◌, OnOk, OnErr, Option, map, string_bytes, option_copied, slice_range, length};
+ghost use Rattle.dirac_types.specs.Settings.{first_bad, table, verdict};
+ghost use Rattle.dirac_types.specs.declared.settings.BadSetting.{BadSetting as Bad};
+ghost use Rattle.dirac_tool.specs.Words.{command_read, path_read, path_accepted, cut_read, encode_read, make_read, pardecode_read, rate_read, alone as command_alone};
+ghost use Rattle.dirac_tool.specs.Rating.{first_bad_for_rate};
 
 use crate::options::{
-    OptionsOf, count_given, first_unfit, path_given, settings_given, workers_given,
+    OptionsOf, budget_given, count_given, first_unfit, path_given, settings_given, workers_given,
 };
 use crate::points::Points;
-use dirac_types::{NoMemory, Settings};
+use crate::rate::check_rate;
+use dirac_types::{BadSetting, NoMemory, Settings};
 use std::alloc::Global;
 use std::marker::Model;
 
@@ -61,6 +64,8 @@ pub enum Command {
     Pardecode(u32),
     /// Cuts a stream from a point up to, and without, another, or to its end.
     Cut(u64, Option<u64>),
+    /// Encodes raw pictures, so that each picture's unit has at most so many bytes.
+    Rate(Settings, u32),
 }
 
 /// Why words aren't run.
@@ -72,7 +77,8 @@ pub enum WordsStop {
 
 /// Reads the words: the first is the command. A command that isn't built doesn't fit. `list` and `decode` take
 /// no further word, `encode` its settings and the path of its reconstructions, in any order, `make` its settings and
-/// the number of pictures, `pardecode` the number of workers, and `cut` its points.
+/// the number of pictures, `pardecode` the number of workers, `cut` its points, and `rate` the words of `encode` and a
+/// budget.
 pub fn read_words(words: &Words) -> Result<Command, WordsStop>
     ensures { result ≡ command_read words.now }
 {
@@ -91,6 +97,8 @@ pub fn read_words(words: &Words) -> Result<Command, WordsStop>
         pardecode(others)
     } else if first.as_str() == "cut" {
         cut(others)
+    } else if first.as_str() == "rate" {
+        rate(others)
     } else {
         Err(WordsStop::Usage(0))
     }
@@ -137,6 +145,16 @@ fn pardecode(others: &[String]) -> Result<Command, WordsStop>
     }
 }
 
+// `rate` with the settings and the budget that these words say.
+fn rate(others: &[String]) -> Result<Command, WordsStop>
+    ensures { result ≡ rate_read (map string_bytes others.now) }
+{
+    match first_unfit(OptionsOf::Rate, others) {
+        None => Ok(Command::Rate(settings_given(others), budget_given(others))),
+        Some(number) => Err(WordsStop::Usage(number)),
+    }
+}
+
 // `cut` with the points that these words say, each of which is said at most once.
 fn cut(others: &[String]) -> Result<Command, WordsStop>
     ensures { result ≡ cut_read (map string_bytes others.now) }
@@ -153,14 +171,16 @@ fn cut(others: &[String]) -> Result<Command, WordsStop>
     Ok(Command::Cut(points.from.unwrap_or(0), points.to))
 }
 
-/// The path of the reconstructions, where the words fit `encode`, give one, and the settings are accepted.
+/// The path of the reconstructions, where the words fit `encode` or `rate`, give one, and the settings and the budget
+/// are accepted.
 #[tactic(auto, unfolding(crate::specs::Words::path_read))]
 pub fn recon_path(words: &Words) -> Option<&str>
     ensures { option_copied result ≡ path_read words.now }
 {
     let (_, others) = words.list.split_first()?;
     match read_words(words) {
-        Ok(Command::Encode(settings)) => accepted_path(&settings, others),
+        Ok(Command::Encode(settings)) => accepted_path(settings.check(), others),
+        Ok(Command::Rate(settings, budget)) => accepted_path(check_rate(&settings, budget), others),
         Ok(Command::List) => None,
         Ok(Command::Decode) => None,
         Ok(Command::Make(_, _)) => None,
@@ -171,10 +191,11 @@ pub fn recon_path(words: &Words) -> Option<&str>
 }
 
 // The path that these words give, where all settings are in their ranges.
-fn accepted_path<'a>(settings: &Settings, others: &'a [String]) -> Option<&'a str>
-    ensures { option_copied result ≡ path_accepted (first_bad (table settings.now)) (map string_bytes others.now) }
+fn accepted_path(checked: Result<(), BadSetting>, others: &[String]) -> Option<&str>
+    ensures { (o : Option Bad) → checked ≡ verdict o
+        → option_copied result ≡ path_accepted o (map string_bytes others.now) }
 {
-    match settings.check() {
+    match checked {
         Ok(()) => path_given(others),
         Err(_) => None,
     }
