@@ -1,9 +1,8 @@
 -- A closed part shows the pictures of the whole.
-use Rattle.std.proofs.Common.{◌≡◌, ◌≤◌, if◌then◌else◌, Bool, true, false, List, [], ◌∷◌, Option, None, Some, Result, Ok, length, refl, sym, ◌∙◌, ap, ap₂, subst}
-use Rattle.dirac_types.specs.declared.faults.Refusal.{Refusal}
+use Rattle.std.proofs.Common.{◌≡◌, ◌≤◌, if◌then◌else◌, true, false, List, [], ◌∷◌, None, Some, Ok, length, refl, sym, ◌∙◌, ap, subst}
 use Rattle.dirac_types.specs.declared.picture.Picture.{Picture}
 use Rattle.dirac_sequence.specs.declared.sequence.Sequence.{Sequence}
-use Rattle.dirac_refs.specs.References.{as_reference, committed}
+use Rattle.dirac_refs.specs.References.{as_reference}
 use Rattle.dirac_refs.proofs.Listed.{few_committed}
 use Rattle.dirac_picture.specs.declared.coded.CodedPicture.{CodedPicture}
 use Rattle.dirac_picture.specs.Grammar.{are_listed, picture_read}

@@ -1,6 +1,6 @@
 -- The units of sequences: their bytes are cut into just these, and those of a stream fit their offsets.
-use Rattle.std.proofs.Common.{◌≡◌, ◌<◌, ◌≤◌, ◌+◌, ◌-◌, ◌^◌, ◌⊎◌, inl, inr, if◌then◌else◌, Bool, true, false, ℕ, zero, suc, List, [], ◌∷◌, ◌++◌, length, take, drop, Option, None, Some, Result, Ok, Err, max, refl, sym, ◌∙◌, ap, subst, arith, append_assoc, append-nil}
-use Rattle.std.specs.Prelude.{nat_eq, slice_index, slice_range, get_or}
+use Rattle.std.proofs.Common.{◌≡◌, ◌<◌, ◌≤◌, ◌+◌, ◌-◌, ◌^◌, inl, inr, true, ℕ, zero, suc, List, [], ◌∷◌, ◌++◌, length, take, drop, Option, None, Some, Ok, Err, max, refl, sym, subst, arith, append_assoc, append-nil}
+use Rattle.std.specs.Prelude.{nat_eq, slice_index}
 use Rattle.std.specs.List.{AllByRecursion, starts_with}
 use Rattle.std.specs.Int.{from_be_bytes, w32}
 use Rattle.std.proofs.lemmas.List.{length-take}
@@ -10,7 +10,7 @@ use Rattle.dirac_types.specs.declared.faults.Refusal.{Refusal}
 use Rattle.dirac_units.specs.declared.info.ParseInfo.{ParseInfo}
 use Rattle.dirac_units.specs.declared.unit_place.UnitPlace.{UnitPlace}
 use Rattle.dirac_units.specs.Cut.{IsCut, UnitText, after}
-use Rattle.dirac_units.specs.Info.{IsLawful, info_of, info_read, number_at, prefix, refusal_of, span_of, unless_refused}
+use Rattle.dirac_units.specs.Info.{info_of, info_read, number_at, prefix, refusal_of, span_of, unless_refused}
 use Rattle.dirac_units.specs.Writing.{IsReadAsWritten, info_bytes}
 use Rattle.dirac_units.proofs.Fronts.{chosen, err_is_no_ok, front_whole, ok_same}
 use Rattle.dirac_plan_laws.specs.Headers.{IsPictureCode}
@@ -20,7 +20,7 @@ use Rattle.dirac_stream.proofs.Cutting.{nothing_left, one_cut, unit_front_is}
 use Rattle.dirac_stream.proofs.Showing.{header_lawful, picture_cut}
 use Rattle.dirac_edit_laws.specs.Texts.{PictureText, SequenceText, closed_off, opened_by, picture_text, points_with, sequences_from, with_picture}
 use Rattle.dirac_edit_laws.specs.Units.{end_for, pictures_bytes, pictures_units, sequences_bytes, sequences_units, text_for}
-use Rattle.dirac_edit_laws.proofs.UnitKinds.{KindOf, behind_end, behind_header, behind_other, behind_picture, kind_of, of_end, of_header, of_other, of_picture}
+use Rattle.dirac_edit_laws.proofs.UnitKinds.{behind_end, behind_header, behind_other, behind_picture, kind_of, of_end, of_header, of_other, of_picture}
 
 -- ---- units fit their offsets
 

@@ -1,8 +1,8 @@
 -- Joined sequences show the raw pictures of those that they come from.
-use Rattle.std.proofs.Common.{◌≡◌, ℕ, ℤ, zero, suc, pos, ◌+ℤ◌, ◌+◌, ◌-◌, ◌%◌, ◌<◌, ◌≤◌, ◌^◌, if◌then◌else◌, Bool, true, false, List, [], ◌∷◌, ◌++◌, length, map, drop, Option, None, Some, Result, Ok, refl, sym, ◌∙◌, ap, ap₂, subst, arith, append_assoc, append-nil, length-append, length-drop}
+use Rattle.std.proofs.Common.{◌≡◌, ℕ, ℤ, pos, ◌+ℤ◌, ◌-◌, ◌<◌, ◌≤◌, ◌^◌, if◌then◌else◌, true, false, List, [], ◌∷◌, ◌++◌, length, map, drop, None, Some, Ok, refl, sym, ◌∙◌, ap, ap₂, subst, arith, append_assoc, append-nil, length-append, length-drop}
 use Rattle.std.specs.Prelude.{◌≤ℤ◌, nat_lt}
 use Rattle.std.specs.Int.{to_be_bytes, w32}
-use Rattle.std.specs.List.{AllByRecursion, flat_map}
+use Rattle.std.specs.List.{AllByRecursion}
 use Rattle.std.proofs.lemmas.Bool.{ltb-true}
 use Rattle.std.proofs.lemmas.Grind.{flat_map-append}
 use Rattle.std.proofs.lemmas.Int.{ints}
@@ -23,20 +23,18 @@ use Rattle.dirac_decode.specs.StreamState.{begun, ended}
 use Rattle.dirac_stream.specs.Stream.{end_info, end_unit}
 use Rattle.dirac_stream.proofs.Cutting.{nothing_left}
 use Rattle.dirac_stream.proofs.Showing.{outcome_more}
-use Rattle.dirac_edit_laws.specs.Joined.{Group, Keyed, bare, bytes_or_bare, first_number, group_of, groups_behind, groups_of, high, keyed_from, low, may_merge, merged, moved_key, number_of, renumbered, shift, text_of}
-use Rattle.dirac_edit_laws.specs.Later.{AreNotBefore}
+use Rattle.dirac_edit_laws.specs.Joined.{Group, Keyed, bare, bytes_or_bare, first_number, group_of, groups_behind, groups_of, high, keyed_from, low, may_merge, merged, moved_key, number_of, renumbered, text_of}
 use Rattle.dirac_edit_laws.specs.Laws.{JoinedStreamsShowTheSame, ShowsJust}
-use Rattle.dirac_edit_laws.specs.Rebuilt.{AreRead, IsRead, RebuiltText, all_shown, in_order, list_behind, picture_in, rebuilt_behind, rebuilt_from, rebuilt_of, rebuilt_text, shown_of, waiting_from, with_keys}
-use Rattle.dirac_edit_laws.specs.Restricted.{IsRestricted}
+use Rattle.dirac_edit_laws.specs.Rebuilt.{AreRead, IsRead, RebuiltText, all_shown, in_order, list_behind, picture_in, rebuilt_from, rebuilt_of, rebuilt_text, shown_of, waiting_from, with_keys}
 use Rattle.dirac_edit_laws.specs.Texts.{PictureText, SequenceText, sequences, with_pictures}
 use Rattle.dirac_edit_laws.specs.Units.{end_for, pictures_bytes, sequences_bytes}
 use Rattle.dirac_edit_laws.proofs.Closed.{one_rebuilt}
 use Rattle.dirac_edit_laws.proofs.Cutting.{Fits, FitsOpen, FitsPicture, FitsSequence, end_cut, texts_fit, units_fit}
 use Rattle.dirac_edit_laws.proofs.Keys.{AreAtLeast, AreAtMost, Merges, NumberMoves, above_low, add_none, below_high, key_in, key_inside, keys_in, merges, moved_above, not_before, number_moves, way}
 use Rattle.dirac_edit_laws.proofs.Later.{later_leave_later}
-use Rattle.dirac_edit_laws.proofs.Onward.{onward, payload_onward}
+use Rattle.dirac_edit_laws.proofs.Onward.{onward}
 use Rattle.dirac_edit_laws.proofs.Parts.{rebuilt_is, same_with_pictures}
-use Rattle.dirac_edit_laws.proofs.Renumbered.{AreOnward, IsNumbered, all_onward, picture_onward, rebuilt_text_onward, text_in, text_onward}
+use Rattle.dirac_edit_laws.proofs.Renumbered.{IsNumbered, all_onward, picture_onward, rebuilt_text_onward, text_in, text_onward}
 use Rattle.dirac_edit_laws.proofs.Restricted.{none_yet}
 use Rattle.dirac_edit_laws.proofs.Shifted.{flush_moved, waiting_with}
 use Rattle.dirac_edit_laws.proofs.Walking.{first_in, lists_behind, step_end, units_shown}

@@ -1,8 +1,8 @@
 -- The keys of merged sequences: where they lie, and the numbers that they stand for.
-use Rattle.std.proofs.Common.{◌≡◌, ◌==◌, inl, inr, ℕ, ℤ, zero, suc, pos, negsuc, ◌+ℤ◌, ◌-ℤ◌, ◌+◌, ◌-◌, ◌%◌, ◌<◌, ◌≤◌, ◌^◌, if◌then◌else◌, Bool, true, false, List, [], ◌∷◌, ◌++◌, length, map, take, refl, sym, ◌∙◌, ap, ap₂, subst, arith}
-use Rattle.std.specs.Prelude.{int_le, nat_eq, unsigned_abs, ◌≤ℤ◌}
+use Rattle.std.proofs.Common.{◌≡◌, ◌==◌, inl, inr, ℕ, ℤ, suc, pos, negsuc, ◌+ℤ◌, ◌+◌, ◌-◌, ◌%◌, ◌<◌, ◌≤◌, ◌^◌, true, List, [], ◌∷◌, length, map, take, refl, sym, ◌∙◌, ap, subst, arith}
+use Rattle.std.specs.Prelude.{int_le, nat_eq, ◌≤ℤ◌}
 use Rattle.std.specs.Cmp.Lexicographic.{same_text}
-use Rattle.std.specs.Int.{cast_signed, cast_unsigned, int_max, int_min, to_be_bytes, w32}
+use Rattle.std.specs.Int.{cast_signed, cast_unsigned, int_max, int_min, w32}
 use Rattle.std.specs.List.{All, AllByRecursion, starts_with}
 use Rattle.std.proofs.Math.Facts.{to_z-neg}
 use Rattle.std.proofs.Math.Seq.{take-length}
@@ -12,7 +12,7 @@ use Rattle.std.proofs.lemmas.List.Elements.{All-cons, All-from_recursion, All-ni
 use Rattle.dirac_refs.specs.declared.waiting.Waiting.{Waiting}
 use Rattle.dirac_refs.specs.Delivery.{key_of}
 use Rattle.dirac_decode.specs.StreamState.{is_same}
-use Rattle.dirac_edit_laws.specs.Joined.{Group, Keyed, high, keyed_from, low, may_merge, merged, moved_key, new_number, number_of, renumbered, shift}
+use Rattle.dirac_edit_laws.specs.Joined.{Group, Keyed, high, low, may_merge, new_number, shift}
 use Rattle.dirac_edit_laws.specs.Later.{AreNotBefore}
 use Rattle.dirac_edit_laws.proofs.Onward.{onward}
 

@@ -1,6 +1,9 @@
 pub mod Alike
 pub mod Closed
 pub mod Cutting
+pub mod EncodedCut
+pub mod EncodedMade
+pub mod Grouping
 pub mod Joining
 pub mod Keys
 pub mod Later

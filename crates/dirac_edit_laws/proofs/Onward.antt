@@ -1,21 +1,19 @@
 -- A picture whose number is moved on, and its references with it, is read as before but for the numbers.
-use Rattle.std.proofs.Common.{◌≡◌, ℕ, ℤ, zero, suc, pos, negsuc, ◌+ℤ◌, ◌+◌, ◌-◌, ◌*◌, ◌/◌, ◌%◌, ◌<◌, ◌≤◌, ◌^◌, if◌then◌else◌, Bool, true, false, List, [], ◌∷◌, ◌++◌, length, take, drop, Option, None, Some, Ok, refl, sym, ◌∙◌, ap, ap₂, subst, arith, append_assoc, length-append}
-use Rattle.std.specs.Prelude.{nat_le, option_map, unsigned_abs}
-use Rattle.std.specs.Int.{from_be_bytes, int_rem_euclid, to_be_bytes, w32}
+use Rattle.std.proofs.Common.{◌≡◌, ℕ, ℤ, suc, pos, negsuc, ◌+ℤ◌, ◌+◌, ◌-◌, ◌*◌, ◌/◌, ◌%◌, ◌<◌, ◌≤◌, ◌^◌, if◌then◌else◌, Bool, true, false, List, [], ◌∷◌, ◌++◌, length, take, drop, Option, None, Some, Ok, refl, sym, ◌∙◌, ap, ap₂, subst, arith, append_assoc, length-append}
+use Rattle.std.specs.Prelude.{nat_le, unsigned_abs}
+use Rattle.std.specs.Int.{from_be_bytes, to_be_bytes, w32}
 use Rattle.std.specs.List.{AllByRecursion}
 use Rattle.std.specs.Ordering.{int_eq}
 use Rattle.std.proofs.lemmas.Int.{int_rem_euclid_is, ints}
-use Rattle.std.proofs.lemmas.List.{take_at, drop_at, take-append-drop}
+use Rattle.std.proofs.lemmas.List.{take_at, drop_at}
 use Rattle.dirac_types.specs.declared.faults.Cause.TheVariants.{MissingReference}
 use Rattle.dirac_types.specs.declared.picture.Picture.{Picture}
-use Rattle.dirac_types.specs.Bits.{bits_of, byte_bits, number_from}
+use Rattle.dirac_types.specs.Bits.{bits_of, number_from}
 use Rattle.dirac_types.specs.Numbers as numbers
 use Rattle.dirac_types.specs.Numbers.{literal}
-use Rattle.dirac_bits.specs.Answers.{value_of}
-use Rattle.dirac_bits.specs.Cursor.{start}
 use Rattle.dirac_bits.specs.Laws.{StartsWith}
 use Rattle.dirac_bits.specs.Spelling.{Spells}
-use Rattle.dirac_bits.specs.Syntax.{Syntax, done, refuse, ◌>>=◌, align, read}
+use Rattle.dirac_bits.specs.Syntax.{Syntax, done, refuse, ◌>>=◌, align}
 use Rattle.dirac_bits.proofs.Bits.{length-bits_of}
 use Rattle.dirac_bits.proofs.Literals.{four_bytes, none_left}
 use Rattle.dirac_bits.proofs.Runs.{bits_of-append}
@@ -24,7 +22,6 @@ use Rattle.dirac_sequence.specs.declared.sequence.Sequence.{Sequence}
 use Rattle.dirac_header.specs.declared.header.PictureHeader.{PictureHeader}
 use Rattle.dirac_header.specs.Codes.{is_reference, references_of}
 use Rattle.dirac_header.specs.Header.{header, moved_by, reference, retired_by, retirement}
-use Rattle.dirac_picture.specs.declared.coded.CodedMotion.{CodedMotion}
 use Rattle.dirac_picture.specs.declared.coded.CodedPicture.{CodedPicture}
 use Rattle.dirac_picture.specs.Grammar.{are_listed, body, motion, picture, picture_read, residual_unless, zero_residual}
 use Rattle.dirac_picture.proofs.Every.{Every, every_any, every_then}

@@ -1,9 +1,7 @@
 -- The part of a stream, sequence by sequence: its pictures are read and rebuilt as in the whole.
-use Rattle.std.proofs.Common.{◌≡◌, ◌<◌, ◌≤◌, ◌+◌, ◌⊎◌, inl, inr, ◌&&◌, if◌then◌else◌, Bool, true, false, ℕ, suc, List, [], ◌∷◌, ◌++◌, length, map, Option, None, Some, Result, Ok, nat_lt, nat_le, refl, sym, ◌∙◌, ap, ap₂, subst, arith, length-append}
+use Rattle.std.proofs.Common.{◌≡◌, ◌<◌, ◌≤◌, ◌⊎◌, inl, inr, if◌then◌else◌, Bool, true, false, ℕ, suc, List, [], ◌∷◌, ◌++◌, length, map, Option, None, Some, Ok, nat_lt, nat_le, refl, sym, ◌∙◌, ap, ap₂, subst, arith}
 use Rattle.std.specs.List.{AllByRecursion, filter, flat_map}
-use Rattle.std.proofs.lemmas.Bool.{and_cases, and_from, and_parts, cases_Bool, leb-true, leb-false, ltb-true, ltb-false, le-leb}
-use Rattle.std.proofs.lemmas.List.{map-append}
-use Rattle.std.proofs.lemmas.List.Elements.{filter-append}
+use Rattle.std.proofs.lemmas.Bool.{and_cases, and_parts, cases_Bool, leb-false, ltb-true, ltb-false}
 use Rattle.dirac_types.specs.declared.picture.Picture.{Picture}
 use Rattle.dirac_sequence.specs.declared.sequence.Sequence.{Sequence}
 use Rattle.dirac_sequence.specs.Grammar.{sequence_read}
@@ -19,7 +17,7 @@ use Rattle.dirac_edit_laws.specs.Rebuilt.{AreRead, IsRead, RebuiltText, all_show
 use Rattle.dirac_edit_laws.specs.Restricted.{IsRestricted}
 use Rattle.dirac_edit_laws.specs.Texts.{PictureText, SequenceText, closed_off, opened_by, picture_text, points_with, sequences_from, with_picture, with_pictures}
 use Rattle.dirac_edit_laws.proofs.Closed.{OpensLater, IsAlikeBehind, alike_behind, one_rebuilt, opens_later}
-use Rattle.dirac_edit_laws.proofs.UnitKinds.{KindOf, behind_end, behind_header, behind_other, behind_picture, kind_of, of_end, of_header, of_other, of_picture}
+use Rattle.dirac_edit_laws.proofs.UnitKinds.{behind_end, behind_header, behind_other, behind_picture, kind_of, of_end, of_header, of_other, of_picture}
 use Rattle.dirac_edit_laws.proofs.Restricted.{none_yet}
 
 -- ---- points never fall

@@ -1,7 +1,7 @@
 -- A sequence whose numbers are moved on, behind others: its pictures are read and rebuilt as before but for the numbers.
-use Rattle.std.proofs.Common.{◌≡◌, ◌==◌, ◌⊎◌, inl, inr, ℕ, ◌+◌, ◌%◌, ◌<◌, ◌≤◌, ◌^◌, if◌then◌else◌, not, Bool, true, false, List, [], ◌∷◌, ◌++◌, length, drop, map, nat_le, Option, None, Some, Result, Ok, refl, sym, ◌∙◌, ap, ap₂, subst, arith, eq-eqb, ne_eqb}
-use Rattle.std.specs.Prelude.{is_some, option_map}
-use Rattle.std.specs.List.{AllByRecursion, filter}
+use Rattle.std.proofs.Common.{◌≡◌, ◌==◌, inl, inr, ℕ, ◌+◌, ◌%◌, ◌<◌, ◌≤◌, ◌^◌, if◌then◌else◌, not, Bool, true, false, List, [], ◌∷◌, ◌++◌, length, drop, map, nat_le, Option, None, Some, Ok, refl, sym, ◌∙◌, ap, ap₂, subst, arith, eq-eqb, ne_eqb}
+use Rattle.std.specs.Prelude.{is_some}
+use Rattle.std.specs.List.{AllByRecursion}
 use Rattle.std.proofs.lemmas.Bool.{and_from, and_parts, cases_eq, eqb-true}
 use Rattle.std.proofs.lemmas.List.{length-map, map-append}
 use Rattle.dirac_types.specs.declared.formats.Component.{Component}

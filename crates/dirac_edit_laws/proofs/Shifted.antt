@@ -1,15 +1,15 @@
 -- Pictures whose keys are all moved by the same number leave in the same order.
-use Rattle.std.proofs.Common.{◌≡◌, ℕ, ℤ, zero, suc, pos, ◌+ℤ◌, ◌+◌, ◌-◌, ◌<◌, ◌≤◌, if◌then◌else◌, Bool, true, false, List, [], ◌∷◌, ◌++◌, length, map, Option, None, Some, refl, sym, ◌∙◌, ap, ap₂, subst, arith}
-use Rattle.std.specs.Prelude.{int_lt, nat_le, slice_get, option_map, ◌<ℤ◌}
+use Rattle.std.proofs.Common.{◌≡◌, ℕ, ℤ, zero, suc, ◌+ℤ◌, ◌-◌, ◌<◌, if◌then◌else◌, Bool, true, false, List, [], ◌∷◌, ◌++◌, length, map, Option, None, Some, refl, sym, ◌∙◌, ap, ap₂, subst, arith}
+use Rattle.std.specs.Prelude.{int_lt, nat_le, slice_get, option_map}
 use Rattle.std.specs.List.{remove}
 use Rattle.std.proofs.lemmas.Int.{ints}
 use Rattle.std.proofs.lemmas.List.{length-map, map-append}
 use Rattle.std.proofs.lemmas.Option.{slice_get-map}
 use Rattle.dirac_types.specs.declared.picture.Picture.{Picture}
 use Rattle.dirac_refs.specs.declared.waiting.Waiting.{Waiting}
-use Rattle.dirac_refs.specs.Delivery.{Leaving, delivered, flush, flushed, flushed_by, key_at, key_in, least, least_among, least_place, others, picture_of, pushed_all}
-use Rattle.dirac_refs.proofs.Least.{is_least, leaves_first}
-use Rattle.dirac_edit_laws.proofs.Later.{left_from, length_remove}
+use Rattle.dirac_refs.specs.Delivery.{Leaving, delivered, flush, flushed, flushed_by, key_at, least, least_among, least_place, others, picture_of, pushed_all}
+use Rattle.dirac_refs.proofs.Least.{is_least}
+use Rattle.dirac_edit_laws.proofs.Later.{left_from}
 
 -- a picture with its key moved by this, and itself changed so
 abbrev pub waiting_with : ℤ → (Picture → Picture) → Waiting → Waiting

@@ -1,5 +1,5 @@
 -- The units of sequences that are read show these sequences.
-use Rattle.std.proofs.Common.{◌≡◌, ℕ, ◌+◌, List, [], ◌∷◌, ◌++◌, length, Option, None, Some, Result, Ok, refl, sym, ◌∙◌, ap, ap₂, subst, append_assoc, append-nil}
+use Rattle.std.proofs.Common.{◌≡◌, ℕ, ◌+◌, List, [], ◌∷◌, ◌++◌, length, None, Ok, refl, sym, ◌∙◌, ap, ap₂, subst, append_assoc, append-nil}
 use Rattle.std.specs.List.{AllByRecursion}
 use Rattle.dirac_types.specs.declared.picture.Picture.{Picture}
 use Rattle.dirac_sequence.specs.declared.sequence.Sequence.{Sequence}
@@ -14,8 +14,8 @@ use Rattle.dirac_plan_laws.specs.Headers.{IsPictureCode}
 use Rattle.dirac_decode.specs.declared.opened.Opened.{Opened}
 use Rattle.dirac_decode.specs.Content.{rebuilt}
 use Rattle.dirac_decode.specs.Sequences.{IsBetween}
-use Rattle.dirac_decode.specs.Shown.{Outcome, follows, outcome, with_front}
-use Rattle.dirac_decode.specs.StreamState.{StreamState, StreamStep, ended, header_step, made, opening, picture_step, shows, staying, unit_step}
+use Rattle.dirac_decode.specs.Shown.{Outcome, outcome}
+use Rattle.dirac_decode.specs.StreamState.{StreamState, ended, header_step, made, opening, picture_step, shows, staying, unit_step}
 use Rattle.dirac_stream.proofs.Showing.{outcome_more}
 use Rattle.dirac_edit_laws.specs.Rebuilt.{AreRead, IsRead, all_shown, rebuilt_from, shown_of}
 use Rattle.dirac_edit_laws.specs.Texts.{PictureText, SequenceText}

@@ -1,5 +1,5 @@
 -- Fields behind others, spelled by the bits that spell other fields.
-use Rattle.std.proofs.Common.{◌≡◌, ℕ, ◌+◌, ◌/◌, Bool, List, length, refl, sym, ◌∙◌, ap, subst}
+use Rattle.std.proofs.Common.{ℕ, ◌+◌, ◌/◌, Bool, List, length, subst}
 use Rattle.dirac_types.specs.Bits.{bits_of}
 use Rattle.dirac_types.specs.Numbers as numbers
 use Rattle.dirac_bits.specs.Spelling.{Spells}

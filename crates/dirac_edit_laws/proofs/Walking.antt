@@ -1,17 +1,16 @@
 -- A decoder's way through the units of a stream, seen by its sequences.
-use Rattle.std.proofs.Common.{◌≡◌, ◌==◌, if◌then◌else◌, Bool, true, false, ℕ, suc, List, [], ◌∷◌, ◌++◌, length, map, Option, None, Some, Result, Ok, Err, refl, sym, ◌∙◌, ap, ap₂, subst, append_assoc, append-nil}
-use Rattle.std.specs.List.{AllByRecursion, flat_map}
+use Rattle.std.proofs.Common.{◌≡◌, ◌==◌, if◌then◌else◌, Bool, true, false, ℕ, suc, List, [], ◌∷◌, ◌++◌, map, Option, None, Some, Result, Ok, Err, refl, sym, ◌∙◌, ap, ap₂, subst, append_assoc, append-nil}
+use Rattle.std.specs.List.{AllByRecursion}
 use Rattle.std.proofs.lemmas.List.{map-append}
 use Rattle.std.proofs.lemmas.Grind.{flat_map-append}
-use Rattle.dirac_types.specs.declared.faults.Cause.TheVariants.{NoSequence, SequenceChanged}
-use Rattle.dirac_types.specs.declared.faults.Fault.{Fault}
+use Rattle.dirac_types.specs.declared.faults.Cause.TheVariants.{SequenceChanged}
 use Rattle.dirac_types.specs.declared.faults.Refusal.{Refusal}
 use Rattle.dirac_types.specs.declared.picture.Picture.{Picture}
 use Rattle.dirac_sequence.specs.declared.sequence.Sequence.{Sequence}
 use Rattle.dirac_sequence.specs.Grammar.{sequence_read}
 use Rattle.dirac_units.specs.declared.unit_place.UnitPlace.{UnitPlace}
 use Rattle.dirac_units.specs.Cut.{UnitText, after, start}
-use Rattle.dirac_units.specs.Info.{fields_are_read, is_picture}
+use Rattle.dirac_units.specs.Info.{fields_are_read}
 use Rattle.dirac_refs.specs.declared.waiting.Waiting.{Waiting}
 use Rattle.dirac_refs.specs.Delivery.{Leaving, delivered, flushed, pushed_all}
 use Rattle.dirac_picture.specs.declared.coded.CodedPicture.{CodedPicture}
@@ -21,14 +20,14 @@ use Rattle.dirac_plan_laws.proofs.Each.{each_append}
 use Rattle.dirac_decode.specs.declared.opened.Opened.{Opened}
 use Rattle.dirac_decode.specs.Content.{rebuilt}
 use Rattle.dirac_decode.specs.Sequences.{IsBetween}
-use Rattle.dirac_decode.specs.Shown.{Outcome, follows, outcome, with_front}
-use Rattle.dirac_decode.specs.StreamState.{StreamState, StreamStep, begun, content, ended, first_or, header_step, in_unit, is_same, made, opening, passed, picture_step, shows, staying, unit_step}
+use Rattle.dirac_decode.specs.Shown.{Outcome, follows, outcome}
+use Rattle.dirac_decode.specs.StreamState.{StreamState, StreamStep, begun, content, ended, first_or, header_step, is_same, made, opening, passed, picture_step, shows, staying, unit_step}
 use Rattle.dirac_decode.proofs.Flushing.{pushed_append}
 use Rattle.dirac_edit_laws.specs.Laws.{UnitsShowTheirSequences}
 use Rattle.dirac_edit_laws.specs.Rebuilt.{AreRead, IsRead, RebuiltText, all_shown, list_behind, picture_in, rebuilt_behind, rebuilt_from, rebuilt_of, rebuilt_text, shown_of, waiting_from, with_keys}
 use Rattle.dirac_edit_laws.specs.Texts.{PictureText, SequenceText, closed_off, opened_by, picture_text, points_with, sequences_from, with_picture}
 use Rattle.dirac_edit_laws.proofs.Closed.{one_rebuilt}
-use Rattle.dirac_edit_laws.proofs.UnitKinds.{KindOf, behind_end, behind_header, behind_other, behind_picture, kind_of, of_end, of_header, of_other, of_picture}
+use Rattle.dirac_edit_laws.proofs.UnitKinds.{behind_end, behind_header, behind_other, behind_picture, kind_of, of_end, of_header, of_other, of_picture}
 
 -- ---- pictures one after another
 

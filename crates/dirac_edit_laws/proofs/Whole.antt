@@ -1,24 +1,24 @@
 -- The cut of a stream shows the part's pictures as the whole stream rebuilds them.
-use Rattle.std.proofs.Common.{◌≡◌, ◌==◌, ◌<◌, ◌≤◌, ◌+◌, ◌^◌, ◌⊎◌, inl, inr, ◌||◌, if◌then◌else◌, Bool, true, false, ℕ, suc, List, [], ◌∷◌, ◌++◌, length, map, Option, None, Some, nat_lt, nat_le, refl, sym, ◌∙◌, ap, ap₂, subst, arith, length-append}
-use Rattle.std.specs.List.{AllByRecursion, filter, flat_map}
+use Rattle.std.proofs.Common.{◌≡◌, ◌==◌, ◌<◌, ◌≤◌, ◌+◌, inl, inr, ◌||◌, if◌then◌else◌, Bool, true, false, ℕ, suc, List, [], ◌∷◌, ◌++◌, length, map, Option, None, Some, nat_lt, nat_le, refl, sym, ◌∙◌, ap, subst, arith, length-append}
+use Rattle.std.specs.List.{AllByRecursion, filter}
 use Rattle.std.proofs.lemmas.Bool.{cases_Bool, leb-false, leb-true, lt-ltb, or_left, or_parts}
 use Rattle.std.proofs.lemmas.List.{map-append}
 use Rattle.std.proofs.lemmas.List.Elements.{filter-append}
 use Rattle.dirac_types.specs.declared.picture.Picture.{Picture}
 use Rattle.dirac_units.specs.declared.unit_place.UnitPlace.{UnitPlace}
 use Rattle.dirac_units.specs.Codes.{is_intra}
-use Rattle.dirac_units.specs.Cut.{IsCut, UnitText, after, start}
+use Rattle.dirac_units.specs.Cut.{UnitText, after, start}
 use Rattle.dirac_units.specs.Info.{is_picture}
 use Rattle.dirac_units.specs.Writing.{IsReadAsWritten}
-use Rattle.dirac_decode.specs.Shown.{Outcome, outcome}
+use Rattle.dirac_decode.specs.Shown.{outcome}
 use Rattle.dirac_decode.specs.StreamState.{StreamState, begun}
-use Rattle.dirac_edit_laws.specs.Cut.{cut_bytes, end_point, is_between, open_cut, part_of, part_shown, restricted, wrong_end, wrong_point}
-use Rattle.dirac_edit_laws.specs.Laws.{CutsShowTheirParts, IsFaultless, ShowsJust}
+use Rattle.dirac_edit_laws.specs.Cut.{end_point, is_between, part_of, part_shown, restricted, wrong_end, wrong_point}
+use Rattle.dirac_edit_laws.specs.Laws.{CutsShowTheirParts, ShowsJust}
 use Rattle.dirac_edit_laws.specs.Rebuilt.{IsRead, all_shown}
 use Rattle.dirac_edit_laws.specs.Texts.{PictureText, SequenceText, closed_off, opened_by, picture_text, points_of, points_with, sequences, sequences_from, with_picture, with_pictures}
 use Rattle.dirac_edit_laws.specs.Units.{sequences_bytes, sequences_units}
 use Rattle.dirac_edit_laws.proofs.Cutting.{FitsOpen, FitsPicture, FitsSequence, sequences_cut, texts_fit, units_fit}
-use Rattle.dirac_edit_laws.proofs.UnitKinds.{KindOf, behind_end, behind_header, behind_other, behind_picture, kind_of, of_end, of_header, of_other, of_picture}
+use Rattle.dirac_edit_laws.proofs.UnitKinds.{behind_end, behind_header, behind_other, behind_picture, kind_of, of_end, of_header, of_other, of_picture}
 use Rattle.dirac_edit_laws.proofs.Parts.{RisesOpen, all_kept, same_with_pictures, texts_rise}
 use Rattle.dirac_edit_laws.proofs.Showing.{Shows, sequences_shown}
 use Rattle.dirac_edit_laws.proofs.Walking.{IsAt, IsOpen, at_start, pass_end, pass_header, pass_open, pass_other, pass_picture, units_shown}

@@ -50,7 +50,8 @@ part_shown_of a b s = in_order (map picture_in (part_rebuilt a b s))
 abbrev pub part_shown : List UnitText → ℕ → ℕ → List Picture
 part_shown units a b = flat_map (part_shown_of a b) (sequences units)
 
--- the unit of the first picture that has a reference which isn't in the list of those before it; these are listed at first
+-- the unit of the first picture that has a reference which isn't in the list of those before it, with these listed at
+-- first
 unfoldable pub open_from : List Picture → List RebuiltText → Option ℕ
 open_from list [] = None
 open_from list (r ∷ rebuilt) =

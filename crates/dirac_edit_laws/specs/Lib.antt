@@ -1,5 +1,6 @@
 pub mod Alike
 pub mod Cut
+pub mod Encoded
 pub mod Joined
 pub mod Later
 pub mod Laws

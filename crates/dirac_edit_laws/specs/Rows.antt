@@ -22,7 +22,8 @@ abbrev pub TheFirstPointIsCut : Type 0
 TheFirstPointIsCut =
     (h p q r : List ℕ)
     → cut_bytes (two_points h p q r) 0 1
-    ≡ (unit 0x00 0 h ++ (unit 0x0C (13 + length h) p ++ (unit 0x09 (13 + length p) q ++ end_unit (13 + length q)))) ++ []
+    ≡ (unit 0x00 0 h ++ (unit 0x0C (13 + length h) p ++ (unit 0x09 (13 + length p) q
+    ++ end_unit (13 + length q)))) ++ []
 
 abbrev pub TheLastPointIsCut : Type 0
 TheLastPointIsCut =

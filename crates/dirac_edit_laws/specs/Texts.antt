@@ -1,13 +1,13 @@
 -- A stream seen by sequences: the header of each, its pictures, and the point that each picture stands behind.
-use Rattle.std.specs.Prelude.{ℕ, suc, ◌+◌, ◌==◌, nat_lt, if◌then◌else◌, List, [], ◌∷◌, ◌++◌, length, Option, None, Some}
+use Rattle.std.specs.Prelude.{ℕ, suc, ◌==◌, nat_lt, if◌then◌else◌, List, [], ◌∷◌, ◌++◌, length, Option, None, Some}
 use Rattle.std.specs.List.{filter}
 use Rattle.dirac_units.specs.declared.codes.TheConstants.{END_OF_SEQUENCE, SEQUENCE_HEADER}
 use Rattle.dirac_units.specs.Codes.{is_intra}
 use Rattle.dirac_units.specs.Cut.{UnitText}
 use Rattle.dirac_units.specs.Info.{is_picture}
 
--- a picture's unit: how many units stand before it in the stream, how many points there are up to it, itself among them,
--- its parse code and its payload
+-- a picture's unit: how many units stand before it in the stream, how many points there are up to it, itself among
+-- them, its parse code and its payload
 pub record PictureText : Type 0 where
   pub index : ℕ
   pub points : ℕ

@@ -1,12 +1,15 @@
 //! What holds of all parts and of all joined sequences, as the contracts of functions that do nothing.
 
 ghost use Rattle.dirac_edit_laws.specs.Alike.{ClosedPicturesAreAlike, PicturesOfPartsAreOfTheWhole};
+ghost use Rattle.dirac_edit_laws.specs.Encoded.{EncodedCutsShowTheirGroups};
 ghost use Rattle.dirac_edit_laws.specs.Laws.{ClosedPartsShowTheWhole, CutsShowTheirParts, JoinedStreamsShowTheSame, PartsBeginAnywhere, UnitsShowTheirSequences};
 ghost use Rattle.dirac_edit_laws.specs.Later.{GreaterKeysLeaveLater};
 ghost use Rattle.dirac_edit_laws.specs.Numbers.{NumbersHaveTheirKeys};
 ghost use Rattle.dirac_edit_laws.specs.Restricted.{PartsKeepTheirLists};
 ghost use Rattle.dirac_edit_laws.specs.Rows.{AHeaderIsJoined, AnEndIsJoined, GreyIsCut, GreyIsJoined, TheFirstPointIsCut, TheLastPointIsCut, TheSecondIsRenumbered, TwoPointsStand};
 
+use dirac_plan_laws::plans_can_be_coded;
+use dirac_stream::streams_show_their_pictures;
 use dirac_units::infos_are_read_as_written;
 
 /// The reference list of a part is the list of the whole, restricted to the part.
@@ -69,4 +72,13 @@ pub fn joined_streams_show_the_same()
     ensures { JoinedStreamsShowTheSame }
 {
     infos_are_read_as_written();
+}
+
+/// The cut of the encoder's stream from one group to another shows the reconstructions of these groups.
+pub fn encoded_cuts_show_their_groups()
+    ensures { EncodedCutsShowTheirGroups }
+{
+    infos_are_read_as_written();
+    plans_can_be_coded();
+    streams_show_their_pictures();
 }

@@ -87,7 +87,7 @@ sum_group f s len first some =
     let both = sum_ranges f first 1 (len - 1) (first + 1) len refl (omega arith) in
     omega (arith, steps.1)
 
-sum_groups : (f : ℕ → ℕ) (s : Settings) (n i m : ℕ) → 0 < s.gop → i + m ≤ group_count s n
+pub sum_groups : (f : ℕ → ℕ) (s : Settings) (n i m : ℕ) → 0 < s.gop → i + m ≤ group_count s n
     → sum_by (of_number f) (flat_map (group_at s n) (range_with_len i m)) ≡ sum_by f (range_with_len (i * s.gop) (min n ((i + m) * s.gop) - i * s.gop))
 sum_groups f s n i zero some h = sym (sum_none f (i * s.gop) (min n ((i + 0) * s.gop) - i * s.gop) (omega arith))
 sum_groups f s n i (suc m) some h =

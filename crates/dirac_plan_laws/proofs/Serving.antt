@@ -15,7 +15,7 @@ use Rattle.dirac_plan_laws.specs.References.{AreFound, AreListed, ArePlanned, Ar
 use Rattle.dirac_plan_laws.proofs.Listing.{EndsWith, anything, ends_committed, found, has, has_first, has_later, keeps, leaves, left_numbers, other_numbers}
 
 -- these planned pictures are served, and what holds of the list then
-abbrev ServedThen : List Picture → List Planned → (List Picture → Type 0) → Type 0
+abbrev pub ServedThen : List Picture → List Planned → (List Picture → Type 0) → Type 0
 ServedThen list [] K = K list
 ServedThen list (p ∷ planned) K =
     AreListed list p × ((coded : Picture) → coded.number ≡ p.number → ServedThen (list_with list p coded) planned K)
@@ -24,7 +24,7 @@ served_append : (xs ys : List Planned) (list : List Picture) (K : List Picture �
 served_append [] ys list K h = h
 served_append (x ∷ xs) ys list K h = (h.0, λ coded e. served_append xs ys (list_with list x coded) K (h.1 coded e))
 
-served_all : (xs : List Planned) (list : List Picture) → ServedThen list xs (λ _. ⊤) → AreServed list xs
+pub served_all : (xs : List Planned) (list : List Picture) → ServedThen list xs (λ _. ⊤) → AreServed list xs
 served_all [] list h = tt
 served_all (x ∷ xs) list h = (h.0, λ coded e. served_all xs (list_with list x coded) (h.1 coded e))
 
@@ -160,7 +160,7 @@ served_group s len first list K more = (
       served_steps s len first (anchors_behind s len) 0 l K (omega arith) now more,
 )
 
-served_groups : (s : Settings) (n m i : ℕ) (list : List Picture) → ServedThen list (flat_map (group_at s n) (range_with_len i m)) (λ _. ⊤)
+pub served_groups : (s : Settings) (n m i : ℕ) (list : List Picture) → ServedThen list (flat_map (group_at s n) (range_with_len i m)) (λ _. ⊤)
 served_groups s n zero i list = tt
 served_groups s n (suc m) i list =
     let rest = flat_map (group_at s n) (range_with_len (i + 1) m) in
