@@ -1,6 +1,7 @@
 -- The slices of each plane stand one behind another among those of a picture.
-use Rattle.std.proofs.Common.{◌≡◌, Bool, ℕ, ℤ, zero, suc, true, false, ◌+◌, ◌-◌, ◌*◌, ◌/◌, ◌%◌, ◌<◌, ◌≤◌, nat_lt, if◌then◌else◌, List, Option, None, Some, ap, subst, sym, ◌∙◌, arith, refl, length}
+use Rattle.std.proofs.Common.{◌≡◌, Bool, ℕ, ℤ, pos, zero, suc, true, false, ◌+◌, ◌-◌, ◌*◌, ◌/◌, ◌%◌, ◌<◌, ◌≤◌, nat_lt, if◌then◌else◌, List, Option, None, Some, ap, subst, sym, ◌∙◌, arith, refl, length}
 use Rattle.std.proofs.lemmas.Bool.Decides.{nat_tests}
+use Rattle.std.proofs.lemmas.List.{length-replicate}
 use Rattle.std.proofs.lemmas.List.FromFn.{length-map-range_with_len}
 use Rattle.dirac_types.specs.declared.formats.Component.{Component}
 use Rattle.dirac_types.specs.declared.formats.Component.TheVariants as component
@@ -93,3 +94,10 @@ pub residual_size : (s : Sequence) (kind : Kind) (c : Component) (coded : Option
     → (t.width ≡ width_of s c) × (t.height ≡ height_of s c)
 residual_size s kind c None t is = (ap (λ (x : Table). x.width) is, ap (λ (x : Table). x.height) is)
 residual_size s kind c (Some r) t is = (ap (λ (x : Table). x.width) is, ap (λ (x : Table). x.height) is)
+
+-- and as many values
+pub residual_length : (s : Sequence) (kind : Kind) (c : Component) (coded : Option CodedResidual) (t : Table) → t ≡ residual_among s kind c coded
+    → length t.values ≡ width_of s c * height_of s c
+unfolding filled
+residual_length s kind c None t is = ap (λ (x : Table). length x.values) is ∙ length-replicate (width_of s c * height_of s c) (pos 0)
+residual_length s kind c (Some r) t is = ap (λ (x : Table). length x.values) is ∙ length-map-range_with_len _ 0 (width_of s c * height_of s c)

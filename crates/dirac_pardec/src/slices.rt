@@ -63,19 +63,6 @@ fn residual_at<'a>(inter: &Inter<'_>, residuals: &'a [Residual], plane: u32) -> 
     &residuals[plane as usize]
 }
 
-/// Each value of a residual with its prediction, clipped.
-fn sums(alloc: Global, residual: &Residual, predicted: &[i32]) -> Result<Plane, NoMemory>
-    requires across { residual.now.width ≤ LARGEST_TABLE_SIDE }
-    requires down { residual.now.height ≤ LARGEST_TABLE_SIDE }
-    requires predicted { length predicted.now ≡ residual.now.width * residual.now.height }
-    requires bound { All (λ v. unsigned_abs v ≤ 2 ^ 108) residual.now.values }
-    ensures { IfOk result (λ t. t ≡ clipped (with_prediction residual.now predicted.now)) }
-{
-    // Read for what it tells: how many values the residual has.
-    let _height = residual.height();
-    clipped_sum(alloc, residual, predicted)
-}
-
 /// The samples of a plane of an inter picture: each residual with its prediction, clipped.
 pub(crate) fn inter_samples(
     alloc: Global,
@@ -95,5 +82,5 @@ pub(crate) fn inter_samples(
 {
     let predicted = joined_plane(alloc, inter, slices, plane)?;
     let residual = residual_at(inter, residuals, plane);
-    sums(alloc, residual, predicted.as_slice())
+    clipped_sum(alloc, residual, predicted.as_slice())
 }
