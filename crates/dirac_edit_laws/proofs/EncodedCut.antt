@@ -33,12 +33,13 @@ use Rattle.dirac_plan_laws.specs.Headers.{IsPictureCode}
 use Rattle.dirac_plan_laws.specs.Order.{as_waiting}
 use Rattle.dirac_plan_laws.specs.Plans.{PlansCanBeCoded}
 use Rattle.dirac_plan_laws.proofs.Each.{each_append}
-use Rattle.dirac_stream.specs.Coding.{Made, coded_from, coding, job_of, made, pushed, reconstructions, refs_after, shown_of}
+use Rattle.dirac_stream.specs.Coding.{Made, coded_under, coding, job_of, made, own_index, pushed, reconstructions, refs_after, shown_of}
 use Rattle.dirac_stream.specs.Laws.{AreMade, AreSources, Begins, JobsAreRead}
 use Rattle.dirac_stream.specs.Payload.{payload_of, with_picture as picture_bits}
 use Rattle.dirac_stream.specs.Stream.{end_text, header_text, picture_length, picture_text as made_unit, stream_units, units_from, units_in}
 use Rattle.dirac_stream.proofs.Headers.{header_read, header_short}
-use Rattle.dirac_stream.proofs.Sourcing.{sources_leave, sources_made}
+use Rattle.dirac_stream.proofs.Indices.{own_gives, sources_under}
+use Rattle.dirac_stream.proofs.Sourcing.{jobs_read_under, sources_leave, sources_made}
 use Rattle.dirac_edit_laws.specs.Cut.{cut_bytes, first_of, open_among, open_cut, open_from, part_rebuilt, part_shown_of, restricted}
 use Rattle.dirac_edit_laws.specs.Encoded.{EncodedCutsShowTheirGroups, of_groups}
 use Rattle.dirac_edit_laws.specs.Laws.{ShowsJust}
@@ -47,7 +48,7 @@ use Rattle.dirac_edit_laws.specs.Rebuilt.{IsRead, RebuiltText, all_shown, in_ord
 use Rattle.dirac_edit_laws.specs.Texts.{PictureText, SequenceText, picture_text, points_with, sequences, sequences_from, with_pictures}
 use Rattle.dirac_edit_laws.specs.Units.{sequences_bytes}
 use Rattle.dirac_edit_laws.proofs.Cutting.{Fits, FitsPicture, FitsSequence}
-use Rattle.dirac_edit_laws.proofs.EncodedMade.{BeginsIntra, all_rebuilt, are_rebuilt, before_part, behind_point, coded_append, from_point, index_behind, index_up, made_begins, made_points, pictures_made, points_behind, points_up, rebuilt_append, refs_behind, served_closed, text_made, texts_made}
+use Rattle.dirac_edit_laws.proofs.EncodedMade.{BeginsIntra, coded_from, all_rebuilt, are_rebuilt, before_part, behind_point, coded_append, from_point, index_behind, index_up, made_begins, made_points, pictures_made, points_behind, points_up, rebuilt_append, refs_behind, served_closed, text_made, texts_made}
 use Rattle.dirac_edit_laws.proofs.Grouping.{LiesIn, groups_at, groups_begin, groups_lie, groups_served, length_groups, points_groups}
 use Rattle.dirac_edit_laws.proofs.Joining.{keys_from}
 use Rattle.dirac_edit_laws.proofs.Keys.{AreAtLeast, AreAtMost, key_in, not_before}
@@ -172,7 +173,7 @@ abbrev pub AreNumbers : ℕ → ℕ → List Picture → Type 0
 AreNumbers low high ps = AllByRecursion (λ (p : Picture). (low ≤ p.number) × (p.number < high)) ps
 
 numbers_lie : (t : Settings) (pictures refs : List Picture) (qs : List Planned) (first count : ℕ) → AllByRecursion (LiesIn first count) qs → AreNumbers first (first + count) (map shown_of (coded_from t refs (map (job_of pictures) qs)))
-unfolding coded_from
+unfolding coded_under
 numbers_lie t pictures refs [] first count all = tt
 numbers_lie t pictures refs (q ∷ qs) first count all = ((all.0.low, all.0.high), numbers_lie t pictures (refs_after refs (made t refs (job_of pictures q))) qs first count all.1)
 
@@ -305,7 +306,7 @@ bytes_small (suc n) bits = (byte_small bits, bytes_small n (drop 8 bits))
 -- the units of coded pictures fit
 texts_fit_made : (t : Settings) (pictures refs : List Picture) (qs : List Planned) (index points : ℕ) → AllByRecursion (λ m. picture_length m < 2 ^ 32) (coded_from t refs (map (job_of pictures) qs)) → Codes (coded_from t refs (map (job_of pictures) qs))
     → AllByRecursion FitsPicture (texts_made index points (coded_from t refs (map (job_of pictures) qs)))
-unfolding coded_from payload_of
+unfolding coded_under payload_of
 texts_fit_made t pictures refs [] index points short codes = tt
 texts_fit_made t pictures refs (q ∷ qs) index points short codes =
     let m = made t refs (job_of pictures q) in
@@ -341,7 +342,7 @@ parts_leave xs ys zs low high most first both second third small under under' =
     ∙ ap (λ l. flush (w xs) ++ l) (ap flush (map-append as_waiting ys zs) ∙ later_leave_later (w ys) (w zs) two)
 
 length_shown : (t : Settings) (pictures refs : List Picture) (qs : List Planned) → length (map shown_of (coded_from t refs (map (job_of pictures) qs))) ≡ length qs
-unfolding coded_from
+unfolding coded_under
 length_shown t pictures refs [] = refl
 length_shown t pictures refs (q ∷ qs) = ap suc (length_shown t pictures (refs_after refs (made t refs (job_of pictures q))) qs)
 
@@ -379,7 +380,7 @@ top_is : (first n end : ℕ) → first ≤ n → first ≤ end → first + (min 
 top_is first n end low up = omega arith
 
 last_part : (t : Settings) (pictures refs : List Picture) (i e : ℕ) → 0 < t.gop → i + e ≤ group_count t (length pictures) → AreNumbers (min (length pictures) (i * t.gop)) (length pictures) (shown_groups t pictures refs i e)
-unfolding coded_from
+unfolding coded_under
 last_part t pictures refs i zero some h = tt
 last_part t pictures refs i (suc e) some h =
     let n = length pictures in
@@ -423,13 +424,13 @@ reconstructions_split plans t pictures a m e accepted few some is low =
     let over : a * t.gop ≤ high = omega arith in
     let within : high ≤ n = omega arith in
     let both = each_append (λ (p : Picture). (a * t.gop ≤ p.number) × (p.number < n)) ys zs (numbers_within ys (a * t.gop) high (a * t.gop) n (omega arith) within parts.second) (numbers_within zs high n (a * t.gop) n over (omega arith) parts.third) in
-    sym (sources_leave plans t pictures accepted few) ∙ ap flush (as_pushed (coding t pictures) ∙ ap (map as_waiting) all)
+    sym (sources_leave plans own_index t pictures accepted few) ∙ ap flush (as_pushed (coding t pictures) ∙ ap (map as_waiting) all)
     ∙ parts_leave xs ys zs (a * t.gop) high n parts.first both parts.second parts.third (omega (arith, few)) low within
 
 -- those of the groups
 groups_slice : PlansCanBeCoded → (t : Settings) (pictures : List Picture) (a m e : ℕ) → IsAccepted t → length pictures < 2 ^ 31 → 0 < t.gop → group_count t (length pictures) ≡ a + (m + e) → a * t.gop ≤ length pictures
     → of_groups t a (a + m) (reconstructions t pictures) ≡ flush (map as_waiting (shown_groups t pictures (first_refs t pictures a) a m))
-unfolding coded_from
+unfolding coded_under
 groups_slice plans t pictures a m zero accepted few some is low =
     let n = length pictures in
     let gop = t.gop in
@@ -495,14 +496,14 @@ part_stands written units T a b rs pictures one read fits rebuilt many closed sh
 
 encoded_by : IsReadAsWritten → PlansCanBeCoded → JobsAreRead → (t : Settings) (pictures : List Picture) (a m e : ℕ) → AreSources t pictures → group_count t (length pictures) ≡ a + (suc m + e)
     → (open_cut (stream_units t pictures) a (a + suc m) ≡ None) × ShowsJust (cut_bytes (stream_units t pictures) a (a + suc m)) (of_groups t a (a + suc m) (reconstructions t pictures))
-unfolding coded_from
+unfolding coded_under
 encoded_by written plans law t pictures a m e is count =
     let n = length pictures in
     let some : 0 < t.gop = omega (arith, (paced t is.accepted).gop_least) in
     let inside : a * t.gop < n = uncovered n t.gop a some (omega (arith, count)) in
     let low : a * t.gop ≤ n = omega arith in
     let ms = coding t pictures in
-    let made = sources_made plans law t pictures is in
+    let made = sources_made plans (jobs_read_under law) own_index own_gives t pictures (sources_under t pictures is) in
     let codes = codes_of t ms [] made.0 in
     let T = stream_text t ms in
     let long : length ms ≡ n = sym (length-map ms shown_of) ∙ length_shown t pictures [] (plan n t) ∙ length_plan n t some in

@@ -9,7 +9,7 @@ use Rattle.dirac_refs.specs.References.{as_reference, committed}
 use Rattle.dirac_decode.specs.Content.{rebuilt}
 use Rattle.dirac_plan.specs.declared.planned.Planned.{Planned}
 use Rattle.dirac_plan_laws.specs.References.{AreServed}
-use Rattle.dirac_stream.specs.Coding.{Made, coded_from, job_of, made, refs_after, shown_of}
+use Rattle.dirac_stream.specs.Coding.{Job, Made, coded_under, job_of, made, own_index, refs_after, shown_of}
 use Rattle.dirac_stream.specs.Laws.{AreMade}
 use Rattle.dirac_edit_laws.specs.Cut.{is_between, open_from}
 use Rattle.dirac_edit_laws.specs.Rebuilt.{AreRead, RebuiltText, list_behind, picture_in, rebuilt_from}
@@ -17,6 +17,10 @@ use Rattle.dirac_edit_laws.specs.Texts.{PictureText}
 use Rattle.dirac_edit_laws.proofs.Closed.{one_rebuilt}
 use Rattle.dirac_edit_laws.proofs.Parts.{filter_in, filter_out, is_among}
 use Rattle.dirac_edit_laws.proofs.Grouping.{BeginIntra, planned_points, planned_up}
+
+-- what planned sources become one after another with the settings' index, with these pictures listed before the first
+abbrev pub coded_from : Settings → List Picture → List Job → List Made
+coded_from t refs jobs = coded_under own_index t refs jobs
 
 -- a point more, and a unit more for its sequence header, before an intra picture
 abbrev pub points_up : ℕ → Made → ℕ
@@ -160,12 +164,12 @@ behind_point (m ∷ ms) a b index points more is =
 -- ---- what becomes of planned pictures
 
 pub made_points : (t : Settings) (pictures refs : List Picture) (qs : List Planned) (points : ℕ) → points_behind points (coded_from t refs (map (job_of pictures) qs)) ≡ planned_points points qs
-unfolding coded_from
+unfolding coded_under
 made_points t pictures refs [] points = refl
 made_points t pictures refs (q ∷ qs) points = made_points t pictures (refs_after refs (made t refs (job_of pictures q))) qs (planned_up points q)
 
 pub made_begins : (t : Settings) (pictures refs : List Picture) (qs : List Planned) → BeginIntra qs → BeginsIntra (coded_from t refs (map (job_of pictures) qs))
-unfolding coded_from BeginIntra BeginsIntra
+unfolding coded_under BeginIntra BeginsIntra
 made_begins t pictures refs [] is = tt
 made_begins t pictures refs (q ∷ qs) is = is
 
@@ -176,13 +180,13 @@ refs_behind t pictures refs (q ∷ qs) = refs_behind t pictures (refs_after refs
 
 pub coded_append : (t : Settings) (pictures refs : List Picture) (xs ys : List Planned)
     → coded_from t refs (map (job_of pictures) (xs ++ ys)) ≡ coded_from t refs (map (job_of pictures) xs) ++ coded_from t (refs_behind t pictures refs xs) (map (job_of pictures) ys)
-unfolding coded_from
+unfolding coded_under
 coded_append t pictures refs [] ys = refl
 coded_append t pictures refs (x ∷ xs) ys = ap (λ ms. made t refs (job_of pictures x) ∷ ms) (coded_append t pictures (refs_after refs (made t refs (job_of pictures x))) xs ys)
 
 -- served pictures are closed, whatever they were coded with
 pub served_closed : (t : Settings) (pictures : List Picture) (qs : List Planned) (refs list : List Picture) (index points : ℕ) → AreServed list qs → open_from list (all_rebuilt index points (coded_from t refs (map (job_of pictures) qs))) ≡ None
-unfolding coded_from open_from
+unfolding coded_under open_from
 served_closed t pictures [] refs list index points served = refl
 served_closed t pictures (q ∷ qs) refs list index points served =
     let m = made t refs (job_of pictures q) in

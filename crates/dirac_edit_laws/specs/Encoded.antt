@@ -1,4 +1,4 @@
--- The cut of a stream that was encoded: its points are the groups of its plan.
+-- The cut of a stream that was encoded, from one group of its plan up to another.
 use Rattle.std.specs.Prelude.{◌≡◌, ℕ, ◌-◌, ◌*◌, ◌<◌, ◌≤◌, List, length, take, drop, None}
 use Rattle.dirac_types.specs.declared.picture.Picture.{Picture}
 use Rattle.dirac_types.specs.declared.settings.Settings.{Settings}

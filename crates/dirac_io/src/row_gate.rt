@@ -3,8 +3,7 @@ use std::marker::Sync;
 /// What a worker passes before it works on a row of a map of rows; what a row stands for is told by the call that maps.
 /// It answers nothing and changes no result: a test may hold a worker there until another one comes.
 pub trait RowGate: Sync {
-    /// Called once for each row of each search stage, before that row is searched. Rows are rows of
-    /// superblocks, from 0 at the top.
+    /// Called once for each row of a map of rows, before that row is worked on. Rows count from 0.
     fn enter(&self, row: u32);
 }
 

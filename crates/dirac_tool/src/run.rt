@@ -3,6 +3,7 @@ ghost use Rattle.std.specs.Io.KnownBytes.{IsAtEnd};
 ghost use Rattle.dirac_io.specs.Faults.{Rose};
 ghost use Rattle.dirac_types.specs.declared.settings.BadSetting.{BadSetting};
 ghost use Rattle.dirac_types.specs.declared.settings.Settings.{Settings};
+ghost use Rattle.dirac_tool.specs.Cutting.{IfUnwrittenBy};
 ghost use Rattle.dirac_tool.specs.Words.{command_read};
 ghost use Rattle.dirac_tool.specs.Running.{RunsTo, bad_setting};
 
@@ -50,6 +51,9 @@ pub fn run<R: Threads + Sync, S: Source, K: Sink, N: Sink, G: RowGate>(
         → (source.new ≡ source.old) × (side.new ≡ side.old) }
     ensures cut_side { (from : ℕ) (to : Option ℕ) → command_read words.now ≡ Ok (Command.Cut from to)
         → side.new ≡ side.old }
+    // What is refused is refused before anything is written, also where the sink tells no bytes.
+    ensures cut_untouched { (from : ℕ) (to : Option ℕ) → command_read words.now ≡ Ok (Command.Cut from to)
+        → IfUnwrittenBy result (out.new ≡ out.old) }
 
     // A fault of the outside comes only where its count rose in this call.
     ensures read { result ≡ Ended.ReadFault → Rose (S.faults source.old) (S.faults source.new) }

@@ -7,6 +7,7 @@ fn is_shared<T: Send + Sync>() {}
 fn are_shared() {
     is_shared::<crate::Plane>();
     is_shared::<crate::Wide>();
+    is_shared::<crate::Narrow>();
     is_shared::<crate::BandTable>();
     is_shared::<crate::Picture>();
     is_shared::<crate::Fault>();

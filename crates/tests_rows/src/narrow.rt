@@ -24,7 +24,7 @@ fn tables_of_32_bits(rt: HostRuntime) -> Result<(), NoMemory> {
     Ok(())
 }
 
-/// A plane of 2 by 2, and what each wavelet makes of it: the rows 1, -2 and 0, 0.
+/// A plane of 2 by 2, and what wavelet 3 makes of it: the rows 1, -2 and 0, 0.
 #[test]
 fn levels_of_32_bits(rt: HostRuntime) -> Result<(), NoMemory> {
     let mut plane = Narrow::try_new(rt.alloc(), 2, 2, 0)?;
