@@ -1,36 +1,18 @@
 -- A picture at another quantiser index.
-use Rattle.std.proofs.Common.{◌≡◌, ℕ, ◌+◌, ◌<◌, ◌≤◌, if◌then◌else◌, Bool, true, false, List, length, refl, sym, ap, ◌∙◌, subst, arith, Option, None, Some, inl, inr}
-use Rattle.std.specs.Prelude.{◌⊎◌, is_none}
+use Rattle.std.proofs.Common.{◌≡◌, ℕ, ◌+◌, ◌<◌, ◌≤◌, if◌then◌else◌, Bool, true, false, List, refl, ap, ◌∙◌, subst, arith, Option, None, Some, inl, inr}
 use Rattle.std.proofs.lemmas.Bool.{cases_lt}
-use Rattle.std.specs.Option.{ForSome}
-use Rattle.dirac_types.specs.Limits.{IsIndex}
 use Rattle.dirac_types.specs.declared.picture.Picture.{Picture}
 use Rattle.dirac_types.specs.declared.settings.Settings.{Settings}
 use Rattle.dirac_types.specs.Settings.{IsAccepted}
-use Rattle.dirac_sequence.specs.Written.{sequence_of}
 use Rattle.dirac_blocks.specs.Tables.{BlockTable}
-use Rattle.dirac_picture.specs.declared.coded.CodedMotion.{CodedMotion}
 use Rattle.dirac_picture.specs.Grammar.{is_intra}
 use Rattle.dirac_plan.specs.declared.planned.Planned.{Planned}
-use Rattle.dirac_choose.specs.Chosen.{IsChosen, IsChosenAtEachIndex, at_index, chosen, chosen_unless_intra}
-use Rattle.dirac_code.specs.Asked.{HasBlocks, coded_by}
+use Rattle.dirac_choose.specs.Chosen.{at_index, chosen, chosen_unless_intra}
+use Rattle.dirac_code.specs.Asked.{coded_by}
 use Rattle.dirac_stream.specs.Coding.{Job, made, made_under}
 use Rattle.dirac_stream.specs.Fit.{IsLeast, fit, length_at}
 use Rattle.dirac_stream.proofs.Fitting.{fit_is}
 use Rattle.dirac_stream.specs.Coded.{coded_of, coded_with, motion_among, motion_with}
-
--- a chosen table fits its picture at each index
-pub chosen_with : (t : Settings) (index code : ℕ) (b : BlockTable) → IsChosen t code b → IsChosen (at_index t index) code b
-unfolding sequence_of
-chosen_with t index code b is = record { across = is.across; down = is.down; refs = is.refs; table = is.table; dcs = is.dcs }
-
-pub blocks_with : (t : Settings) (index code : ℕ) (o : Option BlockTable) → HasBlocks t code o → HasBlocks (at_index t index) code o
-blocks_with t index code None is = is
-blocks_with t index code (Some b) is = (is.0, chosen_with t index code b is.1)
-
-pub has_blocks : (t : Settings) (code : ℕ) (o : Option BlockTable) → ForSome o (IsChosen t code) → is_none o ≡ is_intra code → HasBlocks t code o
-has_blocks t code None fits none = sym none
-has_blocks t code (Some b) fits none = (sym none, fits b refl)
 
 -- the coded picture by the blocks that are chosen
 motion_by : (t : Settings) (intra : Bool) (b : BlockTable) → motion_among t (if intra then None else Some b) ≡ (if intra then None else Some (motion_with t b))

@@ -7,19 +7,16 @@ use Rattle.std.proofs.lemmas.Bool.{le-leb, lt-leb}
 use Rattle.dirac_types.specs.declared.picture.Picture.{Picture}
 use Rattle.dirac_types.specs.declared.settings.Settings.{Settings}
 use Rattle.dirac_io.specs.Writing.{AppendsFront}
-use Rattle.dirac_sequence.specs.Written.{sequence_of, sequence_payload}
+use Rattle.dirac_sequence.specs.Written.{sequence_payload}
 use Rattle.dirac_picture.specs.Grammar.{is_intra}
 use Rattle.dirac_refs.specs.Delivery.{delivered}
 use Rattle.dirac_refs.specs.References.{committed}
 use Rattle.dirac_decode.proofs.Rows.{behind_front}
-use Rattle.dirac_decode.specs.Content.{rebuilt}
 use Rattle.dirac_decode.specs.StreamState.{as_reference}
 use Rattle.dirac_decode.specs.Raw.{raws}
 use Rattle.dirac_stream.specs.declared.answers.Encoded.{Encoded}
 use Rattle.dirac_stream.specs.declared.answers.Encoded.TheVariants as encoded
-use Rattle.dirac_stream.specs.Coded.{coded_of}
 use Rattle.dirac_stream.specs.Coding.{IndexRule, Job, made_under}
-use Rattle.dirac_stream.specs.Payload.{payload_of}
 use Rattle.dirac_stream.specs.Steps.{BreaksOff, IsCoded, IsFault, IsTooLong, Progress, StopsPicture}
 use Rattle.dirac_stream.specs.Stream.{header_before, length_before, picture_length, picture_unit, unit}
 use Rattle.dirac_stream.proofs.Headers.{header_few}

@@ -6,14 +6,13 @@ ghost use Rattle.dirac_types.specs.Limits.{IsIndex};
 ghost use Rattle.dirac_types.specs.Settings.{IsAccepted};
 ghost use Rattle.dirac_picture.specs.Grammar.{are_listed};
 ghost use Rattle.dirac_choose.specs.Chosen.{IsChosenAtEachIndex, at_index};
-ghost use Rattle.dirac_code.specs.Asked.{HasBlocks};
+ghost use Rattle.dirac_code.specs.Prepared.{IsPrepared, blocks_in};
 ghost use Rattle.dirac_plan_laws.specs.Headers.{IsPlanned, header_of};
 ghost use Rattle.dirac_stream.specs.Coded.{IsSource};
 ghost use Rattle.dirac_stream.specs.Coding.{made, made_under};
 ghost use Rattle.dirac_stream.specs.Fit.{IsLeast, fit, length_at};
 
-use dirac_blocks::BlockData;
-use dirac_code::{Coded, choose_blocks, code_with_blocks};
+use dirac_code::{Coded, Prepared, code_prepared, prepare_picture};
 use dirac_io::RowGate;
 use dirac_plan::Planned;
 use dirac_refs::RefBuffer;
@@ -22,23 +21,18 @@ use dirac_units::PARSE_INFO_LENGTH;
 use std::alloc::Global;
 use std::thread::Threads;
 
-/// Codes a picture with another quantiser index than the settings', an inter picture predicted by these blocks.
+/// Codes a prepared picture with this quantiser index.
 fn code_at(
     alloc: Global,
+    prepared: &Prepared,
     planned: &Planned,
     source: &Picture,
     refs: &RefBuffer,
     settings: &Settings,
-    blocks: &Option<BlockData>,
-    index: u32,
+    index: u8,
 ) -> Result<Coded, NoMemory>
-    requires accepted { IsAccepted settings.now }
-    requires listed { AllByRecursion (IsSource settings.now) refs.now }
-    requires source { IsSource settings.now source.now }
-    requires planned { IsPlanned planned.now }
-    requires found { are_listed refs.now (header_of planned.now) ≡ true }
-    requires blocks { IsChosenAtEachIndex settings.now refs.now planned.now source.now blocks.now }
-    requires fits { HasBlocks settings.now planned.now.code blocks.now }
+    requires prepared { IsPrepared settings.now refs.now planned.now source.now prepared.now }
+    requires blocks { IsChosenAtEachIndex settings.now refs.now planned.now source.now (blocks_in prepared.now) }
     requires index { IsIndex index }
     ensures payload { IfOk result (λ c. c.payload.items
         ≡ (made (at_index settings.now index) refs.now
@@ -47,31 +41,23 @@ fn code_at(
         ≡ (made (at_index settings.now index) refs.now
         (record { planned = planned.now; source = source.now })).shown) }
 {
-    let at = Settings { index, ..*settings };
-    match blocks {
-        None => code_with_blocks(alloc, planned, source, refs, &at, None),
-        Some(blocks) => code_with_blocks(alloc, planned, source, refs, &at, Some(blocks)),
-    }
+    code_prepared(alloc, prepared, planned, source, refs, settings, index)
 }
 
-/// Codes a picture, an inter picture predicted by these blocks, with the least index, from the settings' on, by which
-/// its unit fits the budget, or with the last. Lengths need not fall as the index grows, so each index is tried in turn.
+/// Codes a prepared picture with the least index, from the settings' on, by which its unit fits the budget, or with the
+/// last. Lengths need not fall as the index grows, so each index is tried in turn.
 fn fit_by(
     alloc: Global,
+    prepared: &Prepared,
     planned: &Planned,
     source: &Picture,
     refs: &RefBuffer,
     settings: &Settings,
-    blocks: &Option<BlockData>,
     budget: u32,
 ) -> Result<(Coded, u8), NoMemory>
     requires accepted { IsAccepted settings.now }
-    requires listed { AllByRecursion (IsSource settings.now) refs.now }
-    requires source { IsSource settings.now source.now }
-    requires planned { IsPlanned planned.now }
-    requires found { are_listed refs.now (header_of planned.now) ≡ true }
-    requires blocks { IsChosenAtEachIndex settings.now refs.now planned.now source.now blocks.now }
-    requires fits { HasBlocks settings.now planned.now.code blocks.now }
+    requires prepared { IsPrepared settings.now refs.now planned.now source.now prepared.now }
+    requires blocks { IsChosenAtEachIndex settings.now refs.now planned.now source.now (blocks_in prepared.now) }
     ensures least { IfOk result (λ r. IsLeast
         (length_at settings.now refs.now (record { planned = planned.now; source = source.now }))
         budget settings.now.index r.1) }
@@ -82,27 +68,20 @@ fn fit_by(
         ≡ (made (at_index settings.now r.1) refs.now
         (record { planned = planned.now; source = source.now })).shown) }
 {
-    'indices: for index in settings.index..LARGEST_INDEX {
-        let coded = code_at(alloc, planned, source, refs, settings, blocks, index)?;
+    'indices: for index in settings.index as u8..LARGEST_INDEX as u8 {
+        let coded = code_at(alloc, prepared, planned, source, refs, settings, index)?;
         if (PARSE_INFO_LENGTH + coded.payload.len()) as u64 <= u64::from(budget) {
-            return Ok((coded, index as u8));
+            return Ok((coded, index));
         }
     }
-    let coded = code_at(
-        alloc,
-        planned,
-        source,
-        refs,
-        settings,
-        blocks,
-        LARGEST_INDEX,
-    )?;
-    Ok((coded, LARGEST_INDEX as u8))
+    let last = LARGEST_INDEX as u8;
+    let coded = code_at(alloc, prepared, planned, source, refs, settings, last)?;
+    Ok((coded, last))
 }
 
 /// Codes a picture as it is planned, with the least quantiser index, from the settings' on, by which its unit, 13 bytes
 /// of parse info and its payload, has at most `budget` bytes, and with the last where there is none: its payload, the
-/// picture that decoders show for it, and the index. Blocks are chosen once for all indices.
+/// picture that decoders show for it, and the index. Blocks, prediction and analysis are made once for all indices.
 pub fn fit_picture<R: Threads + Sync, G: RowGate>(
     rt: &R,
     alloc: Global,
@@ -132,7 +111,7 @@ pub fn fit_picture<R: Threads + Sync, G: RowGate>(
         ≡ (made_under (fit budget) settings.now refs.now
         (record { planned = planned.now; source = source.now })).shown) }
 {
-    let blocks = choose_blocks(rt, alloc, planned, source, refs, settings, gate)?;
-    let fitted = fit_by(alloc, planned, source, refs, settings, &blocks, budget)?;
+    let prepared = prepare_picture(rt, alloc, planned, source, refs, settings, gate)?;
+    let fitted = fit_by(alloc, &prepared, planned, source, refs, settings, budget)?;
     Ok(fitted)
 }

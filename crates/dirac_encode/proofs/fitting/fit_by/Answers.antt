@@ -1,4 +1,4 @@
-use Rattle.std.proofs.Common.{◌+◌, ◌<◌, ◌≤◌, length, ap, refl, inr, arith}
+use Rattle.std.proofs.Common.{◌<◌, ◌≤◌, length, ap, refl, inr, arith}
 use Rattle.dirac_stream.specs.Coding.{Job}
 use Rattle.dirac_stream.specs.Fit.{length_at}
 use Rattle.dirac_stream.proofs.Coding.{codable}
@@ -21,3 +21,8 @@ returns-clause-least c =
       before = λ i after below. c.indices.invariant i after (omega (arith, c.indices-test.false, below));
       fits = inr refl;
     }
+
+pub overflow_step-index : goal.overflow_step-index
+overflow_step-index c =
+    let first : c.args.settings.now.index ≤ 99 = (codable c.args.settings.now c.requires.accepted).index in
+    omega (arith, first)

@@ -1,27 +1,13 @@
-use Rattle.dirac_code.specs.Asked.{IsAsked}
-use Rattle.dirac_code.proofs.Choices.{can_choose}
 use Rattle.dirac_stream.specs.Coding.{Job}
 use Rattle.dirac_stream.proofs.Fitting.{fit_is}
-use Rattle.dirac_encode.proofs.AtIndex.{has_blocks, payload_at_fit, shown_at_fit}
+use Rattle.dirac_encode.proofs.AtIndex.{payload_at_fit, shown_at_fit}
 use Rattle.dirac_encode.proofs.fitting.fit_picture.Goals as goal
 
-pub choose_blocks-requires-after_bounds : goal.choose_blocks-requires-after_bounds
-choose_blocks-requires-after_bounds g c κs within =
-    let asked : IsAsked c.args.settings.now c.args.refs.now c.args.planned.now c.args.source.now = record {
-      accepted = c.requires.accepted;
-      listed = c.requires.listed;
-      source = c.requires.source;
-      planned = c.requires.planned;
-      found = c.requires.found;
-    } in
-    can_choose c.args.settings.now c.args.refs.now c.args.planned.now c.args.source.now asked
+pub fit_by-requires-clause-prepared : goal.fit_by-requires-clause-prepared
+fit_by-requires-clause-prepared g c = c.in_ok-prepared.ensures.prepared
 
 pub fit_by-requires-clause-blocks : goal.fit_by-requires-clause-blocks
-fit_by-requires-clause-blocks g c = c.in_ok-blocks.ensures.without_index
-
-pub fit_by-requires-clause-fits : goal.fit_by-requires-clause-fits
-fit_by-requires-clause-fits g c =
-    has_blocks c.args.settings.now c.args.planned.now.code c.in_ok-blocks.blocks c.in_ok-blocks.ensures.fits c.in_ok-blocks.ensures.none_exactly_for_intra
+fit_by-requires-clause-blocks g c = c.in_ok-prepared.ensures.without_index
 
 pub returns-clause-index : goal.returns-clause-index
 returns-clause-index g c =
