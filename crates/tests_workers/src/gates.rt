@@ -86,7 +86,11 @@ impl HoldsEachCall {
         if self.ran_out.load(SeqCst) {
             return None;
         }
-        Some(self.entered[0].load(SeqCst).min(self.entered[1].load(SeqCst)))
+        Some(
+            self.entered[0]
+                .load(SeqCst)
+                .min(self.entered[1].load(SeqCst)),
+        )
     }
 }
 
