@@ -10,7 +10,7 @@ ghost use Rattle.dirac_choose.specs.Lent.{AreLent, IsReference, first_of, second
 use crate::lent::{Lumas, Reference, References};
 use crate::search::vectors_in;
 use dirac_blocks::BlockData;
-use dirac_decide::{RefView, decide};
+use dirac_decide::{RefView, decide_by_workers};
 use dirac_decode::named;
 use dirac_io::RowGate;
 use dirac_picture::is_intra;
@@ -42,7 +42,7 @@ fn choose_from_one<R: Threads + Sync, G: RowGate>(
         up: first.luma,
         field: &field,
     };
-    decide(alloc, source, settings, view, None)
+    decide_by_workers(rt, alloc, source, settings, view, None)
 }
 
 /// The block table of a picture with two references.
@@ -73,7 +73,7 @@ fn choose_from_two<R: Threads + Sync, G: RowGate>(
         up: second.luma,
         field: &field2,
     };
-    decide(alloc, source, settings, view1, Some(view2))
+    decide_by_workers(rt, alloc, source, settings, view1, Some(view2))
 }
 
 /// The block table of a picture with these references, whose luma is upconverted already.
@@ -119,7 +119,7 @@ fn choose_for<R: Threads + Sync, G: RowGate>(
     match named(refs, planned.ref1) {
         None => unreachable!(),
         Some(first) => {
-            let lumas = Lumas::of(alloc, first, second)?;
+            let lumas = Lumas::by_workers(rt, alloc, first, second, settings.workers)?;
             let references = lumas.lend(first, second);
             choose_from(rt, alloc, source, &references, settings, gate)
         }

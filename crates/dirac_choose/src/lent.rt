@@ -1,12 +1,14 @@
-ghost use Rattle.std.specs.Prelude.{◌≡◌, IfOk};
+ghost use Rattle.std.specs.Prelude.{◌≡◌, IfOk, Some};
 ghost use Rattle.std.specs.Option.{ForSome, option_copied};
 ghost use Rattle.dirac_sequence.specs.declared.sequence.Sequence.{Sequence};
-ghost use Rattle.dirac_decode.specs.Content.{IsPicture};
+ghost use Rattle.dirac_decode.specs.Content.{IsPicture, up_of};
 ghost use Rattle.dirac_choose.specs.Lent.{AreLent, AreLumas, HasLuma, first_of, second_of};
 
 use dirac_types::{NoMemory, Picture};
 use dirac_upconvert::{UpPlane, upconvert};
 use std::alloc::Global;
+use std::marker::Sync;
+use std::thread::{Threads, join};
 
 /// A reference of a picture, and its luma with half samples.
 #[derive(Clone, Copy)]
@@ -29,6 +31,45 @@ pub struct Lumas {
     pub second: Option<UpPlane>,
 }
 
+/// The luma of a picture, upconverted.
+fn luma_of(alloc: Global, picture: &Picture) -> Result<UpPlane, NoMemory>
+    requires { HasLuma picture.now }
+    ensures { IfOk result (λ u. u ≡ up_of picture.now.y) }
+{
+    let luma = upconvert(alloc, &picture.y)?;
+    Ok(luma)
+}
+
+/// The luma of two references, upconverted side by side.
+fn lumas_side_by_side<R: Threads + Sync>(
+    rt: &R,
+    alloc: Global,
+    first: &Picture,
+    second: &Picture,
+) -> Result<Lumas, NoMemory>
+    requires first { HasLuma first.now }
+    requires second { HasLuma second.now }
+    ensures { IfOk result (AreLumas first.now (Some second.now)) }
+{
+    let (other, luma) = join(
+        rt,
+        || -> Result<UpPlane, NoMemory>
+            requires { HasLuma second.now }
+            ensures { IfOk result (λ u. u ≡ up_of second.entry.now.y) }
+        { luma_of(alloc, second) },
+        || -> Result<UpPlane, NoMemory>
+            requires { HasLuma first.now }
+            ensures { IfOk result (λ u. u ≡ up_of first.entry.now.y) }
+        { luma_of(alloc, first) },
+    );
+    let first = luma?;
+    let second = other?;
+    Ok(Lumas {
+        first,
+        second: Some(second),
+    })
+}
+
 impl Lumas {
     /// Upconverts the luma of references.
     pub fn of(alloc: Global, first: &Picture, second: Option<&Picture>) -> Result<Lumas, NoMemory>
@@ -49,6 +90,27 @@ impl Lumas {
                     second: Some(other),
                 })
             }
+        }
+    }
+
+    /// Upconverts the luma of references: of both side by side with two workers or more.
+    pub fn by_workers<R: Threads + Sync>(
+        rt: &R,
+        alloc: Global,
+        first: &Picture,
+        second: Option<&Picture>,
+        workers: u32,
+    ) -> Result<Lumas, NoMemory>
+        requires first { HasLuma first.now }
+        requires second { ForSome (option_copied second) HasLuma }
+        ensures { IfOk result (λ l. AreLumas first.now (option_copied second.entry) l) }
+    {
+        if workers <= 1 {
+            return Lumas::of(alloc, first, second);
+        }
+        match second {
+            None => Lumas::of(alloc, first, None),
+            Some(other) => lumas_side_by_side(rt, alloc, first, other),
         }
     }
 

@@ -21,6 +21,10 @@ pub precision_within : (s : Settings) → IsAccepted s → s.precision ≤ 3
 unfolding table
 precision_within s a = a.1.1.1.1.1.1.1.1.1.1.1.1.1.0.1
 
+pub workers_within : (s : Settings) → IsAccepted s → (1 ≤ s.workers) × (s.workers ≤ 64)
+unfolding table
+workers_within s a = let row = a.1.1.1.1.1.1.1.1.1.1.1.1.1.1.1.1.1.1.1.1.0 in (row.0, omega (arith, row.1))
+
 pub bias_within : (s : Settings) → IsAccepted s → s.bias ≤ 255
 unfolding table
 bias_within s a = a.1.1.1.1.1.1.1.1.1.1.1.1.1.1.1.1.1.1.1.0.1

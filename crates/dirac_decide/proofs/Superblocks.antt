@@ -1,10 +1,12 @@
 -- Superblocks that are decided one after another.
-use Rattle.std.proofs.Common.{◌≡◌, ℕ, zero, suc, ◌+◌, ◌*◌, ◌/◌, ◌%◌, ◌^◌, ◌<◌, ◌≤◌, ◌⊎◌, List, length, get_or, set, arith, inl, inr, ap, sym, ◌∙◌}
+use Rattle.std.proofs.Common.{◌≡◌, ℕ, zero, suc, ◌+◌, ◌*◌, ◌/◌, ◌%◌, ◌^◌, ◌<◌, ◌≤◌, ◌⊎◌, List, length, get_or, set, arith, inl, inr, ap, sym, subst, ◌∙◌}
 use Rattle.std.proofs.lemmas.Bool.{cases_eq}
 use Rattle.std.proofs.lemmas.List.{get_or-set_same, get_or-set_other}
 use Rattle.dirac_blocks.specs.declared.block.Block.{Block}
 use Rattle.dirac_blocks.specs.Puts.{IsPut}
 use Rattle.dirac_blocks.specs.Tables.{BlockTable, block_in, grey, split_at, unit_of, unit_size}
+use Rattle.dirac_decide.specs.Best.{IsBestSplit}
+use Rattle.dirac_decide.specs.declared.superblock.BestSplit.{BestSplit}
 use Rattle.dirac_decide.specs.Deciding.{Deciding}
 use Rattle.dirac_decide.specs.Modes.{choice_of}
 use Rattle.dirac_decide.specs.Rooms.{IsTableFor}
@@ -51,6 +53,11 @@ superblock_decided d sx sy split units old new few e u p = record {
   other_splits = p.other_splits;
   other_blocks = p.other_blocks;
 }
+
+-- what a put of what was decided leaves
+pub put_decided : (d : Deciding) (sx sy : ℕ) (b : BestSplit) (units : List Block) (old new : BlockTable) → IsBestSplit d sy sx b → units ≡ b.units.items → IsPut old sx sy b.split units new → SuperblockDecided d sx sy old new
+put_decided d sx sy b units old new is e p =
+    superblock_decided d sx sy b.split units old new is.at_most_2 is.best (subst (λ (us : List Block). UnitsChosen d sx sy b.split (4 ^ b.split) us) (sym e) is.units) p
 
 -- one more superblock of a row
 pub decided_more : (d : Deciding) (sx sy : ℕ) (old new : BlockTable) → DecidedTo d sx sy old → SuperblockDecided d sx sy old new → DecidedTo d (sx + 1) sy new

@@ -1,3 +1,4 @@
+pub mod Best
 pub mod Choosing
 pub mod Deciding
 pub mod Given

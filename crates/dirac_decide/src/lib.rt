@@ -11,6 +11,7 @@ mod laws;
 mod modes;
 mod prediction_unit;
 mod predictor;
+mod room;
 mod shared;
 mod splits;
 mod superblock;
@@ -21,4 +22,4 @@ pub use laws::{
     best_modes_cost_least, best_splits_cost_least, best_vectors_cost_least,
     decided_tables_are_lawful,
 };
-pub use table::decide;
+pub use table::{decide, decide_by_workers};

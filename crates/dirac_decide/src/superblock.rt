@@ -1,13 +1,24 @@
-ghost use Rattle.std.specs.Prelude.{◌≡◌, ◌+◌, ◌^◌, ◌<◌, ◌≤◌};
+ghost use Rattle.std.specs.Prelude.{◌≡◌, ◌^◌, ◌<◌, ◌≤◌, IfOk};
 ghost use Rattle.dirac_windows.specs.Least.{IsToldBelow};
 ghost use Rattle.dirac_decide.specs.Deciding.{IsDeciding};
 ghost use Rattle.dirac_decide.specs.Given.{given};
-ghost use Rattle.dirac_decide.specs.Rooms.{IsRoom, IsSuperblock, IsTableFor};
-ghost use Rattle.dirac_decide.specs.Splits.{DecidedTo, IsDecided, SuperblockDecided, UnitsChosen, split_cost};
+ghost use Rattle.dirac_decide.specs.Best.{IsBestRow, IsBestSplit};
+ghost use Rattle.dirac_decide.specs.Rooms.{IsRoom, IsSuperblock};
+ghost use Rattle.dirac_decide.specs.Splits.{UnitsChosen, best_split, split_cost};
 
 use crate::inputs::Inputs;
+use crate::room::room;
 use crate::splits::split_below;
-use dirac_blocks::{Block, BlockData};
+use dirac_blocks::Block;
+use dirac_types::NoMemory;
+use std::alloc::Global;
+
+/// The best split of a superblock, and the blocks of its units, by rows.
+#[derive(Drop)]
+pub struct BestSplit {
+    pub split: u8,
+    pub units: Vec<Block>,
+}
 
 /// What a split of superblock `sx` of row `sy` costs, told where it is below `limit`; the blocks of its units are then
 /// written to `units`.
@@ -31,23 +42,41 @@ fn cost_of_split(
     split_below(inputs, sx, sy, split, limit, units.as_mut_slice())
 }
 
+/// The best split of superblock `sx` of row `sy`, which is this one, and the blocks of its units, which are these.
+fn taken(
+    alloc: Global,
+    inputs: &Inputs<'_>,
+    sx: u32,
+    sy: u32,
+    split: u8,
+    units: &[Block],
+) -> Result<BestSplit, NoMemory>
+    requires at_most_2 { split ≤ 2 }
+    requires best { best_split (given inputs.now) sx sy ≡ split }
+    requires units { UnitsChosen (given inputs.now) sx sy split (4 ^ split) units.now }
+    requires room { IsRoom (given inputs.now) split units.now }
+    ensures { IfOk result (IsBestSplit (given inputs.now) sy sx) }
+{
+    let units = Vec::from_slice(alloc, units)?;
+    Ok(BestSplit { split, units })
+}
+
 /// Decides superblock `sx` of row `sy`; there is room for the units of each split.
 fn decide_superblock(
+    alloc: Global,
     inputs: &Inputs<'_>,
     sx: u32,
     sy: u32,
     undivided: &mut Vec<Block>,
     quarters: &mut Vec<Block>,
     sixteenths: &mut Vec<Block>,
-    table: &mut BlockData,
-)
+) -> Result<BestSplit, NoMemory>
     requires inputs { IsDeciding (given inputs.now) }
     requires superblock { IsSuperblock (given inputs.now) sx sy }
-    requires table { IsTableFor (given inputs.now) table.old }
     requires undivided { IsRoom (given inputs.now) 0 undivided.old.items }
     requires quarters { IsRoom (given inputs.now) 1 quarters.old.items }
     requires sixteenths { IsRoom (given inputs.now) 2 sixteenths.old.items }
-    ensures table { SuperblockDecided (given inputs.now) sx sy table.old table.new }
+    ensures best { IfOk result (IsBestSplit (given inputs.now) sy sx) }
     ensures undivided { IsRoom (given inputs.now) 0 undivided.new.items }
     ensures quarters { IsRoom (given inputs.now) 1 quarters.new.items }
     ensures sixteenths { IsRoom (given inputs.now) 2 sixteenths.new.items }
@@ -57,64 +86,42 @@ fn decide_superblock(
     if four < one {
         let sixteen = cost_of_split(inputs, sx, sy, 2, four, sixteenths);
         if sixteen < four {
-            table.put(sx, sy, 2, sixteenths.as_slice());
+            taken(alloc, inputs, sx, sy, 2, sixteenths.as_slice())
         } else {
-            table.put(sx, sy, 1, quarters.as_slice());
+            taken(alloc, inputs, sx, sy, 1, quarters.as_slice())
         }
     } else {
         let sixteen = cost_of_split(inputs, sx, sy, 2, one, sixteenths);
         if sixteen < one {
-            table.put(sx, sy, 2, sixteenths.as_slice());
+            taken(alloc, inputs, sx, sy, 2, sixteenths.as_slice())
         } else {
-            table.put(sx, sy, 0, undivided.as_slice());
+            taken(alloc, inputs, sx, sy, 0, undivided.as_slice())
         }
     }
 }
 
-/// Decides the superblocks of row `sy`.
-fn decide_row(
-    inputs: &Inputs<'_>,
-    sy: u32,
-    undivided: &mut Vec<Block>,
-    quarters: &mut Vec<Block>,
-    sixteenths: &mut Vec<Block>,
-    table: &mut BlockData,
-)
+/// Decides the superblocks of row `sy`. No other row is read.
+pub fn decide_row(alloc: Global, inputs: &Inputs<'_>, sy: u32) -> Result<Vec<BestSplit>, NoMemory>
     requires inputs { IsDeciding (given inputs.now) }
     requires across { inputs.now.across ≤ 1024 }
     requires down { (sy < inputs.now.down) × (inputs.now.down ≤ 1024) }
-    requires undivided { IsRoom (given inputs.now) 0 undivided.old.items }
-    requires quarters { IsRoom (given inputs.now) 1 quarters.old.items }
-    requires sixteenths { IsRoom (given inputs.now) 2 sixteenths.old.items }
-    requires table { DecidedTo (given inputs.now) 0 sy table.old }
-    ensures table { DecidedTo (given inputs.now) 0 (sy + 1) table.new }
-    ensures undivided { IsRoom (given inputs.now) 0 undivided.new.items }
-    ensures quarters { IsRoom (given inputs.now) 1 quarters.new.items }
-    ensures sixteenths { IsRoom (given inputs.now) 2 sixteenths.new.items }
+    ensures { IfOk result (λ v. IsBestRow (given inputs.now) sy v.items) }
 {
+    let mut undivided = room(alloc, inputs, 0)?;
+    let mut quarters = room(alloc, inputs, 1)?;
+    let mut sixteenths = room(alloc, inputs, 2)?;
+    let mut row = Vec::new(alloc);
     for sx in 0..inputs.across {
-        decide_superblock(inputs, sx, sy, undivided, quarters, sixteenths, table);
+        let best = decide_superblock(
+            alloc,
+            inputs,
+            sx,
+            sy,
+            &mut undivided,
+            &mut quarters,
+            &mut sixteenths,
+        )?;
+        row.push(best)?;
     }
-}
-
-/// Decides all superblocks; there is room for the units of each split.
-pub fn decide_rows(
-    inputs: &Inputs<'_>,
-    undivided: &mut Vec<Block>,
-    quarters: &mut Vec<Block>,
-    sixteenths: &mut Vec<Block>,
-    table: &mut BlockData,
-)
-    requires inputs { IsDeciding (given inputs.now) }
-    requires across { inputs.now.across ≤ 1024 }
-    requires down { inputs.now.down ≤ 1024 }
-    requires table { IsTableFor (given inputs.now) table.old }
-    requires undivided { IsRoom (given inputs.now) 0 undivided.old.items }
-    requires quarters { IsRoom (given inputs.now) 1 quarters.old.items }
-    requires sixteenths { IsRoom (given inputs.now) 2 sixteenths.old.items }
-    ensures table { IsDecided (given inputs.now) table.new }
-{
-    for sy in 0..inputs.down {
-        decide_row(inputs, sy, undivided, quarters, sixteenths, table);
-    }
+    Ok(row)
 }

@@ -1,42 +1,27 @@
-ghost use Rattle.std.specs.Prelude.{◌≡◌, ◌^◌, ◌≤◌, IfOk};
+ghost use Rattle.std.specs.Prelude.{◌≡◌, ◌+◌, ◌<◌, ◌≤◌, IfOk};
 ghost use Rattle.std.specs.List.{All};
 ghost use Rattle.std.specs.Option.{ForSome};
 ghost use Rattle.dirac_types.specs.Settings.{IsAccepted};
 ghost use Rattle.dirac_blocks.specs.Tables.{IsBlockTable};
+ghost use Rattle.dirac_rows.specs.Answers.{AnswerRows};
+ghost use Rattle.dirac_decide.specs.Best.{IsBestRow, IsBestSplit};
 ghost use Rattle.dirac_decide.specs.Deciding as deciding;
 ghost use Rattle.dirac_decide.specs.Given.{decided_from, given, view_of, views_of};
 ghost use Rattle.dirac_decide.specs.Modes.{HasSamples, refs_of};
-ghost use Rattle.dirac_decide.specs.Rooms.{IsRoom};
-ghost use Rattle.dirac_decide.specs.Splits.{decided};
+ghost use Rattle.dirac_decide.specs.Rooms.{IsSuperblock, IsTableFor};
+ghost use Rattle.dirac_decide.specs.Splits.{DecidedTo, IsDecided, SuperblockDecided, decided};
 
 use crate::inputs::{Inputs, RefView};
-use crate::superblock::decide_rows;
-use dirac_blocks::{Block, BlockData, grey_block};
+use crate::superblock::{BestSplit, decide_row};
+use dirac_blocks::BlockData;
 use dirac_header::block_grid;
+use dirac_io::OpenGate;
+use dirac_rows::map_rows;
 use dirac_sequence::{ratio_across, ratio_down, sequence_of};
 use dirac_types::{NoMemory, Picture, Settings};
 use std::alloc::Global;
-
-/// How many units a superblock of this split has.
-fn units_of(split: u8) -> usize
-    requires { split ≤ 2 }
-    ensures { result ≡ 4 ^ split }
-{
-    match split {
-        0 => 1,
-        1 => 4,
-        _ => 16,
-    }
-}
-
-/// Room for the blocks of a split's units.
-fn room(alloc: Global, inputs: &Inputs<'_>, split: u8) -> Result<Vec<Block>, NoMemory>
-    requires { split ≤ 2 }
-    ensures { IfOk result (λ units. IsRoom (given inputs.now) split units.items) }
-{
-    let count = units_of(split);
-    Ok(vec![in alloc; grey_block(); count]?)
-}
+use std::marker::Sync;
+use std::thread::Threads;
 
 /// How many references there are.
 fn references(inputs: &Inputs<'_>) -> u8
@@ -48,28 +33,114 @@ fn references(inputs: &Inputs<'_>) -> u8
     }
 }
 
-/// The table of the best splits and blocks.
-fn best_table(alloc: Global, inputs: &Inputs<'_>) -> Result<BlockData, NoMemory>
+/// Lends what was decided for superblock `sx` of row `sy`.
+fn best_at<'a>(inputs: &Inputs<'_>, sy: u32, row: &'a [BestSplit], sx: u32) -> &'a BestSplit
+    requires row { IsBestRow (given inputs.now) sy row.now }
+    requires inside { sx < inputs.now.across }
+    ensures { IsBestSplit (given inputs.now) sy sx result.now }
+{
+    &row[sx as usize]
+}
+
+/// Writes what was decided for superblock `sx` of row `sy`.
+fn put_best(inputs: &Inputs<'_>, sx: u32, sy: u32, best: &BestSplit, table: &mut BlockData)
+    requires superblock { IsSuperblock (given inputs.now) sx sy }
+    requires best { IsBestSplit (given inputs.now) sy sx best.now }
+    requires table { IsTableFor (given inputs.now) table.old }
+    ensures { SuperblockDecided (given inputs.now) sx sy table.old table.new }
+{
+    table.put(sx, sy, best.split, best.units.as_slice());
+}
+
+/// Writes what was decided for row `sy`.
+fn put_row(inputs: &Inputs<'_>, sy: u32, row: &[BestSplit], table: &mut BlockData)
+    requires across { inputs.now.across ≤ 1024 }
+    requires down { (sy < inputs.now.down) × (inputs.now.down ≤ 1024) }
+    requires row { IsBestRow (given inputs.now) sy row.now }
+    requires table { DecidedTo (given inputs.now) 0 sy table.old }
+    ensures { DecidedTo (given inputs.now) 0 (sy + 1) table.new }
+{
+    for sx in 0..inputs.across {
+        put_best(inputs, sx, sy, best_at(inputs, sy, row, sx), table);
+    }
+}
+
+/// Lends what was decided for row `sy`.
+fn row_at<'a>(inputs: &Inputs<'_>, rows: &'a [Vec<BestSplit>], sy: u32) -> &'a Vec<BestSplit>
+    requires rows { AnswerRows (λ r v. IsBestRow (given inputs.now) r v.items) inputs.now.down rows.now }
+    requires inside { sy < inputs.now.down }
+    ensures { IsBestRow (given inputs.now) sy result.now.items }
+{
+    &rows[sy as usize]
+}
+
+/// Writes what was decided for all rows.
+fn put_rows(inputs: &Inputs<'_>, rows: &[Vec<BestSplit>], table: &mut BlockData)
+    requires across { inputs.now.across ≤ 1024 }
+    requires down { inputs.now.down ≤ 1024 }
+    requires rows { AnswerRows (λ r v. IsBestRow (given inputs.now) r v.items) inputs.now.down rows.now }
+    requires table { IsTableFor (given inputs.now) table.old }
+    ensures table { IsDecided (given inputs.now) table.new }
+{
+    for sy in 0..inputs.down {
+        put_row(inputs, sy, row_at(inputs, rows, sy).as_slice(), table);
+    }
+}
+
+/// The table of the best splits and blocks, which were decided row by row.
+fn table_of(
+    alloc: Global,
+    inputs: &Inputs<'_>,
+    rows: &[Vec<BestSplit>],
+) -> Result<BlockData, NoMemory>
     requires inputs { deciding.IsDeciding (given inputs.now) }
     requires across { (1 ≤ inputs.now.across) × (inputs.now.across ≤ 1024) }
     requires down { (1 ≤ inputs.now.down) × (inputs.now.down ≤ 1024) }
+    requires rows { AnswerRows (λ r v. IsBestRow (given inputs.now) r v.items) inputs.now.down rows.now }
     ensures table { IfOk result (λ t. t ≡ decided (given inputs.now)) }
     ensures lawful { IfOk result IsBlockTable }
     ensures samples { IfOk result (λ t. All HasSamples t.blocks) }
 {
-    let mut undivided = room(alloc, inputs, 0)?;
-    let mut quarters = room(alloc, inputs, 1)?;
-    let mut sixteenths = room(alloc, inputs, 2)?;
     let mut table = BlockData::try_new(alloc, inputs.across, inputs.down, references(inputs))?;
-    decide_rows(
-        inputs,
-        &mut undivided,
-        &mut quarters,
-        &mut sixteenths,
-        &mut table,
-    );
+    put_rows(inputs, rows, &mut table);
     let _lawful = table.across();
     Ok(table)
+}
+
+/// What is decided for each row, one after the other.
+fn rows_of(alloc: Global, inputs: &Inputs<'_>) -> Result<Vec<Vec<BestSplit>>, NoMemory>
+    requires inputs { deciding.IsDeciding (given inputs.now) }
+    requires across { inputs.now.across ≤ 1024 }
+    requires down { inputs.now.down ≤ 1024 }
+    ensures { IfOk result (λ v. AnswerRows (λ r v. IsBestRow (given inputs.now) r v.items) inputs.now.down v.items) }
+{
+    let mut rows = Vec::new(alloc);
+    for sy in 0..inputs.down {
+        let row = decide_row(alloc, inputs, sy)?;
+        rows.push(row)?;
+    }
+    Ok(rows)
+}
+
+/// What is decided for each row, which so many workers share.
+fn rows_by_workers<R: Threads + Sync>(
+    rt: &R,
+    alloc: Global,
+    inputs: &Inputs<'_>,
+    workers: u32,
+) -> Result<Vec<Vec<BestSplit>>, NoMemory>
+    requires inputs { deciding.IsDeciding (given inputs.now) }
+    requires across { inputs.now.across ≤ 1024 }
+    requires down { inputs.now.down ≤ 1024 }
+    requires workers { (1 ≤ workers) × (workers ≤ 64) }
+    ensures { IfOk result (λ v. AnswerRows (λ r v. IsBestRow (given inputs.now) r v.items) inputs.now.down v.items) }
+{
+    let work = |sy: u32| -> Result<Vec<BestSplit>, NoMemory>
+        requires { deciding.IsDeciding (given inputs.now) × (inputs.now.across ≤ 1024)
+            × (sy < inputs.now.down) × (inputs.now.down ≤ 1024) }
+        ensures { IfOk result (λ v. IsBestRow (given inputs.entry.now) sy v.items) }
+    { decide_row(alloc, inputs, sy) };
+    map_rows(rt, alloc, inputs.down, workers, &OpenGate, &work)
 }
 
 /// What the field of a reference always keeps.
@@ -87,6 +158,41 @@ fn second_field_size(second: Option<RefView<'_>>)
     match second {
         Some(view) => field_size(view),
         None => (),
+    }
+}
+
+/// What the blocks of a picture are decided from.
+fn inputs_of<'a>(
+    source: &'a Picture,
+    settings: &Settings,
+    first: RefView<'a>,
+    second: Option<RefView<'a>>,
+) -> Inputs<'a>
+    requires settings { IsAccepted settings.now }
+    requires source { deciding.IsOfSamples source.now }
+    requires first { deciding.IsSearched settings.now source.now (view_of first) }
+    requires second { ForSome (views_of second) (deciding.IsSearched settings.now source.now) }
+    ensures value { decided (given result) ≡ decided_from settings.now source.now first.entry second.entry }
+    ensures deciding { deciding.IsDeciding (given result) }
+    ensures across { (1 ≤ result.across) × (result.across ≤ 1024) }
+    ensures down { (1 ≤ result.down) × (result.down ≤ 1024) }
+{
+    field_size(first);
+    second_field_size(second);
+    let _width = source.y.width();
+    let _height = source.y.height();
+    let chroma = sequence_of(settings).chroma;
+    Inputs {
+        source,
+        first,
+        second,
+        grid: block_grid(u64::from(settings.blocks)),
+        across: first.field.across(),
+        down: first.field.down(),
+        across_ratio: ratio_across(chroma),
+        down_ratio: ratio_down(chroma),
+        precision: settings.precision as u8,
+        bias: settings.bias,
     }
 }
 
@@ -109,22 +215,31 @@ pub fn decide(
     ensures lawful { IfOk result IsBlockTable }
     ensures samples { IfOk result (λ t. All HasSamples t.blocks) }
 {
-    field_size(first);
-    second_field_size(second);
-    let _width = source.y.width();
-    let _height = source.y.height();
-    let chroma = sequence_of(settings).chroma;
-    let inputs = Inputs {
-        source,
-        first,
-        second,
-        grid: block_grid(u64::from(settings.blocks)),
-        across: first.field.across(),
-        down: first.field.down(),
-        across_ratio: ratio_across(chroma),
-        down_ratio: ratio_down(chroma),
-        precision: settings.precision as u8,
-        bias: settings.bias,
-    };
-    best_table(alloc, &inputs)
+    let inputs = inputs_of(source, settings, first, second);
+    let rows = rows_of(alloc, &inputs)?;
+    let table = table_of(alloc, &inputs, rows.as_slice())?;
+    Ok(table)
+}
+
+/// The same, its rows of superblocks shared by the settings' workers.
+pub fn decide_by_workers<R: Threads + Sync>(
+    rt: &R,
+    alloc: Global,
+    source: &Picture,
+    settings: &Settings,
+    first: RefView<'_>,
+    second: Option<RefView<'_>>,
+) -> Result<BlockData, NoMemory>
+    requires settings { IsAccepted settings.now }
+    requires source { deciding.IsOfSamples source.now }
+    requires first { deciding.IsSearched settings.now source.now (view_of first) }
+    requires second { ForSome (views_of second) (deciding.IsSearched settings.now source.now) }
+    ensures table { IfOk result (λ t. t ≡ decided_from settings.now source.now first.entry second.entry) }
+    ensures lawful { IfOk result IsBlockTable }
+    ensures samples { IfOk result (λ t. All HasSamples t.blocks) }
+{
+    let inputs = inputs_of(source, settings, first, second);
+    let rows = rows_by_workers(rt, alloc, &inputs, settings.workers)?;
+    let table = table_of(alloc, &inputs, rows.as_slice())?;
+    Ok(table)
 }

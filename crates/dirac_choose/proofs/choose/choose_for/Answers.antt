@@ -8,13 +8,13 @@ use Rattle.dirac_choose.proofs.Asked.{has_luma, have_luma}
 use Rattle.dirac_choose.proofs.Fitting.{chosen_found}
 use Rattle.dirac_choose.proofs.choose.choose_for.Goals as goal
 
-pub of-requires-clause-first : goal.of-requires-clause-first
-of-requires-clause-first g c =
+pub by_workers-requires-clause-first : goal.by_workers-requires-clause-first
+by_workers-requires-clause-first g c κs within =
     has_luma c.args.settings.now c.in-Some.first.now c.requires.asked.accepted
     (c.requires.asked.references.first c.in-Some.first.now (sym c.named.ensures ∙ ap option_copied c.in-Some.is))
 
-pub of-requires-clause-second : goal.of-requires-clause-second
-of-requires-clause-second g c =
+pub by_workers-requires-clause-second : goal.by_workers-requires-clause-second
+by_workers-requires-clause-second g c κs within =
     have_luma c.args.settings.now (option_copied c.named-second.result) c.requires.asked.accepted
     (subst (λ (o : Option Picture). ForSome o (IsPicture (sequence_of c.args.settings.now))) (sym c.named-second.ensures) c.requires.asked.references.second)
 

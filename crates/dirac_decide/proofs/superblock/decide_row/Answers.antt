@@ -1,15 +1,20 @@
-use Rattle.std.proofs.Common.{arith}
+use Rattle.dirac_decide.specs.Best.{IsBestSplit}
 use Rattle.dirac_decide.specs.Given.{given}
-use Rattle.dirac_decide.proofs.Superblocks.{decided_more, row_decided}
+use Rattle.dirac_decide.proofs.Gathered.{answers_more, no_answers}
 use Rattle.dirac_decide.proofs.superblock.decide_row.Goals as goal
+
+pub loop-sx-init : goal.loop-sx-init
+loop-sx-init c = (
+  no_answers (IsBestSplit (given c.args.inputs.now) c.args.sy) c.new-row.result.items c.new-row.ensures.items,
+  c.in_ok-undivided.ensures,
+  c.in_ok-quarters.ensures,
+  c.in_ok-sixteenths.ensures,
+)
 
 pub loop-sx-preserved : goal.loop-sx-preserved
 loop-sx-preserved c = (
-  decided_more (given c.args.inputs.now) c.loop-sx.sx c.args.sy c.loop-sx.table c.decide_superblock.new.table c.loop-sx.invariant.0 c.decide_superblock.ensures.table,
+  answers_more (IsBestSplit (given c.args.inputs.now) c.args.sy) c.loop-sx.sx c.loop-sx.row.items c.push.new.self.items c.in_ok-best.best c.loop-sx.invariant.0 c.in_ok-best.ensures.best c.in_ok-push.ensures.items,
   c.decide_superblock.ensures.undivided,
   c.decide_superblock.ensures.quarters,
   c.decide_superblock.ensures.sixteenths,
 )
-
-pub returns-clause-table : goal.returns-clause-table
-returns-clause-table c = row_decided (given c.args.inputs.now) c.loop-sx.sx c.args.sy c.loop-sx.table (omega arith) c.loop-sx.invariant.0

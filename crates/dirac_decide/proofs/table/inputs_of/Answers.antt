@@ -1,18 +1,18 @@
 use Rattle.std.proofs.Common.{arith, sym, ◌∙◌, subst}
 use Rattle.dirac_decide.specs.Given.{view_of}
 use Rattle.dirac_decide.proofs.Accepted.{IsGrid, across_within, bias_within, blocks_within, down_within, grid_within, precision_within, ratio_as, view_found}
-use Rattle.dirac_decide.proofs.table.decide.Goals as goal
+use Rattle.dirac_decide.proofs.table.inputs_of.Goals as goal
 
 pub block_grid-requires : goal.block_grid-requires
 block_grid-requires c =
     let within = blocks_within c.args.settings.now c.requires.settings in
     (omega (arith, within.0, c.from.ensures), omega (arith, within.1, c.from.ensures))
 
-pub overflow_cast-inputs : goal.overflow_cast-inputs
-overflow_cast-inputs c = omega (arith, precision_within c.args.settings.now c.requires.settings)
+pub overflow_cast-result : goal.overflow_cast-result
+overflow_cast-result c = omega (arith, precision_within c.args.settings.now c.requires.settings)
 
-pub best_table-requires-clause-inputs : goal.best_table-requires-clause-inputs
-best_table-requires-clause-inputs c =
+pub returns-clause-deciding : goal.returns-clause-deciding
+returns-clause-deciding c =
     let s = c.args.settings.now in
     let p = c.args.source.now in
     let grid : IsGrid c.block_grid.result = subst IsGrid (sym c.block_grid.ensures.value) (grid_within c.from.result) in
