@@ -1,8 +1,10 @@
+pub mod Apart
 pub mod Asking
 pub mod Bandwise
 pub mod Choices
 pub mod Differences
 pub mod Facts
+pub mod Finishing
 pub mod Lending
 pub mod Predicting
 pub mod Preparing

@@ -1,5 +1,7 @@
 -- The planes of a picture, analysed and quantised.
 use Rattle.std.specs.Prelude.{◌≡◌}
+use Rattle.dirac_types.specs.declared.formats.Component.{Component}
+use Rattle.dirac_types.specs.declared.formats.Component.TheVariants as component
 use Rattle.dirac_types.specs.declared.formats.Kind.{Kind}
 use Rattle.dirac_types.specs.declared.settings.Settings.{Settings}
 use Rattle.dirac_types.specs.Table.{Table}
@@ -19,6 +21,12 @@ pub record AreAnalysed (t : Settings) (kind : Kind) (of_y of_u of_v : Table) (a 
   pub y : IsAnalysed t kind of_y a.y
   pub u : IsAnalysed t kind of_u a.u
   pub v : IsAnalysed t kind of_v a.v
+
+-- the analysis of one plane
+abbrev pub analysis_of : AnalysedPlanes → Component → Analysis
+analysis_of a component.Y = a.y
+analysis_of a component.U = a.u
+analysis_of a component.V = a.v
 
 -- planes that can be quantised
 pub record AreQuantisablePlanes (a : AnalysedPlanes) : Type 0 where

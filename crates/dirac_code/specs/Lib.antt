@@ -1,4 +1,6 @@
 pub mod Analyses
 pub mod Asked
+pub mod Finishing
 pub mod Predictions
 pub mod Prepared
+pub mod Texts

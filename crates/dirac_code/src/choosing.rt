@@ -15,7 +15,8 @@ ghost use Rattle.dirac_code.specs.Asked.{IsAsked};
 ghost use Rattle.dirac_code.specs.Prepared.{IsPrepared, blocks_in};
 
 use crate::picture::{Coded, code_at};
-use crate::prepared::{Moving, Prepared, prepare_by, prepare_side_by_side};
+use crate::prepared::{Moving, Prepared, prepare_by};
+use crate::workers::SeveralWorkers;
 use dirac_choose::{Lumas, choose_from};
 use dirac_decode::named;
 use dirac_io::RowGate;
@@ -46,14 +47,19 @@ fn prepare_searched<R: Threads + Sync, G: RowGate>(
     match named(refs, planned.ref1) {
         None => unreachable!(),
         Some(first) => {
-            let lumas = Lumas::of(alloc, first, second)?;
+            let lumas = Lumas::by_workers(rt, alloc, first, second, settings.workers)?;
             let references = lumas.lend(first, second);
             let blocks = choose_from(rt, alloc, source, &references, settings, gate)?;
             let moving = Moving {
                 references: &references,
                 blocks: &blocks,
             };
-            prepare_side_by_side(rt, alloc, planned, source, refs, settings, moving)
+            let workers = SeveralWorkers {
+                rt,
+                count: settings.workers,
+            };
+            let moving = Some(moving);
+            prepare_by(&workers, alloc, planned, source, refs, settings, moving)
         }
     }
 }
@@ -81,7 +87,11 @@ pub fn prepare_picture<R: Threads + Sync, G: RowGate>(
         IsChosenAtEachIndex settings.now refs.now planned.now source.now (blocks_in x)) }
 {
     if is_intra(planned.code) {
-        let prepared = prepare_by(alloc, planned, source, refs, settings, None)?;
+        let workers = SeveralWorkers {
+            rt,
+            count: settings.workers,
+        };
+        let prepared = prepare_by(&workers, alloc, planned, source, refs, settings, None)?;
         return Ok(prepared);
     }
     let prepared = prepare_searched(rt, alloc, planned, source, refs, settings, gate)?;
@@ -120,5 +130,9 @@ pub fn code_picture<R: Threads + Sync, G: RowGate>(
         → c.shown ≡ source.now) }
 {
     let prepared = prepare_picture(rt, alloc, planned, source, refs, settings, gate)?;
-    code_at(alloc, &prepared, planned, source, refs, settings)
+    let workers = SeveralWorkers {
+        rt,
+        count: settings.workers,
+    };
+    code_at(&workers, alloc, &prepared, planned, source, refs, settings)
 }

@@ -13,7 +13,9 @@ mod predictions;
 mod prepared;
 mod residual;
 mod showing;
+mod texts;
 mod transform;
+mod workers;
 
 pub use choosing::{code_picture, prepare_picture};
 pub use dirac_choose::choose_blocks;

@@ -1,31 +1,20 @@
-//! From a prepared picture to its coded picture, and to the picture that decoders show for it.
+//! From a prepared picture to its coded picture.
 
 ghost use Rattle.std.specs.Prelude.{◌≡◌, None, Some, IfOk};
-ghost use Rattle.dirac_sequence.specs.Written.{sequence_of as sequence_for};
-ghost use Rattle.dirac_decode.specs.Content.{rebuilt};
 ghost use Rattle.dirac_stream.specs.Coded as coding;
 ghost use Rattle.dirac_code.specs.Asked.{coded_by};
 ghost use Rattle.dirac_code.specs.Prepared.{IsPrepared, blocks_in};
 
 use crate::motion::motion_of;
 use crate::prepared::{Compensated, Prepared};
-use crate::residual::{quantise_planes, unless_zero};
-use crate::showing::show_predicted;
-use dirac_decode::rebuild;
+use crate::residual::unless_zero;
+use crate::workers::Workers;
 use dirac_header::PictureHeader;
 use dirac_picture::CodedPicture;
 use dirac_plan::Planned;
 use dirac_refs::RefBuffer;
-use dirac_sequence::sequence_of;
 use dirac_types::{Kind, NoMemory, Picture, Settings};
 use std::alloc::Global;
-
-/// A coded picture, and the picture that decoders show for it.
-#[derive(Drop)]
-pub(crate) struct Remade {
-    pub(crate) coded: CodedPicture,
-    pub(crate) shown: Picture,
-}
 
 /// The header of a planned picture.
 fn header_of(planned: &Planned) -> PictureHeader
@@ -40,35 +29,32 @@ fn header_of(planned: &Planned) -> PictureHeader
 }
 
 /// Codes an intra picture.
-fn make_intra(
+fn coded_intra<W: Workers>(
+    workers: &W,
     alloc: Global,
     settings: &Settings,
     planned: &Planned,
     source: &Picture,
     refs: &RefBuffer,
     prepared: &Prepared,
-) -> Result<Remade, NoMemory>
+) -> Result<CodedPicture, NoMemory>
+    requires shared { W.are_shared workers.now }
     requires prepared { IsPrepared settings.now refs.now planned.now source.now prepared.now }
     requires intra { prepared.now.compensated ≡ None }
-    ensures coded { IfOk result (λ r. r.coded ≡ coding.coded_with settings.now refs.now planned.now source.now None) }
-    ensures shown { IfOk result (λ r. r.shown
-        ≡ rebuilt (sequence_for settings.now) refs.now
-        (coding.coded_with settings.now refs.now planned.now source.now None)) }
+    ensures { IfOk result (λ c. c ≡ coding.coded_with settings.now refs.now planned.now source.now None) }
 {
-    let sequence = sequence_of(settings);
-    let residual = quantise_planes(alloc, settings, Kind::Intra, &prepared.left)?;
-    let coded = CodedPicture {
+    let residual = workers.quantise(alloc, settings, Kind::Intra, &prepared.left)?;
+    Ok(CodedPicture {
         code: planned.code,
         header: header_of(planned),
         motion: None,
         residual: Some(residual),
-    };
-    let shown = rebuild(alloc, &coded, &sequence, refs)?;
-    Ok(Remade { coded, shown })
+    })
 }
 
 /// Codes an inter picture.
-fn make_inter(
+fn coded_inter<W: Workers>(
+    workers: &W,
     alloc: Global,
     settings: &Settings,
     planned: &Planned,
@@ -76,48 +62,41 @@ fn make_inter(
     refs: &RefBuffer,
     prepared: &Prepared,
     compensated: &Compensated,
-) -> Result<Remade, NoMemory>
+) -> Result<CodedPicture, NoMemory>
+    requires shared { W.are_shared workers.now }
     requires prepared { IsPrepared settings.now refs.now planned.now source.now prepared.now }
     requires inter { prepared.now.compensated ≡ Some compensated.now }
-    ensures coded { IfOk result (λ r. r.coded
+    ensures { IfOk result (λ c. c
         ≡ coded_by settings.now refs.now planned.now source.now (Some compensated.now.motion.blocks)) }
-    ensures shown { IfOk result (λ r. r.shown
-        ≡ rebuilt (sequence_for settings.now) refs.now
-        (coded_by settings.now refs.now planned.now source.now (Some compensated.now.motion.blocks))) }
 {
-    let sequence = sequence_of(settings);
-    let header = header_of(planned);
     let motion = motion_of(alloc, settings, &compensated.motion.blocks)?;
-    let residual = quantise_planes(alloc, settings, Kind::Inter, &prepared.left)?;
-    let coded = CodedPicture {
+    let residual = workers.quantise(alloc, settings, Kind::Inter, &prepared.left)?;
+    Ok(CodedPicture {
         code: planned.code,
-        header,
+        header: header_of(planned),
         motion: Some(motion),
         residual: unless_zero(residual),
-    };
-    let shown = show_predicted(alloc, &sequence, &coded, &compensated.predictions)?;
-    Ok(Remade { coded, shown })
+    })
 }
 
-/// The coded picture of a planned source, and the picture that decoders show for it.
-pub(crate) fn make(
+/// The coded picture of a planned source.
+pub(crate) fn coded_picture<W: Workers>(
+    workers: &W,
     alloc: Global,
     settings: &Settings,
     planned: &Planned,
     source: &Picture,
     refs: &RefBuffer,
     prepared: &Prepared,
-) -> Result<Remade, NoMemory>
+) -> Result<CodedPicture, NoMemory>
+    requires shared { W.are_shared workers.now }
     requires prepared { IsPrepared settings.now refs.now planned.now source.now prepared.now }
-    ensures coded { IfOk result (λ r. r.coded
-        ≡ coded_by settings.now refs.now planned.now source.now (blocks_in prepared.now)) }
-    ensures shown { IfOk result (λ r. r.shown
-        ≡ rebuilt (sequence_for settings.now) refs.now
-        (coded_by settings.now refs.now planned.now source.now (blocks_in prepared.now))) }
+    ensures { IfOk result (λ c. c ≡ coded_by settings.now refs.now planned.now source.now (blocks_in prepared.now)) }
 {
     match &prepared.compensated {
-        None => make_intra(alloc, settings, planned, source, refs, prepared),
-        Some(compensated) => make_inter(
+        None => coded_intra(workers, alloc, settings, planned, source, refs, prepared),
+        Some(compensated) => coded_inter(
+            workers,
             alloc,
             settings,
             planned,

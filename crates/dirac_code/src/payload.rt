@@ -1,58 +1,52 @@
 //! The payload of a coded picture, written.
 
-ghost use Rattle.std.specs.Prelude.{◌≡◌, ◌<◌, ◌≤◌, ◌^◌, ◌++◌, ◌∷◌, [], List, Some, OnOk, IfSome};
+ghost use Rattle.std.specs.Prelude.{◌≡◌, ◌<◌, ◌≤◌, ◌++◌, Some, OnOk, IfSome};
+ghost use Rattle.dirac_types.specs.Bits.{bits_of};
+ghost use Rattle.dirac_bits.specs.Writing.{up_to_byte};
 ghost use Rattle.dirac_sequence.specs.Lawful.{IsSequence};
 ghost use Rattle.dirac_sequence.specs.Written.{sequence_of as sequence_for};
 ghost use Rattle.dirac_header.specs.Codes.{is_reference};
 ghost use Rattle.dirac_header.specs.Written.{HasReferences, MayRetire, header_bits};
 ghost use Rattle.dirac_stream.specs.Coded.{motion_with};
 ghost use Rattle.dirac_stream.specs.Payload.{HasSpelledBlocks, with_blocks, with_coefficients, with_flag};
-ghost use Rattle.dirac_stream.specs.Payload.{with_motion, with_picture, with_planes, with_residual};
+ghost use Rattle.dirac_stream.specs.Payload.{with_motion, with_picture, with_residual};
 ghost use Rattle.dirac_stream.specs.Writable.{IsWritten};
+ghost use Rattle.dirac_code.specs.Texts.{AreTexts, joined};
 
-use crate::bands::write_plane;
+use crate::texts::Texts;
 use dirac_bits::BitWriter;
 use dirac_blocks::{BlockData, write_blocks};
 use dirac_header::{write_header, write_prediction, write_transform};
 use dirac_picture::{CodedMotion, CodedPicture, CodedResidual, is_intra};
 use dirac_sequence::Sequence;
-use dirac_types::{Component, NoMemory, Settings};
+use dirac_types::{NoMemory, Settings};
 use std::alloc::Global;
 
-/// Writes the bands of Y, U and V.
-fn write_planes(
-    alloc: Global,
-    w: &mut BitWriter,
-    sequence: &Sequence,
-    residual: &CodedResidual,
-) -> Result<(), NoMemory>
-    requires sequence { IsSequence sequence.now }
-    requires written { IsWritten sequence.now residual.now }
-    ensures { OnOk result (w.new ≡ with_planes sequence.now residual.now w.old) }
+/// Writes the bands of Y, U and V, which were written apart.
+fn write_texts(w: &mut BitWriter, texts: &Texts) -> Result<(), NoMemory>
+    ensures { OnOk result (w.new ≡ joined w.old (bits_of texts.now.y.items) (bits_of texts.now.u.items)
+        (bits_of texts.now.v.items)) }
 {
-    let transform = &residual.transform;
-    let (width, height) = (sequence.width, sequence.picture_height());
-    write_plane(alloc, w, transform, width, height, &residual.y)?;
-    let width = sequence.plane_width(Component::U);
-    let height = sequence.plane_height(Component::U);
-    write_plane(alloc, w, transform, width, height, &residual.u)?;
-    write_plane(alloc, w, transform, width, height, &residual.v)?;
-    Ok(())
+    w.align()?;
+    w.block(texts.y.as_slice())?;
+    w.block(texts.u.as_slice())?;
+    w.block(texts.v.as_slice())
 }
 
-/// Writes the transform parameters and the bands.
+/// Writes the transform parameters and the bands, up to a byte's end.
 fn write_residual(
-    alloc: Global,
     w: &mut BitWriter,
     sequence: &Sequence,
     residual: &CodedResidual,
+    texts: &Texts,
 ) -> Result<(), NoMemory>
     requires sequence { IsSequence sequence.now }
     requires written { IsWritten sequence.now residual.now }
-    ensures { OnOk result (w.new ≡ with_residual sequence.now residual.now w.old) }
+    requires texts { AreTexts sequence.now residual.now texts.now }
+    ensures { OnOk result (w.new ≡ up_to_byte (with_residual sequence.now residual.now w.old)) }
 {
     write_transform(w, &residual.transform)?;
-    write_planes(alloc, w, sequence, residual)?;
+    write_texts(w, texts)?;
     Ok(())
 }
 
@@ -102,34 +96,40 @@ fn write_flag(w: &mut BitWriter, code: u8, none: bool) -> Result<(), NoMemory>
     w.bit(none)
 }
 
-/// Writes that flag and the residual, where there is one.
+/// Writes that flag and the residual, where there is one, up to a byte's end.
 fn write_coefficients(
-    alloc: Global,
     w: &mut BitWriter,
     sequence: &Sequence,
     code: u8,
     residual: &Option<CodedResidual>,
+    texts: &Texts,
 ) -> Result<(), NoMemory>
     requires sequence { IsSequence sequence.now }
     requires written { IfSome residual.now (IsWritten sequence.now) }
-    ensures { OnOk result (w.new ≡ with_coefficients sequence.now code residual.now w.old) }
+    requires texts { IfSome residual.now (λ r. AreTexts sequence.now r texts.now) }
+    ensures { OnOk result (w.new ≡ up_to_byte (with_coefficients sequence.now code residual.now w.old)) }
 {
     match residual {
-        None => write_flag(w, code, true),
+        None => {
+            write_flag(w, code, true)?;
+            w.align()
+        }
         Some(residual) => {
             write_flag(w, code, false)?;
-            write_residual(alloc, w, sequence, residual)
+            write_residual(w, sequence, residual, texts)
         }
     }
 }
 
-/// Writes a coded picture: picture parsing, Dirac specification. After want of memory a part may stand.
+/// Writes a coded picture, up to a byte's end: picture parsing, Dirac specification. After want of memory a part may
+/// stand.
 pub(crate) fn write_picture(
     alloc: Global,
     w: &mut BitWriter,
     settings: &Settings,
     sequence: &Sequence,
     coded: &CodedPicture,
+    texts: &Texts,
 ) -> Result<(), NoMemory>
     requires sequence { IsSequence sequence.now }
     requires same { sequence.now ≡ sequence_for settings.now }
@@ -138,12 +138,13 @@ pub(crate) fn write_picture(
     requires references { HasReferences coded.now.code coded.now.header }
     requires retires { MayRetire (is_reference coded.now.code) coded.now.header.number coded.now.header.retire }
     requires written { IfSome coded.now.residual (IsWritten sequence.now) }
-    ensures value { OnOk result (w.new ≡ with_picture settings.now coded.now w.old) }
+    requires texts { IfSome coded.now.residual (λ r. AreTexts sequence.now r texts.now) }
+    ensures value { OnOk result (w.new ≡ up_to_byte (with_picture settings.now coded.now w.old)) }
     ensures spelled { OnOk result (HasSpelledBlocks settings.now coded.now.motion
         (w.old ++ header_bits w.old coded.now.code coded.now.header)) }
 {
     write_header(w, &coded.header, coded.code)?;
     write_motion(alloc, w, settings, &coded.motion)?;
     w.align()?;
-    write_coefficients(alloc, w, sequence, coded.code, &coded.residual)
+    write_coefficients(w, sequence, coded.code, &coded.residual, texts)
 }

@@ -20,10 +20,14 @@ ghost use Rattle.dirac_stream.specs.Writable.{AreSmall, IsWritten};
 ghost use Rattle.dirac_choose.specs.Chosen.{at_index};
 ghost use Rattle.dirac_code.specs.Asked.{HasBlocks, IsCoding, coded_by};
 ghost use Rattle.dirac_code.specs.Prepared.{IsPrepared, blocks_in};
+ghost use Rattle.dirac_code.specs.Texts.{AreTexts};
 
-use crate::making::{Remade, make};
+use crate::making::coded_picture;
 use crate::payload::write_picture;
 use crate::prepared::{Prepared, prepare};
+use crate::showing::Finished;
+use crate::texts::Texts;
+use crate::workers::{OneWorker, Workers};
 use dirac_bits::BitWriter;
 use dirac_blocks::BlockData;
 use dirac_picture::CodedPicture;
@@ -40,12 +44,13 @@ pub struct Coded {
     pub shown: Picture,
 }
 
-/// The bytes of a coded picture.
+/// The bytes of a coded picture, those of its bands being these.
 fn payload_bytes(
     alloc: Global,
     settings: &Settings,
     sequence: &Sequence,
     coded: &CodedPicture,
+    texts: &Texts,
 ) -> Result<Vec<u8>, NoMemory>
     requires sequence { IsSequence sequence.now }
     requires same { sequence.now ≡ sequence_for settings.now }
@@ -54,13 +59,13 @@ fn payload_bytes(
     requires references { HasReferences coded.now.code coded.now.header }
     requires retires { MayRetire (is_reference coded.now.code) coded.now.header.number coded.now.header.retire }
     requires written { IfSome coded.now.residual (IsWritten sequence.now) }
+    requires texts { IfSome coded.now.residual (λ r. AreTexts sequence.now r texts.now) }
     ensures value { IfOk result (λ v. bits_of v.items ≡ up_to_byte (with_picture settings.now coded.now [])) }
     ensures spelled { IfOk result (λ v. HasSpelledBlocks settings.now coded.now.motion
         (header_bits [] coded.now.code coded.now.header)) }
 {
     let mut w = BitWriter::new(alloc);
-    write_picture(alloc, &mut w, settings, sequence, coded)?;
-    w.align()?;
+    write_picture(alloc, &mut w, settings, sequence, coded, texts)?;
     let bytes = w.finish()?;
     Ok(bytes)
 }
@@ -71,7 +76,8 @@ fn are_bytes(bytes: &[u8])
 {}
 
 /// Codes a prepared picture at the quantiser index of these settings.
-pub(crate) fn code_at(
+pub(crate) fn code_at<W: Workers>(
+    workers: &W,
     alloc: Global,
     prepared: &Prepared,
     planned: &Planned,
@@ -79,13 +85,17 @@ pub(crate) fn code_at(
     refs: &RefBuffer,
     settings: &Settings,
 ) -> Result<Coded, NoMemory>
+    requires shared { W.are_shared workers.now }
     requires prepared { IsPrepared settings.now refs.now planned.now source.now prepared.now }
     ensures { IfOk result (IsCoding settings.now refs.now planned.now source.now
         (motion_among settings.now (blocks_in prepared.now))) }
 {
     let sequence = sequence_of(settings);
-    let Remade { coded, shown } = make(alloc, settings, planned, source, refs, prepared)?;
-    let payload = payload_bytes(alloc, settings, &sequence, &coded)?;
+    let coded = coded_picture(workers, alloc, settings, planned, source, refs, prepared)?;
+    let compensated = &prepared.compensated;
+    let finished = workers.finish(alloc, &sequence, refs, &coded, compensated)?;
+    let Finished { texts, shown } = finished;
+    let payload = payload_bytes(alloc, settings, &sequence, &coded, &texts)?;
     are_bytes(payload.as_slice());
     Ok(Coded { payload, shown })
 }
@@ -122,7 +132,9 @@ pub fn code_prepared(
         index: u32::from(index),
         ..*settings
     };
-    code_at(alloc, prepared, planned, source, refs, &settings)
+    code_at(
+        &OneWorker, alloc, prepared, planned, source, refs, &settings,
+    )
 }
 
 /// Codes a picture as it is planned, an inter picture predicted by this block table: its payload, and the picture that
@@ -159,5 +171,7 @@ pub fn code_with_blocks(
         → c.shown ≡ source.now) }
 {
     let prepared = prepare(alloc, planned, source, refs, settings, blocks)?;
-    code_at(alloc, &prepared, planned, source, refs, settings)
+    code_at(
+        &OneWorker, alloc, &prepared, planned, source, refs, settings,
+    )
 }

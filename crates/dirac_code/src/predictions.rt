@@ -125,6 +125,7 @@ fn predict_plane(
 /// Predicts the planes of an inter picture side by side.
 pub(crate) fn predict_side_by_side<R: Threads + Sync>(
     rt: &R,
+    workers: u32,
     alloc: Global,
     code: u8,
     sequence: &Sequence,
@@ -145,6 +146,6 @@ pub(crate) fn predict_side_by_side<R: Threads + Sync>(
         ensures { IfOk result (λ t. IsPrediction sequence.entry.now (Some (first_of references.entry.now))
             (second_of references.entry.now) motion.entry.now component t.values) }
     { predict_plane(alloc, code, sequence, references, motion, component) };
-    let Planes { y, u, v } = side_by_side(rt, &work)?;
+    let Planes { y, u, v } = side_by_side(rt, workers, &work)?;
     Ok(Predictions { y, u, v })
 }

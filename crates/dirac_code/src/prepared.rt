@@ -14,8 +14,9 @@ ghost use Rattle.dirac_code.specs.Asked.{HasBlocks, IsAsked, IsMoving, blocks_of
 ghost use Rattle.dirac_code.specs.Prepared.{IsPrepared, blocks_in};
 
 use crate::motion::motion_of;
-use crate::predictions::{Predictions, predict_planes, predict_side_by_side};
-use crate::residual::{AnalysedPlanes, analyse_differences, analyse_side_by_side, analyse_source};
+use crate::predictions::Predictions;
+use crate::residual::AnalysedPlanes;
+use crate::workers::{OneWorker, Workers};
 use dirac_blocks::BlockData;
 use dirac_choose::{Lumas, References};
 use dirac_decode::named;
@@ -25,8 +26,6 @@ use dirac_refs::RefBuffer;
 use dirac_sequence::{Sequence, sequence_of};
 use dirac_types::{NoMemory, Picture, Settings};
 use std::alloc::Global;
-use std::marker::Sync;
-use std::thread::Threads;
 
 /// What an inter picture is predicted from, and the block table by which it is.
 #[derive(Clone, Copy)]
@@ -61,20 +60,22 @@ fn are_whole(picture: &Picture)
 }
 
 /// Prepares an intra picture.
-fn prepare_intra(
+fn prepare_intra<W: Workers>(
+    workers: &W,
     alloc: Global,
     planned: &Planned,
     source: &Picture,
     refs: &RefBuffer,
     settings: &Settings,
 ) -> Result<Prepared, NoMemory>
+    requires shared { W.are_shared workers.now }
     requires asked { IsAsked settings.now refs.now planned.now source.now }
     requires whole { IsWhole source.now }
     requires intra { is_intra planned.now.code ≡ true }
     ensures prepared { IfOk result (IsPrepared settings.now refs.now planned.now source.now) }
     ensures blocks { IfOk result (λ x. blocks_in x ≡ None) }
 {
-    let left = analyse_source(alloc, settings, source)?;
+    let left = workers.analyse(alloc, settings, source)?;
     Ok(Prepared {
         compensated: None,
         left,
@@ -82,7 +83,8 @@ fn prepare_intra(
 }
 
 /// Prepares an inter picture, predicted by this block table from these references, which are among the listed pictures.
-fn prepare_inter(
+fn prepare_inter<W: Workers>(
+    workers: &W,
     alloc: Global,
     planned: &Planned,
     source: &Picture,
@@ -91,6 +93,7 @@ fn prepare_inter(
     sequence: &Sequence,
     moving: Moving<'_>,
 ) -> Result<Prepared, NoMemory>
+    requires shared { W.are_shared workers.now }
     requires sequence { sequence.now ≡ sequence_for settings.now }
     requires asked { IsAsked settings.now refs.now planned.now source.now }
     requires whole { IsWhole source.now }
@@ -101,51 +104,9 @@ fn prepare_inter(
     ensures blocks { IfOk result (λ x. blocks_in x ≡ Some moving.entry.blocks.now) }
 {
     let motion = motion_of(alloc, settings, moving.blocks)?;
-    let predictions = predict_planes(alloc, planned.code, sequence, moving.references, &motion)?;
-    let left = analyse_differences(alloc, settings, source, &predictions)?;
-    let compensated = Compensated {
-        motion,
-        predictions,
-    };
-    Ok(Prepared {
-        compensated: Some(compensated),
-        left,
-    })
-}
-
-/// Prepares an inter picture likewise, its planes side by side where there are two workers.
-pub(crate) fn prepare_side_by_side<R: Threads + Sync>(
-    rt: &R,
-    alloc: Global,
-    planned: &Planned,
-    source: &Picture,
-    refs: &RefBuffer,
-    settings: &Settings,
-    moving: Moving<'_>,
-) -> Result<Prepared, NoMemory>
-    requires asked { IsAsked settings.now refs.now planned.now source.now }
-    requires inter { is_intra planned.now.code ≡ false }
-    requires moving { IsMoving settings.now refs.now planned.now moving }
-    requires blocks { IsChosen settings.now planned.now.code moving.blocks.now }
-    ensures prepared { IfOk result (IsPrepared settings.now refs.now planned.now source.now) }
-    ensures blocks { IfOk result (λ x. blocks_in x ≡ Some moving.entry.blocks.now) }
-{
-    are_whole(source);
-    let sequence = sequence_of(settings);
-    if settings.workers <= 1 {
-        return prepare_inter(alloc, planned, source, refs, settings, &sequence, moving);
-    }
     let references = moving.references;
-    let motion = motion_of(alloc, settings, moving.blocks)?;
-    let predictions = predict_side_by_side(
-        rt,
-        alloc,
-        planned.code,
-        &sequence,
-        references,
-        &motion,
-    )?;
-    let left = analyse_side_by_side(rt, alloc, settings, source, &predictions)?;
+    let predictions = workers.predict(alloc, planned.code, sequence, references, &motion)?;
+    let left = workers.analyse_rest(alloc, settings, source, &predictions)?;
     let compensated = Compensated {
         motion,
         predictions,
@@ -157,7 +118,8 @@ pub(crate) fn prepare_side_by_side<R: Threads + Sync>(
 }
 
 /// Prepares a picture as it is planned, an inter picture predicted by this block table from these references.
-pub(crate) fn prepare_by(
+pub(crate) fn prepare_by<W: Workers>(
+    workers: &W,
     alloc: Global,
     planned: &Planned,
     source: &Picture,
@@ -165,6 +127,7 @@ pub(crate) fn prepare_by(
     settings: &Settings,
     moving: Option<Moving<'_>>,
 ) -> Result<Prepared, NoMemory>
+    requires shared { W.are_shared workers.now }
     requires asked { IsAsked settings.now refs.now planned.now source.now }
     requires moving { ForSome moving (IsMoving settings.now refs.now planned.now) }
     requires blocks { HasBlocks settings.now planned.now.code (blocks_of moving) }
@@ -173,10 +136,12 @@ pub(crate) fn prepare_by(
 {
     are_whole(source);
     match moving {
-        None => prepare_intra(alloc, planned, source, refs, settings),
+        None => prepare_intra(workers, alloc, planned, source, refs, settings),
         Some(moving) => {
             let sequence = sequence_of(settings);
-            prepare_inter(alloc, planned, source, refs, settings, &sequence, moving)
+            prepare_inter(
+                workers, alloc, planned, source, refs, settings, &sequence, moving,
+            )
         }
     }
 }
@@ -206,7 +171,8 @@ fn prepare_looked_up(
                 references: &references,
                 blocks,
             };
-            prepare_by(alloc, planned, source, refs, settings, Some(moving))
+            let moving = Some(moving);
+            prepare_by(&OneWorker, alloc, planned, source, refs, settings, moving)
         }
     }
 }
@@ -231,7 +197,7 @@ pub fn prepare(
     ensures blocks { IfOk result (λ x. blocks_in x ≡ option_copied blocks.entry) }
 {
     match blocks {
-        None => prepare_by(alloc, planned, source, refs, settings, None),
+        None => prepare_by(&OneWorker, alloc, planned, source, refs, settings, None),
         Some(blocks) => prepare_looked_up(alloc, planned, source, refs, settings, blocks),
     }
 }

@@ -5,11 +5,13 @@ ghost use Rattle.dirac_types.specs.declared.formats.Kind.TheVariants.{Inter, Int
 ghost use Rattle.dirac_coeffs.specs.Contexts as contexts;
 ghost use Rattle.dirac_coeffs.specs.Written.{is_zero_band};
 ghost use Rattle.dirac_residual.specs.Zeros.{are_zero_bands};
+ghost use Rattle.dirac_analysis.specs.Analysis.{quantised};
 ghost use Rattle.dirac_analysis.specs.Fits.{AreDifferences};
 ghost use Rattle.dirac_decode.specs.Content.{plane_of};
 ghost use Rattle.dirac_stream.specs.Coded as coding;
 ghost use Rattle.dirac_stream.specs.Writable.{IsCodable};
-ghost use Rattle.dirac_code.specs.Analyses.{AreAnalysed, AreQuantisablePlanes, IsAnalysed, quantised_planes};
+ghost use Rattle.dirac_code.specs.Analyses.{AreAnalysed, AreQuantisablePlanes, IsAnalysed, analysis_of};
+ghost use Rattle.dirac_code.specs.Analyses.{quantised_planes};
 ghost use Rattle.dirac_code.specs.Predictions.{IsCodablePlane, IsCodableSource, IsPicturePredictedBy, IsPredictedBy};
 ghost use Rattle.dirac_code.specs.Predictions.{values_of};
 
@@ -88,6 +90,44 @@ pub(crate) fn analyse_source(
     Ok(AnalysedPlanes { y, u, v })
 }
 
+/// A plane of a picture, analysed.
+fn analyse_plane(
+    alloc: Global,
+    settings: &Settings,
+    source: &Picture,
+    component: Component,
+) -> Result<AnalysedPlane, NoMemory>
+    requires codable { IsCodable settings.now }
+    requires source { IsCodableSource source.now }
+    ensures { IfOk result (IsAnalysed settings.now Intra (plane_of source.now component)) }
+{
+    match component {
+        Component::Y => analyse_values(alloc, settings, Kind::Intra, &source.y),
+        Component::U => analyse_values(alloc, settings, Kind::Intra, &source.u),
+        Component::V => analyse_values(alloc, settings, Kind::Intra, &source.v),
+    }
+}
+
+/// The planes of a picture, analysed side by side.
+pub(crate) fn analyse_side_by_side<R: Threads + Sync>(
+    rt: &R,
+    workers: u32,
+    alloc: Global,
+    settings: &Settings,
+    source: &Picture,
+) -> Result<AnalysedPlanes, NoMemory>
+    requires codable { IsCodable settings.now }
+    requires source { IsCodableSource source.now }
+    ensures { IfOk result (AreAnalysed settings.now Intra source.now.y source.now.u source.now.v) }
+{
+    let work = |component: Component| -> Result<AnalysedPlane, NoMemory>
+        requires { IsCodable settings.now × IsCodableSource source.now }
+        ensures { IfOk result (IsAnalysed settings.entry.now Intra (plane_of source.entry.now component)) }
+    { analyse_plane(alloc, settings, source, component) };
+    let Planes { y, u, v } = side_by_side(rt, workers, &work)?;
+    Ok(AnalysedPlanes { y, u, v })
+}
+
 /// The planes of a picture less what is predicted for them, analysed.
 pub(crate) fn analyse_differences(
     alloc: Global,
@@ -131,8 +171,9 @@ fn analyse_rest(
 }
 
 /// The planes of a picture less what is predicted for them, analysed side by side.
-pub(crate) fn analyse_side_by_side<R: Threads + Sync>(
+pub(crate) fn analyse_rest_side_by_side<R: Threads + Sync>(
     rt: &R,
+    workers: u32,
     alloc: Global,
     settings: &Settings,
     source: &Picture,
@@ -153,7 +194,7 @@ pub(crate) fn analyse_side_by_side<R: Threads + Sync>(
             (coding.less_prediction (plane_of source.entry.now component)
             (values_of predictions.entry.now component))) }
     { analyse_rest(alloc, settings, source, predictions, component) };
-    let Planes { y, u, v } = side_by_side(rt, &work)?;
+    let Planes { y, u, v } = side_by_side(rt, workers, &work)?;
     Ok(AnalysedPlanes { y, u, v })
 }
 
@@ -172,6 +213,48 @@ pub(crate) fn quantise_planes(
     let y = quantise_plane(alloc, kind, &planes.y, index)?;
     let u = quantise_plane(alloc, kind, &planes.u, index)?;
     let v = quantise_plane(alloc, kind, &planes.v, index)?;
+    Ok(with_transform(settings, y, u, v))
+}
+
+/// The subbands of an analysed plane, quantised at the index of these settings.
+fn quantise_component(
+    alloc: Global,
+    settings: &Settings,
+    kind: Kind,
+    planes: &AnalysedPlanes,
+    component: Component,
+) -> Result<PlaneBands, NoMemory>
+    requires codable { IsCodable settings.now }
+    requires fits { AreQuantisablePlanes planes.now }
+    ensures { IfOk result (λ b. b ≡ quantised kind settings.now.index (analysis_of planes.now component)) }
+{
+    let index = settings.index as u8;
+    match component {
+        Component::Y => quantise_plane(alloc, kind, &planes.y, index),
+        Component::U => quantise_plane(alloc, kind, &planes.u, index),
+        Component::V => quantise_plane(alloc, kind, &planes.v, index),
+    }
+}
+
+/// The coded residual of analysed planes, quantised side by side.
+pub(crate) fn quantise_side_by_side<R: Threads + Sync>(
+    rt: &R,
+    workers: u32,
+    alloc: Global,
+    settings: &Settings,
+    kind: Kind,
+    planes: &AnalysedPlanes,
+) -> Result<CodedResidual, NoMemory>
+    requires codable { IsCodable settings.now }
+    requires fits { AreQuantisablePlanes planes.now }
+    ensures { IfOk result (λ r. r ≡ quantised_planes settings.now kind planes.now) }
+{
+    let work = |component: Component| -> Result<PlaneBands, NoMemory>
+        requires { IsCodable settings.now × AreQuantisablePlanes planes.now }
+        ensures { IfOk result (λ b. b
+            ≡ quantised kind settings.entry.now.index (analysis_of planes.entry.now component)) }
+    { quantise_component(alloc, settings, kind, planes, component) };
+    let Planes { y, u, v } = side_by_side(rt, workers, &work)?;
     Ok(with_transform(settings, y, u, v))
 }
 

@@ -1,19 +1,35 @@
-//! The picture that decoders show for a coded inter picture.
+//! What a coded picture is finished with: the bytes of its bands, and the picture that decoders show for it.
 
-ghost use Rattle.std.specs.Prelude.{◌≡◌, ◌*◌, length, IfOk, IfSome};
+ghost use Rattle.std.specs.Prelude.{◌≡◌, ◌*◌, ◌≤◌, length, IfOk, IfSome};
+ghost use Rattle.std.specs.Thread.{IsSync};
 ghost use Rattle.dirac_types.specs.declared.formats.Component.TheVariants as component;
 ghost use Rattle.dirac_sequence.specs.Lawful.{IsSequence};
 ghost use Rattle.dirac_picture.specs.Fits.{IsResidual};
-ghost use Rattle.dirac_decode.specs.Content.{height_of, width_of};
+ghost use Rattle.dirac_decode.specs.Content.{height_of, rebuilt, width_of};
+ghost use Rattle.dirac_stream.specs.Writable.{IsWritten};
+ghost use Rattle.dirac_code.specs.Finishing.{CanBeFinished};
 ghost use Rattle.dirac_code.specs.Predictions.{picture_from};
+ghost use Rattle.dirac_code.specs.Texts.{AreTexts};
 
 use crate::predictions::Predictions;
-use dirac_decode::predicted_samples;
+use crate::prepared::Compensated;
+use crate::texts::{Texts, texts_of, texts_side_by_side};
+use dirac_decode::{predicted_samples, rebuild};
 use dirac_obmc::Component;
-use dirac_picture::CodedPicture;
+use dirac_picture::{CodedPicture, CodedResidual};
+use dirac_refs::RefBuffer;
 use dirac_sequence::Sequence;
 use dirac_types::{NoMemory, Picture};
 use std::alloc::Global;
+use std::marker::Sync;
+use std::thread::{Threads, join};
+
+/// The bytes of a coded picture's bands, and the picture that decoders show for it.
+#[derive(Drop)]
+pub(crate) struct Finished {
+    pub(crate) texts: Texts,
+    pub(crate) shown: Picture,
+}
 
 /// The picture that a coded picture and its predictions stand for.
 pub(crate) fn show_predicted(
@@ -60,4 +76,94 @@ pub(crate) fn show_predicted(
         u,
         v,
     })
+}
+
+/// The picture that decoders show for a coded picture, from its predictions if it is predicted.
+pub(crate) fn show(
+    alloc: Global,
+    sequence: &Sequence,
+    refs: &RefBuffer,
+    coded: &CodedPicture,
+    compensated: &Option<Compensated>,
+) -> Result<Picture, NoMemory>
+    requires { CanBeFinished sequence.now refs.now coded.now compensated.now }
+    ensures { IfOk result (λ p. p ≡ rebuilt sequence.now refs.now coded.now) }
+{
+    match compensated {
+        None => {
+            let shown = rebuild(alloc, coded, sequence, refs)?;
+            Ok(shown)
+        }
+        Some(compensated) => {
+            let shown = show_predicted(alloc, sequence, coded, &compensated.predictions)?;
+            Ok(shown)
+        }
+    }
+}
+
+/// Writes the bands of a coded picture, and shows it.
+pub(crate) fn finish(
+    alloc: Global,
+    sequence: &Sequence,
+    refs: &RefBuffer,
+    coded: &CodedPicture,
+    compensated: &Option<Compensated>,
+) -> Result<Finished, NoMemory>
+    requires { CanBeFinished sequence.now refs.now coded.now compensated.now }
+    ensures texts { IfOk result (λ f. IfSome coded.now.residual (λ r. AreTexts sequence.now r f.texts)) }
+    ensures shown { IfOk result (λ f. f.shown ≡ rebuilt sequence.now refs.now coded.now) }
+{
+    let texts = texts_of(alloc, sequence, &coded.residual)?;
+    let shown = show(alloc, sequence, refs, coded, compensated)?;
+    Ok(Finished { texts, shown })
+}
+
+/// The bytes of a coded picture's bands, by so many workers.
+fn texts_by<R: Threads + Sync>(
+    rt: &R,
+    workers: u32,
+    alloc: Global,
+    sequence: &Sequence,
+    residual: &Option<CodedResidual>,
+) -> Result<Texts, NoMemory>
+    requires sequence { IsSequence sequence.now }
+    requires written { IfSome residual.now (IsWritten sequence.now) }
+    ensures { IfOk result (λ x. IfSome residual.now (λ r. AreTexts sequence.now r x)) }
+{
+    if workers <= 1 {
+        return texts_of(alloc, sequence, residual);
+    }
+    texts_side_by_side(rt, workers, alloc, sequence, residual)
+}
+
+/// Writes the bands of a coded picture, by all workers but one, and shows it beside that.
+pub(crate) fn finish_side_by_side<R: Threads + Sync>(
+    rt: &R,
+    workers: u32,
+    alloc: Global,
+    sequence: &Sequence,
+    refs: &RefBuffer,
+    coded: &CodedPicture,
+    compensated: &Option<Compensated>,
+) -> Result<Finished, NoMemory>
+    requires workers { 2 ≤ workers }
+    requires finishing { CanBeFinished sequence.now refs.now coded.now compensated.now }
+    ensures texts { IfOk result (λ f. IfSome coded.now.residual (λ r. AreTexts sequence.now r f.texts)) }
+    ensures shown { IfOk result (λ f. f.shown ≡ rebuilt sequence.now refs.now coded.now) }
+{
+    let (shown, texts) = join(
+        rt,
+        || -> Result<Picture, NoMemory>
+            requires { CanBeFinished sequence.now refs.now coded.now compensated.now }
+            ensures { IfOk result (λ p. p ≡ rebuilt sequence.entry.now refs.entry.now coded.entry.now) }
+        { show(alloc, sequence, refs, coded, compensated) },
+        || -> Result<Texts, NoMemory>
+            requires { IsSync R.row × (2 ≤ workers) × IsSequence sequence.now
+                × IfSome coded.now.residual (IsWritten sequence.now) }
+            ensures { IfOk result (λ x. IfSome coded.entry.now.residual (λ r. AreTexts sequence.entry.now r x)) }
+        { texts_by(rt, workers - 1, alloc, sequence, &coded.residual) },
+    );
+    let shown = shown?;
+    let texts = texts?;
+    Ok(Finished { texts, shown })
 }

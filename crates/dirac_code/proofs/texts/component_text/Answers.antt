@@ -1,0 +1,5 @@
+use Rattle.dirac_code.proofs.Apart.{text_asked}
+use Rattle.dirac_code.proofs.texts.component_text.Goals as goal
+
+pub plane_text-requires-clause-layout : goal.plane_text-requires-clause-layout
+plane_text-requires-clause-layout c = (text_asked c.args.sequence.now c.args.residual.now c.args.component c.requires.sequence c.requires.written).0
