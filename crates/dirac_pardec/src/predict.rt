@@ -58,8 +58,8 @@ fn predict_slice(
     predict_in(alloc, inter, ups, weights, place)
 }
 
-/// The predictions of all slices, each made by a worker: those of Y first, then those of U, then those of V. The weights
-/// of their columns are made before, once for all.
+/// The predictions of all slices, each made by a worker: those of Y first, then those of U, then those of V. The
+/// weights of their columns are made before, once for all.
 pub(crate) fn predict_slices<R: Threads + Sync, G: RowGate>(
     rt: &R,
     alloc: Global,

@@ -19,7 +19,7 @@ use dirac_residual::{Residual, clipped_sum};
 use dirac_types::{LARGEST_TABLE_SIDE, NoMemory, Plane};
 use std::alloc::Global;
 
-/// The values of a plane from its slices, which are `count` items from item `first` on; `room` values are made room for.
+/// The values of a plane from its slices, which are `count` items from item `first` on; `room` is how many they are.
 fn joined(
     alloc: Global,
     slices: &[Predicted],
