@@ -1,5 +1,6 @@
 -- Rows of sums to which values are added.
 use Rattle.std.proofs.Common.{◌≡◌, ℕ, ℤ, pos, suc, ◌+◌, ◌-◌, ◌<◌, ◌≤◌, ◌+ℤ◌, unsigned_abs, List, length, get_or, set, arith, refl, inl, inr, ap, sym, subst, ◌∙◌}
+use Rattle.std.specs.Int.{int_shr}
 use Rattle.std.specs.List.{All}
 use Rattle.std.proofs.lemmas.Bool.{cases_eq, cases_lt}
 use Rattle.std.proofs.lemmas.Int.{ints}
@@ -90,3 +91,28 @@ adds_all f k m n xs ys a e = subst (λ (i : ℕ). Adds (λ x. total (f x) i) n x
 -- sums that are 0
 pub zeros_small : (xs : List ℤ) → ((x : ℕ) → get_or xs x (pos 0) ≡ pos 0) → All (λ v. unsigned_abs v ≤ 0) xs
 zeros_small xs h k d inside = rw (get_or_default xs k d (pos 0) inside, h k) (omega arith)
+
+-- the first n sums are divided by 64 to the nearest, all others are as they were
+pub record Divided (n : ℕ) (old new : List ℤ) : Type 0 where
+  pub done : (x : ℕ) → x < n → get_or new x (pos 0) ≡ int_shr (get_or old x (pos 0) +ℤ pos 32) 6
+  pub rest : (x : ℕ) → n ≤ x → get_or new x (pos 0) ≡ get_or old x (pos 0)
+
+pub divided_none : (xs : List ℤ) → Divided 0 xs xs
+divided_none xs = record { done = λ x l. absurd (omega arith); rest = λ x l. refl }
+
+-- one more
+pub divided_more : (n m : ℕ) (xs ys : List ℤ) (v : ℤ) → Divided n xs ys → n < length ys → m ≡ n + 1 → v ≡ int_shr (get_or ys n (pos 0) +ℤ pos 32) 6 → Divided m xs (set ys n v)
+divided_more n m xs ys v d fits next e = record {
+  done = λ x l. elim (cases_eq x n) [
+    | inl here ↦
+        ap (λ i. get_or (set ys n v) i (pos 0)) here ∙ get_or-set_same ys n v (pos 0) fits ∙ e
+        ∙ ap (λ z. int_shr (z +ℤ pos 32) 6) (d.rest n (omega arith))
+        ∙ ap (λ i. int_shr (get_or xs i (pos 0) +ℤ pos 32) 6) (sym here)
+    | inr other ↦ get_or-set_other ys n x v (pos 0) (omega arith) ∙ d.done x (omega arith)
+  ];
+  rest = λ x l. get_or-set_other ys n x v (pos 0) (omega arith) ∙ d.rest x (omega arith);
+}
+
+-- a sum that isn't divided yet
+pub divided_next : (n b : ℕ) (xs ys : List ℤ) → Divided n xs ys → All (λ v. unsigned_abs v ≤ b) xs → n < length xs → unsigned_abs (get_or ys n (pos 0)) ≤ b
+divided_next n b xs ys d h inside = rw (d.rest n (omega arith)) (h n (pos 0) inside)

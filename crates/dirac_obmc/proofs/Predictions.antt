@@ -1,5 +1,5 @@
 -- Tables of predictions.
-use Rattle.std.proofs.Common.{◌≡◌, ℕ, ℤ, pos, negsuc, ◌+◌, ◌-◌, ◌*◌, ◌/◌, ◌%◌, ◌^◌, ◌<◌, ◌≤◌, ◌+ℤ◌, unsigned_abs, replicate, arith}
+use Rattle.std.proofs.Common.{◌≡◌, ℕ, ℤ, pos, negsuc, ◌+◌, ◌-◌, ◌*◌, ◌/◌, ◌%◌, ◌^◌, ◌<◌, ◌≤◌, ◌+ℤ◌, unsigned_abs, replicate, arith, subst}
 use Rattle.std.specs.Prelude.{◌≤ℤ◌}
 use Rattle.std.specs.Int.{int_shr}
 use Rattle.std.proofs.Math.Nat.{mul_comm}
@@ -10,8 +10,10 @@ use Rattle.std.proofs.lemmas.Nat.{mod_below, div_below}
 use Rattle.dirac_types.specs.Table.{Table, filled}
 use Rattle.std.proofs.lemmas.List.{length-replicate}
 use Rattle.dirac_types.proofs.Rows.{RowsFilled}
-use Rattle.dirac_obmc.specs.Compensation.{Compensation, IsMotion, blended, blocks_down, predicted_at, predicted_rows}
-use Rattle.dirac_obmc.specs.Directions.{IsSound}
+use Rattle.dirac_obmc.specs.declared.room.BlockRoom.{BlockRoom}
+use Rattle.dirac_obmc.specs.declared.rows.Columns.{Columns}
+use Rattle.dirac_obmc.specs.Compensation.{Compensation, IsMotion, blended, blocks_down, predicted_at, predicted_rows, x_length}
+use Rattle.dirac_obmc.specs.Directions.{IsColumns, IsRoom, IsSound}
 use Rattle.dirac_obmc.proofs.Bounds.{rows_small}
 
 -- a sum of values times weights of 64 in all, divided by 64
@@ -49,3 +51,7 @@ rows_none f t w h n e none = record {
   len = rw e (length-replicate (w * h) (pos 0));
   done = λ x y l k. absurd (omega arith);
 }
+
+-- room for the blocks of a plane
+pub room_of : (m : Compensation) (c : Columns) (r : BlockRoom) → IsColumns m c → IsRoom c.blocks.length r → IsRoom (x_length m) r
+room_of m c r h room = subst (λ (n : ℕ). IsRoom n r) h.direction.length_is room

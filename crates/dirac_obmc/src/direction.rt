@@ -1,6 +1,6 @@
 ghost use Rattle.std.specs.Prelude.{◌≡◌, ◌≤◌};
 ghost use Rattle.dirac_obmc.specs.Compensation.{IsMotion, ratio_of, across_ratio, down_ratio};
-ghost use Rattle.dirac_obmc.specs.Directions.{IsAcross, IsDown};
+ghost use Rattle.dirac_obmc.specs.Directions.{IsAcross, IsDown, columns_of};
 ghost use Rattle.dirac_obmc.specs.Given.{given};
 
 use crate::motion::Motion;
@@ -46,7 +46,8 @@ pub fn down_ratio(motion: &Motion<'_>) -> u32
 /// The blocks of the plane from left to right.
 pub fn across(motion: &Motion<'_>) -> Direction
     requires { IsMotion (given motion.now) }
-    ensures { IsAcross (given motion.now) result }
+    ensures direction { IsAcross (given motion.now) result }
+    ensures value { result ≡ columns_of (given motion.now) }
 {
     let ratio = across_ratio(motion);
     Direction {

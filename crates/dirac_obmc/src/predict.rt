@@ -1,15 +1,16 @@
-ghost use Rattle.std.specs.Prelude.{◌≡◌, ℕ, ◌+◌, ◌-◌, ◌^◌, ◌<◌, ◌≤◌, unsigned_abs, length, replicate, IfOk};
+ghost use Rattle.std.specs.Prelude.{◌≡◌, ℕ, ◌+◌, ◌-◌, ◌^◌, ◌<◌, ◌≤◌, unsigned_abs, IfOk};
 ghost use Rattle.std.specs.List.{All};
 ghost use Rattle.dirac_types.specs.Table.{table_at};
 ghost use Rattle.dirac_obmc.specs.Given.{given};
 ghost use Rattle.dirac_obmc.specs.Compensation.{IsMotion, IsPredictable, predicted_at, predicted_plane, predicted_rows};
-ghost use Rattle.dirac_obmc.specs.Directions.{IsSound};
+ghost use Rattle.dirac_obmc.specs.Directions.{IsColumns, IsSound, columns_of};
 
+use crate::columns::ColumnWeights;
 use crate::direction::{across, down};
 use crate::motion::Motion;
 use crate::predicted::Predicted;
+use crate::room::block_room;
 use crate::rows::{Columns, predict_row};
-use crate::weights::weight_table;
 use dirac_types::NoMemory;
 use std::alloc::Global;
 
@@ -35,60 +36,77 @@ fn bounded(motion: &Motion<'_>)
     let _first = motion.up1.width();
 }
 
-fn no_samples(alloc: Global, count: u32) -> Result<Vec<i16>, NoMemory>
-    ensures { IfOk result (λ v. length v.items ≡ count) }
+/// The weights of the columns of a plane, made once for all its rows.
+pub fn column_weights(alloc: Global, motion: &Motion<'_>) -> Result<ColumnWeights, NoMemory>
+    requires motion { IsPredictable (given motion.now) }
+    ensures { IfOk result (λ c. c ≡ columns_of (given motion.now)) }
 {
-    Ok(vec![in alloc; 0; count as usize]?)
+    bounded(motion);
+    let weights = ColumnWeights::try_new(alloc, across(motion))?;
+    Ok(weights)
 }
 
-fn no_values(alloc: Global, count: u32) -> Result<Vec<i32>, NoMemory>
-    ensures { IfOk result (λ v. length v.items ≡ count) }
+/// The blocks of the plane from left to right, with these weights.
+fn columns_with<'a>(motion: &Motion<'_>, weights: &'a ColumnWeights) -> Columns<'a>
+    requires motion { IsMotion (given motion.now) }
+    requires weights { weights.now ≡ columns_of (given motion.now) }
+    ensures { IsColumns (given motion.now) result }
 {
-    Ok(vec![in alloc; 0; count as usize]?)
+    Columns {
+        blocks: across(motion),
+        weights: weights.as_slice(),
+    }
 }
 
 /// The predictions of rows `first` to `end - 1` of a plane whose size has its limits.
 fn rows_between(
     alloc: Global,
     motion: &Motion<'_>,
+    weights: &ColumnWeights,
     first: u32,
     end: u32,
 ) -> Result<Predicted, NoMemory>
     requires not_empty { first < end }
     requires inside { end ≤ motion.now.height }
     requires motion { IsMotion (given motion.now) }
+    requires weights { weights.now ≡ columns_of (given motion.now) }
     ensures value { IfOk result (λ t. t ≡ predicted_rows (given motion.now) first end) }
     ensures each { IfOk result (λ t. (x y : ℕ) → x < motion.now.width → y < end - first → table_at t x y
         ≡ predicted_at (given motion.now) x (first + y)) }
     ensures magnitudes_at_most_2_15 { IfOk result (λ t. All (λ v. unsigned_abs v ≤ 2 ^ 15) t.values) }
 {
     lawful(motion);
-    let blocks = across(motion);
+    let columns = columns_with(motion, weights);
     let rows = down(motion);
-    let weights = weight_table(alloc, blocks)?;
-    let columns = Columns {
-        blocks,
-        weights: weights.as_slice(),
-    };
-    let mut samples1 = no_samples(alloc, blocks.length)?;
-    let mut samples2 = no_samples(alloc, blocks.length)?;
-    let mut values = no_values(alloc, blocks.length)?;
-    let mut sums = no_values(alloc, motion.width)?;
+    let mut room = block_room(alloc, columns.blocks.length)?;
     let mut predicted = Predicted::try_new(alloc, motion.width, end - first, 0)?;
     for y in first..end {
-        predict_row(
-            motion,
-            columns,
-            rows,
-            y,
-            samples1.as_mut_slice(),
-            samples2.as_mut_slice(),
-            values.as_mut_slice(),
-            sums.as_mut_slice(),
-            predicted.row_mut(y - first),
-        );
+        let out = predicted.row_mut(y - first);
+        predict_row(motion, columns, rows, y, &mut room, out);
     }
     Ok(predicted)
+}
+
+/// The predictions of rows `first` to `end - 1` of a plane, by the weights of its columns, which are made already
+/// (motion compensation, Dirac specification).
+pub fn predict_rows_with(
+    alloc: Global,
+    motion: &Motion<'_>,
+    weights: &ColumnWeights,
+    first: u32,
+    end: u32,
+) -> Result<Predicted, NoMemory>
+    requires not_empty { first < end }
+    requires inside { end ≤ motion.now.height }
+    requires motion { IsPredictable (given motion.now) }
+    requires weights { weights.now ≡ columns_of (given motion.now) }
+    ensures value { IfOk result (λ t. t ≡ predicted_rows (given motion.now) first end) }
+    ensures each { IfOk result (λ t. (x y : ℕ) → x < motion.now.width → y < end - first → table_at t x y
+        ≡ predicted_at (given motion.now) x (first + y)) }
+    ensures magnitudes_at_most_2_15 { IfOk result (λ t. All (λ v. unsigned_abs v ≤ 2 ^ 15) t.values) }
+{
+    bounded(motion);
+    rows_between(alloc, motion, weights, first, end)
 }
 
 /// The predictions of rows `first` to `end - 1` of a plane (motion compensation, Dirac specification).
@@ -106,8 +124,8 @@ pub fn predict_rows(
         ≡ predicted_at (given motion.now) x (first + y)) }
     ensures magnitudes_at_most_2_15 { IfOk result (λ t. All (λ v. unsigned_abs v ≤ 2 ^ 15) t.values) }
 {
-    bounded(motion);
-    rows_between(alloc, motion, first, end)
+    let weights = column_weights(alloc, motion)?;
+    predict_rows_with(alloc, motion, &weights, first, end)
 }
 
 /// The predictions of all samples of a plane (motion compensation, Dirac specification).

@@ -5,6 +5,7 @@ fn is_shared<T: Send + Sync>() {}
 
 /// Each of these types may be shared by threads and sent to them.
 fn are_shared() {
+    is_shared::<crate::ColumnWeights>();
     is_shared::<crate::Motion<'_>>();
     is_shared::<crate::Component>();
     is_shared::<crate::Predicted>();

@@ -73,13 +73,12 @@ fn divided(sum: i32) -> i32
 }
 
 /// Divides the sums of a row by the sum of the weights.
-pub fn divide_sums(sums: &[i32], out: &mut [i32])
-    requires len { length sums.now ≡ length out.old }
-    requires sums { All (λ v. unsigned_abs v ≤ 2 ^ 21) sums.now }
-    ensures value { (x : ℕ) → x < length out.old → slice_index_or out.new x (pos 0)
-        ≡ int_shr (slice_index_or sums.now x (pos 0) +ℤ pos 32) 6 }
+pub fn divide_sums(sums: &mut [i32])
+    requires { All (λ v. unsigned_abs v ≤ 2 ^ 21) sums.old }
+    ensures { (x : ℕ) → x < length sums.old → slice_index_or sums.new x (pos 0)
+        ≡ int_shr (slice_index_or sums.old x (pos 0) +ℤ pos 32) 6 }
 {
-    for x in 0..out.len() {
-        out[x] = divided(sums[x]);
+    for x in 0..sums.len() {
+        sums[x] = divided(sums[x]);
     }
 }

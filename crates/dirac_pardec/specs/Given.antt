@@ -1,5 +1,5 @@
 -- An inter picture whose references are looked up, seen through its references.
-use Rattle.std.specs.Prelude.{◌≡◌, ℕ, ℤ, Option, Some, option_map, IsSome, IfSome, List}
+use Rattle.std.specs.Prelude.{◌≡◌, ℕ, ℤ, Option, IsSome, IfSome, List}
 use Rattle.std.specs.Option.{ForSome, option_copied}
 use Rattle.dirac_types.specs.declared.formats.Component.{Component}
 use Rattle.dirac_types.specs.declared.picture.Picture.{Picture}
@@ -7,14 +7,16 @@ use Rattle.dirac_types.specs.Table.{Table, filled}
 use Rattle.dirac_sequence.specs.declared.sequence.Sequence.{Sequence}
 use Rattle.dirac_sequence.specs.Lawful.{IsSequence}
 use Rattle.dirac_upconvert.specs.SubSamples.{Up}
-use Rattle.dirac_obmc.specs.Compensation.{predicted_at}
+use Rattle.dirac_obmc.specs.Compensation.{Compensation, predicted_at}
+use Rattle.dirac_obmc.specs.Directions.{columns_of}
 use Rattle.dirac_picture.specs.declared.coded.CodedMotion.{CodedMotion}
 use Rattle.dirac_picture.specs.declared.coded.CodedResidual.{CodedResidual}
 use Rattle.dirac_picture.specs.Fits.{IsMotion, IsResidual}
-use Rattle.dirac_decode.specs.Content.{IsPicture, compensation, height_of, plane_of, up_of, width_of}
+use Rattle.dirac_decode.specs.Content.{IsPicture, compensation, height_of, width_of}
 use Rattle.dirac_rows.specs.Answers.{AnswerRows}
 use Rattle.dirac_pardec.specs.declared.inter.Inter.{Inter}
 use Rattle.dirac_pardec.specs.declared.places.SlicePlace.{SlicePlace}
+use Rattle.dirac_pardec.specs.declared.weights.PlaneWeights.{PlaneWeights}
 use Rattle.dirac_pardec.specs.Places.{component_at, place_of}
 use Rattle.dirac_pardec.specs.Planes.{up_at, up_rows}
 use Rattle.dirac_pardec.specs.Slices.{slice_of}
@@ -51,6 +53,15 @@ pub record IsInter (g : Lent) : Type 0 where
 -- the planes of its references, upconverted
 abbrev pub AreUps : Lent → List Up → Type 0
 AreUps g items = AnswerRows (λ r u. u ≡ up_at g.first g.second r) (up_rows g.second) items
+
+-- what its plane of this number is predicted from
+abbrev pub plane_of_blocks : Lent → ℕ → Compensation
+plane_of_blocks g plane = compensation g.sequence g.motion g.first g.second (component_at plane)
+
+-- the weights of the columns of its planes Y and U; those of V are those of U
+pub record AreWeights (g : Lent) (w : PlaneWeights) : Type 0 where
+  pub luma : w.luma ≡ columns_of (plane_of_blocks g 0)
+  pub chroma : w.chroma ≡ columns_of (plane_of_blocks g 1)
 
 -- what is predicted for one slice of it
 abbrev pub predicted_in : Lent → SlicePlace → Table

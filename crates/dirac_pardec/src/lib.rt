@@ -12,6 +12,7 @@ mod shared;
 mod slices;
 mod stream;
 mod ups;
+mod weights;
 
 pub use rebuild::rebuild_rows;
 pub use stream::decode_rows;

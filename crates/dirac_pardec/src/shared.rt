@@ -7,4 +7,5 @@ fn is_shared<T: Send + Sync>() {}
 fn are_shared() {
     is_shared::<crate::inter::Inter<'_>>();
     is_shared::<crate::places::SlicePlace>();
+    is_shared::<crate::weights::PlaneWeights>();
 }

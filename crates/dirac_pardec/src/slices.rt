@@ -13,19 +13,26 @@ ghost use Rattle.dirac_pardec.specs.Slices.{AreSlices};
 
 use crate::inter::Inter;
 use crate::places::{component_at, first_slice, slices_in};
+use dirac_decode::{height_of, width_of};
 use dirac_obmc::Predicted;
 use dirac_residual::{Residual, clipped_sum};
 use dirac_types::{LARGEST_TABLE_SIDE, NoMemory, Plane};
 use std::alloc::Global;
 
-/// The values of a plane from its slices, which are `count` items from item `first` on.
-fn joined(alloc: Global, slices: &[Predicted], first: u32, count: u32) -> Result<Vec<i32>, NoMemory>
+/// The values of a plane from its slices, which are `count` items from item `first` on; `room` is how many they are.
+fn joined(
+    alloc: Global,
+    slices: &[Predicted],
+    first: u32,
+    count: u32,
+    room: usize,
+) -> Result<Vec<i32>, NoMemory>
     requires at_most_1024 { (first ≤ 1024) × (count ≤ 1024) }
     requires inside { first + count ≤ length slices.now }
     ensures { IfOk result (λ v. (width height : ℕ) (f : ℕ → ℕ → ℤ) → 1 ≤ width → count ≡ (height + 15) / 16
         → AreSlices width height f first count slices.now → v.items ≡ filled width height f) }
 {
-    let mut values = Vec::new(alloc);
+    let mut values = Vec::with_capacity(alloc, room)?;
     for k in 0..count {
         values.extend_from_slice(slices[(first + k) as usize].values())?;
     }
@@ -48,8 +55,11 @@ fn joined_plane(
         (places.component_at plane) * content.height_of (given inter.now).sequence (places.component_at plane)) }
 {
     let first = first_slice(inter.sequence, plane);
-    let count = slices_in(inter.sequence, component_at(plane));
-    let values = joined(alloc, slices, first, count)?;
+    let component = component_at(plane);
+    let count = slices_in(inter.sequence, component);
+    let room = width_of(inter.sequence, component) as usize
+        * height_of(inter.sequence, component) as usize;
+    let values = joined(alloc, slices, first, count, room)?;
     Ok(values)
 }
 

@@ -1,6 +1,7 @@
-use Rattle.std.proofs.Common.{◌≡◌, ◌+◌, ◌-◌, length}
+use Rattle.std.proofs.Common.{◌≡◌, ◌+◌, ◌-◌}
 use Rattle.dirac_types.proofs.Rows.{RowsFilled}
 use Rattle.dirac_obmc.specs.Compensation.{predicted_at, x_length}
+use Rattle.dirac_obmc.specs.Directions.{IsRoom}
 use Rattle.dirac_obmc.specs.Given.{given}
 use Rattle.dirac_obmc.proofs.predict.rows_between.Given as goal
 
@@ -8,9 +9,6 @@ abbrev pub invariant-loop-y : goal.invariant-loop-y
 invariant-loop-y l = record {
   across : l.predicted.width ≡ l.motion.width;
   down : l.predicted.height ≡ l.end - l.first;
-  samples1 : length l.samples1.items ≡ x_length (given l.motion);
-  samples2 : length l.samples2.items ≡ x_length (given l.motion);
-  values : length l.values.items ≡ x_length (given l.motion);
-  sums : length l.sums.items ≡ l.motion.width;
+  room : IsRoom (x_length (given l.motion)) l.room;
   rows : RowsFilled (λ x y. predicted_at (given l.motion) x (l.first + y)) l.predicted.width l.predicted.height l.predicted.values (l.y - l.first);
 }

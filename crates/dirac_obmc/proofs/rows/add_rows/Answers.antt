@@ -9,12 +9,17 @@ use Rattle.dirac_obmc.proofs.rows.add_rows.Goals as goal
 pub loop-j-init : goal.loop-j-init
 loop-j-init c = record {
   within = first_within (given c.args.motion.now) c.args.rows c.args.y _ c.requires.rows c.requires.inside c.first_row-j.ensures;
+  room = c.requires.room;
   sums = adds_none _ _ _ (λ x l. nothing_above (given c.args.motion.now) c.args.rows c.args.y _ x c.requires.rows c.first_row-j.ensures);
 }
 
-pub add_blocks-requires-clause-down : goal.add_blocks-requires-clause-down
-add_blocks-requires-clause-down c =
-    share_down (given c.args.motion.now) c.args.rows c.loop-j.j c.args.y _ c.requires.rows c.share-down.ensures.value
+pub add_blocks-requires-clause-row : goal.add_blocks-requires-clause-row
+add_blocks-requires-clause-row c = record {
+  below = omega (arith, c.requires.rows.count_is, c.end_row-j-end.ensures.within);
+  inside = c.requires.inside;
+  down = share_down (given c.args.motion.now) c.args.rows c.loop-j.j c.args.y _ c.requires.rows c.share-down.ensures.value;
+  at_most_8 = c.share-down.ensures.at_most_8;
+}
 
 pub add_blocks-requires-clause-sums : goal.add_blocks-requires-clause-sums
 add_blocks-requires-clause-sums c =
@@ -24,8 +29,9 @@ add_blocks-requires-clause-sums c =
 pub loop-j-preserved : goal.loop-j-preserved
 loop-j-preserved c = record {
   within = omega (arith, c.requires.rows.count_is, c.end_row-j-end.ensures.within);
+  room = c.add_blocks.ensures.room;
   sums =
-      adds_more (λ x j. total (term (given c.args.motion.now) x c.args.y j) (blocks_across (given c.args.motion.now))) c.loop-j.j _ _ _ _ _ c.loop-j.invariant.sums c.add_blocks.ensures refl;
+      adds_more (λ x j. total (term (given c.args.motion.now) x c.args.y j) (blocks_across (given c.args.motion.now))) c.loop-j.j _ _ _ _ _ c.loop-j.invariant.sums c.add_blocks.ensures.sums refl;
 }
 
 pub returns-clause-value : goal.returns-clause-value

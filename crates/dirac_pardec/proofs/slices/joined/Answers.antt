@@ -1,11 +1,11 @@
-use Rattle.std.proofs.Common.{◌≡◌, ap, arith, rules, ◌∙◌, ◌*◌, ◌<◌, ◌≤◌}
+use Rattle.std.proofs.Common.{◌≡◌, ap, arith, rules, ◌∙◌}
 use Rattle.dirac_types.specs.Table.{Table}
 use Rattle.dirac_pardec.specs.Slices.{slice_of}
 use Rattle.dirac_pardec.proofs.Sliced.{slices_none, slices_more, slices_all}
 use Rattle.dirac_pardec.proofs.slices.joined.Goals as goal
 
 pub loop-k-init : goal.loop-k-init
-loop-k-init c = λ w h f some count slices. slices_none w h f _ (search rules)
+loop-k-init c = λ w h f some count slices. slices_none w h f _ c.in_ok-values.ensures.items
 
 pub loop-k-preserved : goal.loop-k-preserved
 loop-k-preserved c = λ w h f some count slices.

@@ -8,7 +8,7 @@ pub returns-clause-value : goal.returns-clause-value
 returns-clause-value c =
     plane_values (given c.args.inter.now) c.args.plane c.first_slice-first.result c.slices_in-count.result c.args.slices.now c.in_ok-values.values.items
     c.requires.plane c.requires.inter.sequence c.first_slice-first.ensures.value
-    (c.slices_in-count.ensures.value ∙ ap (slices_in (given c.args.inter.now).sequence) c.component_at.ensures)
+    (c.slices_in-count.ensures.value ∙ ap (slices_in (given c.args.inter.now).sequence) c.component_at-component.ensures)
     c.requires.slices c.in_ok-values.ensures
 
 pub returns-clause-len : goal.returns-clause-len

@@ -1,0 +1,87 @@
+ghost use Rattle.std.specs.Prelude.{◌≡◌, ◌<◌, IfOk};
+ghost use Rattle.dirac_obmc.specs.Compensation.{IsPredictable};
+ghost use Rattle.dirac_obmc.specs.Directions.{columns_of};
+ghost use Rattle.dirac_obmc.specs.Given as motions;
+ghost use Rattle.dirac_pardec.specs.Given.{given, plane_of_blocks, AreUps, AreWeights, IsInter};
+
+use crate::inter::Inter;
+use crate::places::component_at;
+use crate::ups::{first_up, second_up};
+use dirac_decode::plane_motion;
+use dirac_obmc::{ColumnWeights, Motion, column_weights};
+use dirac_types::NoMemory;
+use dirac_upconvert::UpPlane;
+use std::alloc::Global;
+
+/// The weights of the columns of a picture's planes; the blocks of both chroma planes stand alike. Workers share them.
+#[derive(Drop)]
+pub struct PlaneWeights {
+    pub luma: ColumnWeights,
+    pub chroma: ColumnWeights,
+}
+
+/// What the plane of this number is predicted from.
+pub(crate) fn motion_at<'a>(inter: &Inter<'a>, ups: &'a [UpPlane], plane: u32) -> Motion<'a>
+    requires inter { IsInter (given inter.now) }
+    requires ups { AreUps (given inter.now) ups.now }
+    requires plane { plane < 3 }
+    ensures value { motions.given result ≡ plane_of_blocks (given inter.now) plane }
+    ensures fits { IsPredictable (motions.given result) }
+{
+    plane_motion(
+        inter.code,
+        inter.sequence,
+        inter.motion,
+        first_up(inter, ups, plane),
+        second_up(inter, ups, plane),
+        component_at(plane),
+    )
+}
+
+/// The weights of the columns of the plane of this number.
+fn weights_in(
+    alloc: Global,
+    inter: &Inter<'_>,
+    ups: &[UpPlane],
+    plane: u32,
+) -> Result<ColumnWeights, NoMemory>
+    requires inter { IsInter (given inter.now) }
+    requires ups { AreUps (given inter.now) ups.now }
+    requires plane { plane < 3 }
+    ensures { IfOk result (λ w. w ≡ columns_of (plane_of_blocks (given inter.now) plane)) }
+{
+    let motion = motion_at(inter, ups, plane);
+    let weights = column_weights(alloc, &motion)?;
+    Ok(weights)
+}
+
+/// The weights of the columns of a picture, which all its slices share.
+pub(crate) fn plane_weights(
+    alloc: Global,
+    inter: &Inter<'_>,
+    ups: &[UpPlane],
+) -> Result<PlaneWeights, NoMemory>
+    requires inter { IsInter (given inter.now) }
+    requires ups { AreUps (given inter.now) ups.now }
+    ensures { IfOk result (AreWeights (given inter.now)) }
+{
+    Ok(PlaneWeights {
+        luma: weights_in(alloc, inter, ups, 0)?,
+        chroma: weights_in(alloc, inter, ups, 1)?,
+    })
+}
+
+/// Lends the weights of the columns of the plane of this number.
+pub(crate) fn weights_at<'a>(
+    inter: &Inter<'_>,
+    weights: &'a PlaneWeights,
+    plane: u32,
+) -> &'a ColumnWeights
+    requires weights { AreWeights (given inter.now) weights.now }
+    ensures { result.now ≡ columns_of (plane_of_blocks (given inter.now) plane) }
+{
+    match plane {
+        0 => &weights.luma,
+        _ => &weights.chroma,
+    }
+}
