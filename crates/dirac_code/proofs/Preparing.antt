@@ -143,7 +143,7 @@ planes_predicted t s refs q p x y m is some es em =
 pub accepted_at : (t : Settings) (index : ℕ) → IsAccepted t → index ≤ 99 → IsAccepted (at_index t index)
 unfolding table
 accepted_at t index is few =
-    (is.0, (is.1.0, (is.1.1.0, (is.1.1.1.0, (is.1.1.1.1.0, (is.1.1.1.1.1.0, (is.1.1.1.1.1.1.0, (is.1.1.1.1.1.1.1.0, (is.1.1.1.1.1.1.1.1.0, (is.1.1.1.1.1.1.1.1.1.0, ((omega arith, few, omega arith), is.1.1.1.1.1.1.1.1.1.1.1)))))))))))
+    (is.0, (is.1.0, (is.1.1.0, (is.1.1.1.0, (is.1.1.1.1.0, (is.1.1.1.1.1.0, (is.1.1.1.1.1.1.0, (is.1.1.1.1.1.1.1.0, (is.1.1.1.1.1.1.1.1.0, (is.1.1.1.1.1.1.1.1.1.0, (is.1.1.1.1.1.1.1.1.1.1.0, ((omega arith, few, omega arith), is.1.1.1.1.1.1.1.1.1.1.1.1))))))))))))
 
 sources_at : (t : Settings) (index : ℕ) (refs : List Picture) → AllByRecursion (IsSource t) refs → AllByRecursion (IsSource (at_index t index)) refs
 unfolding sequence_of

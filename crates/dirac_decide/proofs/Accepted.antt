@@ -15,11 +15,11 @@ use Rattle.dirac_decide.specs.Deciding.{IsFieldSize, IsSearched, IsView, View}
 
 pub blocks_within : (s : Settings) → IsAccepted s → (2 ≤ s.blocks) × (s.blocks ≤ 4)
 unfolding table
-blocks_within s a = let row = a.1.1.1.1.1.1.1.1.1.1.1.1.0 in (row.0, row.1)
+blocks_within s a = let row = a.1.1.1.1.1.1.1.1.1.1.1.1.1.0 in (row.0, row.1)
 
 pub precision_within : (s : Settings) → IsAccepted s → s.precision ≤ 3
 unfolding table
-precision_within s a = a.1.1.1.1.1.1.1.1.1.1.1.1.1.0.1
+precision_within s a = a.1.1.1.1.1.1.1.1.1.1.1.1.1.1.0.1
 
 pub workers_within : (s : Settings) → IsAccepted s → (1 ≤ s.workers) × (s.workers ≤ 64)
 unfolding table
@@ -27,7 +27,7 @@ workers_within s a = let row = a.1.1.1.1.1.1.1.1.1.1.1.1.1.1.1.1.1.1.1.1.0 in (r
 
 pub bias_within : (s : Settings) → IsAccepted s → s.bias ≤ 255
 unfolding table
-bias_within s a = a.1.1.1.1.1.1.1.1.1.1.1.1.1.1.1.1.1.1.1.0.1
+bias_within s a = a.1.1.1.1.1.1.1.1.1.1.1.1.1.1.1.1.1.1.1.1.0.1
 
 -- the grids of the block indices
 pub record IsGrid (g : BlockGrid) : Type 0 where

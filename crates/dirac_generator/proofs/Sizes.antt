@@ -5,6 +5,7 @@ use mathlib.Core.Logic.{dite}
 use native.Mathlib.Decide.{ℕ_discrete}
 use Rattle.dirac_types.specs.declared.settings.Settings.{Settings}
 use Rattle.dirac_types.specs.Settings.{IsAccepted, table, step_across, step_down}
+use Rattle.dirac_types.proofs.Heights.{height_divides}
 
 pub record FitsSizes (t : Settings) : Type 0 where
   pub across : (1 ≤ t.width) × (t.width ≤ 4096)
@@ -18,7 +19,7 @@ sizes_fit t is = record {
   across = (is.1.1.0.0, is.1.1.0.1);
   down = (is.1.1.1.0.0, is.1.1.1.0.1);
   across_divides = is.1.1.0.2;
-  down_divides = is.1.1.1.0.2;
+  down_divides = height_divides t.chroma t.fields t.height is.1.1.1.0.2;
 }
 
 -- a positive number that is divided exactly by 1 or 2

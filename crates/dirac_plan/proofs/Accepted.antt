@@ -11,7 +11,7 @@ pub record IsPaced (s : Settings) : Type 0 where
 pub paced : (s : Settings) → IsAccepted s → IsPaced s
 unfolding table
 paced s is = record {
-  gop_least = is.1.1.1.1.1.1.1.1.1.1.1.1.1.1.1.0.0;
-  gop_most = omega (arith, is.1.1.1.1.1.1.1.1.1.1.1.1.1.1.1.0.1);
-  between_most = is.1.1.1.1.1.1.1.1.1.1.1.1.1.1.1.1.0.1;
+  gop_least = is.1.1.1.1.1.1.1.1.1.1.1.1.1.1.1.1.0.0;
+  gop_most = omega (arith, is.1.1.1.1.1.1.1.1.1.1.1.1.1.1.1.1.0.1);
+  between_most = is.1.1.1.1.1.1.1.1.1.1.1.1.1.1.1.1.1.0.1;
 }

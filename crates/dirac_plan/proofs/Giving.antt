@@ -1,200 +1,181 @@
 -- What a planner gives.
-use Rattle.std.proofs.Common.{◌≡◌, ℕ, suc, ◌+◌, ◌-◌, ◌*◌, ◌/◌, ◌%◌, ◌<◌, ◌≤◌, ◌==◌, inl, inr, min, nat_le, if◌then◌else◌, Bool, true, false, Option, None, Some, is_some, slice_get, refl, ap, subst, ◌∙◌, sym, arith, div-add-mod', ne_eqb}
+use Rattle.std.proofs.Common.{◌≡◌, ℕ, zero, suc, ◌+◌, ◌-◌, ◌*◌, ◌/◌, ◌%◌, ◌<◌, ◌≤◌, ◌==◌, ◌||◌, ◌&&◌, not, inl, inr, min, nat_lt, if◌then◌else◌, Bool, true, false, Option, None, Some, slice_get, refl, ap, ap₂, ◌∙◌, sym, arith, div-add-mod', eq-eqb, lt-ltb}
 use Rattle.std.proofs.lemmas.Bool.{cases_eq}
 use Rattle.dirac_types.specs.declared.settings.Settings.{Settings}
 use Rattle.dirac_plan.specs.declared.planned.Planned.{Planned}
 use Rattle.dirac_plan.specs.Plan.{opening, anchor_of, between_of, second_of, plan}
-use Rattle.dirac_plan.specs.Planning.{pictures_needed, stands_between}
-use Rattle.dirac_plan.specs.Waiting.{ahead, ahead_behind}
+use Rattle.dirac_plan.specs.Planning.{frame_pictures, group_offset, group_pictures, is_left, refers_elsewhere, stands_between, step_pictures}
+use Rattle.dirac_plan.specs.Waiting.{anchor_at, step_anchor, step_offset, whole_anchor_at, whole_frames}
 use Rattle.dirac_plan.proofs.Numbers.{anchor_number, between_number, either}
-use Rattle.dirac_plan.proofs.Items.{IsPlace, place_of, opening_item, coded_anchor, coded_between}
-use Rattle.dirac_plan.proofs.Waiting.{Step, ahead_at, none_ahead, open_none, anchor_none, between_some, behind, next_some, opening_step, anchor_step, between_step}
+use Rattle.dirac_plan.proofs.Items.{IsPlace, place_of, opening_item}
+use Rattle.dirac_plan.proofs.Places.{anchor_here, anchor_is_at, behind, between_here, between_is_at, whole_behind, retirement}
+use Rattle.dirac_plan.proofs.Fields.{plan_of_frames}
+use Rattle.dirac_plan.proofs.Steps.{offset_opens, offset_steps}
 
-anchor_kind : (number before : ℕ) (second retired : Option ℕ) → stands_between (Some (anchor_of number before second retired)) ≡ false
+-- ---- which planned pictures are still to be taken
+
+or_none : (b : Bool) → (b || false) ≡ b
+or_none true = refl
+or_none false = refl
+
+-- with frames those between two anchors
+left_frames : (s : Settings) (p : Planned) → s.fields ≡ 0 → is_left s (Some p) ≡ stands_between p
+left_frames s p frames =
+    ap (λ (b : Bool). stands_between p || (not b && p.number % 2 == 1 && refers_elsewhere p.number p.ref1)) (eq-eqb s.fields 0 frames)
+    ∙ or_none (stands_between p)
+
+anchor_kind : (number before : ℕ) (second retired : Option ℕ) → stands_between (anchor_of number before second retired) ≡ false
 anchor_kind number before None retired = refl
 anchor_kind number before (Some second) retired = refl
 
-between_kind : (references before after number : ℕ) → stands_between (Some (between_of references before after number)) ≡ true
+between_kind : (references before after number : ℕ) → stands_between (between_of references before after number) ≡ true
 between_kind references before after number =
-    let P : Planned → Type 0 = λ p. stands_between (Some p) ≡ true in
+    let P : Planned → Type 0 = λ p. stands_between p ≡ true in
     either (references == 2) P _ _ refl refl
 
--- the next planned picture: its number leaves those that wait, and it stands between two anchors where one is ahead
-pub record Given (n : ℕ) (s : Settings) (g : ℕ) : Type 0 where
+-- ---- what is next
+
+-- the number of what is next: in a frame that opens a group the next one; of an anchor its own; else the first that waits
+pub data Number (n : ℕ) (s : Settings) (g : ℕ) (number : ℕ) : Type 0 where
+  at_opening : group_offset s g < frame_pictures s → number ≡ g → Number n s g number
+  at_anchor : frame_pictures s ≤ group_offset s g → step_offset s g < min (frame_pictures s) (n - anchor_at n s g) → number ≡ anchor_at n s g + step_offset s g → Number n s g number
+  at_between : frame_pictures s ≤ group_offset s g → min (frame_pictures s) (n - anchor_at n s g) ≤ step_offset s g → number ≡ g - min (frame_pictures s) (n - anchor_at n s g) → Number n s g number
+
+-- the next planned picture; it is still to be taken where its step has begun
+pub record Next (n : ℕ) (s : Settings) (g : ℕ) : Type 0 where
   pub item : Planned
   pub at : slice_get (plan n s) g ≡ Some item
-  pub step : Step n s g item.number
-  pub kind : stands_between (Some item) ≡ is_some (ahead n s g)
+  pub number : Number n s g item.number
+  pub kind : is_left s (Some item) ≡ nat_lt 0 (step_offset s g)
 
-retirement : Settings → ℕ → ℕ → Option ℕ
-retirement s first k = if nat_le 2 k then Some (first + k * (s.between + 1) - (s.between + 1)) else None
+-- the place is in a frame that opens a group, or an anchor was accepted with all its fields, and all frames up to it
+pub data IsReady (n : ℕ) (s : Settings) (g : ℕ) : Type 0 where
+  opening_ready : group_offset s g < frame_pictures s → IsReady n s g
+  anchor_ready : whole_anchor_at s g + frame_pictures s ≤ n → IsReady n s g
 
-pub anchor_here : Settings → ℕ → ℕ → ℕ → Planned
-anchor_here s first k b = anchor_of b (first + k * (s.between + 1)) (second_of s first k) (retirement s first k)
+pub step_opens : (s : Settings) (g : ℕ) → group_offset s g < frame_pictures s → step_offset s g ≡ 0
+unfolding step_offset
+step_opens s g early = offset_opens (frame_pictures s) (step_pictures s) (group_offset s g) early
 
-pub between_here : Settings → ℕ → ℕ → ℕ → ℕ → Planned
-between_here s g first k b = between_of s.references (first + k * (s.between + 1)) b (g - 1)
+-- ---- frames
 
-pub anchor_is_at : (n : ℕ) (s : Settings) (g first len k : ℕ) → IsPlace n s g first len k 0 → slice_get (plan n s) g ≡ Some (anchor_here s first k (behind s first len k))
-unfolding anchor_here retirement
-anchor_is_at n s g first len k is = coded_anchor n s g first len k is
+one_picture : (s : Settings) → s.fields ≡ 0 → frame_pictures s ≡ 1
+one_picture s frames = ap (λ (b : Bool). if b then 1 else 2) (eq-eqb s.fields 0 frames)
 
-pub between_is_at : (n : ℕ) (s : Settings) (g first len k j : ℕ) → IsPlace n s g first len k j → 0 < j → slice_get (plan n s) g ≡ Some (between_here s g first k (behind s first len k))
-unfolding between_here
-between_is_at n s g first len k j is odd = coded_between n s g first len k j is odd
+one_offset : (s : Settings) (g : ℕ) → s.fields ≡ 0 → group_offset s g ≡ g % s.gop
+one_offset s g frames = ap (λ m. g % m) (ap (λ f. f * s.gop) (one_picture s frames) ∙ omega arith)
 
-given_anchor : (n : ℕ) (s : Settings) (g first len k : ℕ) → 0 < s.gop → IsPlace n s g first len k 0 → Given n s g
-unfolding anchor_here
-given_anchor n s g first len k some is =
-    let b : ℕ = behind s first len k in
-    let number = anchor_number b (first + k * (s.between + 1)) (second_of s first k) (retirement s first k) in
-    record {
-      item = anchor_here s first k b;
-      at = anchor_is_at n s g first len k is;
-      step = subst (Step n s g) (sym number) (anchor_step n s g first len k some is);
-      kind = anchor_kind b (first + k * (s.between + 1)) (second_of s first k) (retirement s first k) ∙ sym (ap is_some (anchor_none n s g first len k is));
-    }
+-- a place in a step of frames, j frames behind its anchor
+record FrameStep (n : ℕ) (s : Settings) (g first len k j : ℕ) : Type 0 where
+  pub place : IsPlace n s g first len k j
+  pub step : step_offset s g ≡ j
+  pub anchor : anchor_at n s g ≡ behind s first len k
+  pub whole : whole_anchor_at s g ≡ whole_behind s first k
 
-given_between : (n : ℕ) (s : Settings) (g first len k j : ℕ) → 0 < s.gop → IsPlace n s g first len k j → 0 < j → Given n s g
-unfolding between_here
-given_between n s g first len k j some is odd =
-    let b : ℕ = behind s first len k in
-    let number = between_number s.references (first + k * (s.between + 1)) b (g - 1) in
-    record {
-      item = between_here s g first k b;
-      at = between_is_at n s g first len k j is odd;
-      step = subst (Step n s g) (sym number) (between_step n s g first len k j some is odd);
-      kind = between_kind s.references (first + k * (s.between + 1)) b (g - 1) ∙ sym (ap is_some (between_some n s g first len k j is odd));
-    }
+one_anchor : (f group step o r len g gap gop k j first : ℕ) → f ≡ 1 → step ≡ gap → group ≡ gop → o ≡ k * gap + j + 1 → r ≡ j → first + o ≡ g → g - o + min (o - f - r + step) (len - f) ≡ first + min (k * gap + gap) (len - 1)
+one_anchor f group step o r len g gap gop k j first one ew eg eo er e = omega arith
 
-given_opening : (n : ℕ) (s : Settings) (g : ℕ) → g < n → 0 < s.gop → g % s.gop ≡ 0 → Given n s g
-given_opening n s g h some opens =
+frame_step : (n : ℕ) (s : Settings) (g : ℕ) → s.fields ≡ 0 → g < n → 0 < s.gop → 0 < g % s.gop
+    → FrameStep n s g (g - g % s.gop) (min s.gop (n - (g - g % s.gop))) ((g % s.gop - 1) / (s.between + 1)) ((g % s.gop - 1) % (s.between + 1))
+unfolding step_offset anchor_at whole_anchor_at
+frame_step n s g frames within some opens =
+    let f : ℕ = frame_pictures s in
+    let o : ℕ = group_offset s g in
+    let gap : ℕ = s.between + 1 in
+    let first : ℕ = g - g % s.gop in
+    let len : ℕ = min s.gop (n - first) in
+    let k : ℕ = (g % s.gop - 1) / gap in
+    let j : ℕ = (g % s.gop - 1) % gap in
+    let one = one_picture s frames in
+    let offset = one_offset s g frames in
+    let group : group_pictures s ≡ s.gop = ap (λ m. m * s.gop) one ∙ omega arith in
+    let wide : step_pictures s ≡ gap = ap (λ m. m * gap) one ∙ omega arith in
+    let steps = div-add-mod' (g % s.gop - 1) gap in
     let whole = div-add-mod' g s.gop in
+    let r : step_offset s g ≡ j = offset_steps f (step_pictures s) o (omega arith) ∙ ap₂ (λ a b. a % b) (let t : o - f ≡ g % s.gop - 1 = omega arith in t) wide in
+    let all : whole_frames s n ≡ n = ap (λ (b : Bool). if b then n else n + n % 2) (eq-eqb s.fields 0 frames) in
+    let start : g - o ≡ first = omega arith in
+    let there : min (group_pictures s) (whole_frames s n - (g - o)) ≡ len = ap₂ min group (ap₂ (λ a b. a - b) all start) in
+    let of : ℕ → ℕ = λ l. step_anchor s l g in
+    record {
+      place = place_of n s g len within some opens refl;
+      step = r;
+      anchor = ap of there ∙ one_anchor f (group_pictures s) (step_pictures s) o (step_offset s g) len g gap s.gop k j first one wide group (omega arith) r (omega arith);
+      whole = ap of group ∙ one_anchor f (group_pictures s) (step_pictures s) o (step_offset s g) s.gop g gap s.gop k j first one wide group (omega arith) r (omega arith);
+    }
+
+frame_opening : (n : ℕ) (s : Settings) (g : ℕ) → s.fields ≡ 0 → g < n → 0 < s.gop → g % s.gop ≡ 0 → Next n s g
+frame_opening n s g frames within some opening_place =
+    let early : group_offset s g < frame_pictures s = omega (arith, one_offset s g frames, one_picture s frames) in
     record {
       item = opening g;
-      at = opening_item n s g h some opens;
-      step = opening_step n s g h some opens;
-      kind = sym (ap is_some (open_none n s g (g / s.gop) some (omega arith)));
+      at = ap (λ l. slice_get l g) (plan_of_frames n s frames) ∙ opening_item n s g within some opening_place;
+      number = at_opening early refl;
+      kind = left_frames s (opening g) frames ∙ sym (ap (nat_lt 0) (step_opens s g early));
     }
 
--- the kinds of places
-pub data Kind (n : ℕ) (s : Settings) (g : ℕ) : Type 0 where
-  opens : g % s.gop ≡ 0 → Kind n s g
-  anchors : (first len k : ℕ) → IsPlace n s g first len k 0 → g % s.gop ≡ 1 + k * (s.between + 1) → Kind n s g
-  betweens : (first len k j : ℕ) → IsPlace n s g first len k j → 0 < j → Kind n s g
+-- what stands at a place of a step
+frame_here : (s : Settings) (g first k j b : ℕ) → Planned
+frame_here s g first k zero b = anchor_here s first k b
+frame_here s g first k (suc j) b = between_here s g first k b
 
-pub kind_of : (n : ℕ) (s : Settings) (g : ℕ) → g < n → 0 < s.gop → Kind n s g
-kind_of n s g h some = elim (cases_eq (g % s.gop) 0) [
-  | inl e ↦ opens e
+frame_at : (n : ℕ) (s : Settings) (g first len k j : ℕ) → s.fields ≡ 0 → IsPlace n s g first len k j → slice_get (plan n s) g ≡ Some (frame_here s g first k j (behind s first len k))
+unfolding frame_here
+frame_at n s g first len k zero frames is = ap (λ l. slice_get l g) (plan_of_frames n s frames) ∙ anchor_is_at n s g first len k is
+frame_at n s g first len k (suc j) frames is = ap (λ l. slice_get l g) (plan_of_frames n s frames) ∙ between_is_at n s g first len k (suc j) is (omega arith)
+
+frame_in_step : (n : ℕ) (s : Settings) (g first len k j : ℕ) → s.fields ≡ 0 → 0 < s.gop → frame_pictures s ≤ group_offset s g → FrameStep n s g first len k j → Next n s g
+unfolding frame_here anchor_here between_here
+frame_in_step n s g first len k zero frames some late is =
+    let b : ℕ = behind s first len k in
+    let one = one_picture s frames in
+    record {
+      item = anchor_here s first k b;
+      at = frame_at n s g first len k zero frames is.place;
+      number = at_anchor late
+          (omega (arith, one, is.step, is.anchor, is.place.in_plan, is.place.len_is, is.place.place, is.place.in_group))
+          (anchor_number b (first + k * (s.between + 1)) (second_of s first k) (retirement s first k) ∙ omega (arith, is.step, is.anchor));
+      kind = left_frames s (anchor_here s first k b) frames ∙ anchor_kind b (first + k * (s.between + 1)) (second_of s first k) (retirement s first k) ∙ sym (ap (nat_lt 0) is.step);
+    }
+frame_in_step n s g first len k (suc j) frames some late is =
+    let b : ℕ = behind s first len k in
+    let one = one_picture s frames in
+    let count : min (frame_pictures s) (n - anchor_at n s g) ≡ 1 = omega (arith, one, is.anchor, is.place.in_plan, is.place.len_is, is.place.place, is.place.in_group) in
+    record {
+      item = between_here s g first k b;
+      at = frame_at n s g first len k (suc j) frames is.place;
+      number = at_between late (omega (arith, count, is.step))
+          (between_number s.references (first + k * (s.between + 1)) b (g - 1) ∙ omega (arith, count));
+      kind = left_frames s (between_here s g first k b) frames ∙ between_kind s.references (first + k * (s.between + 1)) b (g - 1) ∙ sym (ap (nat_lt 0) is.step ∙ lt-ltb 0 (suc j) (omega arith));
+    }
+
+pub next_frame : (n : ℕ) (s : Settings) (g : ℕ) → s.fields ≡ 0 → g < n → 0 < s.gop → Next n s g
+next_frame n s g frames within some = elim (cases_eq (g % s.gop) 0) [
+  | inl e ↦ frame_opening n s g frames within some e
   | inr other ↦
-      let first : ℕ = g - g % s.gop in
-      let len : ℕ = min s.gop (n - first) in
-      let k : ℕ = (g % s.gop - 1) / (s.between + 1) in
-      let j : ℕ = (g % s.gop - 1) % (s.between + 1) in
-      let is : IsPlace n s g first len k j = place_of n s g len h some (omega (arith, other)) refl in
-      let steps = div-add-mod' (g % s.gop - 1) (s.between + 1) in
-      elim (cases_eq j 0) [
-        | inl even ↦ anchors first len k (subst (IsPlace n s g first len k) even is) (omega (arith, other))
-        | inr odd ↦ betweens first len k j is (omega (arith, odd))
-      ]
+      frame_in_step n s g _ _ _ _ frames some (omega (arith, other, one_offset s g frames, one_picture s frames)) (frame_step n s g frames within some (omega (arith, other)))
 ]
 
-pub given : (n : ℕ) (s : Settings) (g : ℕ) → g < n → 0 < s.gop → Given n s g
-given n s g h some = elim (kind_of n s g h some) [
-  | opens e ↦ given_opening n s g h some e
-  | anchors first len k is _ ↦ given_anchor n s g first len k some is
-  | betweens first len k j is odd ↦ given_between n s g first len k j some is odd
-]
-
--- ---- while pictures still come
-
--- the same place in a longer plan
-pub longer : (n m : ℕ) (s : Settings) (g first len k j : ℕ) → n ≤ m → IsPlace n s g first len k j → IsPlace m s g first (min s.gop (m - first)) k j
-longer n m s g first len k j more is = record { in_plan = omega (arith, is.in_plan); group = is.group; len_is = refl; in_step = is.in_step; place = is.place; in_group = is.in_group }
-
--- the anchor behind a place in a whole group
-abbrev pub whole_behind : Settings → ℕ → ℕ → ℕ
-whole_behind s first k = first + min (k * (s.between + 1) + (s.between + 1)) (s.gop - 1)
-
-next_none : (n m : ℕ) (s : Settings) (g first len k j : ℕ) → 0 < s.gop → IsPlace n s g first len k j → whole_behind s first k ≡ g → ahead m s (g + 1) ≡ None
-next_none n m s g first len k j some is last =
-    let gap : ℕ = s.between + 1 in
-    let i = is.group.0 in
-    elim (cases_eq (1 + (k * gap + j) + 1) s.gop) [
-      | inl group ↦ open_none m s (g + 1) (i + 1) some (omega (arith, is.place, is.group.1))
-      | inr more ↦
-          let full : k * gap + gap ≡ 1 + (k * gap + j) = omega (arith, is.place, is.group.1, is.in_group, more) in
-          let o : ℕ = suc (suc k * gap) in
-          ahead_at m s (g + 1) i o (omega (arith, more, is.in_group)) (omega (arith, is.place, is.group.1)) ∙ none_ahead m s (i * s.gop) (suc k)
-    ]
-
-open_next : (n : ℕ) (s : Settings) (g : ℕ) → 0 < s.gop → g % s.gop ≡ 0 → ahead n s (g + 1) ≡ None
-open_next n s g some e =
-    let whole = div-add-mod' g s.gop in
-    elim (cases_eq s.gop 1) [
-      | inl one ↦ open_none n s (g + 1) (g / s.gop + 1) some (omega arith)
-      | inr more ↦
-          let o : suc (0 * (s.between + 1)) ≡ 1 = omega arith in
-          ahead_at n s (g + 1) (g / s.gop) 1 (omega (arith, more)) (omega arith) ∙ ap (ahead_behind n s (g / s.gop * s.gop)) (sym o) ∙ none_ahead n s (g / s.gop * s.gop) 0
-    ]
-
--- the next item is that of all longer plans, and so is the anchor that is then ahead
-pub record Lasts (n m : ℕ) (s : Settings) (g : ℕ) : Type 0 where
-  pub item : slice_get (plan m s) g ≡ slice_get (plan n s) g
-  pub next : ahead m s (g + 1) ≡ ahead n s (g + 1)
-
-next_lasts : (n m : ℕ) (s : Settings) (g first len k j : ℕ) → 0 < s.gop → n ≤ m → IsPlace n s g first len k j
-    → behind s first len k ≡ whole_behind s first k → behind s first (min s.gop (m - first)) k ≡ whole_behind s first k → ahead m s (g + 1) ≡ ahead n s (g + 1)
-next_lasts n m s g first len k j some more is here there =
-    let is' = longer n m s g first len k j more is in
-    elim (cases_eq (whole_behind s first k) g) [
-      | inl last ↦ next_none n m s g first len k j some is last ∙ sym (next_none n n s g first len k j some is last)
-      | inr other ↦
-          let below : g < behind s first len k = omega (arith, is.place, is.len_is, is.in_group, is.in_plan, is.in_step, here, other) in
-          next_some m s g first (min s.gop (m - first)) k j is' (omega (arith, below, here, there))
-          ∙ ap Some (there ∙ sym here) ∙ sym (next_some n s g first len k j is below)
-    ]
-
-lasting_anchor : (n m : ℕ) (s : Settings) (g first len k : ℕ) → 0 < s.gop → n ≤ m → IsPlace n s g first len k 0 → min (s.between + 1) (s.gop - (1 + k * (s.between + 1))) ≤ n - g → Lasts n m s g
-lasting_anchor n m s g first len k some more is ready =
-    let here : behind s first len k ≡ whole_behind s first k = omega (arith, is.place, is.len_is, is.in_group, is.in_plan) in
-    let there : behind s first (min s.gop (m - first)) k ≡ whole_behind s first k = omega (arith, is.place, is.in_group, is.in_plan) in
-    record {
-      item =
-          anchor_is_at m s g first (min s.gop (m - first)) k (longer n m s g first len k 0 more is)
-          ∙ ap (λ b. Some (anchor_here s first k b)) (there ∙ sym here)
-          ∙ sym (anchor_is_at n s g first len k is);
-      next = next_lasts n m s g first len k 0 some more is here there;
-    }
-
-lasting_between : (n m : ℕ) (s : Settings) (g first len k j : ℕ) → 0 < s.gop → n ≤ m → IsPlace n s g first len k j → 0 < j
-    → ((m : ℕ) → n ≤ m → ahead m s g ≡ ahead n s g) → Lasts n m s g
-lasting_between n m s g first len k j some more is odd settled =
-    let far : ℕ = n + s.gop in
-    let same : (m : ℕ) → n ≤ m → behind s first (min s.gop (m - first)) k ≡ behind s first len k = λ m more.
-    let e : Some (behind s first (min s.gop (m - first)) k) ≡ Some (behind s first len k) =
-    sym (between_some m s g first (min s.gop (m - first)) k j (longer n m s g first len k j more is) odd) ∙ settled m more ∙ between_some n s g first len k j is odd in cc in
-    let whole : behind s first (min s.gop (far - first)) k ≡ whole_behind s first k = omega (arith, is.place, is.in_group, is.in_plan) in
-    let here : behind s first len k ≡ whole_behind s first k = sym (same far (omega arith)) ∙ whole in
-    let there = same m more ∙ here in
-    record {
-      item =
-          between_is_at m s g first (min s.gop (m - first)) k j (longer n m s g first len k j more is) odd
-          ∙ ap (λ b. Some (between_here s g first k b)) (there ∙ sym here)
-          ∙ sym (between_is_at n s g first len k j is odd);
-      next = next_lasts n m s g first len k j some more is here there;
-    }
-
--- where enough pictures wait
-pub lasting : (n m : ℕ) (s : Settings) (g : ℕ) → 0 < s.gop → g < n → n ≤ m → ((m : ℕ) → n ≤ m → ahead m s g ≡ ahead n s g) → (ahead n s g ≡ None → pictures_needed s g ≤ n - g) → Lasts n m s g
-lasting n m s g some h more settled ready = elim (kind_of n s g h some) [
-  | opens e ↦
-      record { item = opening_item m s g (omega arith) some e ∙ sym (opening_item n s g h some e); next = open_next m s g some e ∙ sym (open_next n s g some e) }
-  | anchors first len k is place ↦
-      let enough = ready (anchor_none n s g first len k is) in
-      let other : g % s.gop ≡ 0 → ⊥ = λ e. omega arith in
-      let need : pictures_needed s g ≡ min (s.between + 1) (s.gop - (1 + k * (s.between + 1))) =
-      ap (λ (b : Bool). if b then 1 else min (s.between + 1) (s.gop - g % s.gop)) (ne_eqb (g % s.gop) 0 other) ∙ ap (λ o. min (s.between + 1) (s.gop - o)) place in
-      lasting_anchor n m s g first len k some more is (omega (arith, enough, need))
-  | betweens first len k j is odd ↦ lasting_between n m s g first len k j some more is odd settled
+-- an item that is ready is that of all longer plans
+pub lasting_frame : (n m : ℕ) (s : Settings) (g : ℕ) → s.fields ≡ 0 → 0 < s.gop → g < n → n ≤ m → IsReady n s g → slice_get (plan m s) g ≡ slice_get (plan n s) g
+lasting_frame n m s g frames some within more ready = elim (cases_eq (g % s.gop) 0) [
+  | inl e ↦
+      ap (λ l. slice_get l g) (plan_of_frames m s frames) ∙ opening_item m s g (omega arith) some e
+      ∙ sym (ap (λ l. slice_get l g) (plan_of_frames n s frames) ∙ opening_item n s g within some e)
+  | inr other ↦ elim ready [
+    | opening_ready early ↦ absurd (omega (arith, early, other, one_offset s g frames, one_picture s frames))
+    | anchor_ready there ↦
+        let gap : ℕ = s.between + 1 in
+        let first : ℕ = g - g % s.gop in
+        let k : ℕ = (g % s.gop - 1) / gap in
+        let j : ℕ = (g % s.gop - 1) % gap in
+        let here = frame_step n s g frames within some (omega (arith, other)) in
+        let longer = frame_step m s g frames (omega arith) some (omega (arith, other)) in
+        let one = one_picture s frames in
+        let now_whole : behind s first (min s.gop (n - first)) k ≡ whole_behind s first k = omega (arith, one, here.whole, there) in
+        let then_whole : behind s first (min s.gop (m - first)) k ≡ whole_behind s first k = omega (arith, one, here.whole, there) in
+        frame_at m s g first (min s.gop (m - first)) k j frames longer.place
+        ∙ ap (λ b. Some (frame_here s g first k j b)) (then_whole ∙ sym now_whole)
+        ∙ sym (frame_at n s g first (min s.gop (n - first)) k j frames here.place)
+  ]
 ]

@@ -1,4 +1,4 @@
--- What stands at each place of a plan.
+-- What stands at each place of a plan of frames.
 use Rattle.std.proofs.Common.{◌≡◌, ℕ, zero, suc, ◌+◌, ◌-◌, ◌*◌, ◌/◌, ◌%◌, ◌<◌, ◌≤◌, min, List, [], ◌∷◌, Option, None, Some, length, slice_get, refl, ap, ap₂, subst, nat_le, if◌then◌else◌, ◌∙◌, sym, arith, sum_by, le-leb, div-add-mod', mul-le-mul_right}
 use Rattle.std.specs.List.{range_with_len}
 use Rattle.std.proofs.lemmas.Nat.{le-div, mod_below}
@@ -6,10 +6,10 @@ use Rattle.std.proofs.lemmas.List.Sums.{sum_by-cons}
 use Rattle.std.proofs.lemmas.List.FromFn.{length-range_with_len, length-map-range_with_len}
 use Rattle.dirac_types.specs.declared.settings.Settings.{Settings}
 use Rattle.dirac_plan.specs.declared.planned.Planned.{Planned}
-use Rattle.dirac_plan.specs.Plan.{opening, anchor_of, between_of, anchor_offset, anchors_behind, second_of, retired_of, step, group, group_at, group_count, plan}
+use Rattle.dirac_plan.specs.Plan.{opening, anchor_of, between_of, anchor_offset, anchors_behind, second_of, retired_of, step, group, group_at, group_count, frames_plan}
 use Rattle.dirac_plan.proofs.Lists.{get_joined, get_mapped}
 use Rattle.dirac_plan.proofs.Anchors.{anchor_is}
-use Rattle.dirac_plan.proofs.Numbers.{of_number, sum_group, sum_plan}
+use Rattle.dirac_plan.proofs.Numbers.{of_number, sum_group, sum_frames}
 
 each_once : (xs : List Planned) → sum_by (of_number (λ _. 1)) xs ≡ length xs
 each_once [] = refl
@@ -20,13 +20,13 @@ pub each_of : (ns : List ℕ) → sum_by (λ _. 1) ns ≡ length ns
 each_of [] = refl
 each_of (n ∷ ns) = omega (arith, sum_by-cons (λ _. 1) n ns, each_of ns)
 
--- how many pictures a group and a plan have
+-- how many frames a group and a plan have
 pub length_group : (s : Settings) (len first : ℕ) → 0 < len → length (group s len first) ≡ len
 length_group s len first some =
     sym (each_once (group s len first)) ∙ sum_group (λ _. 1) s len first some ∙ each_of (range_with_len first len) ∙ length-range_with_len first len
 
-pub length_plan : (n : ℕ) (s : Settings) → 0 < s.gop → length (plan n s) ≡ n
-length_plan n s some = sym (each_once (plan n s)) ∙ sum_plan (λ _. 1) n s some ∙ each_of (range_with_len 0 n) ∙ length-range_with_len 0 n
+pub length_frames : (n : ℕ) (s : Settings) → 0 < s.gop → length (frames_plan n s) ≡ n
+length_frames n s some = sym (each_once (frames_plan n s)) ∙ sum_frames (λ _. 1) n s some ∙ each_of (range_with_len 0 n) ∙ length-range_with_len 0 n
 
 length_step : (s : Settings) (len first k : ℕ) → anchor_offset s len k < anchor_offset s len (suc k) → length (step s len first k) ≡ anchor_offset s len (suc k) - anchor_offset s len k
 length_step s len first k rises =
@@ -52,8 +52,8 @@ group_item s len first k j (suc q) x h e l here =
 
 -- item o of group i
 plan_item : (s : Settings) (n i o g : ℕ) (x : Planned) → o < s.gop → i * s.gop + o ≡ g → g < n
-    → slice_get (group_at s n i) o ≡ Some x → slice_get (plan n s) g ≡ Some x
-unfolding plan
+    → slice_get (group_at s n i) o ≡ Some x → slice_get (frames_plan n s) g ≡ Some x
+unfolding frames_plan
 plan_item s n i o g x h e l here =
     let inside : i < group_count s n = le-div (suc i) (n + (s.gop - 1)) s.gop (omega arith) (omega arith) in
     get_joined (group_at s n) s.gop 0 (group_count s n) i o i g x inside (omega arith) e
@@ -88,7 +88,7 @@ place_of n s g len h some opens long =
       in_group = omega arith;
     }
 
-pub opening_item : (n : ℕ) (s : Settings) (g : ℕ) → g < n → 0 < s.gop → g % s.gop ≡ 0 → slice_get (plan n s) g ≡ Some (opening g)
+pub opening_item : (n : ℕ) (s : Settings) (g : ℕ) → g < n → 0 < s.gop → g % s.gop ≡ 0 → slice_get (frames_plan n s) g ≡ Some (opening g)
 opening_item n s g h some opens =
     let whole = div-add-mod' g s.gop in
     let same : g / s.gop * s.gop ≡ g = omega arith in
@@ -105,7 +105,7 @@ after_place n s g first len k j is =
     let e = anchor_is s len (suc k) in
     omega arith
 
-in_step : (n : ℕ) (s : Settings) (g first len k j : ℕ) (x : Planned) → IsPlace n s g first len k j → slice_get (step s len first k) j ≡ Some x → slice_get (plan n s) g ≡ Some x
+in_step : (n : ℕ) (s : Settings) (g first len k j : ℕ) (x : Planned) → IsPlace n s g first len k j → slice_get (step s len first k) j ≡ Some x → slice_get (frames_plan n s) g ≡ Some x
 in_step n s g first len k j x is here =
     let o : ℕ = 1 + (k * (s.between + 1) + j) in
     let inside : o < len = omega (arith, is.in_plan, is.len_is, is.place, is.in_group) in
@@ -115,11 +115,11 @@ in_step n s g first len k j x is here =
     plan_item s n is.group.0 o g x is.in_group (omega (arith, is.group.1, is.place)) is.in_plan (subst P is.group.1 (subst Q is.len_is item))
 
 pub anchor_item : (n : ℕ) (s : Settings) (g first len k : ℕ) → IsPlace n s g first len k 0
-    → slice_get (plan n s) g ≡ Some (anchor_of (first + anchor_offset s len (suc k)) (first + anchor_offset s len k) (second_of s first k) (retired_of s len first k))
+    → slice_get (frames_plan n s) g ≡ Some (anchor_of (first + anchor_offset s len (suc k)) (first + anchor_offset s len k) (second_of s first k) (retired_of s len first k))
 anchor_item n s g first len k is = in_step n s g first len k 0 _ is refl
 
 pub between_item : (n : ℕ) (s : Settings) (g first len k j : ℕ) → IsPlace n s g first len k j → 0 < j
-    → slice_get (plan n s) g ≡ Some (between_of s.references (first + anchor_offset s len k) (first + anchor_offset s len (suc k)) (g - 1))
+    → slice_get (frames_plan n s) g ≡ Some (between_of s.references (first + anchor_offset s len k) (first + anchor_offset s len (suc k)) (g - 1))
 between_item n s g first len k zero is some = absurd (omega arith)
 between_item n s g first len k (suc j) is some =
     let a : ℕ = first + anchor_offset s len k in
@@ -141,7 +141,7 @@ retired_is s len first (suc (suc k)) h =
 
 -- the anchor at a place, by numbers alone
 pub coded_anchor : (n : ℕ) (s : Settings) (g first len k : ℕ) → IsPlace n s g first len k 0
-    → slice_get (plan n s) g ≡ Some (anchor_of (first + min (k * (s.between + 1) + (s.between + 1)) (len - 1)) (first + k * (s.between + 1)) (second_of s first k)
+    → slice_get (frames_plan n s) g ≡ Some (anchor_of (first + min (k * (s.between + 1) + (s.between + 1)) (len - 1)) (first + k * (s.between + 1)) (second_of s first k)
     (if nat_le 2 k then Some (first + k * (s.between + 1) - (s.between + 1)) else None))
 coded_anchor n s g first len k is =
     let before = before_place n s g first len k 0 is in
@@ -154,7 +154,7 @@ coded_anchor n s g first len k is =
 
 -- the picture between two anchors at a place, by numbers alone
 pub coded_between : (n : ℕ) (s : Settings) (g first len k j : ℕ) → IsPlace n s g first len k j → 0 < j
-    → slice_get (plan n s) g ≡ Some (between_of s.references (first + k * (s.between + 1)) (first + min (k * (s.between + 1) + (s.between + 1)) (len - 1)) (g - 1))
+    → slice_get (frames_plan n s) g ≡ Some (between_of s.references (first + k * (s.between + 1)) (first + min (k * (s.between + 1) + (s.between + 1)) (len - 1)) (g - 1))
 coded_between n s g first len k j is some =
     let before = before_place n s g first len k j is in
     let after = after_place n s g first len k j is in

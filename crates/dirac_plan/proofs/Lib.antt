@@ -1,10 +1,13 @@
 pub mod Accepted
 pub mod Anchors
+pub mod Fields
 pub mod Giving
+pub mod GivingFields
 pub mod Items
 pub mod Lists
 pub mod Numbers
+pub mod Places
 pub mod Planners
 pub mod Queue
 pub mod Rows
-pub mod Waiting
+pub mod Steps

@@ -1,11 +1,11 @@
--- A plan has each picture once.
+-- A plan of frames has each frame once.
 use Rattle.std.proofs.Common.{◌≡◌, ℕ, zero, suc, ◌+◌, ◌-◌, ◌*◌, ◌<◌, ◌≤◌, min, List, [], ◌∷◌, Option, None, Some, Bool, true, false, ◌==◌, map, refl, ap, ◌∙◌, sym, arith, sum_by, if◌then◌else◌, inl, inr}
 use Rattle.std.specs.List.{flat_map, range_with_len}
 use Rattle.std.proofs.lemmas.List.Sums.{sum_by-append, sum_by-cons}
 use Rattle.std.proofs.lemmas.Bool.{cases_lt}
 use Rattle.dirac_types.specs.declared.settings.Settings.{Settings}
 use Rattle.dirac_plan.specs.declared.planned.Planned.{Planned}
-use Rattle.dirac_plan.specs.Plan.{opening, anchor_of, between_of, anchor_offset, anchors_behind, second_of, retired_of, step, group, group_at, group_count, plan}
+use Rattle.dirac_plan.specs.Plan.{opening, anchor_of, between_of, anchor_offset, anchors_behind, second_of, retired_of, step, group, group_at, group_count, frames_plan}
 use Rattle.dirac_plan.proofs.Lists.{sum_ranges}
 use Rattle.dirac_plan.proofs.Anchors.{anchor_rises, last_anchor, covered, uncovered}
 
@@ -116,9 +116,9 @@ sum_groups f s n i (suc m) some h =
           both ∙ omega arith
     ]
 
-pub sum_plan : (f : ℕ → ℕ) (n : ℕ) (s : Settings) → 0 < s.gop → sum_by (of_number f) (plan n s) ≡ sum_by f (range_with_len 0 n)
-unfolding plan
-sum_plan f n s some =
+pub sum_frames : (f : ℕ → ℕ) (n : ℕ) (s : Settings) → 0 < s.gop → sum_by (of_number f) (frames_plan n s) ≡ sum_by f (range_with_len 0 n)
+unfolding frames_plan
+sum_frames f n s some =
     let all = sum_groups f s n 0 (group_count s n) some (omega arith) in
     let far = covered n s.gop some in
     let count : min n ((0 + group_count s n) * s.gop) - 0 * s.gop ≡ n = omega arith in

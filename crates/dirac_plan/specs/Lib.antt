@@ -1,3 +1,4 @@
+pub mod Frames
 pub mod Plan
 pub mod Planning
 pub mod Waiting

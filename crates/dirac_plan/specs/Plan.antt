@@ -1,6 +1,6 @@
--- Which pictures are coded, in which order, and what each of them refers to. Groups and anchors count frames; a frame
--- is one picture.
-use Rattle.std.specs.Prelude.{ℕ, zero, suc, ◌+◌, ◌-◌, ◌*◌, ◌/◌, ◌==◌, min, nat_le, ◌&&◌, if◌then◌else◌, List, ◌∷◌, map, Option, None, Some}
+-- Which pictures are coded, in which order, and what each of them refers to. Groups and anchors count frames. Where
+-- pictures are frames, frame t is picture t; where they are fields, its fields are pictures 2 t and 2 t + 1.
+use Rattle.std.specs.Prelude.{ℕ, zero, suc, ◌+◌, ◌-◌, ◌*◌, ◌/◌, ◌==◌, min, nat_le, nat_lt, ◌&&◌, if◌then◌else◌, List, [], ◌∷◌, map, Option, None, Some, option_map}
 use Rattle.std.specs.List.{flat_map, range_with_len}
 use Rattle.dirac_types.specs.declared.settings.Settings.{Settings}
 use Rattle.dirac_units.specs.declared.codes.TheConstants.{INTER_NON_REFERENCE_1, INTER_NON_REFERENCE_2}
@@ -66,6 +66,32 @@ group_at s n i = group s (min s.gop (n - i * s.gop)) (i * s.gop)
 abbrev pub group_count : Settings → ℕ → ℕ
 group_count s n = (n + (s.gop - 1)) / s.gop
 
--- n pictures in coding order
+-- n frames in coding order
+unfoldable pub frames_plan : ℕ → Settings → List Planned
+frames_plan n s = flat_map (group_at s n) (range_with_len 0 (group_count s n))
+
+-- of n fields, field p (0 or 1) of frame t; where the last frame has no second field, its first one
+abbrev pub field_or_first : ℕ → ℕ → ℕ → ℕ
+field_or_first n p t = if nat_lt (2 * t + p) n then 2 * t + p else 2 * t
+
+-- field p of a planned frame, of n fields: it refers to the fields p of the frame's references and retires field p of
+-- the frame that it retires; but the second field of an intra frame refers to the first field
+abbrev pub field_of : ℕ → ℕ → Planned → Planned
+field_of n p f =
+    if f.code == INTRA_REFERENCE && p == 1
+    then anchor_of (2 * f.number + 1) (2 * f.number) None None
+    else record {
+      number = 2 * f.number + p;
+      code = f.code;
+      ref1 = option_map (field_or_first n p) f.ref1;
+      ref2 = option_map (field_or_first n p) f.ref2;
+      retire = option_map (λ t. 2 * t + p) f.retire;
+    }
+
+-- the fields of a planned frame, of n fields: the last frame may have one alone
+abbrev pub fields_of : ℕ → Planned → List Planned
+fields_of n f = field_of n 0 f ∷ (if nat_lt (2 * f.number + 1) n then field_of n 1 f ∷ [] else [])
+
+-- n pictures in coding order: frames, or the fields of frames
 unfoldable pub plan : ℕ → Settings → List Planned
-plan n s = flat_map (group_at s n) (range_with_len 0 (group_count s n))
+plan n s = if s.fields == 0 then frames_plan n s else flat_map (fields_of n) (frames_plan ((n + 1) / 2) s)

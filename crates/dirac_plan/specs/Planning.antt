@@ -1,10 +1,10 @@
 -- Planning while pictures still come.
-use Rattle.std.specs.Prelude.{◌≡◌, ℕ, ◌+◌, ◌-◌, ◌%◌, ◌==◌, ◌≤◌, min, nat_lt, not, ◌||◌, ◌&&◌, if◌then◌else◌, Bool, false, List, [], ◌∷◌, ◌++◌, length, slice_get, Option, None, Some}
+use Rattle.std.specs.Prelude.{◌≡◌, ℕ, ◌+◌, ◌-◌, ◌*◌, ◌%◌, ◌==◌, ◌≤◌, min, nat_lt, not, ◌||◌, ◌&&◌, if◌then◌else◌, Bool, false, List, [], ◌∷◌, ◌++◌, length, slice_get, Option, None, Some}
 use Rattle.dirac_types.specs.declared.picture.Picture.{Picture}
 use Rattle.dirac_types.specs.declared.settings.Settings.{Settings}
 use Rattle.dirac_units.specs.declared.codes.TheConstants.{INTER_NON_REFERENCE_1, INTER_NON_REFERENCE_2}
 use Rattle.dirac_plan.specs.declared.planned.Planned.{Planned}
-use Rattle.dirac_plan.specs.declared.planner.TheConstants.{WAITING_PLACES}
+use Rattle.dirac_plan.specs.declared.planner.TheConstants.{FRAMES_WAITING}
 use Rattle.dirac_plan.specs.Plan.{plan}
 
 -- how many pictures a planner accepted, how many planned ones it gave, whether the pictures have ended, and those that
@@ -40,25 +40,61 @@ with_end p ended =
 abbrev pub next_planned : Planning → Option Planned
 next_planned p = slice_get (plan p.accepted p.settings) p.given
 
+-- how many pictures a frame is
+abbrev pub frame_pictures : Settings → ℕ
+frame_pictures s = if s.fields == 0 then 1 else 2
+
+-- how many pictures a whole group has
+abbrev pub group_pictures : Settings → ℕ
+group_pictures s = frame_pictures s * s.gop
+
+-- how many pictures there are from one anchor to the next
+abbrev pub step_pictures : Settings → ℕ
+step_pictures s = frame_pictures s * (s.between + 1)
+
+-- how many pictures may wait
+abbrev pub waiting_places : Settings → ℕ
+waiting_places s = frame_pictures s * FRAMES_WAITING
+
 -- a planned picture stands between two anchors: none refers to it
-abbrev pub stands_between : Option Planned → Bool
-stands_between None = false
-stands_between (Some p) = p.code == INTER_NON_REFERENCE_1 || p.code == INTER_NON_REFERENCE_2
+abbrev pub stands_between : Planned → Bool
+stands_between p = p.code == INTER_NON_REFERENCE_1 || p.code == INTER_NON_REFERENCE_2
 
--- no picture is accepted for now: four wait, or pictures between two anchors are still to be taken
+-- there is a reference, and it isn't the picture before this one
+abbrev pub refers_elsewhere : ℕ → Option ℕ → Bool
+refers_elsewhere number None = false
+refers_elsewhere number (Some reference) = not (reference + 1 == number)
+
+-- a planned picture is a second field, but not that of a frame that opens a group, which refers to the first field
+abbrev pub is_second_of_others : Settings → Planned → Bool
+is_second_of_others s p = not (s.fields == 0) && p.number % 2 == 1 && refers_elsewhere p.number p.ref1
+
+-- a planned picture is still to be taken before more are accepted: it stands between two anchors, or it is the second
+-- field of an anchor that opens no group
+abbrev pub is_left : Settings → Option Planned → Bool
+is_left s None = false
+is_left s (Some p) = stands_between p || is_second_of_others s p
+
+-- no picture is accepted for now: no place is free, or pictures between two anchors or the second field of an anchor
+-- that opens no group are still to be taken
 abbrev pub is_closed : Planning → Bool
-is_closed p = length p.waiting == WAITING_PLACES || stands_between (next_planned p)
+is_closed p = length p.waiting == waiting_places p.settings || is_left p.settings (next_planned p)
 
--- how many waiting pictures the next planned one needs, unless it stands between two anchors: one that opens a group
--- needs itself; an anchor all those up to it, or all that the group can still have
+-- how many pictures stand before a place in its group
+abbrev pub group_offset : Settings → ℕ → ℕ
+group_offset s place = place % group_pictures s
+
+-- how many waiting pictures the next planned one needs, unless it is still to be taken: one of a frame that opens a
+-- group needs itself; an anchor all those of the frames up to it, or all that the group can still have
 abbrev pub pictures_needed : Settings → ℕ → ℕ
 pictures_needed s given =
-    if given % s.gop == 0 then 1 else min (s.between + 1) (s.gop - given % s.gop)
+    if nat_lt (group_offset s given) (frame_pictures s) then 1
+    else min (step_pictures s) (group_pictures s - group_offset s given)
 
 -- while pictures may still come, so many waiting ones are too few for the next planned one
 abbrev pub are_too_few : Settings → ℕ → ℕ → Bool → ℕ → Bool
 are_too_few s accepted given ended waiting =
-    not ended && not (stands_between (slice_get (plan accepted s) given)) && nat_lt waiting (pictures_needed s given)
+    not ended && not (is_left s (slice_get (plan accepted s) given)) && nat_lt waiting (pictures_needed s given)
 
 -- no planned picture is given: none waits, or too few do
 abbrev pub gives_none : Planning → Bool → Bool

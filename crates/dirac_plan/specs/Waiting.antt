@@ -1,31 +1,50 @@
 -- Which pictures wait in a planner, by their numbers.
-use Rattle.std.specs.Prelude.{◌≡◌, ℕ, zero, suc, ◌+◌, ◌-◌, ◌*◌, ◌/◌, ◌%◌, ◌==◌, ◌≤◌, min, if◌then◌else◌, Bool, false, List, ◌++◌, map, length, Option, None, Some}
+use Rattle.std.specs.Prelude.{◌≡◌, ℕ, zero, suc, ◌+◌, ◌-◌, ◌%◌, ◌==◌, ◌<◌, ◌≤◌, min, nat_lt, if◌then◌else◌, Bool, false, List, ◌++◌, map, length}
 use Rattle.std.specs.List.{range_with_len}
 use Rattle.dirac_types.specs.declared.picture.Picture.{Picture}
 use Rattle.dirac_types.specs.declared.settings.Settings.{Settings}
 use Rattle.dirac_types.specs.Settings.{IsAccepted}
-use Rattle.dirac_plan.specs.declared.planner.TheConstants.{WAITING_PLACES}
+use Rattle.dirac_plan.specs.Planning.{frame_pictures, group_offset, group_pictures, step_pictures, waiting_places}
 
--- so far behind the first picture of a group: the anchor that was coded before its time, if there is one
-abbrev pub ahead_behind : ℕ → Settings → ℕ → ℕ → Option ℕ
-ahead_behind n s first zero = None
-ahead_behind n s first (suc offset) =
-    if offset % (s.between + 1) == 0 then None
-    else Some (
-    first
-    + min (offset / (s.between + 1) * (s.between + 1) + (s.between + 1)) (min s.gop (n - first) - 1)
-    )
+-- how many pictures stand before a place in its step: an anchor, and behind it what stands between it and the anchor
+-- before it; none before those of a frame that opens a group
+abbrev pub step_offset_in : ℕ → ℕ → ℕ → ℕ
+step_offset_in frame step offset = if nat_lt offset frame then 0 else (offset - frame) % step
 
--- where so many are given of n pictures
-unfoldable pub ahead : ℕ → Settings → ℕ → Option ℕ
-ahead n s given = ahead_behind n s (given - given % s.gop) (given % s.gop)
+unfoldable pub step_offset : Settings → ℕ → ℕ
+step_offset s place =
+    step_offset_in (frame_pictures s) (step_pictures s) (group_offset s place)
 
--- the numbers of the pictures that wait: without such an anchor all that were not given, else those before and behind
--- it
-abbrev pub left_by : ℕ → ℕ → Option ℕ → List ℕ
-left_by n given None = range_with_len given (n - given)
-left_by n given (Some anchor) =
-    range_with_len (given - 1) (anchor + 1 - given) ++ range_with_len (anchor + 1) (n - anchor - 1)
+-- the number of the anchor of that step, where a group has so many pictures: its first field's with fields
+abbrev pub step_anchor : Settings → ℕ → ℕ → ℕ
+step_anchor s len place =
+    place - group_offset s place
+    + min (group_offset s place - frame_pictures s - step_offset s place + step_pictures s) (len - frame_pictures s)
+
+-- the pictures of n of which the last is the second field of its frame, where there are fields
+abbrev pub whole_frames : Settings → ℕ → ℕ
+whole_frames s n = if s.fields == 0 then n else n + n % 2
+
+-- the anchor of the step of a place of n pictures
+unfoldable pub anchor_at : ℕ → Settings → ℕ → ℕ
+anchor_at n s place =
+    step_anchor s (min (group_pictures s) (whole_frames s n - (place - group_offset s place))) place
+
+-- the same in a whole group
+unfoldable pub whole_anchor_at : Settings → ℕ → ℕ
+whole_anchor_at s place = step_anchor s (group_pictures s) place
+
+-- so many of the pictures before a place have been coded before their time: the anchor, or its first field
+unfoldable pub ahead : ℕ → Settings → ℕ → ℕ
+ahead n s place = min (step_offset s place) (min (frame_pictures s) (n - anchor_at n s place))
+
+-- the numbers of the pictures that wait, of n where so many are given: all the others, if none of those was coded
+-- before its time; else those before and behind the anchor
+abbrev pub left_by : ℕ → ℕ → ℕ → ℕ → List ℕ
+left_by n given anchor zero = range_with_len given (n - given)
+left_by n given anchor (suc more) =
+    range_with_len (given - suc more) (anchor + suc more - given)
+    ++ range_with_len (anchor + suc more) (n - anchor - suc more)
 
 abbrev pub number_of : Picture → ℕ
 number_of p = p.number
@@ -35,8 +54,8 @@ pub record IsPlanning (s : Settings) (accepted given : ℕ) (ended : Bool) (wait
   pub settings : IsAccepted s
   pub in_range : accepted ≤ 2147483647
   pub given_in_range : given ≤ accepted
-  pub at_most_4_wait : length waiting ≤ WAITING_PLACES
+  pub few_wait : length waiting ≤ waiting_places s
   pub counts : accepted ≡ given + length waiting
-  pub numbers : map number_of waiting ≡ left_by accepted given (ahead accepted s given)
-  -- while pictures may still come, the anchor ahead is the same however many come
-  pub settled : ended ≡ false → (m : ℕ) → accepted ≤ m → ahead m s given ≡ ahead accepted s given
+  pub numbers : map number_of waiting ≡ left_by accepted given (anchor_at accepted s given) (ahead accepted s given)
+  -- while pictures may still come, an anchor is given once all its fields are there, and all frames up to it
+  pub settled : ended ≡ false → 0 < step_offset s given → whole_anchor_at s given + frame_pictures s ≤ accepted

@@ -1,16 +1,19 @@
 //! The planned picture at a place in coding order, worked out from the place alone.
 
-ghost use Rattle.std.specs.Prelude.{◌≡◌, ◌<◌, ◌≤◌, ◌-◌, slice_get, nat_le, if◌then◌else◌, Some, None};
+ghost use Rattle.std.specs.Prelude.{◌≡◌, ◌<◌, ◌≤◌, ◌+◌, ◌-◌, ◌*◌, ◌/◌, ◌%◌, slice_get, option_map, nat_le, if◌then◌else◌, Some, None, IfSome};
 ghost use Rattle.dirac_types.specs.Settings.{IsAccepted};
+ghost use Rattle.dirac_plan.specs.declared.planned.Planned.{Planned};
 ghost use Rattle.dirac_plan.specs.Plan as plans;
+ghost use Rattle.dirac_plan.specs.Frames as frames;
 
 use crate::planned::Planned;
 use dirac_types::Settings;
 use dirac_units::{
     INTER_NON_REFERENCE_1, INTER_NON_REFERENCE_2, INTER_REFERENCE_1, INTER_REFERENCE_2,
+    INTRA_REFERENCE,
 };
 
-/// A picture to which others may refer, which refers to the anchor `before`, and to `second` if there is one.
+/// A frame to which others may refer, which refers to the anchor `before`, and to `second` if there is one.
 fn anchor(number: u32, before: u32, second: Option<u32>, retire: Option<u32>) -> Planned
     ensures { result ≡ plans.anchor_of number before second retire }
 {
@@ -32,7 +35,7 @@ fn anchor(number: u32, before: u32, second: Option<u32>, retire: Option<u32>) ->
     }
 }
 
-/// A picture between two anchors, to which none refers.
+/// A frame between two anchors, to which none refers.
 fn between(references: u32, before: u32, after: u32, number: u32) -> Planned
     ensures { result ≡ plans.between_of references before after number }
 {
@@ -55,7 +58,7 @@ fn between(references: u32, before: u32, after: u32, number: u32) -> Planned
     }
 }
 
-/// What the anchor behind anchor `k` of a group refers to besides anchor `k`: the group's first picture, or none.
+/// What the anchor behind anchor `k` of a group refers to besides anchor `k`: the group's first frame, or none.
 fn second_of(settings: &Settings, first: u32, k: u32) -> Option<u32>
     ensures { result ≡ plans.second_of settings.now first k }
 {
@@ -66,8 +69,8 @@ fn second_of(settings: &Settings, first: u32, k: u32) -> Option<u32>
     }
 }
 
-/// What the anchor behind anchor `k` of a group retires: the anchor `gap` pictures before anchor `k`, if that isn't the
-/// group's first picture. Anchor `k` has the number `before`.
+/// What the anchor behind anchor `k` of a group retires: the anchor `gap` frames before anchor `k`, if that isn't the
+/// group's first frame. Anchor `k` has the number `before`.
 fn retired_of(before: u32, gap: u32, k: u32) -> Option<u32>
     requires { 2 ≤ k → gap ≤ before }
     ensures { result ≡ if nat_le 2 k then Some (before - gap) else None }
@@ -75,12 +78,12 @@ fn retired_of(before: u32, gap: u32, k: u32) -> Option<u32>
     if 2 <= k { Some(before - gap) } else { None }
 }
 
-/// The picture that is coded as number `place` of `count` pictures.
-pub(crate) fn item_of(count: u32, settings: &Settings, place: u32) -> Planned
+/// The frame that is coded as number `place` of `count` frames.
+fn frame_item(count: u32, settings: &Settings, place: u32) -> Planned
     requires settings { IsAccepted settings.now }
     requires in_range { count ≤ 2147483647 }
     requires place { place < count }
-    ensures { Some result ≡ slice_get (plans.plan count settings.now) place }
+    ensures { Some result ≡ slice_get (plans.frames_plan count settings.now) place }
 {
     let offset = place % settings.gop;
     if offset == 0 {
@@ -102,4 +105,114 @@ pub(crate) fn item_of(count: u32, settings: &Settings, place: u32) -> Planned
     } else {
         between(settings.references, before, after, place - 1)
     }
+}
+
+/// The place in coding order of the last of `count` frames.
+fn last_place(count: u32, settings: &Settings) -> u32
+    requires settings { IsAccepted settings.now }
+    requires in_range { count ≤ 2147483647 }
+    requires some { 0 < count }
+    ensures { option_map frames.planned_number (slice_get (plans.frames_plan count settings.now) result)
+        ≡ Some (count - 1) }
+{
+    let last = count - 1;
+    let offset = last % settings.gop;
+    if offset == 0 {
+        return last;
+    }
+    let gap = settings.between + 1;
+    last - offset + (offset - 1) / gap * gap + 1
+}
+
+/// The place that the field at a place of `count` fields would have if the last frame had both its fields: all behind
+/// that frame would stand one place later.
+fn whole_place(count: u32, settings: &Settings, place: u32) -> u32
+    requires settings { IsAccepted settings.now }
+    requires in_range { count ≤ 2147483647 }
+    requires place { place < count }
+    requires fields { settings.now.fields ≡ 0 → ⊥ }
+    ensures field { (frame : Planned)
+        → slice_get (plans.frames_plan ((count + 1) / 2) settings.now) (result / 2) ≡ Some frame
+        → slice_get (plans.plan count settings.now) place ≡ Some (plans.field_of count (result % 2) frame) }
+    ensures within { result / 2 < (count + 1) / 2 }
+{
+    if count % 2 == 0 {
+        return place;
+    }
+    if place <= 2 * last_place((count + 1) / 2, settings) {
+        place
+    } else {
+        place + 1
+    }
+}
+
+/// Of `count` fields, field `parity` of a frame; where the last frame has no second field, its first one.
+fn field_or_first(count: u32, parity: u32, frame: u32) -> u32
+    requires parity { parity ≤ 1 }
+    requires frame { frame < 2147483647 }
+    ensures { result ≡ plans.field_or_first count parity frame }
+{
+    let first = 2 * frame;
+    if first + parity < count {
+        first + parity
+    } else {
+        first
+    }
+}
+
+/// What field `parity` of a frame refers to, of `count` fields, where the frame refers to this one.
+fn referred(count: u32, parity: u32, frame: Option<u32>) -> Option<u32>
+    requires parity { parity ≤ 1 }
+    requires frame { IfSome frame (λ t. t < 2147483647) }
+    ensures { result ≡ option_map (plans.field_or_first count parity) frame }
+{
+    match frame {
+        None => None,
+        Some(frame) => Some(field_or_first(count, parity, frame)),
+    }
+}
+
+/// What field `parity` of a frame retires, where the frame retires this one.
+fn retired(parity: u32, frame: Option<u32>) -> Option<u32>
+    requires parity { parity ≤ 1 }
+    requires frame { IfSome frame (λ t. t < 2147483647) }
+    ensures { result ≡ option_map (λ t. 2 * t + parity) frame }
+{
+    match frame {
+        None => None,
+        Some(frame) => Some(2 * frame + parity),
+    }
+}
+
+/// Field `parity` of a planned frame, of `count` fields.
+fn field_of(count: u32, parity: u32, frame: &Planned) -> Planned
+    requires parity { parity ≤ 1 }
+    requires frame { frames.IsBelow 2147483647 frame.now }
+    ensures { result ≡ plans.field_of count parity frame.now }
+{
+    if frame.code == INTRA_REFERENCE && parity == 1 {
+        return anchor(2 * frame.number + 1, 2 * frame.number, None, None);
+    }
+    Planned {
+        number: 2 * frame.number + parity,
+        code: frame.code,
+        ref1: referred(count, parity, frame.ref1),
+        ref2: referred(count, parity, frame.ref2),
+        retire: retired(parity, frame.retire),
+    }
+}
+
+/// The picture that is coded as number `place` of `count` pictures.
+pub(crate) fn item_of(count: u32, settings: &Settings, place: u32) -> Planned
+    requires settings { IsAccepted settings.now }
+    requires in_range { count ≤ 2147483647 }
+    requires place { place < count }
+    ensures { Some result ≡ slice_get (plans.plan count settings.now) place }
+{
+    if settings.fields == 0 {
+        return frame_item(count, settings, place);
+    }
+    let at = whole_place(count, settings, place);
+    let frame = frame_item((count + 1) / 2, settings, at / 2);
+    field_of(count, at % 2, &frame)
 }

@@ -15,8 +15,8 @@ use dirac_units::{INTER_NON_REFERENCE_1, INTER_NON_REFERENCE_2};
 use std::alloc::Global;
 use std::marker::Model;
 
-/// How many pictures may wait to be coded: at most three between two anchors, and the anchor behind them.
-pub const WAITING_PLACES: usize = 4;
+/// How many frames may wait to be coded: at most three between two anchors, and the anchor behind them.
+pub const FRAMES_WAITING: usize = 4;
 
 /// Takes the pictures of a stream as they come and gives them in coding order, each with its plan. A contract sees the
 /// settings, how many pictures were accepted and how many planned ones given, whether the pictures have ended, and the
@@ -32,8 +32,7 @@ pub struct Planner {
 
 impl Model for Planner {
     ghost use Rattle.std.specs.Prelude.{◌≡◌};
-    ghost use Rattle.dirac_plan.specs.declared.planner.TheConstants.{WAITING_PLACES};
-    ghost use Rattle.dirac_plan.specs.Planning.{Planning};
+    ghost use Rattle.dirac_plan.specs.Planning.{Planning, waiting_places};
     ghost use Rattle.dirac_plan.specs.Waiting.{IsPlanning};
 
     ghost Value = { Planning };
@@ -46,11 +45,11 @@ impl Model for Planner {
       waiting = p.queue.items;
     } };
 
-    ghost invariant = { λ p. (p.queue.capacity ≡ WAITING_PLACES) × IsPlanning p.settings p.accepted p.given p.ended p.queue.items };
+    ghost invariant = { λ p. (p.queue.capacity ≡ waiting_places p.settings) × IsPlanning p.settings p.accepted p.given p.ended p.queue.items };
 }
 
 impl Planner {
-    /// A planner with a queue of four places.
+    /// A planner with a queue of four places, with fields of eight.
     pub fn try_new(alloc: Global, settings: &Settings) -> Result<Planner, NoMemory>
         requires { IsAccepted settings.now }
         ensures { IfOk result (λ p. p ≡ plannings.empty_planning settings.now) }
@@ -60,7 +59,7 @@ impl Planner {
             accepted: 0,
             given: 0,
             ended: false,
-            queue: HeapCircularBuffer::with_capacity(alloc, WAITING_PLACES)?,
+            queue: HeapCircularBuffer::with_capacity(alloc, waiting_places(settings))?,
         })
     }
 
@@ -72,8 +71,8 @@ impl Planner {
         self.accepted
     }
 
-    /// Takes the next picture of the input. An `Err` hands it back: four wait, or pictures between two anchors are
-    /// still to be taken.
+    /// Takes the next picture of the input. An `Err` hands it back: no place is free, or pictures between two anchors,
+    /// or the second field of an anchor that opens no group, are still to be taken.
     pub fn push(&mut self, picture: Picture) -> Result<(), Picture>
         requires number { picture.number ≡ self.old.accepted }
         requires in_range { self.old.accepted < 2147483647 }
@@ -81,10 +80,10 @@ impl Planner {
         ensures closed { IsErr result ↔ (plannings.is_closed self.old ≡ true) }
         ensures accepted { OnOk result (self.new ≡ plannings.with_picture self.old picture) }
         ensures handed_back { IfErr result (λ p. (p ≡ picture) × (self.new ≡ self.old)) }
-        ensures at_most_4_wait { length self.new.waiting ≤ WAITING_PLACES }
+        ensures few_wait { length self.new.waiting ≤ plannings.waiting_places self.new.settings }
         ensures counts { self.new.accepted ≡ self.new.given + length self.new.waiting }
     {
-        if self.queue.is_full() || is_between_left(&self.settings, self.accepted, self.given) {
+        if self.queue.is_full() || is_left(&self.settings, self.accepted, self.given) {
             return Err(picture);
         }
         self.queue.push_back(picture);
@@ -108,7 +107,7 @@ impl Planner {
         ensures settings { self.new.settings ≡ self.old.settings }
         ensures accepted { self.new.accepted ≡ self.old.accepted }
         ensures ended { self.new.ended ≡ ended }
-        ensures at_most_4_wait { length self.new.waiting ≤ WAITING_PLACES }
+        ensures few_wait { length self.new.waiting ≤ plannings.waiting_places self.new.settings }
         ensures counts { self.new.accepted ≡ self.new.given + length self.new.waiting }
     {
         let waiting = self.queue.len();
@@ -125,29 +124,71 @@ impl Planner {
     }
 }
 
-/// Whether the next planned picture of those accepted stands between two anchors.
-fn is_between_left(settings: &Settings, accepted: u32, given: u32) -> bool
+/// How many pictures a frame is.
+fn frame_pictures(settings: &Settings) -> u32
+    ensures value { result ≡ plannings.frame_pictures settings.now }
+    ensures within { (1 ≤ result) × (result ≤ 2) }
+{
+    if settings.fields == 0 { 1 } else { 2 }
+}
+
+/// How many pictures may wait.
+fn waiting_places(settings: &Settings) -> usize
+    ensures { result ≡ plannings.waiting_places settings.now }
+{
+    frame_pictures(settings) as usize * FRAMES_WAITING
+}
+
+/// Whether a planned picture stands between two anchors.
+fn stands_between(planned: &Planned) -> bool
+    ensures { result ≡ plannings.stands_between planned.now }
+{
+    planned.code == INTER_NON_REFERENCE_1 || planned.code == INTER_NON_REFERENCE_2
+}
+
+/// Whether a planned picture has a reference that isn't the picture before it.
+fn refers_elsewhere(number: u32, reference: Option<u32>) -> bool
+    ensures { result ≡ plannings.refers_elsewhere number reference }
+{
+    match reference {
+        None => false,
+        Some(reference) => u64::from(reference) + 1 != u64::from(number),
+    }
+}
+
+/// Whether a planned picture is the second field of a frame that opens no group.
+fn is_second_of_others(settings: &Settings, planned: &Planned) -> bool
+    ensures { result ≡ plannings.is_second_of_others settings.now planned.now }
+{
+    settings.fields != 0
+        && planned.number % 2 == 1
+        && refers_elsewhere(planned.number, planned.ref1)
+}
+
+/// Whether the next planned picture of those accepted is still to be taken before more are accepted.
+fn is_left(settings: &Settings, accepted: u32, given: u32) -> bool
     requires settings { IsAccepted settings.now }
     requires in_range { accepted ≤ 2147483647 }
-    ensures { result ≡ plannings.stands_between (slice_get (plans.plan accepted settings.now) given) }
+    ensures { result ≡ plannings.is_left settings.now (slice_get (plans.plan accepted settings.now) given) }
 {
     if accepted <= given {
         return false;
     }
     let next = item_of(accepted, settings, given);
-    next.code == INTER_NON_REFERENCE_1 || next.code == INTER_NON_REFERENCE_2
+    stands_between(&next) || is_second_of_others(settings, &next)
 }
 
-/// How many waiting pictures the next planned one needs, unless it stands between two anchors.
+/// How many waiting pictures the next planned one needs, unless it is still to be taken.
 fn pictures_needed(settings: &Settings, given: u32) -> u32
     requires { IsAccepted settings.now }
     ensures { result ≡ plannings.pictures_needed settings.now given }
 {
-    let offset = given % settings.gop;
-    if offset == 0 {
+    let frame = frame_pictures(settings);
+    let offset = given % (frame * settings.gop);
+    if offset < frame {
         1
     } else {
-        (settings.between + 1).min(settings.gop - offset)
+        (frame * (settings.between + 1)).min(frame * settings.gop - offset)
     }
 }
 
@@ -158,7 +199,7 @@ fn are_too_few(settings: &Settings, accepted: u32, given: u32, ended: bool, wait
     ensures { result ≡ plannings.are_too_few settings.now accepted given ended waiting }
 {
     !ended
-        && !is_between_left(settings, accepted, given)
+        && !is_left(settings, accepted, given)
         && waiting < pictures_needed(settings, given) as usize
 }
 

@@ -10,11 +10,11 @@ pub search_accepted : (g : Searched) (s : Settings) → IsAccepted s → length 
     → g.grid.xbsep ≤ 16 → g.grid.ybsep ≤ 16 → g.across ≤ 1024 → g.down ≤ 1024 → IsSearch g s
 unfolding table
 search_accepted g s is source reference x y across down = record {
-  precision = is.1.1.1.1.1.1.1.1.1.1.1.1.1.0.1;
-  range = is.1.1.1.1.1.1.1.1.1.1.1.1.1.1.1.1.1.0.1;
-  pyramid = is.1.1.1.1.1.1.1.1.1.1.1.1.1.1.1.1.1.1.0.1;
-  bias = is.1.1.1.1.1.1.1.1.1.1.1.1.1.1.1.1.1.1.1.0.1;
-  workers = (is.1.1.1.1.1.1.1.1.1.1.1.1.1.1.1.1.1.1.1.1.0.0, omega (arith, is.1.1.1.1.1.1.1.1.1.1.1.1.1.1.1.1.1.1.1.1.0.1));
+  precision = is.1.1.1.1.1.1.1.1.1.1.1.1.1.1.0.1;
+  range = is.1.1.1.1.1.1.1.1.1.1.1.1.1.1.1.1.1.1.0.1;
+  pyramid = is.1.1.1.1.1.1.1.1.1.1.1.1.1.1.1.1.1.1.1.0.1;
+  bias = is.1.1.1.1.1.1.1.1.1.1.1.1.1.1.1.1.1.1.1.1.0.1;
+  workers = (is.1.1.1.1.1.1.1.1.1.1.1.1.1.1.1.1.1.1.1.1.1.0.0, omega (arith, is.1.1.1.1.1.1.1.1.1.1.1.1.1.1.1.1.1.1.1.1.1.0.1));
   source = source;
   reference = reference;
   x_separation = x;

@@ -3,6 +3,7 @@ use Rattle.std.proofs.Common.{◌≡◌, ℕ, ◌≤◌, arith, refl, inl, inr}
 use Rattle.std.proofs.lemmas.Bool.{cases_eq, eq-eqb, ne_eqb}
 use Rattle.dirac_types.specs.declared.settings.Settings.{Settings}
 use Rattle.dirac_types.specs.Settings.{IsAccepted, table, step_across, step_down}
+use Rattle.dirac_types.proofs.Heights.{height_divides}
 use Rattle.dirac_sequence.specs.Grammar.{chroma_of}
 use Rattle.dirac_sequence.specs.Ratios.{ratio_across, ratio_down}
 use Rattle.dirac_sequence.specs.Written.{IsWritable}
@@ -32,9 +33,9 @@ writable t is = record {
   chroma = is.1.0.1;
   size = (is.1.1.0.0, is.1.1.0.1, is.1.1.1.0.0, is.1.1.1.0.1);
   whole_across = rw (← across_same t.chroma) is.1.1.0.2;
-  whole_down = rw (← down_same t.chroma is.1.0.1) is.1.1.1.0.2;
+  whole_down = rw (← down_same t.chroma is.1.0.1) (height_divides t.chroma t.fields t.height is.1.1.1.0.2);
   rate = (is.1.1.1.1.0.0, is.1.1.1.1.0.1);
   signal = (is.1.1.1.1.1.0.0, is.1.1.1.1.1.0.1);
-  profile = is.1.1.1.1.1.1.0.1;
-  level = is.1.1.1.1.1.1.1.0.1;
+  profile = is.1.1.1.1.1.1.1.0.1;
+  level = is.1.1.1.1.1.1.1.1.0.1;
 }

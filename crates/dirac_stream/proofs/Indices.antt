@@ -16,8 +16,8 @@ pub accepted_at : (t : Settings) (index : ℕ) → IsAccepted t → IsIndex inde
 unfolding table
 accepted_at t index is fits =
     let a = is.1.1.1.1.1 in
-    let b = a.1.1.1.1.1 in
-    (is.0, (is.1.0, (is.1.1.0, (is.1.1.1.0, (is.1.1.1.1.0, (a.0, (a.1.0, (a.1.1.0, (a.1.1.1.0, (a.1.1.1.1.0, ((omega arith, fits, omega arith), b.1)))))))))))
+    let b = a.1.1.1.1.1.1 in
+    (is.0, (is.1.0, (is.1.1.0, (is.1.1.1.0, (is.1.1.1.1.0, (a.0, (a.1.0, (a.1.1.0, (a.1.1.1.0, (a.1.1.1.1.0, (a.1.1.1.1.1.0, ((omega arith, fits, omega arith), b.1))))))))))))
 
 -- the sequence has no part in it
 pub sequence_at : (t : Settings) (index : ℕ) → sequence_of (at_index t index) ≡ sequence_of t

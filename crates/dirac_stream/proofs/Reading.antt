@@ -62,9 +62,9 @@ pub predicting : (t : Settings) → IsAccepted t → IsPredicting t
 unfolding table
 predicting t is = record {
   lawful = sequence_lawful t (codable t is).sequence;
-  some_blocks = is.1.1.1.1.1.1.1.1.1.1.1.1.0.0;
-  most_blocks = is.1.1.1.1.1.1.1.1.1.1.1.1.0.1;
-  precision = is.1.1.1.1.1.1.1.1.1.1.1.1.1.0.1;
+  some_blocks = is.1.1.1.1.1.1.1.1.1.1.1.1.1.0.0;
+  most_blocks = is.1.1.1.1.1.1.1.1.1.1.1.1.1.0.1;
+  precision = is.1.1.1.1.1.1.1.1.1.1.1.1.1.1.0.1;
 }
 
 -- ---- what is left fits what codes it

@@ -106,6 +106,7 @@ changed words d = record {
   height = value_or words name.Height d.height;
   rate = value_or words name.Rate d.rate;
   signal = value_or words name.Signal d.signal;
+  fields = d.fields;
   profile = value_or words name.Profile d.profile;
   level = value_or words name.Level d.level;
   wavelet = value_or words name.Wavelet d.wavelet;

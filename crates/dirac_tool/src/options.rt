@@ -223,6 +223,7 @@ pub fn settings_given(words: &[String]) -> Settings
         height: value_or(words, Name::Height, d.height),
         rate: value_or(words, Name::Rate, d.rate),
         signal: value_or(words, Name::Signal, d.signal),
+        fields: d.fields,
         profile: value_or(words, Name::Profile, d.profile),
         level: value_or(words, Name::Level, d.level),
         wavelet: value_or(words, Name::Wavelet, d.wavelet),

@@ -1,5 +1,5 @@
 -- The settings of the encoder: their ranges and defaults, and which of them is out of its range.
-use Rattle.std.specs.Prelude.{◌≡◌, ℕ, ◌≤◌, ◌%◌, ◌==◌, nat_le, ◌&&◌, if◌then◌else◌, Bool, List, [], ◌∷◌, map, slice_index_or, Option, Some, None, Result, Ok, Err}
+use Rattle.std.specs.Prelude.{◌≡◌, ℕ, ◌≤◌, ◌*◌, ◌%◌, ◌==◌, nat_le, ◌&&◌, if◌then◌else◌, Bool, List, [], ◌∷◌, map, slice_index_or, Option, Some, None, Result, Ok, Err}
 use Rattle.std.specs.List.{AllByRecursion}
 use Rattle.dirac_types.specs.declared.limits.TheConstants.{LARGEST_ENCODED_DEPTH, LARGEST_HEIGHT, LARGEST_INDEX, LARGEST_WAVELET, LARGEST_WIDTH}
 use Rattle.dirac_types.specs.BaseFormats.{base_formats}
@@ -25,15 +25,20 @@ step_across chroma = if chroma == 0 then 1 else 2
 abbrev pub step_down : ℕ → ℕ
 step_down chroma = if chroma == 2 then 2 else 1
 
+-- the number of rows that divides the height of a frame: with fields each of its two fields has whole chroma samples
+abbrev pub step_of_height : ℕ → ℕ → ℕ
+step_of_height chroma fields = if fields == 1 then 2 * step_down chroma else step_down chroma
+
 -- the settings with their ranges, in the order in which they are checked
 unfoldable pub table : Settings → List Ranged
 table s =
     setting name.Base s.base 0 16 1
     ∷ setting name.Chroma s.chroma 0 2 1
     ∷ setting name.Width s.width 1 LARGEST_WIDTH (step_across s.chroma)
-    ∷ setting name.Height s.height 1 LARGEST_HEIGHT (step_down s.chroma)
+    ∷ setting name.Height s.height 1 LARGEST_HEIGHT (step_of_height s.chroma s.fields)
     ∷ setting name.Rate s.rate 1 10 1
     ∷ setting name.Signal s.signal 1 2 1
+    ∷ setting name.Fields s.fields 0 0 1
     ∷ setting name.Profile s.profile 0 255 1
     ∷ setting name.Level s.level 0 255 1
     ∷ setting name.Wavelet s.wavelet 0 LARGEST_WAVELET 1
@@ -107,6 +112,7 @@ of_base base = let format = format_of base in record {
   height = format.height;
   rate = format.rate;
   signal = format.signal;
+  fields = 0;
   profile = 0;
   level = 0;
   wavelet = 0;

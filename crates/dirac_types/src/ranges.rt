@@ -32,7 +32,7 @@ pub struct Format {
 
 /// The settings with their ranges, in the order in which they are checked.
 #[tactic(auto, unfolding(crate::specs::Settings::table))]
-pub fn table(s: &Settings) -> [Ranged; 23]
+pub fn table(s: &Settings) -> [Ranged; 24]
     ensures value { result ≡ settings.table s.now }
     ensures whole { All (λ r. 1 ≤ r.step) result }
 {
@@ -51,10 +51,11 @@ pub fn table(s: &Settings) -> [Ranged; 23]
             s.height,
             1,
             LARGEST_HEIGHT,
-            step_down(s.chroma),
+            step_of_height(s.chroma, s.fields),
         ),
         setting(Name::Rate, s.rate, 1, 10, 1),
         setting(Name::Signal, s.signal, 1, 2, 1),
+        setting(Name::Fields, s.fields, 0, 0, 1),
         setting(Name::Profile, s.profile, 0, 255, 1),
         setting(Name::Level, s.level, 0, 255, 1),
         setting(Name::Wavelet, s.wavelet, 0, LARGEST_WAVELET, 1),
@@ -101,6 +102,18 @@ pub fn step_down(chroma: u32) -> u32
     ensures whole { 1 ≤ result }
 {
     if chroma == 2 { 2 } else { 1 }
+}
+
+/// The number of rows that divides the height of a frame: with fields each of its two fields has whole chroma samples.
+pub fn step_of_height(chroma: u32, fields: u32) -> u32
+    ensures value { result ≡ settings.step_of_height chroma fields }
+    ensures whole { 1 ≤ result }
+{
+    if fields == 1 {
+        2 * step_down(chroma)
+    } else {
+        step_down(chroma)
+    }
 }
 
 /// The first setting that is out of its range.

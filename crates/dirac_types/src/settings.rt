@@ -13,6 +13,7 @@ pub enum Name {
     Height,
     Rate,
     Signal,
+    Fields,
     Profile,
     Level,
     Wavelet,
@@ -46,6 +47,7 @@ impl Name {
             Name::Height => "height",
             Name::Rate => "rate",
             Name::Signal => "signal",
+            Name::Fields => "fields",
             Name::Profile => "profile",
             Name::Level => "level",
             Name::Wavelet => "wavelet",
@@ -85,12 +87,14 @@ pub struct Settings {
     pub chroma: u32,
     /// Luma samples across, a multiple of the chroma ratio.
     pub width: u32,
-    /// Luma samples down, a multiple of the chroma ratio.
+    /// Luma samples down, a multiple of the chroma ratio; with fields those of a frame, a multiple of twice the ratio.
     pub height: u32,
     /// The index of the frame rate.
     pub rate: u32,
     /// The index of the signal range.
     pub signal: u32,
+    /// 1 where each picture is a field, with half the rows of a frame; else 0. For now only 0 is accepted.
+    pub fields: u32,
     /// Written into the sequence header as it is, like the level.
     pub profile: u32,
     pub level: u32,
@@ -108,9 +112,9 @@ pub struct Settings {
     pub precision: u32,
     /// The most references of a picture.
     pub references: u32,
-    /// The pictures of a group, of which the first is intra.
+    /// The frames of a group, of which the first is intra.
     pub gop: u32,
-    /// The pictures between two anchors.
+    /// The frames between two anchors.
     pub between: u32,
     /// How far the coarse search goes, in samples of its level.
     pub range: u32,
@@ -140,6 +144,7 @@ impl Settings {
             height: format.height,
             rate: format.rate,
             signal: format.signal,
+            fields: 0,
             profile: 0,
             level: 0,
             wavelet: 0,

@@ -3,7 +3,7 @@ use Rattle.std.proofs.lemmas.List.{take_more, take_all}
 use Rattle.std.proofs.lemmas.Option.{get_or_from_slice_get, slice_get_within}
 use Rattle.dirac_plan.specs.Plan.{plan}
 use Rattle.dirac_plan.proofs.Accepted.{paced}
-use Rattle.dirac_plan.proofs.Items.{length_plan}
+use Rattle.dirac_plan.proofs.Fields.{length_plan}
 use Rattle.dirac_plan.proofs.order.plan.Goals as goal
 
 -- a front with one item more

@@ -1,7 +1,7 @@
 use Rattle.std.proofs.Common.{◌≡◌, ℕ, ◌+◌, ◌-◌, ◌<◌, Bool, true, false, remove, length, slice_get, Some, ap, ap₂, sym, subst, ◌∙◌, arith}
 use Rattle.circular_buffer.specs.Buffer.{Buffer, buffer}
 use Rattle.dirac_types.specs.declared.picture.Picture.{Picture}
-use Rattle.dirac_plan.specs.Planning.{IsLasting, Planning, Takes, are_too_few}
+use Rattle.dirac_plan.specs.Planning.{IsLasting, Planning, Takes, are_too_few, waiting_places}
 use Rattle.dirac_plan.specs.Waiting.{IsPlanning}
 use Rattle.dirac_plan.proofs.planner.Planner.take.Goals.{then-waiting-eq0-via-then-waiting-eq0, then-waiting-eq0-via-else-waiting-eq0+then-are_too_few}
 use Rattle.dirac_plan.proofs.Planners.{enough, kept, lasts, opens_for_more, opens_empty, place_in, some_left, taken_is, takes}
@@ -27,7 +27,7 @@ invariant_of-self-2 c =
     let inv = c.self.invariant in
     let more = some_left i.settings i.accepted i.given i.ended i.queue.items inv.1 (omega (arith, c.len-waiting.ensures.len, c.if-waiting-eq0.false)) in
     let of : ℕ → ℕ → Buffer Picture = λ m n. buffer (remove i.queue.items m) n in
-    let left : c.take_at-picture.new.queue ≡ buffer (remove i.queue.items (x.number - i.given)) 4 = c.take_at-picture.ensures.rest ∙ ap₂ of c.saturating_sub-place.ensures inv.0 in
+    let left : c.take_at-picture.new.queue ≡ buffer (remove i.queue.items (x.number - i.given)) (waiting_places i.settings) = c.take_at-picture.ensures.rest ∙ ap₂ of c.saturating_sub-place.ensures inv.0 in
     let ends : i.ended ≡ true → c.args.ended ≡ true = subst (λ (v : Planning). v.ended ≡ true → c.args.ended ≡ true) (sym c.self.view_is) c.requires in
     let is = taken_is i.settings i.accepted i.given i.ended c.args.ended i.queue.items x inv.1 more (sym c.item_of-planned.ensures)
     (kept i.ended c.args.ended ends)
@@ -44,16 +44,16 @@ returns-clause-takes c =
     let more = some_left i.settings i.accepted i.given i.ended i.queue.items inv.1 (omega (arith, c.len-waiting.ensures.len, c.if-waiting-eq0.false)) in
     let place = place_in i.settings i.accepted i.given i.ended i.queue.items x inv.1 more (sym c.item_of-planned.ensures) in
     let of : ℕ → ℕ → Buffer Picture = λ m n. buffer (remove i.queue.items m) n in
-    let left : c.take_at-picture.new.queue ≡ buffer (remove i.queue.items (x.number - i.given)) 4 = c.take_at-picture.ensures.rest ∙ ap₂ of c.saturating_sub-place.ensures inv.0 in
+    let left : c.take_at-picture.new.queue ≡ buffer (remove i.queue.items (x.number - i.given)) (waiting_places i.settings) = c.take_at-picture.ensures.rest ∙ ap₂ of c.saturating_sub-place.ensures inv.0 in
     let old : Planning = record { settings = i.settings; accepted = i.accepted; given = i.given; ended = i.ended; waiting = i.queue.items } in
     let view : Buffer Picture → Planning = λ b. record { settings = i.settings; accepted = i.accepted; given = i.given + 1; ended = c.args.ended; waiting = b.items } in
     let here : slice_get i.queue.items (x.number - i.given) ≡ Some c.take_at-picture.result = ap (slice_get i.queue.items) (sym c.saturating_sub-place.ensures) ∙ c.take_at-picture.ensures.value in
     let ends : i.ended ≡ true → c.args.ended ≡ true = subst (λ (v : Planning). v.ended ≡ true → c.args.ended ≡ true) (sym c.self.view_is) c.requires in
     let lasting : c.args.ended ≡ false → IsLasting old x = λ e m longer.
-    (lasts i.settings i.accepted i.given m i.ended i.queue.items inv.1 (kept i.ended c.args.ended ends e) more longer
+    lasts i.settings i.accepted i.given m i.ended i.queue.items inv.1 (kept i.ended c.args.ended ends e) more longer
     (λ last.
     let need = enough i.settings i.accepted i.given c.args.ended c.len-waiting.result c.are_too_few.ensures c.if-are_too_few.false e last in
-    omega (arith, need, c.len-waiting.ensures.len))).0
+    omega (arith, need, c.len-waiting.ensures.len))
     ∙ sym c.item_of-planned.ensures in
     subst (λ (o : Planning). Takes c.args.ended o (view c.take_at-picture.new.queue) x c.take_at-picture.result) c.self.view_is
     (takes old (view c.take_at-picture.new.queue) c.args.ended x c.take_at-picture.result (sym c.item_of-planned.ensures) place.number here (ap view left) lasting)
