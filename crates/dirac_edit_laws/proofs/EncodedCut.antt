@@ -11,6 +11,7 @@ use Rattle.std.proofs.lemmas.List.Elements.{filter-append}
 use Rattle.dirac_types.specs.declared.picture.Picture.{Picture}
 use Rattle.dirac_types.specs.declared.settings.Settings.{Settings}
 use Rattle.dirac_types.specs.Settings.{IsAccepted}
+use Rattle.dirac_types.proofs.Frames.{frames_alone}
 use Rattle.dirac_types.specs.Bits.{bit_value, number_from}
 use Rattle.dirac_types.specs.Bytes.{bytes_in}
 use Rattle.dirac_units.specs.Codes.{is_intra}
@@ -24,10 +25,10 @@ use Rattle.dirac_refs.specs.declared.waiting.Waiting.{Waiting}
 use Rattle.dirac_refs.specs.Delivery.{delivered, flush, flushed, flushed_by, key_of, least, least_place, others, picture_of, pushed_all}
 use Rattle.dirac_refs.proofs.Least.{leaves_first}
 use Rattle.dirac_plan.specs.declared.planned.Planned.{Planned}
-use Rattle.dirac_plan.specs.Plan.{group_at, group_count, plan}
+use Rattle.dirac_plan.specs.Plan.{frames_plan, group_at, group_count, plan}
 use Rattle.dirac_plan.proofs.Accepted.{paced}
 use Rattle.dirac_plan.proofs.Anchors.{uncovered}
-use Rattle.dirac_plan.proofs.Items.{length_plan}
+use Rattle.dirac_plan.proofs.Fields.{length_plan, plan_of_frames}
 use Rattle.dirac_plan.proofs.Lists.{range_split}
 use Rattle.dirac_plan_laws.specs.Headers.{IsPictureCode}
 use Rattle.dirac_plan_laws.specs.Order.{as_waiting}
@@ -234,16 +235,17 @@ first_refs t pictures a = refs_behind t pictures [] (groups_at t (length picture
 abbrev second_refs : Settings → List Picture → ℕ → ℕ → List Picture
 second_refs t pictures a m = refs_behind t pictures (first_refs t pictures a) (groups_at t (length pictures) a m)
 
-coding_split : (t : Settings) (pictures : List Picture) (a m e : ℕ) → group_count t (length pictures) ≡ a + (m + e)
+coding_split : (t : Settings) (pictures : List Picture) (a m e : ℕ) → IsAccepted t → group_count t (length pictures) ≡ a + (m + e)
     → coding t pictures ≡ groups_made t pictures [] 0 a ++ (groups_made t pictures (first_refs t pictures a) a m ++ groups_made t pictures (second_refs t pictures a m) (a + m) e)
-unfolding plan
-coding_split t pictures a m e is =
+unfolding frames_plan
+coding_split t pictures a m e accepted is =
     let n = length pictures in
     let code : List Picture → List Planned → List Made = λ refs qs. coded_from t refs (map (job_of pictures) qs) in
     let first = groups_at t n 0 a in
     let second = groups_at t n a m in
     let refs = first_refs t pictures a in
-    ap (λ k. code [] (groups_at t n 0 k)) is
+    ap (code []) (plan_of_frames n t (frames_alone t accepted))
+    ∙ ap (λ k. code [] (groups_at t n 0 k)) is
     ∙ ap (code []) (groups_split t n 0 a (m + e) a (omega arith))
     ∙ coded_append t pictures [] first (groups_at t n a (m + e))
     ∙ ap (λ x. code [] first ++ x) (ap (code refs) (groups_split t n a m e (a + m) refl) ∙ coded_append t pictures refs second (groups_at t n (a + m) e))
@@ -415,7 +417,7 @@ reconstructions_split plans t pictures a m e accepted few some is low =
     let ys = shown_groups t pictures (first_refs t pictures a) a m in
     let zs = shown_groups t pictures (second_refs t pictures a m) (a + m) e in
     let all : map shown_of (coding t pictures) ≡ xs ++ (ys ++ zs) =
-    ap (map shown_of) (coding_split t pictures a m e is)
+    ap (map shown_of) (coding_split t pictures a m e accepted is)
     ∙ map-append shown_of (groups_made t pictures [] 0 a) (groups_made t pictures (first_refs t pictures a) a m ++ groups_made t pictures (second_refs t pictures a m) (a + m) e)
     ∙ ap (λ l. xs ++ l) (map-append shown_of (groups_made t pictures (first_refs t pictures a) a m) (groups_made t pictures (second_refs t pictures a m) (a + m) e)) in
     let parts = are_parts t pictures a m e some is low in
@@ -523,7 +525,7 @@ encoded_by written plans law t pictures a m e is count =
     let behind : points_behind a ys ≡ a + suc m = made_points t pictures refs second a ∙ points_groups t n (suc m) a a in
     let chosen = part_made a (suc m) 0 xs ys zs ahead (made_begins t pictures refs second (groups_begin t n (suc m) a)) behind (made_begins t pictures (second_refs t pictures a (suc m)) third (groups_begin t n e (a + suc m))) in
     let part : part_rebuilt a (a + suc m) T ≡ all_rebuilt i a ys =
-    ap (filter (is_among a (a + suc m))) (rebuilt_is (sequence_of t) T (header_read t is.accepted) ∙ rebuilt.same ∙ ap (all_rebuilt 0 0) (coding_split t pictures a (suc m) e count)) ∙ chosen in
+    ap (filter (is_among a (a + suc m))) (rebuilt_is (sequence_of t) T (header_read t is.accepted) ∙ rebuilt.same ∙ ap (all_rebuilt 0 0) (coding_split t pictures a (suc m) e is.accepted count)) ∙ chosen in
     let closed = served_closed t pictures second refs [] i a (groups_served t n a (suc m)) in
     let ps = map shown_of ys in
     let parts = are_parts t pictures a (suc m) e some count low in

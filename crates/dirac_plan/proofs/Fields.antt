@@ -1,19 +1,18 @@
 -- The fields of planned frames.
-use Rattle.std.proofs.Common.{◌≡◌, ℕ, zero, suc, ◌+◌, ◌-◌, ◌*◌, ◌/◌, ◌%◌, ◌<◌, ◌≤◌, ◌==◌, min, nat_lt, if◌then◌else◌, Bool, true, false, List, [], ◌∷◌, Option, None, Some, option_map, length, take, slice_get, refl, ap, ap₂, subst, ◌∙◌, sym, arith, sum_by, inl, inr, lt-ltb, ne_eqb, eq-eqb, div-add-mod', length-take}
+use Rattle.std.proofs.Common.{◌≡◌, ℕ, zero, suc, ◌+◌, ◌-◌, ◌*◌, ◌/◌, ◌%◌, ◌<◌, ◌≤◌, ◌==◌, min, nat_lt, if◌then◌else◌, Bool, true, false, List, [], ◌∷◌, Option, None, Some, option_map, length, take, slice_get, refl, ap, ◌∙◌, sym, arith, sum_by, inl, inr, lt-ltb, ne_eqb, eq-eqb, div-add-mod', length-take}
 use Rattle.std.specs.List.{flat_map, range_with_len}
 use Rattle.std.proofs.lemmas.Bool.{cases_eq, ltb-true}
 use Rattle.std.proofs.lemmas.List.Sums.{sum_by-cons, sum_by-take-le}
 use Rattle.std.proofs.lemmas.List.Concat.{length-flat_map}
-use Rattle.std.proofs.lemmas.List.FromFn.{length-range_with_len}
 use Rattle.std.proofs.lemmas.Nat.{mod_below}
 use Rattle.std.proofs.lemmas.Option.{slice_get_within}
 use Rattle.dirac_types.specs.declared.settings.Settings.{Settings}
 use Rattle.dirac_plan.specs.declared.planned.Planned.{Planned}
 use Rattle.dirac_plan.specs.Frames.{planned_number}
-use Rattle.dirac_plan.specs.Plan.{fields_of, field_of, frames_plan, opening, plan}
+use Rattle.dirac_plan.specs.Plan.{fields_of, field_of, frames_plan, plan}
 use Rattle.dirac_plan.proofs.Lists.{get_piece, sum_around, sum_fronts, sum_ranges}
 use Rattle.dirac_plan.proofs.Numbers.{of_number, sum_frames, anchor_number}
-use Rattle.dirac_plan.proofs.Items.{IsPlace, coded_anchor, length_frames, opening_item}
+use Rattle.dirac_plan.proofs.Items.{IsPlace, coded_anchor, length_frames}
 
 -- one field isn't there, or none
 abbrev one_unless : Bool → ℕ

@@ -1,17 +1,16 @@
 -- What a planner gives.
-use Rattle.std.proofs.Common.{◌≡◌, ℕ, zero, suc, ◌+◌, ◌-◌, ◌*◌, ◌/◌, ◌%◌, ◌<◌, ◌≤◌, ◌==◌, ◌||◌, ◌&&◌, not, inl, inr, min, nat_le, nat_lt, if◌then◌else◌, Bool, true, false, Option, None, Some, IfSome, option_map, slice_get, refl, ap, ap₂, subst, ◌∙◌, sym, arith, div-add-mod', eq-eqb, ne_eqb, lt-ltb}
-use Rattle.std.proofs.lemmas.Nat.{mod_below}
-use Rattle.std.proofs.lemmas.Bool.{cases_eq, cases_lt}
+use Rattle.std.proofs.Common.{◌≡◌, ℕ, zero, suc, ◌+◌, ◌-◌, ◌*◌, ◌/◌, ◌%◌, ◌<◌, ◌≤◌, ◌==◌, ◌||◌, ◌&&◌, not, inl, inr, min, nat_lt, if◌then◌else◌, Bool, true, false, Option, None, Some, slice_get, refl, ap, ap₂, ◌∙◌, sym, arith, div-add-mod', eq-eqb, lt-ltb}
+use Rattle.std.proofs.lemmas.Bool.{cases_eq}
 use Rattle.dirac_types.specs.declared.settings.Settings.{Settings}
 use Rattle.dirac_plan.specs.declared.planned.Planned.{Planned}
-use Rattle.dirac_plan.specs.Plan.{opening, anchor_of, between_of, field_of, field_or_first, frames_plan, second_of, plan}
-use Rattle.dirac_plan.specs.Planning.{frame_pictures, group_offset, group_pictures, is_left, is_second_of_others, refers_elsewhere, stands_between, step_pictures}
+use Rattle.dirac_plan.specs.Plan.{opening, anchor_of, between_of, second_of, plan}
+use Rattle.dirac_plan.specs.Planning.{frame_pictures, group_offset, group_pictures, is_left, refers_elsewhere, stands_between, step_pictures}
 use Rattle.dirac_plan.specs.Waiting.{anchor_at, step_anchor, step_offset, whole_anchor_at, whole_frames}
 use Rattle.dirac_plan.proofs.Numbers.{anchor_number, between_number, either}
 use Rattle.dirac_plan.proofs.Items.{IsPlace, place_of, opening_item}
 use Rattle.dirac_plan.proofs.Places.{anchor_here, anchor_is_at, behind, between_here, between_is_at, whole_behind, retirement}
 use Rattle.dirac_plan.proofs.Fields.{plan_of_frames}
-use Rattle.dirac_plan.proofs.Steps.{frame_is, offset_opens, offset_steps}
+use Rattle.dirac_plan.proofs.Steps.{offset_opens, offset_steps}
 
 -- ---- which planned pictures are still to be taken
 

@@ -1,19 +1,19 @@
 -- What a planner of fields gives.
-use Rattle.std.proofs.Common.{◌≡◌, ℕ, zero, suc, ◌+◌, ◌-◌, ◌*◌, ◌/◌, ◌%◌, ◌<◌, ◌≤◌, ◌==◌, ◌||◌, ◌&&◌, not, inl, inr, min, nat_le, nat_lt, if◌then◌else◌, Bool, true, false, Option, None, Some, IfSome, option_map, slice_get, refl, ap, ap₂, subst, ◌∙◌, sym, arith, div-add-mod', eq-eqb, ne_eqb, lt-ltb, mul-le-mul_right}
+use Rattle.std.proofs.Common.{◌≡◌, ℕ, zero, suc, ◌+◌, ◌-◌, ◌*◌, ◌/◌, ◌%◌, ◌<◌, ◌≤◌, ◌==◌, ◌&&◌, not, inl, inr, min, nat_lt, if◌then◌else◌, Bool, true, false, Option, None, Some, IfSome, option_map, slice_get, refl, ap, ap₂, subst, ◌∙◌, sym, arith, div-add-mod', eq-eqb, ne_eqb, lt-ltb, mul-le-mul_right}
 use Rattle.std.proofs.lemmas.Nat.{mod_below, mod-mul-add, le-div}
 use Rattle.std.proofs.lemmas.Bool.{cases_eq, cases_lt}
 use Rattle.dirac_types.specs.declared.settings.Settings.{Settings}
 use Rattle.dirac_units.specs.declared.codes.TheConstants.{INTRA_REFERENCE}
 use Rattle.dirac_plan.specs.declared.planned.Planned.{Planned}
 use Rattle.dirac_plan.specs.Frames.{IsBelow}
-use Rattle.dirac_plan.specs.Plan.{opening, anchor_of, between_of, field_of, field_or_first, frames_plan, second_of, plan}
-use Rattle.dirac_plan.specs.Planning.{frame_pictures, group_offset, group_pictures, is_left, is_second_of_others, refers_elsewhere, stands_between, step_pictures}
-use Rattle.dirac_plan.specs.Waiting.{anchor_at, step_anchor, step_offset, whole_anchor_at, whole_frames}
+use Rattle.dirac_plan.specs.Plan.{opening, anchor_of, between_of, field_of, field_or_first, second_of, plan}
+use Rattle.dirac_plan.specs.Planning.{frame_pictures, group_offset, group_pictures, is_left, refers_elsewhere, step_pictures}
+use Rattle.dirac_plan.specs.Waiting.{anchor_at, step_offset, whole_anchor_at, whole_frames}
 use Rattle.dirac_plan.proofs.Numbers.{either}
 use Rattle.dirac_plan.proofs.Items.{IsPlace, opening_item}
 use Rattle.dirac_plan.proofs.Places.{anchor_here, anchor_here_below, anchor_is_at, behind, between_here, between_here_below, between_is_at, retirement, whole_behind}
 use Rattle.dirac_plan.proofs.Fields.{IsLast, even_before, field_item, last_from, last_is, last_place, missing_before, odd_before, odd_behind}
-use Rattle.dirac_plan.proofs.Giving.{IsReady, Next, Number, anchor_ready, at_anchor, at_between, at_opening, opening_ready, step_opens}
+use Rattle.dirac_plan.proofs.Giving.{IsReady, Next, anchor_ready, at_anchor, at_between, at_opening, opening_ready, step_opens}
 use Rattle.dirac_plan.proofs.Steps.{offset_steps}
 
 -- ---- the place of the last frame
@@ -76,8 +76,10 @@ place_of_last frames s q first len k j group is =
   where
     inside : ℕ
     inside = frames - 1 - (frames - 1) % s.gop + ((frames - 1) % s.gop - 1) / (s.between + 1) * (s.between + 1) + 1
+
     at_inside : ((frames - 1) % s.gop ≡ 0 → ⊥) → last_place frames s ≡ inside
     at_inside ne = ap (λ (b : Bool). if b then frames - 1 else inside) (ne_eqb ((frames - 1) % s.gop) 0 ne)
+
     -- two multiples less than one step apart
     equal_products : (a b w : ℕ) → 0 < w → a * w < b * w + w → b * w < a * w + w → a * w ≡ b * w
     equal_products a b w some above under = elim (cases_lt a b) [
@@ -128,6 +130,7 @@ anchor_field_kind n s zero number before (Some second) retired fields few less =
 anchor_field_kind n s (suc zero) number before None retired fields few less = second_kind s number (Some (field_or_first n 1 before)) fields ∙ elsewhere n number before less
 anchor_field_kind n s (suc zero) number before (Some second) retired fields few less = second_kind s number (Some (field_or_first n 1 before)) fields ∙ elsewhere n number before less
 anchor_field_kind n s (suc (suc p)) number before second retired fields few less = absurd (omega arith)
+
 pub between_field_kind : (n : ℕ) (s : Settings) (p references before after number : ℕ) → is_left s (Some (field_of n p (between_of references before after number))) ≡ true
 between_field_kind n s p references before after number =
     let P : Planned → Type 0 = λ f. is_left s (Some (field_of n p f)) ≡ true in

@@ -1,5 +1,5 @@
 -- The kinds of places in a plan of frames, and what is planned there.
-use Rattle.std.proofs.Common.{◌≡◌, ℕ, suc, ◌+◌, ◌-◌, ◌*◌, ◌/◌, ◌%◌, ◌<◌, ◌≤◌, ◌==◌, inl, inr, min, nat_le, if◌then◌else◌, Bool, true, false, Option, None, Some, IfSome, slice_get, refl, ap, subst, ◌∙◌, sym, arith, div-add-mod', mul-le-mul_right}
+use Rattle.std.proofs.Common.{◌≡◌, ℕ, ◌+◌, ◌-◌, ◌*◌, ◌/◌, ◌%◌, ◌<◌, ◌≤◌, ◌==◌, inl, inr, min, nat_le, if◌then◌else◌, Bool, true, false, Option, None, Some, IfSome, slice_get, refl, subst, ◌∙◌, sym, arith, div-add-mod'}
 use Rattle.std.proofs.lemmas.Bool.{cases_eq}
 use Rattle.std.proofs.lemmas.Option.{IfSome_then, slice_get_within}
 use Rattle.dirac_types.specs.declared.settings.Settings.{Settings}

@@ -1,5 +1,5 @@
 -- What holds of a planner.
-use Rattle.std.proofs.Common.{◌≡◌, ℕ, ltb-false, ltb-true, lt-ltb, ne_eqb, ◌||◌, nat_lt, not, ◌&&◌, zero, suc, ◌+◌, ◌-◌, ◌*◌, ◌%◌, ◌<◌, ◌≤◌, ◌==◌, inl, inr, min, if◌then◌else◌, Bool, true, false, List, [], ◌∷◌, ◌++◌, Option, None, Some, option_map, map, length, take, drop, remove, slice_get, refl, ap, ap₂, subst, ◌∙◌, sym, arith, length-append, length-take, length-drop}
+use Rattle.std.proofs.Common.{◌≡◌, ℕ, ltb-false, ltb-true, lt-ltb, ne_eqb, ◌||◌, nat_lt, not, ◌&&◌, zero, suc, ◌+◌, ◌-◌, ◌*◌, ◌%◌, ◌<◌, ◌≤◌, ◌==◌, inl, inr, min, if◌then◌else◌, Bool, true, false, List, [], ◌∷◌, ◌++◌, None, Some, option_map, map, length, take, drop, remove, slice_get, refl, ap, ap₂, subst, ◌∙◌, sym, arith, length-append, length-take, length-drop}
 use Rattle.std.specs.List.{range_with_len}
 use Rattle.std.proofs.Math.Nat.{mul-le-mul}
 use Rattle.std.proofs.lemmas.Nat.{mod_below, mod-mul-add}
@@ -13,7 +13,7 @@ use Rattle.dirac_plan.specs.declared.planned.Planned.{Planned}
 use Rattle.dirac_plan.specs.declared.planner.TheConstants.{FRAMES_WAITING}
 use Rattle.dirac_plan.specs.Plan.{plan}
 use Rattle.dirac_plan.specs.Planning.{IsLasting, Planning, Takes, are_too_few, frame_pictures, group_offset, group_pictures, is_left, pictures_needed, step_pictures, waiting_places}
-use Rattle.dirac_plan.specs.Waiting.{IsPlanning, ahead, anchor_at, left_by, number_of, step_anchor, step_offset, whole_anchor_at}
+use Rattle.dirac_plan.specs.Waiting.{IsPlanning, ahead, anchor_at, left_by, number_of, step_offset, whole_anchor_at}
 use Rattle.dirac_plan.proofs.Accepted.{paced}
 use Rattle.dirac_plan.proofs.Lists.{range_split, remove-map}
 use Rattle.dirac_plan.proofs.Numbers.{either}

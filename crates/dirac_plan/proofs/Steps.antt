@@ -1,12 +1,12 @@
 -- The steps of a plan in pictures, and what waits at each place of a step.
-use Rattle.std.proofs.Common.{◌≡◌, ℕ, zero, suc, ◌+◌, ◌-◌, ◌*◌, ◌/◌, ◌%◌, ◌<◌, ◌≤◌, ◌==◌, ◌⊎◌, inl, inr, min, nat_lt, if◌then◌else◌, Bool, true, false, List, [], ◌∷◌, ◌++◌, length, refl, ap, ap₂, subst, ◌∙◌, sym, arith, lt-ltb, div-add-mod'}
+use Rattle.std.proofs.Common.{◌≡◌, ℕ, zero, suc, ◌+◌, ◌-◌, ◌*◌, ◌/◌, ◌%◌, ◌<◌, ◌≤◌, ◌==◌, ◌⊎◌, inl, inr, min, nat_lt, if◌then◌else◌, Bool, true, false, List, [], ◌∷◌, ◌++◌, length, refl, ap, ap₂, ◌∙◌, sym, arith, lt-ltb, div-add-mod'}
 use Rattle.std.specs.List.{range_with_len}
 use Rattle.std.proofs.lemmas.Nat.{mod-mul-add, mod_below}
 use Rattle.std.proofs.lemmas.Bool.{cases_Bool, cases_eq, cases_lt, ltb-true}
 use Rattle.std.proofs.lemmas.List.FromFn.{length-range_with_len}
 use Rattle.dirac_types.specs.declared.settings.Settings.{Settings}
 use Rattle.dirac_plan.specs.Planning.{frame_pictures, group_offset, group_pictures, step_pictures}
-use Rattle.dirac_plan.specs.Waiting.{ahead, anchor_at, left_by, step_anchor, step_offset, step_offset_in, whole_anchor_at, whole_frames}
+use Rattle.dirac_plan.specs.Waiting.{ahead, anchor_at, left_by, step_offset, step_offset_in, whole_frames}
 use Rattle.dirac_plan.proofs.Lists.{range_split}
 
 -- one place on, modulo w
@@ -134,6 +134,7 @@ in_step n s g some within late =
     wider : (f b : ℕ) → 1 ≤ f → f ≤ f * (b + 1)
     wider f zero h = omega arith
     wider f (suc b) h = omega arith
+
     longer : (f gop : ℕ) → 0 < gop → f ≤ f * gop
     longer f zero h = absurd (omega arith)
     longer f (suc gop) h = omega arith
@@ -291,6 +292,7 @@ anchor_step n s g first d r is first_ones =
     left_with : (n g b r : ℕ) → g - r ≤ b → g ≤ b + r → b + r ≤ n → left_by n g b r ≡ range_with_len (g - r) (b + r - g) ++ range_with_len (b + r) (n - b - r)
     left_with n g b zero low behind high = left_around n g b zero (omega arith) (omega arith)
     left_with n g b (suc r) low behind high = refl
+
     ends : step_offset s (g + 1) ≡ 0 → anchor_at n s g + r ≡ g → left_by n (g + 1) (anchor_at n s (g + 1)) (ahead n s (g + 1)) ≡ range_with_len (g - r) (anchor_at n s g + r - g) ++ range_with_len (anchor_at n s g + r + 1) (n - anchor_at n s g - r - 1)
     ends next same =
         let b : ℕ = anchor_at n s g in

@@ -74,18 +74,18 @@ frames_plan n s = flat_map (group_at s n) (range_with_len 0 (group_count s n))
 abbrev pub field_or_first : ℕ → ℕ → ℕ → ℕ
 field_or_first n p t = if nat_lt (2 * t + p) n then 2 * t + p else 2 * t
 
--- field p of a planned frame, of n fields: it refers to the fields p of the frame's references and retires field p of the
--- frame that it retires; but the second field of an intra frame refers to the first field
+-- field p of a planned frame, of n fields: it refers to the fields p of the frame's references and retires field p of
+-- the frame that it retires; but the second field of an intra frame refers to the first field
 abbrev pub field_of : ℕ → ℕ → Planned → Planned
 field_of n p f =
     if f.code == INTRA_REFERENCE && p == 1
     then anchor_of (2 * f.number + 1) (2 * f.number) None None
     else record {
-        number = 2 * f.number + p;
-        code = f.code;
-        ref1 = option_map (field_or_first n p) f.ref1;
-        ref2 = option_map (field_or_first n p) f.ref2;
-        retire = option_map (λ t. 2 * t + p) f.retire;
+      number = 2 * f.number + p;
+      code = f.code;
+      ref1 = option_map (field_or_first n p) f.ref1;
+      ref2 = option_map (field_or_first n p) f.ref2;
+      retire = option_map (λ t. 2 * t + p) f.retire;
     }
 
 -- the fields of a planned frame, of n fields: the last frame may have one alone

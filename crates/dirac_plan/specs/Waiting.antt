@@ -1,5 +1,5 @@
 -- Which pictures wait in a planner, by their numbers.
-use Rattle.std.specs.Prelude.{◌≡◌, ℕ, zero, suc, ◌+◌, ◌-◌, ◌*◌, ◌%◌, ◌==◌, ◌<◌, ◌≤◌, min, nat_lt, if◌then◌else◌, Bool, false, List, ◌++◌, map, length}
+use Rattle.std.specs.Prelude.{◌≡◌, ℕ, zero, suc, ◌+◌, ◌-◌, ◌%◌, ◌==◌, ◌<◌, ◌≤◌, min, nat_lt, if◌then◌else◌, Bool, false, List, ◌++◌, map, length}
 use Rattle.std.specs.List.{range_with_len}
 use Rattle.dirac_types.specs.declared.picture.Picture.{Picture}
 use Rattle.dirac_types.specs.declared.settings.Settings.{Settings}
@@ -38,8 +38,8 @@ whole_anchor_at s place = step_anchor s (group_pictures s) place
 unfoldable pub ahead : ℕ → Settings → ℕ → ℕ
 ahead n s place = min (step_offset s place) (min (frame_pictures s) (n - anchor_at n s place))
 
--- the numbers of the pictures that wait, of n where so many are given: all the others, if none of those was coded before
--- its time; else those before and behind the anchor
+-- the numbers of the pictures that wait, of n where so many are given: all the others, if none of those was coded
+-- before its time; else those before and behind the anchor
 abbrev pub left_by : ℕ → ℕ → ℕ → ℕ → List ℕ
 left_by n given anchor zero = range_with_len given (n - given)
 left_by n given anchor (suc more) =

@@ -124,15 +124,16 @@ fn last_place(count: u32, settings: &Settings) -> u32
     last - offset + (offset - 1) / gap * gap + 1
 }
 
-/// The place that the field at a place of `count` fields has if the last frame has both its fields: behind that frame all
-/// others then stand one place later.
+/// The place that the field at a place of `count` fields would have if the last frame had both its fields: all behind
+/// that frame would stand one place later.
 fn whole_place(count: u32, settings: &Settings, place: u32) -> u32
     requires settings { IsAccepted settings.now }
     requires in_range { count ≤ 2147483647 }
     requires place { place < count }
     requires fields { settings.now.fields ≡ 0 → ⊥ }
-    ensures field { (x : Planned) → slice_get (plans.frames_plan ((count + 1) / 2) settings.now) (result / 2) ≡ Some x
-        → slice_get (plans.plan count settings.now) place ≡ Some (plans.field_of count (result % 2) x) }
+    ensures field { (frame : Planned)
+        → slice_get (plans.frames_plan ((count + 1) / 2) settings.now) (result / 2) ≡ Some frame
+        → slice_get (plans.plan count settings.now) place ≡ Some (plans.field_of count (result % 2) frame) }
     ensures within { result / 2 < (count + 1) / 2 }
 {
     if count % 2 == 0 {

@@ -159,7 +159,7 @@ served_group s len first list K more = (
       served_steps s len first (anchors_behind s len) 0 l K (omega arith) now more,
 )
 
-served_groups : (s : Settings) (n m i : ℕ) (list : List Picture) → ServedThen list (flat_map (group_at s n) (range_with_len i m)) (λ _. ⊤)
+pub served_groups : (s : Settings) (n m i : ℕ) (list : List Picture) → ServedThen list (flat_map (group_at s n) (range_with_len i m)) (λ _. ⊤)
 served_groups s n zero i list = tt
 served_groups s n (suc m) i list =
     let rest = flat_map (group_at s n) (range_with_len (i + 1) m) in

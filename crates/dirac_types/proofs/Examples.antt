@@ -39,6 +39,16 @@ first : first_bad (table (record (of_base 0) { width = 7; depth = 5 })) ≡ Some
 unfolding table format_of
 first = refl
 
+-- the height of fields is a multiple of twice the chroma ratio
+field_height : first_bad (table (record (of_base 0) { width = 8; height = 10; fields = 1 })) ≡ Some (record { name = name.Height; value = 10 })
+unfolding table format_of
+field_height = refl
+
+-- fields are not accepted
+no_fields : first_bad (table (record (of_base 0) { fields = 1 })) ≡ Some (record { name = name.Fields; value = 1 })
+unfolding table format_of
+no_fields = refl
+
 unknown_base : first_bad (table (record (of_base 0) { base = 17; chroma = 3 })) ≡ Some (record { name = name.Base; value = 17 })
 unfolding table format_of
 unknown_base = refl

@@ -2,6 +2,7 @@ pub mod Answers
 pub mod Bounds
 pub mod Digits
 mod Examples
+pub mod Frames
 pub mod Heights
 pub mod InRange
 pub mod Rows

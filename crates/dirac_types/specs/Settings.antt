@@ -38,7 +38,7 @@ table s =
     ∷ setting name.Height s.height 1 LARGEST_HEIGHT (step_of_height s.chroma s.fields)
     ∷ setting name.Rate s.rate 1 10 1
     ∷ setting name.Signal s.signal 1 2 1
-    ∷ setting name.Fields s.fields 0 1 1
+    ∷ setting name.Fields s.fields 0 0 1
     ∷ setting name.Profile s.profile 0 255 1
     ∷ setting name.Level s.level 0 255 1
     ∷ setting name.Wavelet s.wavelet 0 LARGEST_WAVELET 1

@@ -55,7 +55,7 @@ pub fn table(s: &Settings) -> [Ranged; 24]
         ),
         setting(Name::Rate, s.rate, 1, 10, 1),
         setting(Name::Signal, s.signal, 1, 2, 1),
-        setting(Name::Fields, s.fields, 0, 1, 1),
+        setting(Name::Fields, s.fields, 0, 0, 1),
         setting(Name::Profile, s.profile, 0, 255, 1),
         setting(Name::Level, s.level, 0, 255, 1),
         setting(Name::Wavelet, s.wavelet, 0, LARGEST_WAVELET, 1),

@@ -93,7 +93,7 @@ pub struct Settings {
     pub rate: u32,
     /// The index of the signal range.
     pub signal: u32,
-    /// 1 where each picture is a field: half the rows of a frame, the even ones before the odd ones; else 0.
+    /// 1 where each picture is a field, with half the rows of a frame; else 0. For now only 0 is accepted.
     pub fields: u32,
     /// Written into the sequence header as it is, like the level.
     pub profile: u32,
