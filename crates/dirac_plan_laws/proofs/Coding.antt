@@ -10,11 +10,11 @@ use Rattle.dirac_plan.specs.Plan.{plan}
 use Rattle.dirac_plan.specs.Planning.{IsLasting, Planning}
 use Rattle.dirac_plan.specs.Waiting.{number_of}
 use Rattle.dirac_plan.proofs.Accepted.{paced}
-use Rattle.dirac_plan.proofs.Items.{length_plan}
+use Rattle.dirac_plan.proofs.Fields.{length_plan}
 use Rattle.dirac_plan_laws.specs.Coding.{AcceptsCoding, EndsCoding, GoesOnCoding, IsCoding, IsTotal, StartsCoding, WaitsCoding}
 use Rattle.dirac_plan_laws.specs.References.{AreListed, ArePlanned, AreServed, list_with, planned_number}
 use Rattle.dirac_plan_laws.proofs.Delivering.{plans_delivered}
-use Rattle.dirac_plan_laws.proofs.Serving.{plans_served}
+use Rattle.dirac_plan_laws.proofs.ServingFields.{plans_served}
 
 pub starts : StartsCoding
 starts s = record { order = λ n _. refl; served = λ n _. plans_served s n }

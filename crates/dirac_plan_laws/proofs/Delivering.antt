@@ -16,7 +16,8 @@ use Rattle.dirac_refs.specs.References.{listed}
 use Rattle.dirac_plan.specs.Plan.{plan}
 use Rattle.dirac_plan.specs.Waiting.{number_of}
 use Rattle.dirac_plan.proofs.Accepted.{paced}
-use Rattle.dirac_plan.proofs.Items.{each_of, length_plan}
+use Rattle.dirac_plan.proofs.Fields.{length_plan}
+use Rattle.dirac_plan.proofs.Items.{each_of}
 use Rattle.dirac_plan.proofs.Lists.{get_behind, range_split, remove-map, sum_ranges}
 use Rattle.dirac_plan_laws.specs.References.{planned_number}
 use Rattle.dirac_plan_laws.specs.Order.{IsNearOrder, NearOrderIsDelivered, PlansAreDelivered, as_waiting, by_number}

@@ -1,14 +1,22 @@
 -- Each planned picture can be coded, and its number is below the number of pictures.
-use Rattle.std.proofs.Common.{◌≢◌, ℕ, zero, suc, ◌+◌, ◌-◌, ◌*◌, ◌^◌, ◌<◌, ◌≤◌, ◌==◌, ◌&&◌, nat_le, Option, None, Some, min, refl, arith}
+use Rattle.std.proofs.Common.{◌≡◌, ◌≢◌, ℕ, zero, suc, ◌+◌, ◌-◌, ◌*◌, ◌/◌, ◌^◌, ◌<◌, ◌≤◌, ◌==◌, ◌&&◌, Bool, nat_le, nat_lt, List, [], ◌∷◌, Option, None, Some, is_some, option_map, min, refl, subst, sym, ◌∙◌, arith, div-add-mod', inl, inr}
 use Rattle.std.specs.Prelude.{IfSome}
-use Rattle.std.specs.List.{AllByRecursion}
+use Rattle.std.specs.List.{AllByRecursion, flat_map}
+use Rattle.std.proofs.lemmas.Bool.{cases_lt, cond-false, cond-true, le-ltb, lt-ltb}
+use Rattle.std.proofs.lemmas.Nat.{mod_below}
 use Rattle.dirac_types.specs.declared.settings.Settings.{Settings}
+use Rattle.dirac_units.specs.declared.codes.TheConstants.{INTRA_REFERENCE}
+use Rattle.dirac_units.specs.Codes.{is_reference}
+use Rattle.dirac_header.specs.Written.{MayRetire}
 use Rattle.dirac_plan.specs.declared.planned.Planned.{Planned}
-use Rattle.dirac_plan.specs.Plan.{anchor_of, anchor_offset, anchors_behind, between_of, group, group_at, group_count, opening, plan, retired_of, second_of, step}
+use Rattle.dirac_plan.specs.Frames.{IsBelow}
+use Rattle.dirac_plan.specs.Plan.{anchor_of, anchor_offset, anchors_behind, between_of, field_of, field_or_first, fields_of, frames_plan, group, group_at, group_count, opening, plan, retired_of, second_of, step}
 use Rattle.dirac_plan.proofs.Anchors.{anchor_is, anchor_rises, uncovered}
 use Rattle.dirac_plan.proofs.Numbers.{either}
+use Rattle.dirac_plan.proofs.Places.{frames_below}
 use Rattle.dirac_plan_laws.specs.Headers.{IsPlanned}
-use Rattle.dirac_plan_laws.proofs.Each.{each_joined, each_mapped}
+use Rattle.dirac_plan_laws.proofs.Each.{each_append, each_by, each_joined, each_mapped}
+use Rattle.dirac_plan_laws.proofs.Fields.{first_field, of_plan, plain_field}
 
 -- a planned picture of n
 pub record IsPlannedOf (n : ℕ) (p : Planned) : Type 0 where
@@ -131,10 +139,89 @@ group_planned s n len first few some within = (
   each_joined (IsPlannedOf n) (step s len first) 0 (anchors_behind s len) (λ k _ h. step_planned s n len first k few some within (omega arith)),
 )
 
-pub plan_planned : (s : Settings) (n : ℕ) → 0 < s.gop → n ≤ 2 ^ 32 → AllByRecursion (IsPlannedOf n) (plan n s)
-unfolding plan
-plan_planned s n some few =
+frames_planned : (s : Settings) (n : ℕ) → 0 < s.gop → n ≤ 2 ^ 32 → AllByRecursion (IsPlannedOf n) (frames_plan n s)
+unfolding frames_plan
+frames_planned s n some few =
     each_joined (IsPlannedOf n) (group_at s n) 0 (group_count s n)
     (λ i _ h.
     let more = uncovered n s.gop i some (omega arith) in
     group_planned s n (min s.gop (n - i * s.gop)) (i * s.gop) few (omega arith) (omega arith))
+
+-- ---- their fields
+
+some_kept : (g : ℕ → ℕ) (o : Option ℕ) → is_some (option_map g o) ≡ is_some o
+some_kept g None = refl
+some_kept g (Some r) = refl
+
+referred_field : (n frames p : ℕ) (o : Option ℕ) → 2 * frames ≤ n + 1 → IfSome o (λ r. r < frames) → IfSome (option_map (field_or_first n p) o) (λ r. r < n)
+referred_field n frames p None all below = tt
+referred_field n frames p (Some r) all below = elim (cases_lt (2 * r + p) n) [
+  | inl there ↦ subst (λ m. m < n) (sym (cond-true (nat_lt (2 * r + p) n) (2 * r + p) (2 * r) (lt-ltb (2 * r + p) n there))) there
+  | inr missing ↦ subst (λ m. m < n) (sym (cond-false (nat_lt (2 * r + p) n) (2 * r + p) (2 * r) (le-ltb (2 * r + p) n missing))) (omega arith)
+]
+
+fits : (n : ℕ) (o : Option ℕ) → n ≤ 2 ^ 32 → IfSome o (λ r. r < n) → IfSome o (λ r. r < 2 ^ 32)
+fits n None few below = tt
+fits n (Some r) few below = omega arith
+
+retired_field : (n frames p : ℕ) (o : Option ℕ) → n ≤ 2 ^ 32 → 2 * frames ≤ n + 1 → p ≤ 1 → IfSome o (λ r. r < frames) → IfSome (option_map (λ t. 2 * t + p) o) (λ r. r < 2 ^ 32)
+retired_field n frames p None few all small below = tt
+retired_field n frames p (Some r) few all small below = omega arith
+
+retires_field : (reference : Bool) (number p : ℕ) (o : Option ℕ) → MayRetire reference number o → MayRetire reference (2 * number + p) (option_map (λ t. 2 * t + p) o)
+retires_field reference number p None may = tt
+retires_field reference number p (Some r) may = (may.0, λ same. may.1 (omega arith))
+
+plain_planned : (n frames p : ℕ) (f : Planned) → n ≤ 2 ^ 32 → 2 * frames ≤ n + 1 → p ≤ 1 → 2 * f.number + p < n → IsPlanned f → IsBelow frames f → IsPlannedOf n (plain_field n p f)
+plain_planned n frames p f few all small there is below = record {
+  planned = record {
+    code = is.code;
+    range = record {
+      number = omega arith;
+      first = fits n (option_map (field_or_first n p) f.ref1) few (referred_field n frames p f.ref1 all below.ref1);
+      second = fits n (option_map (field_or_first n p) f.ref2) few (referred_field n frames p f.ref2 all below.ref2);
+      retired = retired_field n frames p f.retire few all small below.retire;
+    };
+    references = record {
+      first = some_kept (field_or_first n p) f.ref1 ∙ is.references.first;
+      second = some_kept (field_or_first n p) f.ref2 ∙ is.references.second;
+    };
+    retires = retires_field (is_reference f.code) f.number p f.retire is.retires;
+    predicted = is.predicted;
+  };
+  below = there;
+}
+
+-- the second field of an intra frame refers to the first one
+second_planned : (n number : ℕ) → n ≤ 2 ^ 32 → 2 * number + 1 < n → IsPlannedOf n (anchor_of (2 * number + 1) (2 * number) None None)
+second_planned n number few there = anchor_planned n (2 * number + 1) (2 * number) None None few there (omega arith) tt tt
+
+fields_planned : (n frames : ℕ) (f : Planned) → n ≤ 2 ^ 32 → 2 * frames ≤ n + 1 → IsPlanned f → IsBelow frames f → AllByRecursion (IsPlannedOf n) (fields_of n f)
+fields_planned n frames f few all is below = (
+  subst (IsPlannedOf n) (sym (first_field n f)) (plain_planned n frames 0 f few all (omega arith) (omega (arith, below.number)) is below),
+  elim (cases_lt (2 * f.number + 1) n) [
+    | inl there ↦
+        let second : IsPlannedOf n (field_of n 1 f) = either (f.code == INTRA_REFERENCE && 1 == 1) (IsPlannedOf n) _ _ (second_planned n f.number few there) (plain_planned n frames 1 f few all (omega arith) there is below) in
+        subst (AllByRecursion (IsPlannedOf n)) (sym (cond-true (nat_lt (2 * f.number + 1) n) (field_of n 1 f ∷ []) [] (lt-ltb (2 * f.number + 1) n there))) (second, tt)
+    | inr missing ↦
+        subst (AllByRecursion (IsPlannedOf n)) (sym (cond-false (nat_lt (2 * f.number + 1) n) (field_of n 1 f ∷ []) [] (le-ltb (2 * f.number + 1) n missing))) tt
+  ],
+)
+
+each_fields_planned : (n frames : ℕ) (fs : List Planned) → n ≤ 2 ^ 32 → 2 * frames ≤ n + 1 → AllByRecursion (IsPlannedOf frames) fs → AllByRecursion (IsBelow frames) fs
+    → AllByRecursion (IsPlannedOf n) (flat_map (fields_of n) fs)
+each_fields_planned n frames [] few all planned below = tt
+each_fields_planned n frames (f ∷ fs) few all planned below =
+    each_append (IsPlannedOf n) (fields_of n f) (flat_map (fields_of n) fs)
+    (fields_planned n frames f few all planned.0.planned below.0)
+    (each_fields_planned n frames fs few all planned.1 below.1)
+
+fields_plan_planned : (s : Settings) (n : ℕ) → 0 < s.gop → n ≤ 2 ^ 32 → AllByRecursion (IsPlannedOf n) (flat_map (fields_of n) (frames_plan ((n + 1) / 2) s))
+fields_plan_planned s n some few =
+    let frames : ℕ = (n + 1) / 2 in
+    let half = div-add-mod' (n + 1) 2 in
+    let rest = mod_below (n + 1) 2 (omega arith) in
+    each_fields_planned n frames (frames_plan frames s) few (omega arith) (frames_planned s frames some (omega arith)) (each_by (IsBelow frames) (frames_plan frames s) (λ i f at. frames_below frames s i f some at))
+
+pub plan_planned : (s : Settings) (n : ℕ) → 0 < s.gop → n ≤ 2 ^ 32 → AllByRecursion (IsPlannedOf n) (plan n s)
+plan_planned s n some few = of_plan (AllByRecursion (IsPlannedOf n)) n s (frames_planned s n some few) (fields_plan_planned s n some few)

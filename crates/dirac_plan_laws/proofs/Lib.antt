@@ -2,10 +2,15 @@ pub mod Coding
 pub mod Counts
 pub mod Delivering
 pub mod Each
+pub mod Fields
 pub mod Headers
 pub mod Lasting
+pub mod LastingFields
+pub mod LastingPictures
 pub mod Listing
+pub mod ListingFields
 pub mod Near
 pub mod Plans
 pub mod Rows
 pub mod Serving
+pub mod ServingFields

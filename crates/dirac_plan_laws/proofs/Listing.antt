@@ -72,10 +72,10 @@ ends_append p list numbers few is = by_old is.old is.tail is.parts is.same
         by_length true = record { old = old; tail = tail ++ p ∷ []; parts = ap (λ l. drop 1 l ++ p ∷ []) parts ∙ append_assoc old tail (p ∷ []); same = added tail same }
         by_length false = record { old = o ∷ old; tail = tail ++ p ∷ []; parts = ap (λ l. l ++ p ∷ []) parts ∙ append_assoc (o ∷ old) tail (p ∷ []); same = added tail same }
 
-fewer : (n : ℕ) (numbers : List ℕ) → length (other_numbers n numbers) ≤ length numbers
+pub fewer : (n : ℕ) (numbers : List ℕ) → length (other_numbers n numbers) ≤ length numbers
 fewer n numbers = omega (arith, length-filter (λ m. not (m == n)) numbers, count_by-le-length (λ m. not (m == n)) numbers)
 
-fewer_left : (r : Option ℕ) (numbers : List ℕ) → length (left_numbers r numbers) ≤ length numbers
+pub fewer_left : (r : Option ℕ) (numbers : List ℕ) → length (left_numbers r numbers) ≤ length numbers
 fewer_left None numbers = omega arith
 fewer_left (Some n) numbers = fewer n numbers
 

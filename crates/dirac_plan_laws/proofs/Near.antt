@@ -1,23 +1,24 @@
 -- Plans are near to the order of numbers.
-use Rattle.std.proofs.Common.{◌≡◌, ℕ, zero, suc, ◌+◌, ◌-◌, ◌/◌, ◌%◌, ◌<◌, ◌≤◌, min, List, [], ◌∷◌, Some, map, option_map, length, slice_get, refl, ap, ◌∙◌, sym, arith, sum_by, inl, inr}
-use Rattle.std.specs.List.{range_with_len}
+use Rattle.std.proofs.Common.{◌≡◌, ℕ, zero, suc, ◌+◌, ◌-◌, ◌/◌, ◌%◌, ◌<◌, ◌≤◌, min, List, [], ◌∷◌, None, Some, map, length, slice_get, refl, ap, ◌∙◌, sym, arith, sum_by, inl, inr}
+use Rattle.std.specs.List.{flat_map, range_with_len}
 use Rattle.std.proofs.lemmas.Bool.{cases_eq}
-use Rattle.std.proofs.lemmas.List.{length-map}
-use Rattle.std.proofs.lemmas.Option.{slice_get-map, slice_get_within}
+use Rattle.std.proofs.lemmas.List.FromFn.{length-range_with_len}
+use Rattle.std.proofs.lemmas.Option.{slice_get_within}
 use Rattle.std.proofs.lemmas.List.Sums.{sum_by-cons}
 use Rattle.dirac_types.specs.declared.settings.Settings.{Settings}
 use Rattle.dirac_plan.specs.declared.planned.Planned.{Planned}
-use Rattle.dirac_plan.specs.Plan.{opening, anchor_of, between_of, anchor_offset, second_of, retired_of, plan}
+use Rattle.dirac_plan.specs.Plan.{opening, anchor_of, between_of, anchor_offset, second_of, retired_of, fields_of, frames_plan}
 use Rattle.dirac_plan.proofs.Accepted.{paced}
-use Rattle.dirac_plan.proofs.Numbers.{of_number, sum_plan, anchor_number, between_number}
-use Rattle.dirac_plan.proofs.Items.{IsPlace, place_of, length_plan, opening_item, anchor_item, between_item, after_place}
+use Rattle.dirac_plan.proofs.Numbers.{of_number, sum_frames, anchor_number, between_number}
+use Rattle.dirac_plan.proofs.Items.{IsPlace, each_of, place_of, length_frames, opening_item, anchor_item, between_item, after_place}
 use Rattle.dirac_plan_laws.specs.References.{planned_number}
-use Rattle.dirac_plan_laws.specs.Order.{PlansAreNear}
+use Rattle.dirac_plan_laws.specs.Order.{IsNearOrder, PlansAreNear}
+use Rattle.dirac_plan_laws.proofs.Fields.{frame_at, of_plan, sum_fields_plan}
 
 -- the item at a place, which is at most one place late
 record NearItem (n : ℕ) (s : Settings) (g : ℕ) : Type 0 where
   pub item : Planned
-  pub at : slice_get (plan n s) g ≡ Some item
+  pub at : slice_get (frames_plan n s) g ≡ Some item
   pub near : g ≤ item.number + 1
 
 near_step : (n : ℕ) (s : Settings) (g first len k j : ℕ) → IsPlace n s g first len k j → NearItem n s g
@@ -51,17 +52,45 @@ sum_numbers f (x ∷ xs) =
     let rest = sum_numbers f xs in
     omega arith
 
+-- the planned picture of a number
+pub item_at : (planned : List Planned) (place k : ℕ) → slice_get (map planned_number planned) place ≡ Some k → (p : Planned) × (slice_get planned place ≡ Some p) × (p.number ≡ k)
+item_at [] place k e = let s : None ≡ Some k = e in absurd (cc)
+item_at (p ∷ planned) zero k e = let s : Some p.number ≡ Some k = e in (p, refl, cc)
+item_at (p ∷ planned) (suc place) k e = item_at planned place k e
+
+-- planned pictures that have each number below n once
+once_long : (xs : List Planned) (n : ℕ) → ((f : ℕ → ℕ) → sum_by (of_number f) xs ≡ sum_by f (range_with_len 0 n)) → length (map planned_number xs) ≡ n
+once_long xs n once =
+    sym (each_of (map planned_number xs)) ∙ sum_numbers (λ _. 1) xs ∙ once (λ _. 1) ∙ each_of (range_with_len 0 n) ∙ length-range_with_len 0 n
+
+near_order : (xs : List Planned) (n : ℕ) → ((f : ℕ → ℕ) → sum_by (of_number f) xs ≡ sum_by f (range_with_len 0 n))
+    → ((place : ℕ) (x : Planned) → slice_get xs place ≡ Some x → place ≤ x.number + 4) → IsNearOrder (map planned_number xs)
+near_order xs n once near = record {
+  once = λ f. sum_numbers f xs ∙ once f ∙ ap (λ m. sum_by f (range_with_len 0 m)) (sym (once_long xs n once));
+  near = λ place m e. let item = item_at xs place m e in omega (arith, near place item.0 item.1, item.2);
+}
+
+-- a frame is at most one place late
+frame_near : (n : ℕ) (s : Settings) (place : ℕ) (f : Planned) → 0 < s.gop → slice_get (frames_plan n s) place ≡ Some f → place ≤ f.number + 1
+frame_near n s place f some at =
+    let inside : place < n = omega (arith, slice_get_within (frames_plan n s) place f at, length_frames n s some) in
+    let is = near_item n s place inside some in
+    let both : Some is.item ≡ Some f = sym is.at ∙ at in
+    let same : is.item ≡ f = cc in
+    let number : is.item.number ≡ f.number = ap planned_number same in
+    omega (arith, is.near)
+
+-- a field at most two
+fields_near : (n : ℕ) (s : Settings) (place : ℕ) (x : Planned) → 0 < s.gop → slice_get (flat_map (fields_of n) (frames_plan ((n + 1) / 2) s)) place ≡ Some x → place ≤ x.number + 2
+fields_near n s place x some at =
+    let is = frame_at n (frames_plan ((n + 1) / 2) s) place x at in
+    let near = frame_near ((n + 1) / 2) s is.frame_place is.frame some is.at in
+    omega (arith, is.near)
+
 pub plans_near : PlansAreNear
 plans_near s n accepted =
     let some = (paced s accepted).gop_least in
-    let long : length (map planned_number (plan n s)) ≡ n = length-map (plan n s) planned_number ∙ length_plan n s some in
-    record {
-      once = λ f. sum_numbers f (plan n s) ∙ sum_plan f n s some ∙ ap (λ m. sum_by f (range_with_len 0 m)) (sym long);
-      near = λ place m e.
-          let inside : place < n = omega (arith, slice_get_within (map planned_number (plan n s)) place m e) in
-          let is = near_item n s place inside some in
-          let here : slice_get (map planned_number (plan n s)) place ≡ Some is.item.number = slice_get-map planned_number (plan n s) place ∙ ap (option_map planned_number) is.at in
-          let same : Some is.item.number ≡ Some m = sym here ∙ e in
-          let number : is.item.number ≡ m = cc in
-          omega (arith, is.near);
-    }
+    let fields : List Planned = flat_map (fields_of n) (frames_plan ((n + 1) / 2) s) in
+    of_plan (λ xs. IsNearOrder (map planned_number xs)) n s
+    (near_order (frames_plan n s) n (λ f. sum_frames f n s some) (λ place x at. omega (arith, frame_near n s place x some at)))
+    (near_order fields n (λ f. sum_fields_plan f n s some) (λ place x at. omega (arith, fields_near n s place x some at)))

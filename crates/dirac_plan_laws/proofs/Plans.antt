@@ -1,13 +1,15 @@
 -- What an encoder relies on in every plan.
-use Rattle.std.proofs.Common.{◌≡◌, ℕ, zero, suc, ◌<◌, None, List, [], ◌∷◌, Some, map, length, slice_get, refl, ap, sym, ◌∙◌, arith, sum_by}
+use Rattle.std.proofs.Common.{◌≡◌, ℕ, ◌<◌, List, [], ◌∷◌, Some, map, length, slice_get, refl, ap, sym, ◌∙◌, arith, sum_by}
 use Rattle.std.specs.List.{range_with_len}
 use Rattle.std.proofs.lemmas.List.{length-map}
 use Rattle.dirac_refs.specs.Delivery.{LeastLeavesFirst}
+use Rattle.dirac_types.specs.declared.settings.Settings.{Settings}
 use Rattle.dirac_plan.specs.declared.planned.Planned.{Planned}
 use Rattle.dirac_plan.specs.Plan.{opening, plan}
 use Rattle.dirac_plan.specs.Waiting.{number_of}
 use Rattle.dirac_plan.proofs.Accepted.{paced}
-use Rattle.dirac_plan.proofs.Items.{length_plan, opening_item}
+use Rattle.dirac_plan.proofs.Fields.{length_plan}
+use Rattle.dirac_plan.proofs.Items.{opening_item}
 use Rattle.dirac_plan_laws.specs.Headers.{IsPlanned}
 use Rattle.dirac_plan_laws.specs.Order.{by_number}
 use Rattle.dirac_plan_laws.specs.Plans.{BeginsPlan, PlansCanBeCoded}
@@ -15,15 +17,11 @@ use Rattle.dirac_plan_laws.specs.References.{planned_number}
 use Rattle.dirac_plan_laws.proofs.Counts.{only, stands, times_inside}
 use Rattle.dirac_plan_laws.proofs.Delivering.{plans_delivered}
 use Rattle.dirac_plan_laws.proofs.Each.{each_more}
+use Rattle.dirac_plan_laws.proofs.Fields.{of_plan}
 use Rattle.dirac_plan_laws.proofs.Headers.{IsPlannedOf, plan_planned}
-use Rattle.dirac_plan_laws.proofs.Near.{plans_near}
-use Rattle.dirac_plan_laws.proofs.Serving.{plans_found}
-
--- the planned picture of a number
-item_at : (planned : List Planned) (place k : ℕ) → slice_get (map planned_number planned) place ≡ Some k → (p : Planned) × (slice_get planned place ≡ Some p) × (p.number ≡ k)
-item_at [] place k e = let s : None ≡ Some k = e in absurd (cc)
-item_at (p ∷ planned) zero k e = let s : Some p.number ≡ Some k = e in (p, refl, cc)
-item_at (p ∷ planned) (suc place) k e = item_at planned place k e
+use Rattle.dirac_plan_laws.proofs.LastingFields.{opening_field}
+use Rattle.dirac_plan_laws.proofs.Near.{item_at, plans_near}
+use Rattle.dirac_plan_laws.proofs.ServingFields.{plans_found}
 
 -- each number is a planned picture's
 number_stands : (planned : List Planned) (n k : ℕ) → length planned ≡ n
@@ -45,6 +43,10 @@ begins_so (p ∷ planned) first =
     let same : p ≡ opening 0 = cc in
     rw same (refl, refl)
 
+first_item : (s : Settings) (n : ℕ) → 0 < n → 0 < s.gop → slice_get (plan n s) 0 ≡ Some (opening 0)
+first_item s n more some =
+    of_plan (λ xs. slice_get xs 0 ≡ Some (opening 0)) n s (opening_item n s 0 more some (omega arith)) (opening_field n s 0 0 some (omega arith) (omega arith) (omega arith))
+
 pub plans_coded : LeastLeavesFirst → PlansCanBeCoded
 plans_coded law s n accepted few =
     let some = (paced s accepted).gop_least in
@@ -55,7 +57,7 @@ plans_coded law s n accepted few =
       each = each_more (IsPlannedOf n) IsPlanned (plan n s) (λ p is. is.planned) planned;
       below = each_more (IsPlannedOf n) (λ (p : Planned). p.number < n) (plan n s) (λ p is. is.below) planned;
       all = λ k below. number_stands (plan n s) n k long (plans_near s n accepted).once below;
-      begins = begins_so (plan n s) (λ more. opening_item n s 0 (omega arith) some (omega arith));
+      begins = begins_so (plan n s) (λ more. first_item s n (omega arith) some);
       found = λ pictures are. plans_found s n pictures are;
       order = λ pictures are.
           let count : length pictures ≡ n = sym (length-map pictures number_of) ∙ ap length are ∙ length-map (plan n s) planned_number ∙ long in

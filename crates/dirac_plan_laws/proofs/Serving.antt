@@ -1,17 +1,16 @@
--- Plans are served.
+-- Plans of frames are served.
 use Rattle.std.proofs.Common.{◌≡◌, ℕ, zero, suc, ◌+◌, ◌-◌, ◌*◌, ◌<◌, ◌≤◌, ◌==◌, ◌&&◌, Bool, true, nat_le, List, [], ◌∷◌, ◌++◌, Option, None, Some, map, length, min, refl, ap, ap₂, subst, ◌∙◌, arith}
 use Rattle.std.specs.Prelude.{⊤}
 use Rattle.std.specs.List.{flat_map, range_with_len}
 use Rattle.dirac_types.specs.declared.picture.Picture.{Picture}
 use Rattle.dirac_types.specs.declared.settings.Settings.{Settings}
-use Rattle.dirac_refs.specs.References.{committed, refs_from}
+use Rattle.dirac_refs.specs.References.{committed}
 use Rattle.dirac_plan.specs.declared.planned.Planned.{Planned}
-use Rattle.dirac_plan.specs.Plan.{anchor_of, between_of, anchor_offset, anchors_behind, second_of, retired_of, step, group, group_at, group_count, plan}
+use Rattle.dirac_plan.specs.Plan.{anchor_of, between_of, anchor_offset, anchors_behind, second_of, retired_of, step, group, group_at, group_count, frames_plan}
 use Rattle.dirac_plan.proofs.Anchors.{anchor_rises}
 use Rattle.dirac_plan.proofs.Numbers.{either}
 use Rattle.dirac_picture.specs.Grammar.{is_listed}
-use Rattle.dirac_plan.specs.Waiting.{number_of}
-use Rattle.dirac_plan_laws.specs.References.{AreFound, AreListed, ArePlanned, AreServed, ReferencesAreKept, ReferencesAreListed, commits, list_with, planned_number}
+use Rattle.dirac_plan_laws.specs.References.{AreListed, AreServed, list_with}
 use Rattle.dirac_plan_laws.proofs.Listing.{EndsWith, anything, ends_committed, found, has, has_first, has_later, keeps, leaves, left_numbers, other_numbers}
 
 -- these planned pictures are served, and what holds of the list then
@@ -20,7 +19,7 @@ ServedThen list [] K = K list
 ServedThen list (p ∷ planned) K =
     AreListed list p × ((coded : Picture) → coded.number ≡ p.number → ServedThen (list_with list p coded) planned K)
 
-served_append : (xs ys : List Planned) (list : List Picture) (K : List Picture → Type 0) → ServedThen list xs (λ l. ServedThen l ys K) → ServedThen list (xs ++ ys) K
+pub served_append : (xs ys : List Planned) (list : List Picture) (K : List Picture → Type 0) → ServedThen list xs (λ l. ServedThen l ys K) → ServedThen list (xs ++ ys) K
 served_append [] ys list K h = h
 served_append (x ∷ xs) ys list K h = (h.0, λ coded e. served_append xs ys (list_with list x coded) K (h.1 coded e))
 
@@ -29,7 +28,7 @@ served_all [] list h = tt
 served_all (x ∷ xs) list h = (h.0, λ coded e. served_all xs (list_with list x coded) (h.1 coded e))
 
 -- both references of a planned picture are listed
-both_listed : (list : List Picture) (p : Planned) → is_listed list p.ref1 ≡ true → is_listed list p.ref2 ≡ true → AreListed list p
+pub both_listed : (list : List Picture) (p : Planned) → is_listed list p.ref1 ≡ true → is_listed list p.ref2 ≡ true → AreListed list p
 both_listed list p one two = ap₂ (λ (a b : Bool). a && b) one two
 
 -- the pictures between two anchors change nothing
@@ -51,30 +50,30 @@ served_anchor number before None retired list rest K b s more = (both_listed lis
 served_anchor number before (Some second) retired list rest K b s more = (both_listed list (anchor_of number before (Some second) retired) b s, more)
 
 -- the number of anchor k
-abbrev number : Settings → ℕ → ℕ → ℕ → ℕ
+abbrev pub number : Settings → ℕ → ℕ → ℕ → ℕ
 number s len first k = first + anchor_offset s len k
 
 -- the anchors of a group that are listed once anchor k is coded: the first one, and up to two before the next
-abbrev kept : Settings → ℕ → ℕ → ℕ → List ℕ
+abbrev pub kept : Settings → ℕ → ℕ → ℕ → List ℕ
 kept s len first zero = number s len first 0 ∷ []
 kept s len first (suc zero) = number s len first 0 ∷ number s len first 1 ∷ []
 kept s len first (suc (suc k)) = number s len first 0 ∷ number s len first (suc k) ∷ number s len first (suc (suc k)) ∷ []
 
-has_last : (s : Settings) (len first k : ℕ) → has (number s len first k) (kept s len first k) ≡ true
+pub has_last : (s : Settings) (len first k : ℕ) → has (number s len first k) (kept s len first k) ≡ true
 has_last s len first zero = has_first (number s len first 0) []
 has_last s len first (suc zero) = has_later (number s len first 1) (number s len first 0) (number s len first 1 ∷ []) (has_first (number s len first 1) [])
 has_last s len first (suc (suc k)) =
     let a : ℕ = number s len first (suc (suc k)) in
     has_later a (number s len first 0) (number s len first (suc k) ∷ a ∷ []) (has_later a (number s len first (suc k)) (a ∷ []) (has_first a []))
 
-has_before : (s : Settings) (len first k : ℕ) → has (number s len first k) (kept s len first (suc k)) ≡ true
+pub has_before : (s : Settings) (len first k : ℕ) → has (number s len first k) (kept s len first (suc k)) ≡ true
 has_before s len first zero = has_first (number s len first 0) (number s len first 1 ∷ [])
 has_before s len first (suc k) =
     let a : ℕ = number s len first (suc k) in
     let b : ℕ = number s len first (suc (suc k)) in
     has_later a (number s len first 0) (a ∷ b ∷ []) (has_first a (b ∷ []))
 
-has_opening : (s : Settings) (len first k : ℕ) → has first (kept s len first k) ≡ true
+pub has_opening : (s : Settings) (len first k : ℕ) → has first (kept s len first k) ≡ true
 has_opening s len first k =
     let same : number s len first 0 ≡ first = omega arith in
     subst (λ n. has n (kept s len first k) ≡ true) same (by_step k)
@@ -98,7 +97,7 @@ behind_first s len (suc k) h =
     omega arith
 
 -- what is kept of them when the next one is coded
-next_kept : (s : Settings) (len first k : ℕ) → k < anchors_behind s len
+pub next_kept : (s : Settings) (len first k : ℕ) → k < anchors_behind s len
     → other_numbers (number s len first (suc k)) (left_numbers (retired_of s len first k) (kept s len first k)) ++ number s len first (suc k) ∷ [] ≡ kept s len first (suc k)
 next_kept s len first zero h =
     let a : ℕ = number s len first 1 in
@@ -167,34 +166,7 @@ served_groups s n (suc m) i list =
     served_append (group_at s n i) rest list (λ _. ⊤)
     (served_group s (min s.gop (n - i * s.gop)) (i * s.gop) list (λ l. ServedThen l rest (λ _. ⊤)) (λ l. served_groups s n m (i + 1) l))
 
--- each plan is served
-pub plans_served : ReferencesAreListed
-unfolding plan
-plans_served s n = served_all (plan n s) [] (served_groups s n (group_count s n) 0 [])
-
--- one picture of it
-served_at : (before after : List Planned) (p : Planned) (coded list : List Picture) → AreServed list (before ++ p ∷ after) → ArePlanned before coded
-    → AreListed (refs_from list (commits before coded)) p
-served_at [] after p coded list h e = h.0
-served_at (b ∷ before) after p [] list h e = let s : [] ≡ b.number ∷ map planned_number before = e in cc
-served_at (b ∷ before) after p (c ∷ coded) list h e =
-    let same : c.number ∷ map number_of coded ≡ b.number ∷ map planned_number before = e in
-    let here : c.number ≡ b.number = cc in
-    let rest : map number_of coded ≡ map planned_number before = cc in
-    served_at before after p coded (list_with list b c) (h.1 c here) rest
-
-pub references_kept : ReferencesAreKept
-references_kept s n before after p coded e numbers = served_at before after p coded [] (subst (AreServed []) e (plans_served s n)) numbers
-
--- where the pictures before it become these
-found_of : (planned : List Planned) (pictures list : List Picture) → AreServed list planned → ArePlanned planned pictures → AreFound list planned pictures
-found_of [] pictures list h e = tt
-found_of (p ∷ planned) [] list h e = tt
-found_of (p ∷ planned) (c ∷ pictures) list h e =
-    let same : c.number ∷ map number_of pictures ≡ p.number ∷ map planned_number planned = e in
-    let here : c.number ≡ p.number = cc in
-    let rest : map number_of pictures ≡ map planned_number planned = cc in
-    (h.0, found_of planned pictures (list_with list p c) (h.1 c here) rest)
-
-pub plans_found : (s : Settings) (n : ℕ) (pictures : List Picture) → ArePlanned (plan n s) pictures → AreFound [] (plan n s) pictures
-plans_found s n pictures e = found_of (plan n s) pictures [] (plans_served s n) e
+-- each plan of frames is served
+pub frames_plan_served : (s : Settings) (n : ℕ) → AreServed [] (frames_plan n s)
+unfolding frames_plan
+frames_plan_served s n = served_all (frames_plan n s) [] (served_groups s n (group_count s n) 0 [])

@@ -1,14 +1,15 @@
 -- What of a plan stays as it is when more pictures come.
-use Rattle.std.specs.Prelude.{◌≡◌, ℕ, ◌+◌, ◌-◌, ◌%◌, ◌==◌, ◌<◌, ◌≤◌, if◌then◌else◌, slice_get}
+use Rattle.std.specs.Prelude.{◌≡◌, ℕ, ◌+◌, ◌-◌, ◌%◌, ◌<◌, ◌≤◌, nat_lt, if◌then◌else◌, slice_get}
 use Rattle.dirac_types.specs.declared.settings.Settings.{Settings}
 use Rattle.dirac_types.specs.Settings.{IsAccepted}
 use Rattle.dirac_plan.specs.Plan.{plan}
-use Rattle.dirac_plan.specs.Planning.{pictures_needed}
+use Rattle.dirac_plan.specs.Planning.{frame_pictures, group_offset, pictures_needed, step_pictures}
 
--- where the step of a place begins: with its anchor; a picture that opens a group is a step of its own
+-- where the step of a place begins: with its anchor; a picture of a frame that opens a group is a step of its own
 abbrev pub step_place : Settings → ℕ → ℕ
 step_place s place =
-    if place % s.gop == 0 then place else place - (place % s.gop - 1) % (s.between + 1)
+    if nat_lt (group_offset s place) (frame_pictures s) then place
+    else place - (group_offset s place - frame_pictures s) % step_pictures s
 
 -- once all pictures that its step needs are there, an item of a plan is that of each longer one
 abbrev pub ItemsLast : Type 0

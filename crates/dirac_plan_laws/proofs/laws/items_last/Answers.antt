@@ -1,4 +1,4 @@
-use Rattle.dirac_plan_laws.proofs.Lasting as lasting
+use Rattle.dirac_plan_laws.proofs.LastingPictures as lasting
 use Rattle.dirac_plan_laws.proofs.laws.items_last.Goals as goal
 
 pub returns : goal.returns
