@@ -1,5 +1,5 @@
 -- What a block carries is read: step by step, since contexts are read off the places before, and an offset off the index before.
-use Rattle.std.proofs.Common.{◌≡◌, ◌≢◌, ℕ, zero, suc, ℤ, pos, negsuc, ◌+◌, ◌-◌, ◌*◌, ◌+ℤ◌, ◌^◌, ◌<◌, ◌≤◌, inl, inr, Bool, true, false, List, [], ◌∷◌, ◌++◌, length, set, unsigned_abs, Result, Ok, Err, refl, sym, ap, ap₂, ◌∙◌, subst, arith, append_assoc}
+use Rattle.std.proofs.Common.{◌≡◌, ◌≢◌, ℕ, zero, suc, ℤ, pos, ◌+◌, ◌-◌, ◌*◌, ◌+ℤ◌, ◌^◌, ◌<◌, ◌≤◌, inl, inr, Bool, true, false, List, [], ◌∷◌, ◌++◌, length, set, unsigned_abs, Result, Ok, Err, refl, sym, ap, ◌∙◌, subst, arith}
 use Rattle.std.specs.List.{All}
 use Rattle.std.proofs.lemmas.Bool.{cases_lt, false≢true}
 use Rattle.std.proofs.lemmas.Int.{ints}
@@ -12,23 +12,22 @@ use Rattle.dirac_arith.specs.Interval.{Decision}
 use Rattle.dirac_arith.specs.Reading.{Reading, Reads}
 use Rattle.dirac_arith.specs.Spelling.{spelt, signed_spelling}
 use Rattle.dirac_arith.proofs.Carrieds.{IsLed}
-use Rattle.dirac_arith.proofs.Led.{led_more, reads_parted, reads_nothing, decision_led, signed_led, signed_long_led}
+use Rattle.dirac_arith.proofs.Led.{led_more, reads_parted, decision_led, signed_led, signed_long_led}
 use Rattle.dirac_bands.specs.Geometry.{edge_of}
 use Rattle.dirac_coeffs.specs.declared.layout.BandLayout.{BandLayout}
 use Rattle.dirac_coeffs.specs.BandRead.{Progress, BandProgress, Step, progress, band_progress, repeated, value_step, row_step, rows_step, filled_step, values_step, offset_step, skipped_step, unskipped_step, flagged_step, block_step, blocks_step, block_rows_step}
 use Rattle.dirac_coeffs.specs.Carried.{AreSmall, Break, long_offset, beyond, long_value, IsBreak, IsIndexed, IsZeroBlock, SkippedIsZero, broken_part, cause_of, block_until, blocks_until, band_until, long_part, row_until, rows_until}
 use Rattle.dirac_coeffs.specs.Contexts.{value_at, bits_context}
 use Rattle.dirac_coeffs.specs.Decisions.{Frame, Mark, Marks, frame_of, follow_here, sign_here, value_part, row_part, rows_part, flagged_part, block_part, blocks_part, bands_part}
-use Rattle.dirac_coeffs.specs.Indices.{place_of, index_at, index_before, is_index, index_from, index_read, offset_part, with_former}
+use Rattle.dirac_coeffs.specs.Indices.{place_of, index_at, index_before, is_index, index_read, offset_part, with_former}
 use Rattle.dirac_coeffs.specs.Layouts.{IsBandLayout, span_of, is_flagged}
-use Rattle.dirac_coeffs.proofs.Agreement.{value_contexts, follow_same, row_next, rows_next}
-use Rattle.dirac_coeffs.proofs.AgreementOfBlocks.{blocks_next, bands_next}
+use Rattle.dirac_coeffs.proofs.Agreement.{value_contexts, follow_same}
 use Rattle.dirac_coeffs.proofs.Edges.{edge_first, edge_rises, edge_most, edge_last, span_end, span_inside}
-use Rattle.dirac_coeffs.proofs.Going.{Begun, begun_on, Stands, stands_on, former_noted, unskipped, values_part, inside_place}
+use Rattle.dirac_coeffs.proofs.Going.{Begun, begun_on, stands_on, former_noted, unskipped, values_part, inside_place}
 use Rattle.dirac_coeffs.proofs.Indexed.{SameBefore, Noted, noted_none, noted_join, set_noted, equal_same, before_same, before_few, index_few, place_inside}
 use Rattle.dirac_coeffs.proofs.OffsetsRead.{values_step_is, values_step_stops}
 use Rattle.dirac_coeffs.proofs.Places.{KeptOutside, SameWithin, ZeroFrom}
-use Rattle.dirac_coeffs.proofs.Repeating.{repeated_none, repeated_next, repeated_stops}
+use Rattle.dirac_coeffs.proofs.Repeating.{repeated_stops}
 use Rattle.dirac_coeffs.proofs.Within.{kept_refl, kept_join, set_kept, same_less, same_more, zero_right, zero_below}
 
 -- what agrees with the finished values above a part and left of it, still does where the part is changed

@@ -354,6 +354,7 @@ offset_goes {left = l} {right = r} {top = t} {bottom = b} layout parent index bl
   where
     former : ℕ
     former = index_before index p.indices (place_of layout cy cx)
+
     told : (x : Result (ℕ × Reading) Cause) → IndexComes block former p.reading x
         → CameOn layout l r t b (place_of layout cy cx) block p (OffsetDone layout index p.values p.reading cy cx (suc m)) (PartBroken layout parent index p.reading cy cx)
         (x >>= (λ v. let y : Result BandProgress Cause = Ok (band_progress p.values (set p.indices (place_of layout cy cx) v.0) v.1) in y))
@@ -361,13 +362,15 @@ offset_goes {left = l} {right = r} {top = t} {bottom = b} layout parent index bl
         let c = place_of layout cy cx in
         let moded : layout.mode ≢ 0 = λ none. absurd (omega (arith, e, none)) in
         let inside : c < length p.indices = omega (arith, place_inside layout cy cx low left, at.count) in
-        all_ended (band_progress p.values (set p.indices c i) s)
-        (record {
-          kept = kept_refl;
-          small = λ all. all;
-          noted = set_noted layout p.indices c i moded h;
-          so = (offset, reads, set_indexed layout index p.indices cy cx i (unskipped offset) inside moded sum (λ f k. absurd (false≢true k)), refl);
-        }, stands_on p.reading (signed_spelling (19 ∷ []) 20 21 offset) at.stands reads)
+        all_ended (band_progress p.values (set p.indices c i) s) (
+          record {
+            kept = kept_refl;
+            small = λ all. all;
+            noted = set_noted layout p.indices c i moded h;
+            so = (offset, reads, set_indexed layout index p.indices cy cx i (unskipped offset) inside moded sum (λ f k. absurd (false≢true k)), refl);
+          },
+          stands_on p.reading (signed_spelling (19 ∷ []) 20 21 offset) at.stands reads,
+        )
     told x (index_shut ones) = all_shut ones
     told x (index_long digits s long reads) =
         let one : layout.mode ≡ 1 = omega (arith, lawful.mode, e) in
@@ -401,13 +404,15 @@ offset_values_go layout parent index block old p cy cx lawful low left at offset
     lifted p.indices (values_go layout parent block (progress p.values p.reading) cy cx lawful low left at.len at.stands)
     (λ q c. (record { kept = c.0.kept; small = c.0.small; noted = none q; so = (offset, reads_behind refl before c.0.so, indexed) }, c.1))
     (λ b.
-    let w = b.1.so in
-    (band_progress b.0.values p.indices b.0.reading, record {
-      kept = b.1.kept;
-      small = b.1.small;
-      noted = none b.0;
-      so = (long_value offset w.row w.column w.digits, (indexed, w.in_rows, w.inside, w.long), refl, reads_behind refl before w.reads);
-    }))
+    let w = b.1.so in (
+      band_progress b.0.values p.indices b.0.reading,
+      record {
+        kept = b.1.kept;
+        small = b.1.small;
+        noted = none b.0;
+        so = (long_value offset w.row w.column w.digits, (indexed, w.in_rows, w.inside, w.long), refl, reads_behind refl before w.reads);
+      },
+    ))
 
 unskipped_goes : (layout : BandLayout) (parent : List ℤ) (index : ℕ) (block : List ℕ) (p : BandProgress) (cy cx : ℕ) → IsBandLayout layout → cy < layout.down → cx < layout.across → Begun layout index block p
     → InBlock layout block p cy cx (UnskippedDone layout parent index p.reading cy cx) (PartBroken layout parent index p.reading cy cx) (unskipped_step layout parent index cy cx p)
@@ -497,12 +502,15 @@ blocks_go : (layout : BandLayout) (parent : List ℤ) (index : ℕ) (block : Lis
     (λ q. BlocksRead layout parent index p.reading q.values q.indices cy n q.reading) (λ e q. BlocksBroken layout parent index p.reading q.values q.indices cy e q.reading) (blocks_step layout parent index cy n p)
 unfolding blocks_part repeated
 blocks_go layout parent index block p cy zero lawful low few at zeros =
-    all_ended p (record {
-      kept = kept_refl;
-      small = λ all. all;
-      noted = noted_none;
-      so = record { marks = λ cx. unskipped (pos 0); zeros = λ cx l. absurd (omega arith); indexed = λ cx l. absurd (omega arith); reads = reads_none p.reading };
-    }, at.stands)
+    all_ended p (
+      record {
+        kept = kept_refl;
+        small = λ all. all;
+        noted = noted_none;
+        so = record { marks = λ cx. unskipped (pos 0); zeros = λ cx l. absurd (omega arith); indexed = λ cx l. absurd (omega arith); reads = reads_none p.reading };
+      },
+      at.stands,
+    )
 blocks_go layout parent index block p cy (suc n) lawful low few at zeros =
     let w = layout.width in
     let top = edge_of layout.height layout.down cy in
@@ -528,12 +536,15 @@ rows_of_blocks_go : (layout : BandLayout) (parent : List ℤ) (index : ℕ) (blo
     (λ q. BandRead layout parent index p.reading q.values q.indices n q.reading) (λ e q. BandBroken layout parent index p.reading q.values q.indices e q.reading) (block_rows_step layout parent index n p)
 unfolding bands_part repeated
 rows_of_blocks_go layout parent index block p zero lawful few at zeros =
-    all_ended p (record {
-      kept = kept_refl;
-      small = λ all. all;
-      noted = noted_none;
-      so = record { marks = λ cy cx. unskipped (pos 0); zeros = λ cy cx l m. absurd (omega arith); indexed = λ cy cx l m. absurd (omega arith); reads = reads_none p.reading };
-    }, at.stands)
+    all_ended p (
+      record {
+        kept = kept_refl;
+        small = λ all. all;
+        noted = noted_none;
+        so = record { marks = λ cy cx. unskipped (pos 0); zeros = λ cy cx l m. absurd (omega arith); indexed = λ cy cx l m. absurd (omega arith); reads = reads_none p.reading };
+      },
+      at.stands,
+    )
 rows_of_blocks_go layout parent index block p (suc n) lawful few at zeros =
     let w = layout.width in
     let top = edge_of layout.height layout.down n in

@@ -1,5 +1,5 @@
 -- The indices of codeblocks: which are kept where one is changed, and what an offset tells of them.
-use Rattle.std.proofs.Common.{◌≡◌, ◌≢◌, ℕ, ℤ, pos, ◌+◌, ◌-◌, ◌*◌, ◌+ℤ◌, ◌<◌, ◌≤◌, true, false, List, length, set, replicate, get_or, refl, sym, ap, ◌∙◌, subst, arith, inl, inr, lit<, length-set, eq-eqb, ne_eqb}
+use Rattle.std.proofs.Common.{◌≡◌, ◌≢◌, ℕ, pos, ◌+◌, ◌-◌, ◌*◌, ◌+ℤ◌, ◌<◌, ◌≤◌, true, List, length, set, replicate, refl, sym, ap, ◌∙◌, arith, inl, inr, length-set, eq-eqb, ne_eqb}
 use Rattle.std.specs.List.{All}
 use Rattle.std.proofs.lemmas.Bool.{cases_eq, cases_lt}
 use Rattle.std.proofs.lemmas.Int.{ints}

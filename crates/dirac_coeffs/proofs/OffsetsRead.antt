@@ -1,5 +1,5 @@
 -- The index that an offset leads to, and a codeblock that is read behind its offset.
-use Rattle.std.proofs.Common.{◌≡◌, ℕ, ℤ, pos, negsuc, ◌+ℤ◌, ◌≤◌, Bool, true, false, List, [], ◌∷◌, unsigned_abs, Result, Ok, Err, refl, sym, ap, ◌∙◌, arith}
+use Rattle.std.proofs.Common.{◌≡◌, ℕ, ℤ, pos, negsuc, ◌+ℤ◌, ◌≤◌, true, false, List, [], ◌∷◌, unsigned_abs, Result, Ok, Err, refl, sym, ap, ◌∙◌, arith}
 use Rattle.std.proofs.lemmas.Bool.{false≢true}
 use Rattle.std.proofs.lemmas.Int.{ints}
 use Rattle.dirac_types.specs.Chain.{◌>>=◌}
@@ -10,7 +10,7 @@ use Rattle.dirac_arith.specs.Reading.{Reading}
 use Rattle.dirac_coeffs.specs.declared.layout.BandLayout.{BandLayout}
 use Rattle.dirac_coeffs.specs.Answers.{Moves}
 use Rattle.dirac_coeffs.specs.BandRead.{Progress, BandProgress, progress, band_progress, filled_step, values_step, offset_step, unskipped_step}
-use Rattle.dirac_coeffs.specs.Indices.{place_of, is_index, index_from, index_read}
+use Rattle.dirac_coeffs.specs.Indices.{place_of, is_index, index_read}
 
 -- a sum that is an index is from 0 to 99
 pub index_few : (v : ℤ) → is_index v ≡ true → unsigned_abs v ≤ 99

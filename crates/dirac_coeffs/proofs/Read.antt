@@ -1,6 +1,5 @@
 -- What a block reads to is the band that it carries, and it is refused where it breaks off.
 use Rattle.std.proofs.Common.{◌≡◌, ◌≢◌, ℕ, ℤ, pos, ◌+◌, ◌*◌, ◌-◌, ◌^◌, ◌<◌, List, [], ◌++◌, length, take, drop, replicate, unsigned_abs, Result, Ok, Err, sym, ap, ap₂, ◌∙◌, subst, arith, inl, inr, append-nil, lit<, drop_of_length-le, eq-eqb, ne_eqb, refl, ext_get_or, ◌/◌, ◌%◌, mod-lt, div-lt_iff_lt-mul, div-add-mod', get_or}
-use Rattle.std.specs.List.{All}
 use Rattle.std.proofs.lemmas.Bool.{cases_lt, cases_eq}
 use Rattle.std.proofs.lemmas.List.{get_or-replicate, get_or_past, take_all, length-replicate}
 use Rattle.std.proofs.lemmas.List.Elements.{All-replicate}
@@ -9,7 +8,6 @@ use Rattle.dirac_types.specs.Limits.{IsIndex}
 use Rattle.dirac_types.specs.Table.{Table, with_values}
 use Rattle.dirac_types.specs.declared.faults.Cause.{Cause}
 use Rattle.dirac_types.specs.declared.faults.Cause.TheVariants.{CodeWord, NumberTooLong, QuantIndex}
-use Rattle.dirac_arith.specs.Carried.{Carries}
 use Rattle.dirac_arith.specs.Deciding.{begin, after_all}
 use Rattle.dirac_arith.specs.Front.{front}
 use Rattle.dirac_arith.specs.Reading.{Reading}
@@ -18,15 +16,15 @@ use Rattle.dirac_arith.proofs.Led.{carried_reads}
 use Rattle.dirac_bands.specs.Geometry.{edge_of}
 use Rattle.dirac_coeffs.specs.declared.layout.BandLayout.{BandLayout}
 use Rattle.dirac_coeffs.specs.BandRead.{BandProgress, Content, band_progress, content, block_rows_step, unread, band_read}
-use Rattle.dirac_coeffs.specs.Carried.{AreLawful, AreSmall, Break, long_offset, beyond, long_value, CarriesBand, CarriesBreak, CarriesLong, CarriesNoIndex, band_until, cause_of}
+use Rattle.dirac_coeffs.specs.Carried.{AreLawful, AreSmall, CarriesBand, CarriesBreak, band_until}
 use Rattle.dirac_coeffs.specs.Decisions.{Marks, band_decisions}
 use Rattle.dirac_coeffs.specs.Grammar.{band_table}
-use Rattle.dirac_coeffs.specs.Indices.{index_at, all_equal}
+use Rattle.dirac_coeffs.specs.Indices.{all_equal}
 use Rattle.dirac_coeffs.specs.Laws.{BandIsRead, LongIsRefused, NoIndexIsRefused, OnesAreRefused, OneBandIsCarried, NoBandBesideLong, NoBandBesideNoIndex, LongOrNoIndex, OnesCarryNothing}
 use Rattle.dirac_coeffs.specs.Layouts.{IsBandLayout}
 use Rattle.dirac_coeffs.proofs.Coding.{ones_apart, reads_carry}
 use Rattle.dirac_coeffs.proofs.Edges.{edge_last}
-use Rattle.dirac_coeffs.proofs.Forward.{Finished, LeadsOn, bands_lead, bands_refused}
+use Rattle.dirac_coeffs.proofs.Forward.{Finished, bands_lead, bands_refused}
 use Rattle.dirac_coeffs.proofs.Going.{Begun, ComesOn, all_ended, all_shut, all_broken, comes_as_well, band_goes, stands_first, Tells, band_tells}
 use Rattle.dirac_coeffs.proofs.Indexed.{SameBefore}
 use Rattle.dirac_coeffs.proofs.Needs.{bands_need, until_needs}
@@ -46,7 +44,6 @@ zeros_first w n =
 
 zeros_small : (n : ℕ) → AreSmall (replicate n (pos 0))
 zeros_small n = All-replicate (λ v. unsigned_abs v < 2 ^ 39 - 1) n (pos 0) (lit< tt)
-
 
 read_is_carried : (layout : BandLayout) (parent : List ℤ) (index : ℕ) (block : List ℕ) (xs : List ℤ) (is : List ℕ) (new : Reading) → AreLawful layout index xs is
     → (b : BandRead layout parent index (begin block) xs is layout.down new) → CarriesBand layout parent index block xs is b.marks

@@ -50,7 +50,7 @@ pub record AreLawful (layout : BandLayout) (index : ℕ) (xs : List ℤ) (indice
 
 -- the block carries the decisions of this finished band
 pub record CarriesBand (layout : BandLayout) (parent : List ℤ) (index : ℕ) (block : List ℕ) (xs : List ℤ)
-  (indices : List ℕ) (marks : Marks) : Type 0
+    (indices : List ℕ) (marks : Marks) : Type 0
   where
     pub lawful : AreLawful layout index xs indices
     pub zeros : (cy cx : ℕ) → cy < layout.down → cx < layout.across → SkippedIsZero layout xs cy cx (marks cy cx)

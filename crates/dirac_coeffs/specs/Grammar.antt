@@ -1,6 +1,6 @@
 -- A subband of codeblock mode 0 in a payload: the length of its block, and where that isn't 0 its quantiser index and the
 -- block.
-use Rattle.std.specs.Prelude.{◌≡◌, ℕ, ℤ, pos, ◌*◌, ◌≤◌, ◌==◌, if◌then◌else◌, List, [], length, replicate, Option, Some, None, Result, Ok, Err}
+use Rattle.std.specs.Prelude.{◌≡◌, ℕ, ℤ, pos, ◌*◌, ◌==◌, if◌then◌else◌, List, [], length, replicate, Option, Some, None, Result, Ok, Err}
 use Rattle.std.specs.Borrow.{Bor}
 use Rattle.dirac_types.specs.declared.limits.TheConstants.{LARGEST_INDEX}
 use Rattle.dirac_types.specs.Limits.{IsIndex}

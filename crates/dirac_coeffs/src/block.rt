@@ -35,7 +35,14 @@ pub fn read_block(
     let mut table = BandTable::try_new(alloc, layout.width, layout.height, 0)?;
     let mut indices = equal_indices(alloc, layout, index)?;
     let mut decoder = Decoder::new(block);
-    match read_all(&mut decoder, table.values_mut(), &mut indices, layout, parent, index) {
+    match read_all(
+        &mut decoder,
+        table.values_mut(),
+        &mut indices,
+        layout,
+        parent,
+        index,
+    ) {
         Ok(()) => Ok(BandBlock { indices, table }),
         Err(cause) => Err(Stop::Refused(Refusal { at, cause })),
     }

@@ -1,4 +1,4 @@
-use Rattle.std.proofs.Common.{◌≡◌, ℕ, ℤ, pos, ◌*◌, ◌++◌, length, take, drop, List, replicate, Result, Ok, Err, refl, sym, ap, ◌∙◌, subst}
+use Rattle.std.proofs.Common.{◌≡◌, ℤ, pos, ◌*◌, ◌++◌, length, take, drop, List, replicate, Result, Ok, Err, refl, sym, ap, ◌∙◌, subst}
 use Rattle.dirac_types.specs.declared.faults.Cause.{Cause}
 use Rattle.dirac_types.specs.declared.faults.Cause.TheVariants as causes
 use Rattle.dirac_types.specs.declared.faults.Stop.{Stop}
