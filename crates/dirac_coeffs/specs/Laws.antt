@@ -38,7 +38,7 @@ NoBandBesideNoIndex =
     CarriesNoIndex layout parent index block →
     ⊥
 
--- and of these two it carries one
+-- and it does not carry both of these
 abbrev pub LongOrNoIndex : Type 0
 LongOrNoIndex =
     (layout : BandLayout) (parent : List ℤ) (index : ℕ) (block : List ℕ) →
