@@ -5,6 +5,7 @@ use Rattle.dirac_arith.specs.Interval.{Decision}
 use Rattle.dirac_bands.specs.Geometry.{edge_of}
 use Rattle.dirac_coeffs.specs.declared.layout.BandLayout.{BandLayout}
 use Rattle.dirac_coeffs.specs.Carried.{SkippedIsZero}
+use Rattle.dirac_coeffs.specs.Indices.{offset_part}
 use Rattle.dirac_coeffs.specs.Decisions.{Mark, Marks, frame_of, flagged_part, block_part, blocks_part, bands_part}
 use Rattle.dirac_coeffs.proofs.Places.{SameWithin}
 use Rattle.dirac_coeffs.specs.Layouts.{IsBandLayout, span_of, is_flagged}
@@ -23,7 +24,7 @@ block_same layout parent xs ys cy cx mark is h s =
     let right : left + columns ≡ edge_of layout.width layout.across (cx + 1) = span_end layout.width layout.across cx (omega (arith, is.across)) in
     let bottom : top + rows ≡ edge_of layout.height layout.down (cy + 1) = span_end layout.height layout.down cy (omega (arith, is.down)) in
     let inner : SameWithin layout.width xs ys (left + columns) (top + rows) = same_less (omega arith) (omega arith) s in
-    ap (λ ds. flagged_part (is_flagged layout) mark.skipped ds)
+    ap (λ ds. flagged_part (is_flagged layout) mark.skipped (offset_part layout.mode mark.offset ++ ds))
     (rows_same (frame_of layout parent) xs ys left columns top rows (span_inside layout.width layout.across cx h) inner)
 
 pub blocks_next : (layout : BandLayout) (parent xs : List ℤ) (marks : ℕ → Mark) (cy n : ℕ) → blocks_part layout parent xs marks cy (n + 1) ≡ blocks_part layout parent xs marks cy n ++ block_part layout parent xs cy n (marks n)

@@ -1,6 +1,6 @@
--- The block of a subband is never too long for its length to be spelt: each value takes at most 78 decisions, each
+-- The block of a subband is never too long for its length to be spelt: each value and offset takes at most 78 decisions, each
 -- decision at most sixteen doublings, and a byte is written for eight of these.
-use Rattle.std.proofs.Common.{◌≡◌, ℕ, zero, suc, ℤ, pos, negsuc, ◌+◌, ◌-◌, ◌*◌, ◌/◌, ◌^◌, ◌<◌, ◌≤◌, nat_lt, Bool, true, false, List, [], ◌∷◌, length, refl, sym, ap, ◌∙◌, arith, inl, inr, length-append}
+use Rattle.std.proofs.Common.{◌≡◌, ℕ, zero, suc, ℤ, pos, negsuc, ◌+◌, ◌-◌, ◌*◌, ◌/◌, ◌^◌, ◌<◌, ◌≤◌, nat_lt, Bool, true, false, List, [], ◌∷◌, ◌++◌, length, refl, sym, ap, ◌∙◌, arith, inl, inr, length-append}
 use Rattle.std.proofs.lemmas.Bool.{cases_Bool, cond-true, cond-false}
 use Rattle.std.proofs.lemmas.Nat.{mul-le}
 use Rattle.dirac_types.specs.Numbers.{digits_of}
@@ -13,6 +13,7 @@ use Rattle.dirac_bands.specs.Geometry.{edge_of}
 use Rattle.dirac_coeffs.specs.declared.layout.BandLayout.{BandLayout}
 use Rattle.dirac_coeffs.specs.Contexts.{value_at, bits_context}
 use Rattle.dirac_coeffs.specs.Decisions.{Frame, Mark, Marks, frame_of, value_part, row_part, rows_part, flagged_part, block_part, blocks_part, bands_part, band_decisions, follow_here, sign_here}
+use Rattle.dirac_coeffs.specs.Indices.{offset_part}
 use Rattle.dirac_coeffs.specs.Laws.{BlocksAreShort}
 use Rattle.dirac_coeffs.specs.Layouts.{span_of, is_flagged}
 use Rattle.dirac_coeffs.specs.Written.{marks_of}
@@ -91,16 +92,22 @@ flagged_most false skipped ds = omega arith
 flagged_most true true ds = omega arith
 flagged_most true false ds = omega arith
 
--- a codeblock: its flag, and the values of its columns and rows
+offset_most : (mode : ℕ) (offset : ℤ) → length (offset_part mode offset) ≤ 78
+offset_most zero offset = omega arith
+offset_most (suc m) offset = signed_most (19 ∷ []) 20 21 offset
+
+-- a codeblock: its flag, its offset, and the values of its columns and rows
 block_most : (layout : BandLayout) (parent xs : List ℤ) (cy cx : ℕ) (mark : Mark)
-    → length (block_part layout parent xs cy cx mark) ≤ 1 + 78 * (span_of layout.width layout.across cx * span_of layout.height layout.down cy)
+    → length (block_part layout parent xs cy cx mark) ≤ 79 + 78 * (span_of layout.width layout.across cx * span_of layout.height layout.down cy)
 block_most layout parent xs cy cx mark =
     let f = frame_of layout parent in
     let left = edge_of layout.width layout.across cx in
     let columns = span_of layout.width layout.across cx in
     let top = edge_of layout.height layout.down cy in
     let rows = span_of layout.height layout.down cy in
-    omega (arith, flagged_most (is_flagged layout) mark.skipped (rows_part f xs left columns top rows), rows_most f xs left columns top rows)
+    let ds = offset_part layout.mode mark.offset in
+    let values = rows_part f xs left columns top rows in
+    omega (arith, flagged_most (is_flagged layout) mark.skipped (ds ++ values), length-append {A = Decision} ds values, offset_most layout.mode mark.offset, rows_most f xs left columns top rows)
 
 -- parts that have each their flags and lines from an edge to the next, and of one size across these
 grown : (all more n flags size left span right : ℕ) → all ≤ n * flags + 78 * (left * size) → more ≤ flags + 78 * (span * size) → left + span ≡ right → all + more ≤ suc n * flags + 78 * (right * size)
@@ -108,20 +115,20 @@ grown all more n flags size left span right before here sum = rw (sym sum) (omeg
 
 -- codeblocks of one row have the columns up to an edge
 blocks_most : (layout : BandLayout) (parent xs : List ℤ) (marks : ℕ → Mark) (cy n : ℕ) → 0 < layout.across
-    → length (blocks_part layout parent xs marks cy n) ≤ n + 78 * (edge_of layout.width layout.across n * span_of layout.height layout.down cy)
+    → length (blocks_part layout parent xs marks cy n) ≤ 79 * n + 78 * (edge_of layout.width layout.across n * span_of layout.height layout.down cy)
 unfolding blocks_part
 blocks_most layout parent xs marks cy zero some = omega arith
 blocks_most layout parent xs marks cy (suc n) some =
     let w = layout.width in
     let next : n + 1 ≡ suc n = omega arith in
     let sum : edge_of w layout.across n + span_of w layout.across n ≡ edge_of w layout.across (suc n) = span_end w layout.across n some ∙ ap (λ c. edge_of w layout.across c) next in
-    let both = grown (length (blocks_part layout parent xs marks cy n)) (length (block_part layout parent xs cy n (marks n))) n 1 (span_of layout.height layout.down cy)
+    let both = grown (length (blocks_part layout parent xs marks cy n)) (length (block_part layout parent xs cy n (marks n))) n 79 (span_of layout.height layout.down cy)
     (edge_of w layout.across n) (span_of w layout.across n) (edge_of w layout.across (suc n)) (omega (arith, blocks_most layout parent xs marks cy n some)) (block_most layout parent xs cy n (marks n)) sum in
     rw (length-append (blocks_part layout parent xs marks cy n) (block_part layout parent xs cy n (marks n))) (omega (arith, both))
 
 -- a row of codeblocks has the band's columns
 row_of_blocks_most : (layout : BandLayout) (parent xs : List ℤ) (marks : ℕ → Mark) (cy : ℕ) → 0 < layout.across
-    → length (blocks_part layout parent xs marks cy layout.across) ≤ layout.across + 78 * (span_of layout.height layout.down cy * layout.width)
+    → length (blocks_part layout parent xs marks cy layout.across) ≤ 79 * layout.across + 78 * (span_of layout.height layout.down cy * layout.width)
 row_of_blocks_most layout parent xs marks cy some =
     let last : edge_of layout.width layout.across layout.across ≡ layout.width = edge_last layout.width layout.across some in
     let most = blocks_most layout parent xs marks cy layout.across some in
@@ -129,7 +136,7 @@ row_of_blocks_most layout parent xs marks cy some =
 
 -- rows of codeblocks have the rows up to an edge
 bands_most : (layout : BandLayout) (parent xs : List ℤ) (marks : Marks) (n : ℕ) → 0 < layout.across → 0 < layout.down
-    → length (bands_part layout parent xs marks n) ≤ n * layout.across + 78 * (edge_of layout.height layout.down n * layout.width)
+    → length (bands_part layout parent xs marks n) ≤ n * (79 * layout.across) + 78 * (edge_of layout.height layout.down n * layout.width)
 unfolding bands_part
 bands_most layout parent xs marks zero some rows = omega arith
 bands_most layout parent xs marks (suc n) some rows =
@@ -137,12 +144,12 @@ bands_most layout parent xs marks (suc n) some rows =
     let next : n + 1 ≡ suc n = omega arith in
     let sum : edge_of h layout.down n + span_of h layout.down n ≡ edge_of h layout.down (suc n) = span_end h layout.down n rows ∙ ap (λ c. edge_of h layout.down c) next in
     rw (length-append (bands_part layout parent xs marks n) (blocks_part layout parent xs (marks n) n layout.across))
-    (grown (length (bands_part layout parent xs marks n)) (length (blocks_part layout parent xs (marks n) n layout.across)) n layout.across layout.width
+    (grown (length (bands_part layout parent xs marks n)) (length (blocks_part layout parent xs (marks n) n layout.across)) n (79 * layout.across) layout.width
     (edge_of h layout.down n) (span_of h layout.down n) (edge_of h layout.down (suc n)) (bands_most layout parent xs marks n some rows) (row_of_blocks_most layout parent xs (marks n) n some) sum)
 
--- a band: a flag for each codeblock, and its values
+-- a band: a flag and an offset for each codeblock, and its values
 decisions_most : (layout : BandLayout) (parent xs : List ℤ) (marks : Marks) → 0 < layout.across → 0 < layout.down
-    → length (band_decisions layout parent xs marks) ≤ layout.down * layout.across + 78 * (layout.width * layout.height)
+    → length (band_decisions layout parent xs marks) ≤ 79 * (layout.down * layout.across) + 78 * (layout.width * layout.height)
 decisions_most layout parent xs marks some rows =
     let last : edge_of layout.height layout.down layout.down ≡ layout.height = edge_last layout.height layout.down rows in
     let most = bands_most layout parent xs marks layout.down some rows in
@@ -150,8 +157,9 @@ decisions_most layout parent xs marks some rows =
 
 -- the block of a subband is short: its length can be spelt
 pub block_short : BlocksAreShort
-block_short layout parent xs is =
-    let ds = band_decisions layout parent xs (marks_of layout xs) in
+block_short layout parent index xs indices is =
+    let ms = marks_of layout index xs indices in
+    let ds = band_decisions layout parent xs ms in
     let flags = mul-le layout.down layout.across 8192 8192 is.down.1 is.across.1 in
     let values = mul-le layout.width layout.height 8192 8192 is.width.1 is.height.1 in
-    omega (arith, flush_most ds, decisions_most layout parent xs (marks_of layout xs) (omega (arith, is.across)) (omega (arith, is.down)), flags, values)
+    omega (arith, flush_most ds, decisions_most layout parent xs ms (omega (arith, is.across)) (omega (arith, is.down)), flags, values)

@@ -1,6 +1,7 @@
 pub mod Places
 pub mod Reached
 pub mod Repeating
+pub mod Indexed
 pub mod Within
 pub mod Agreement
 pub mod Edges
@@ -10,8 +11,9 @@ pub mod Filling
 pub mod FillingOfBlocks
 mod Carrying
 pub mod Coding
-pub mod OneBand
-pub mod Apart
+pub mod Needs
+pub mod OffsetsRead
+pub mod Forward
 pub mod Read
 pub mod Writing
 pub mod ZeroTests

@@ -4,29 +4,29 @@ use Rattle.std.proofs.lemmas.Bool.{cases_eq}
 use Rattle.std.proofs.Math.Numerals.{unary_clauses}
 use Rattle.dirac_types.specs.declared.faults.Cause.{Cause}
 use Rattle.dirac_types.specs.Chain.{◌>>=◌}
-use Rattle.dirac_coeffs.specs.BandRead.{Progress, Step, repeated}
+use Rattle.dirac_coeffs.specs.BandRead.{Step, repeated}
 
-pub repeated_none : (step : ℕ → Step) (p : Progress) → repeated step 0 p ≡ Ok p
+pub repeated_none : {A : Type 0} (step : ℕ → Step A) (p : A) → repeated step 0 p ≡ Ok p
 unfolding repeated
 repeated_none step p = refl
 
-repeated_more : (step : ℕ → Step) (n : ℕ) (p : Progress) → repeated step (n + 1) p ≡ (repeated step n p >>= step n)
+repeated_more : {A : Type 0} (step : ℕ → Step A) (n : ℕ) (p : A) → repeated step (n + 1) p ≡ (repeated step n p >>= step n)
 unfolding repeated
 repeated_more step n p = simp unary_clauses refl
 
 -- one step more
-pub repeated_next : (step : ℕ → Step) (n : ℕ) (p q : Progress) (r : Result Progress Cause) → repeated step n p ≡ Ok q → step n q ≡ r → repeated step (n + 1) p ≡ r
-repeated_next step n p q r before here = repeated_more step n p ∙ ap (λ (x : Result Progress Cause). x >>= step n) before ∙ here
+pub repeated_next : {A : Type 0} (step : ℕ → Step A) (n : ℕ) (p q : A) (r : Result A Cause) → repeated step n p ≡ Ok q → step n q ≡ r → repeated step (n + 1) p ≡ r
+repeated_next {A = A} step n p q r before here = repeated_more step n p ∙ ap (λ (x : Result A Cause). x >>= step n) before ∙ here
 
 -- a step that is refused ends them all
-pub repeated_stops : (step : ℕ → Step) (n m : ℕ) (p q : Progress) (e : Cause) → n < m → repeated step n p ≡ Ok q → step n q ≡ Err e → repeated step m p ≡ Err e
+pub repeated_stops : {A : Type 0} (step : ℕ → Step A) (n m : ℕ) (p q : A) (e : Cause) → n < m → repeated step n p ≡ Ok q → step n q ≡ Err e → repeated step m p ≡ Err e
 unfolding repeated
-repeated_stops step n zero p q e less before here = absurd (omega arith)
-repeated_stops step n (suc m) p q e less before here =
+repeated_stops {A = A} step n zero p q e less before here = absurd (omega arith)
+repeated_stops {A = A} step n (suc m) p q e less before here =
     elim (cases_eq n m) [
       | inl same ↦
           let before' : repeated step m p ≡ Ok q = subst (λ (k : ℕ). repeated step k p ≡ Ok q) same before in
           let here' : step m q ≡ Err e = subst (λ (k : ℕ). step k q ≡ Err e) same here in
-          ap (λ (x : Result Progress Cause). x >>= step m) before' ∙ here'
-      | inr other ↦ ap (λ (x : Result Progress Cause). x >>= step m) (repeated_stops step n m p q e (omega arith) before here)
+          ap (λ (x : Result A Cause). x >>= step m) before' ∙ here'
+      | inr other ↦ ap (λ (x : Result A Cause). x >>= step m) (repeated_stops step n m p q e (omega arith) before here)
     ]

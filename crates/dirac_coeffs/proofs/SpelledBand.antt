@@ -1,5 +1,5 @@
 -- The bits of a band that is written spell it, so they are read as the same band.
-use Rattle.std.proofs.Common.{◌≡◌, ◌≢◌, ℕ, ℤ, pos, ◌+◌, ◌*◌, ◌/◌, ◌^◌, ◌<◌, ◌==◌, if◌then◌else◌, nat_le, Bool, true, false, List, [], ◌∷◌, ◌++◌, length, replicate, Ok, Err, refl, sym, ap, ap₂, ◌∙◌, subst, arith, inl, inr, lit<, append_assoc, append-nil, length-append, ne_eqb, le-leb}
+use Rattle.std.proofs.Common.{◌≡◌, ◌≢◌, ℕ, ℤ, pos, ◌+◌, ◌*◌, ◌/◌, ◌^◌, ◌<◌, ◌==◌, if◌then◌else◌, nat_le, Bool, true, false, List, [], ◌∷◌, ◌++◌, length, replicate, Ok, refl, sym, ap, ap₂, ◌∙◌, subst, arith, inl, inr, lit<, append_assoc, append-nil, length-append, ne_eqb, le-leb}
 use Rattle.std.specs.List.{AllByRecursion}
 use Rattle.std.proofs.lemmas.Bool.{cases_Bool, and_from}
 use Rattle.dirac_types.specs.declared.faults.Cause.TheVariants.{QuantIndex, CodeWord}
@@ -13,14 +13,16 @@ use Rattle.dirac_bits.proofs.Fields.{gap_length-at}
 use Rattle.dirac_arith.proofs.Encodings.{flush_bytes}
 use Rattle.dirac_coeffs.specs.declared.layout.BandLayout.{BandLayout}
 use Rattle.dirac_coeffs.specs.declared.layout.CodedBand.{CodedBand}
-use Rattle.dirac_coeffs.specs.BandRead.{band_read}
+use Rattle.dirac_coeffs.specs.BandRead.{Content, content, band_read}
+use Rattle.dirac_coeffs.specs.Indices.{all_equal}
+use Rattle.dirac_arith.proofs.Carrieds.{no_answer}
 use Rattle.dirac_coeffs.specs.Decisions.{band_decisions}
 use Rattle.dirac_coeffs.specs.Grammar.{band, coded_band, band_from, band_table, zero_band, IsCodedBand}
 use Rattle.dirac_coeffs.specs.Layouts.{IsBandLayout}
 use Rattle.dirac_coeffs.specs.Written.{marks_of, block_of, is_zero_band, with_block, with_band}
 use Rattle.dirac_coeffs.proofs.BlockLengths.{block_short}
 use Rattle.dirac_coeffs.proofs.Read.{ones_read}
-use Rattle.dirac_coeffs.proofs.Writing.{written_read}
+use Rattle.dirac_coeffs.proofs.Writing.{written_read, equal_lawful, equal_of}
 use Rattle.dirac_coeffs.proofs.ZeroTests.{all_zeros}
 
 six_parts : (a b c d e f : List Bool) → ((((a ++ b) ++ c) ++ d) ++ e) ++ f ≡ a ++ (b ++ (c ++ (d ++ (e ++ f))))
@@ -32,11 +34,8 @@ unfolding front first_bits
 empty_ones [] e = refl
 empty_ones (b ∷ bs) e = absurd (omega arith)
 
-block_some : (layout : BandLayout) (parent xs : List ℤ) (block : List ℕ) → band_read layout parent block ≡ Ok xs → length block ≢ 0
-block_some layout parent xs block read e =
-    let refused : band_read layout parent block ≡ Err CodeWord = ones_read layout parent block (empty_ones block e) in
-    let bad : Err CodeWord ≡ Ok xs = sym refused ∙ read in
-    cc
+block_some : (layout : BandLayout) (parent : List ℤ) (index : ℕ) (c : Content) (block : List ℕ) → band_read layout parent index block ≡ Ok c → length block ≢ 0
+block_some layout parent index c block read e = no_answer (band_read layout parent index block) c CodeWord read (ones_read layout parent index block (empty_ones block e))
 
 -- a coded band is its index and its values
 coded_is : (layout : BandLayout) (b : CodedBand) → IsCodedBand layout b → (let same : CodedBand = record { index = b.index; table = band_table layout b.table.values } in b ≡ same)
@@ -52,17 +51,17 @@ zero_is layout b is index zeros =
 
 -- the index and the block
 coded_spelled : (layout : BandLayout) (parent : List ℤ) (b : CodedBand) (block : List ℕ) (k : ℕ) (before : List Bool) → IsCodedBand layout b
-    → length before ≡ k + length (uint b.index) → AllByRecursion (λ c. c < 2 ^ 8) block → band_read layout parent block ≡ Ok b.table.values
+    → length before ≡ k + length (uint b.index) → AllByRecursion (λ c. c < 2 ^ 8) block → (is : List ℕ) → band_read layout parent b.index block ≡ Ok (content b.table.values is)
     → Spells (coded_band layout parent (length block)) b k (uint b.index ++ (gap before ++ bits_of block))
 unfolding coded_band
-coded_spelled layout parent b block k before is len bytes read =
+coded_spelled layout parent b block k before is len bytes js read =
     let at = k / 8 in
     let k1 = k + length (uint b.index) in
     let k2 = k1 + length (gap before) in
     let k3 = k2 + length (bits_of block) in
-    let rest : ℕ → Syntax CodedBand = λ index. align >>= λ g. (here >>= λ place. block_then (length block) (λ bytes. band_from layout index place (band_read layout parent bytes))) in
+    let rest : ℕ → Syntax CodedBand = λ index. align >>= λ g. (here >>= λ place. block_then (length block) (λ bytes. band_from layout index place (band_read layout parent index bytes))) in
     let allowed : between 0 99 b.index ≡ true = and_from (nat_le 0 b.index) (nat_le b.index 99) (le-leb 0 b.index (omega arith)) (le-leb b.index 99 is.index) in
-    let last : Spells (band_from layout b.index (k2 / 8) (band_read layout parent block)) b k3 [] =
+    let last : Spells (band_from layout b.index (k2 / 8) (band_read layout parent b.index block)) b k3 [] =
     subst (λ r. Spells (band_from layout b.index (k2 / 8) r) b k3 []) (sym read) (sym (coded_is layout b is), refl) in
     let tail : Spells (rest b.index) b k1 (gap before ++ bits_of block) =
     (gap before, bits_of block, gap_length-at before k1 len, refl, (block, [], (refl, bytes), sym (append-nil (bits_of block)), last)) in
@@ -85,14 +84,15 @@ zeros_spelled layout parent b bits e =
     }
 
 -- a band with a block
-block_spelled : (layout : BandLayout) (parent : List ℤ) (b : CodedBand) (bits : List Bool) → IsBandLayout layout → IsCodedBand layout b → length (block_of layout parent b.table.values) + 1 < 2 ^ 39
-    → SpelledBehind (band layout parent) b bits (with_block b.index (block_of layout parent b.table.values) (up_to_byte bits))
+block_spelled : (layout : BandLayout) (parent : List ℤ) (b : CodedBand) (bits : List Bool) → IsBandLayout layout → IsCodedBand layout b → length (block_of layout parent b.index b.table.values (all_equal layout b.index)) + 1 < 2 ^ 39
+    → SpelledBehind (band layout parent) b bits (with_block b.index (block_of layout parent b.index b.table.values (all_equal layout b.index)) (up_to_byte bits))
 unfolding band
 block_spelled layout parent b bits spot_is is short =
     let xs = b.table.values in
-    let block = block_of layout parent xs in
+    let js = all_equal layout b.index in
+    let block = block_of layout parent b.index xs js in
     let len = length block in
-    let read : band_read layout parent block ≡ Ok xs = written_read layout parent xs spot_is is.len is.small in
+    let read : band_read layout parent b.index block ≡ Ok (content xs js) = written_read layout parent b.index xs js spot_is (equal_lawful layout b.index xs is.len is.small is.index) (equal_of layout b.index xs) in
     let before = (up_to_byte bits ++ uint len) ++ uint b.index in
     let k = length bits in
     let k1 = k + length (gap bits) in
@@ -100,8 +100,8 @@ block_spelled layout parent b bits spot_is is short =
     let behind : length before ≡ k2 + length (uint b.index) =
     omega (arith, length-append {A = Bool} (up_to_byte bits ++ uint len) (uint b.index), length-append {A = Bool} (up_to_byte bits) (uint len), length-append {A = Bool} bits (gap bits)) in
     let rest = uint b.index ++ (gap before ++ bits_of block) in
-    let coded = coded_spelled layout parent b block k2 before is behind (flush_bytes (band_decisions layout parent xs (marks_of layout xs))) read in
-    let some : (len == 0) ≡ false = ne_eqb len 0 (block_some layout parent xs block read) in
+    let coded = coded_spelled layout parent b block k2 before is behind (flush_bytes (band_decisions layout parent xs (marks_of layout b.index xs js))) js read in
+    let some : (len == 0) ≡ false = ne_eqb len 0 (block_some layout parent b.index (content xs js) block read) in
     let chosen : Spells (if len == 0 then done (zero_band layout) else coded_band layout parent len) b k2 rest =
     subst (λ t. Spells (if t then done (zero_band layout) else coded_band layout parent len) b k2 rest) (sym some) coded in
     record {
@@ -116,5 +116,5 @@ pub band_spells : (layout : BandLayout) (parent : List ℤ) (b : CodedBand) (bit
 band_spells layout parent b bits spot_is is index =
     elim (cases_Bool (is_zero_band b.table.values)) [
       | inl zeros ↦ rw zeros (zeros_spelled layout parent b bits (zero_is layout b is (index zeros) zeros))
-      | inr others ↦ rw others (block_spelled layout parent b bits spot_is is (block_short layout parent b.table.values spot_is))
+      | inr others ↦ rw others (block_spelled layout parent b bits spot_is is (block_short layout parent b.index b.table.values (all_equal layout b.index) spot_is))
     ]

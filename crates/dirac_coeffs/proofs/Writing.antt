@@ -1,5 +1,9 @@
 -- What an encoder has written, and that it is read back.
-use Rattle.std.proofs.Common.{◌≡◌, ℕ, zero, suc, ℤ, pos, negsuc, ◌+◌, ◌-◌, ◌*◌, ◌<◌, min, Bool, true, false, List, ◌&&◌, length, Ok, arith, lit<}
+use Rattle.std.proofs.Common.{◌≡◌, ℕ, zero, suc, ℤ, pos, negsuc, ◌+◌, ◌-◌, ◌*◌, ◌+ℤ◌, ◌-ℤ◌, ◌<◌, min, Bool, true, false, List, [], ◌∷◌, ◌++◌, ◌&&◌, length, Ok, arith, lit<, refl}
+use Rattle.std.proofs.lemmas.Int.{ints}
+use Rattle.std.proofs.lemmas.List.{length-replicate}
+use Rattle.std.proofs.lemmas.List.Elements.{All-replicate}
+use Rattle.dirac_types.specs.Limits.{IsIndex}
 use Rattle.std.specs.List.{AllByRecursion}
 use Rattle.std.proofs.lemmas.List.Elements.{All-from_recursion}
 use Rattle.dirac_arith.specs.Interval.{Decision, InContexts}
@@ -7,12 +11,14 @@ use Rattle.dirac_arith.proofs.Encodings.{flushed_is_carried}
 use Rattle.dirac_arith.proofs.InContexts.{AreBelow, in_append, in_signed}
 use Rattle.dirac_bands.specs.Geometry.{edge_of}
 use Rattle.dirac_coeffs.specs.declared.layout.BandLayout.{BandLayout}
-use Rattle.dirac_coeffs.specs.BandRead.{band_read}
-use Rattle.dirac_coeffs.specs.Carried.{AreSmall, CarriesBand}
+use Rattle.dirac_coeffs.specs.BandRead.{band_read, content}
+use Rattle.dirac_coeffs.specs.Carried.{AreLawful, AreSmall, CarriesBand}
+use Rattle.dirac_coeffs.specs.Indices.{place_of, index_at, index_before, all_equal, offset_part}
+use Rattle.dirac_coeffs.proofs.Indexed.{equal_same}
 use Rattle.dirac_coeffs.specs.Contexts.{value_at, left_of, above_of, corner_of, parent_of, is_zero, follow_of, sign_of, sign_neighbour, bits_context}
 use Rattle.dirac_coeffs.specs.Decisions.{Frame, Mark, Marks, frame_of, follow_here, sign_here, value_part, row_part, rows_part, flagged_part, block_part, blocks_part, bands_part, band_decisions}
 use Rattle.dirac_coeffs.specs.Layouts.{IsBandLayout, span_of, is_flagged}
-use Rattle.dirac_coeffs.specs.Written.{marks_of, block_of}
+use Rattle.dirac_coeffs.specs.Written.{AreIndicesOf, marks_of, block_of}
 use Rattle.dirac_coeffs.proofs.Read.{band_found}
 use Rattle.dirac_coeffs.proofs.ZeroTests.{zero_block_decides}
 
@@ -47,6 +53,10 @@ unfolding rows_part
 in_rows f xs x count y zero = tt
 in_rows f xs x count y (suc n) = in_append (rows_part f xs x count y n) (row_part f xs (y + n) x count) (in_rows f xs x count y n) (in_row f xs (y + n) x count)
 
+in_offset : (mode : ℕ) (offset : ℤ) → InContexts (offset_part mode offset)
+in_offset zero offset = tt
+in_offset (suc m) offset = in_signed (19 ∷ []) 20 21 offset (list_below (19 ∷ []) (lit< tt) (lit< tt, tt)) (lit< tt) (lit< tt)
+
 in_flagged : (flagged skipped : Bool) (ds : List Decision) → InContexts ds → InContexts (flagged_part flagged skipped ds)
 in_flagged false skipped ds h = h
 in_flagged true true ds h = (lit< tt, tt)
@@ -58,8 +68,10 @@ in_blocks layout parent xs marks cy zero = tt
 in_blocks layout parent xs marks cy (suc n) =
     in_append (blocks_part layout parent xs marks cy n) (block_part layout parent xs cy n (marks n)) (in_blocks layout parent xs marks cy n)
     (in_flagged (is_flagged layout) (marks n).skipped
-    (rows_part (frame_of layout parent) xs (edge_of layout.width layout.across n) (span_of layout.width layout.across n) (edge_of layout.height layout.down cy) (span_of layout.height layout.down cy))
-    (in_rows (frame_of layout parent) xs (edge_of layout.width layout.across n) (span_of layout.width layout.across n) (edge_of layout.height layout.down cy) (span_of layout.height layout.down cy)))
+    (offset_part layout.mode (marks n).offset ++ rows_part (frame_of layout parent) xs (edge_of layout.width layout.across n) (span_of layout.width layout.across n) (edge_of layout.height layout.down cy) (span_of layout.height layout.down cy))
+    (in_append (offset_part layout.mode (marks n).offset) (rows_part (frame_of layout parent) xs (edge_of layout.width layout.across n) (span_of layout.width layout.across n) (edge_of layout.height layout.down cy) (span_of layout.height layout.down cy))
+    (in_offset layout.mode (marks n).offset)
+    (in_rows (frame_of layout parent) xs (edge_of layout.width layout.across n) (span_of layout.width layout.across n) (edge_of layout.height layout.down cy) (span_of layout.height layout.down cy))))
 
 pub in_bands : (layout : BandLayout) (parent xs : List ℤ) (marks : Marks) (n : ℕ) → InContexts (bands_part layout parent xs marks n)
 unfolding bands_part
@@ -67,16 +79,43 @@ in_bands layout parent xs marks zero = tt
 in_bands layout parent xs marks (suc n) =
     in_append (bands_part layout parent xs marks n) (blocks_part layout parent xs (marks n) n layout.across) (in_bands layout parent xs marks n) (in_blocks layout parent xs (marks n) n layout.across)
 
+difference_sums : (a b : ℕ) → pos a ≡ pos b +ℤ (pos a -ℤ pos b)
+difference_sums a b = omega (arith, ints)
+
+no_difference : (a b : ℕ) → a ≡ b → pos a -ℤ pos b ≡ pos 0
+no_difference a b e = omega (arith, ints)
+
 -- the block that is written carries the band
-written_carried : (layout : BandLayout) (parent xs : List ℤ) → length xs ≡ layout.width * layout.height → AreSmall xs → CarriesBand layout parent (block_of layout parent xs) xs (marks_of layout xs)
-written_carried layout parent xs len small =
+written_carried : (layout : BandLayout) (parent : List ℤ) (index : ℕ) (xs : List ℤ) (is : List ℕ) → AreLawful layout index xs is → AreIndicesOf layout index xs is → CarriesBand layout parent index (block_of layout parent index xs is) xs is (marks_of layout index xs is)
+written_carried layout parent index xs is lawful of =
+    let ms = marks_of layout index xs is in
+    let i : ℕ → ℕ → ℕ = λ cy cx. index_at is (place_of layout cy cx) in
+    let j : ℕ → ℕ → ℕ = λ cy cx. index_before index is (place_of layout cy cx) in
     record {
-      len = len;
-      small = small;
+      lawful = lawful;
       zeros = λ cy cx l k flagged skipped. (zero_block_decides layout xs cy cx).0 skipped;
-      carried = flushed_is_carried (band_decisions layout parent xs (marks_of layout xs)) (in_bands layout parent xs (marks_of layout xs) layout.down);
+      indexed = λ cy cx l k.
+          record {
+            sum = difference_sums (i cy cx) (j cy cx);
+            skipped = λ flagged skipped. no_difference (i cy cx) (j cy cx) (of.skipped cy cx l k flagged skipped);
+            plain = λ mode. no_difference (i cy cx) (j cy cx) (of.plain cy cx l k mode);
+          };
+      carried = flushed_is_carried (band_decisions layout parent xs ms) (in_bands layout parent xs ms layout.down);
     }
 
 -- so it reads to the band
-pub written_read : (layout : BandLayout) (parent xs : List ℤ) → IsBandLayout layout → length xs ≡ layout.width * layout.height → AreSmall xs → band_read layout parent (block_of layout parent xs) ≡ Ok xs
-written_read layout parent xs is len small = band_found layout parent (block_of layout parent xs) xs (marks_of layout xs) is (written_carried layout parent xs len small)
+pub written_read : (layout : BandLayout) (parent : List ℤ) (index : ℕ) (xs : List ℤ) (is : List ℕ) → IsBandLayout layout → AreLawful layout index xs is → AreIndicesOf layout index xs is → band_read layout parent index (block_of layout parent index xs is) ≡ Ok (content xs is)
+written_read layout parent index xs is h lawful of = band_found layout parent index (block_of layout parent index xs is) xs is (marks_of layout index xs is) h (written_carried layout parent index xs is lawful of)
+
+-- where all codeblocks have the band's index, as in mode 0
+pub equal_lawful : (layout : BandLayout) (index : ℕ) (xs : List ℤ) → length xs ≡ layout.width * layout.height → AreSmall xs → IsIndex index → AreLawful layout index xs (all_equal layout index)
+equal_lawful layout index xs len small few =
+    let n = layout.across * layout.down in
+    record { len = len; small = small; count = length-replicate n index; own = few; each = All-replicate IsIndex n index few }
+
+pub equal_of : (layout : BandLayout) (index : ℕ) (xs : List ℤ) → AreIndicesOf layout index xs (all_equal layout index)
+equal_of layout index xs =
+    record {
+      skipped = λ cy cx h l f z. equal_same layout index (all_equal layout index) cy cx refl h l;
+      plain = λ cy cx h l m. equal_same layout index (all_equal layout index) cy cx refl h l;
+    }

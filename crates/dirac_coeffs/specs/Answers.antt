@@ -1,21 +1,21 @@
 -- What the answers of readers say.
-use Rattle.std.specs.Prelude.{◌≡◌, ⊤, ℕ, ℤ, List, Result, Ok, Err}
+use Rattle.std.specs.Prelude.{◌≡◌, ⊤, ℕ, Result, Ok, Err}
 use Rattle.dirac_types.specs.declared.faults.Cause.{Cause}
 use Rattle.dirac_types.specs.declared.faults.Stop.{Stop}
 use Rattle.dirac_types.specs.declared.faults.Stop.TheVariants as stop
-use Rattle.dirac_types.specs.Table.{Table}
 use Rattle.dirac_coeffs.specs.declared.layout.BandLayout.{BandLayout}
-use Rattle.dirac_arith.specs.Reading.{Reading}
-use Rattle.dirac_coeffs.specs.BandRead.{Progress, progress}
+use Rattle.dirac_coeffs.specs.declared.layout.BandBlock.{BandBlock}
+use Rattle.dirac_coeffs.specs.BandRead.{Content, content}
 use Rattle.dirac_coeffs.specs.Grammar.{band_table}
 
--- the answer is this step's, which came to these values and this reading; nothing is said of them after a refusal
-abbrev pub Moves : {A : Type 0} → Result A Cause → List ℤ → Reading → Result Progress Cause → Type 0
-Moves (Ok x) values reading step = step ≡ Ok (progress values reading)
-Moves (Err cause) values reading step = step ≡ Err cause
+-- the answer is this step's, which came so far; nothing is said of that after a refusal
+abbrev pub Moves : {A P : Type 0} → Result A Cause → P → Result P Cause → Type 0
+Moves (Ok x) p step = step ≡ Ok p
+Moves (Err cause) p step = step ≡ Err cause
 
 -- the answer is what the block at this place reads to; want of memory says nothing of the input
-abbrev pub GivesBlock : BandLayout → ℕ → Result Table Stop → Result (List ℤ) Cause → Type 0
-GivesBlock layout at (Ok t) read = (t ≡ band_table layout t.values) × (read ≡ Ok t.values)
+abbrev pub GivesBlock : BandLayout → ℕ → Result BandBlock Stop → Result Content Cause → Type 0
+GivesBlock layout at (Ok b) read =
+    (b.table ≡ band_table layout b.table.values) × (read ≡ Ok (content b.table.values b.indices))
 GivesBlock layout at (Err (stop.Refused r)) read = (r.at ≡ at) × (read ≡ Err r.cause)
 GivesBlock layout at (Err stop.NoMemory) read = ⊤

@@ -7,6 +7,7 @@ use Rattle.dirac_arith.specs.Interval.{Decision}
 use Rattle.dirac_bands.specs.Geometry.{edge_of}
 use Rattle.dirac_coeffs.specs.declared.layout.BandLayout.{BandLayout}
 use Rattle.dirac_coeffs.specs.Contexts.{value_at, left_of, above_of, corner_of, parent_of, follow_among, sign_of, sign_neighbour, value_spelling}
+use Rattle.dirac_coeffs.specs.Indices.{offset_part}
 use Rattle.dirac_coeffs.specs.Layouts.{span_of, is_flagged}
 
 -- what the contexts of a band's values depend on besides the values
@@ -15,9 +16,10 @@ pub record Frame : Type 0 where
   pub width : ℕ
   pub parent : List ℤ
 
--- what a codeblock carries besides its values
+-- what a codeblock carries besides its values: its zero flag, and the offset of its index
 pub record Mark : Type 0 where
   pub skipped : Bool
+  pub offset : ℤ
 
 -- a mark for each codeblock, by its row and its place in that
 abbrev pub Marks : Type 0
@@ -67,13 +69,14 @@ flagged_part false skipped ds = ds
 flagged_part true true ds = (ZERO_FLAG, true) ∷ []
 flagged_part true false ds = (ZERO_FLAG, false) ∷ ds
 
--- codeblock cx of row cy of codeblocks
+-- codeblock cx of row cy of codeblocks: behind its flag an offset, where the mode has one, and the values
 abbrev pub block_part : BandLayout → List ℤ → List ℤ → ℕ → ℕ → Mark → List Decision
 block_part layout parent xs cy cx mark =
     flagged_part
     (is_flagged layout)
     mark.skipped
-    (rows_part
+    (offset_part layout.mode mark.offset
+    ++ rows_part
     (frame_of layout parent)
     xs
     (edge_of layout.width layout.across cx)

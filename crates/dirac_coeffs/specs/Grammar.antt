@@ -1,5 +1,6 @@
--- A subband in a payload: the length of its block, and where that isn't 0 its quantiser index and the block.
-use Rattle.std.specs.Prelude.{◌≡◌, ℕ, ℤ, pos, ◌*◌, ◌≤◌, ◌==◌, if◌then◌else◌, List, [], length, replicate, Option, Some, None, Result, Ok, Err}
+-- A subband of codeblock mode 0 in a payload: the length of its block, and where that isn't 0 its quantiser index and the
+-- block.
+use Rattle.std.specs.Prelude.{◌≡◌, ℕ, ℤ, pos, ◌*◌, ◌==◌, if◌then◌else◌, List, [], length, replicate, Option, Some, None, Result, Ok, Err}
 use Rattle.std.specs.Borrow.{Bor}
 use Rattle.dirac_types.specs.declared.limits.TheConstants.{LARGEST_INDEX}
 use Rattle.dirac_types.specs.Limits.{IsIndex}
@@ -9,7 +10,7 @@ use Rattle.dirac_types.specs.Table.{Table}
 use Rattle.dirac_bits.specs.Syntax.{Syntax, done, refuse, block_then, uint, align, here, field, between, ◌>>=◌}
 use Rattle.dirac_coeffs.specs.declared.layout.BandLayout.{BandLayout}
 use Rattle.dirac_coeffs.specs.declared.layout.CodedBand.{CodedBand}
-use Rattle.dirac_coeffs.specs.BandRead.{band_read}
+use Rattle.dirac_coeffs.specs.BandRead.{Content, band_read}
 use Rattle.dirac_coeffs.specs.Carried.{AreSmall}
 
 -- the band's table with these values
@@ -21,8 +22,8 @@ abbrev pub zero_band : BandLayout → CodedBand
 zero_band layout = record { index = 0; table = band_table layout (replicate (layout.width * layout.height) (pos 0)) }
 
 -- the band that a block reads to, or the refusal of its block
-abbrev pub band_from : BandLayout → ℕ → ℕ → Result (List ℤ) Cause → Syntax CodedBand
-band_from layout index at (Ok xs) = done (record { index = index; table = band_table layout xs })
+abbrev pub band_from : BandLayout → ℕ → ℕ → Result Content Cause → Syntax CodedBand
+band_from layout index at (Ok c) = done (record { index = index; table = band_table layout c.values })
 band_from layout index at (Err cause) = refuse at cause
 
 -- a band with a block of this length
@@ -31,7 +32,7 @@ coded_band layout parent len = do
   index ← field QuantIndex (between 0 LARGEST_INDEX)
   gap ← align
   at ← here
-  block_then len (λ block. band_from layout index at (band_read layout parent block))
+  block_then len (λ block. band_from layout index at (band_read layout parent index block))
 
 -- a band
 unfoldable pub band : BandLayout → List ℤ → Syntax CodedBand

@@ -4,12 +4,13 @@ use Rattle.dirac_types.specs.declared.limits.TheConstants.{LARGEST_TABLE_SIDE, M
 use Rattle.dirac_bands.specs.Geometry.{edge_of}
 use Rattle.dirac_coeffs.specs.declared.layout.BandLayout.{BandLayout}
 
--- sizes and counts are from 1 to 8,192
+-- sizes and counts are from 1 to 8,192, and the codeblock mode is 0 or 1
 pub record IsBandLayout (layout : BandLayout) : Type 0 where
   pub width : (1 ≤ layout.width) × (layout.width ≤ LARGEST_TABLE_SIDE)
   pub height : (1 ≤ layout.height) × (layout.height ≤ LARGEST_TABLE_SIDE)
   pub across : (1 ≤ layout.across) × (layout.across ≤ MOST_CODEBLOCKS)
   pub down : (1 ≤ layout.down) × (layout.down ≤ MOST_CODEBLOCKS)
+  pub mode : layout.mode ≤ 1
 
 -- how many columns or rows codeblock c of these has
 abbrev pub span_of : ℕ → ℕ → ℕ → ℕ

@@ -1,5 +1,6 @@
 pub mod Contexts
 pub mod Layouts
+pub mod Indices
 pub mod Decisions
 pub mod Carried
 pub mod BandRead

@@ -1,5 +1,5 @@
 -- How a subband is written: the marks of its codeblocks, its block, and its bits.
-use Rattle.std.specs.Prelude.{ℕ, zero, suc, ℤ, ◌+◌, ◌&&◌, Bool, true, List, ◌++◌, length, if◌then◌else◌}
+use Rattle.std.specs.Prelude.{◌≡◌, ℕ, zero, suc, ℤ, pos, ◌+◌, ◌<◌, ◌-ℤ◌, ◌&&◌, Bool, true, List, ◌++◌, length, if◌then◌else◌}
 use Rattle.std.specs.List.{list_all}
 use Rattle.dirac_types.specs.Bits.{bits_of}
 use Rattle.dirac_types.specs.Numbers.{uint}
@@ -11,7 +11,8 @@ use Rattle.dirac_coeffs.specs.declared.layout.BandLayout.{BandLayout}
 use Rattle.dirac_coeffs.specs.declared.layout.CodedBand.{CodedBand}
 use Rattle.dirac_coeffs.specs.Contexts.{value_at, is_zero}
 use Rattle.dirac_coeffs.specs.Decisions.{Marks, band_decisions}
-use Rattle.dirac_coeffs.specs.Layouts.{span_of}
+use Rattle.dirac_coeffs.specs.Indices.{place_of, index_at, index_before, all_equal}
+use Rattle.dirac_coeffs.specs.Layouts.{span_of, is_flagged}
 
 -- whether all numbers below n pass
 unfoldable pub all_below : (ℕ → Bool) → ℕ → Bool
@@ -28,13 +29,26 @@ is_zero_block layout xs cy cx =
     (span_of layout.height layout.down cy))
     (span_of layout.width layout.across cx)
 
--- a zero flag is true exactly for a codeblock of zeros or without values
-abbrev pub marks_of : BandLayout → List ℤ → Marks
-marks_of layout xs cy cx = record { skipped = is_zero_block layout xs cy cx }
+-- a zero flag is true exactly for a codeblock of zeros or without values, and an offset leads from index to index
+abbrev pub marks_of : BandLayout → ℕ → List ℤ → List ℕ → Marks
+marks_of layout index xs indices cy cx = record {
+  skipped = is_zero_block layout xs cy cx;
+  offset = pos (index_at indices (place_of layout cy cx))
+      -ℤ pos (index_before index indices (place_of layout cy cx));
+}
 
 -- the block of a band
-abbrev pub block_of : BandLayout → List ℤ → List ℤ → List ℕ
-block_of layout parent xs = flush (band_decisions layout parent xs (marks_of layout xs))
+abbrev pub block_of : BandLayout → List ℤ → ℕ → List ℤ → List ℕ → List ℕ
+block_of layout parent index xs indices =
+    flush (band_decisions layout parent xs (marks_of layout index xs indices))
+
+-- indices that a band's codeblocks can have: a skipped codeblock has that of the one before it, and in mode 0 each has
+pub record AreIndicesOf (layout : BandLayout) (index : ℕ) (xs : List ℤ) (indices : List ℕ) : Type 0 where
+  pub skipped : (cy cx : ℕ) → cy < layout.down → cx < layout.across → is_flagged layout ≡ true
+      → is_zero_block layout xs cy cx ≡ true
+      → index_at indices (place_of layout cy cx) ≡ index_before index indices (place_of layout cy cx)
+  pub plain : (cy cx : ℕ) → cy < layout.down → cx < layout.across → layout.mode ≡ 0
+      → index_at indices (place_of layout cy cx) ≡ index_before index indices (place_of layout cy cx)
 
 -- whether a band has zeros alone
 abbrev pub is_zero_band : List ℤ → Bool
@@ -44,8 +58,8 @@ is_zero_band xs = list_all is_zero xs
 abbrev pub with_block : ℕ → List ℕ → List Bool → List Bool
 with_block index block bits = up_to_byte ((bits ++ uint (length block)) ++ uint index) ++ bits_of block
 
--- the bits with a band behind them; a band of zeros has length 0
+-- the bits with a band of mode 0 behind them; a band of zeros has length 0
 abbrev pub with_band : BandLayout → List ℤ → CodedBand → List Bool → List Bool
 with_band layout parent b bits =
     if is_zero_band b.table.values then up_to_byte bits ++ uint 0
-    else with_block b.index (block_of layout parent b.table.values) (up_to_byte bits)
+    else with_block b.index (block_of layout parent b.index b.table.values (all_equal layout b.index)) (up_to_byte bits)

@@ -47,15 +47,16 @@ fn read_coded(
     r.align();
     let at = r.place();
     let block = r.block(len)?;
-    let table = read_block(alloc, block, at, layout, parent)?;
+    let read = read_block(alloc, block, at, layout, parent, index as u8)?;
     Ok(CodedBand {
         index: index as u8,
-        table,
+        table: read.table,
     })
 }
 
 /// Reads a subband (subband header and data, Dirac specification): passes to the next byte, and takes the length
 /// of its block, the quantiser index and the block. What an arithmetic block doesn't hold is refused at its first byte.
+/// Its codeblocks have the band's index: of mode 1 `read_block` tells that of each.
 #[tactic(auto, unfolding(crate::specs::Grammar::band))]
 pub fn read_band(
     alloc: Global,
@@ -64,6 +65,7 @@ pub fn read_band(
     parent: Option<&BandTable>,
 ) -> Result<CodedBand, Stop>
     requires layout { IsBandLayout layout }
+    requires plain { layout.mode ≡ 0 }
     requires parent { ForSome parent (IsParentOf layout) }
     ensures value { ReadsOrStops result r.new (read (band layout (values_of_parent parent.entry)) r.old) }
     ensures place_inside { IfErr result (IsEarly (length r.old.bytes)) }

@@ -4,11 +4,14 @@ ghost use Rattle.dirac_bits.specs.Writing.{IsWhole};
 ghost use Rattle.dirac_bits.specs.Spelling.{SpelledBehind};
 ghost use Rattle.dirac_coeffs.specs.Carried.{AreSmall};
 ghost use Rattle.dirac_coeffs.specs.Grammar.{band as band_grammar, values_of_parent, IsParentOf, IsCodedBand};
+ghost use Rattle.dirac_coeffs.specs.Indices.{all_equal};
 ghost use Rattle.dirac_coeffs.specs.Layouts.{IsBandLayout};
+ghost use Rattle.dirac_types.specs.Limits.{IsIndex};
 ghost use Rattle.dirac_coeffs.specs.Written.{block_of, is_zero_band, with_block, with_band};
 
 use crate::band::parent_values;
 use crate::block_writer::write_block;
+use crate::indices::equal_indices;
 use crate::layout::{BandLayout, CodedBand};
 use crate::zeros::are_all_zeros;
 use dirac_bits::BitWriter;
@@ -26,11 +29,15 @@ fn write_coded(
     values: &[i64],
 ) -> Result<(), NoMemory>
     requires layout { IsBandLayout layout }
+    requires plain { layout.mode ≡ 0 }
     requires len { length values.now ≡ layout.width * layout.height }
     requires magnitudes_bounded { AreSmall values.now }
-    ensures exact { OnOk result (w.new ≡ with_block index (block_of layout parent.now values.now) w.old) }
+    requires index { IsIndex index }
+    ensures exact { OnOk result (w.new ≡ with_block index (block_of layout parent.now index values.now
+        (all_equal layout index)) w.old) }
 {
-    let block = write_block(alloc, values, layout, parent)?;
+    let indices = equal_indices(alloc, layout, index)?;
+    let block = write_block(alloc, values, &indices, layout, parent, index)?;
     w.uint(block.len() as u64)?;
     w.uint(u64::from(index))?;
     w.align()?;
@@ -47,6 +54,7 @@ pub fn write_band(
     band: &CodedBand,
 ) -> Result<(), NoMemory>
     requires layout { IsBandLayout layout }
+    requires plain { layout.mode ≡ 0 }
     requires parent { ForSome parent (IsParentOf layout) }
     requires band { IsCodedBand layout band.now }
     requires zeros { is_zero_band band.now.table.values ≡ true → band.now.index ≡ 0 }

@@ -1,30 +1,35 @@
-ghost use Rattle.std.specs.Prelude.{◌≡◌, ◌*◌, length, IfOk, Ok};
-ghost use Rattle.dirac_coeffs.specs.BandRead.{band_read};
-ghost use Rattle.dirac_coeffs.specs.Carried.{AreSmall};
+ghost use Rattle.std.specs.Prelude.{◌≡◌, IfOk, Ok};
+ghost use Rattle.dirac_coeffs.specs.BandRead.{band_read, content};
+ghost use Rattle.dirac_coeffs.specs.Carried.{AreLawful};
 ghost use Rattle.dirac_coeffs.specs.Layouts.{IsBandLayout};
-ghost use Rattle.dirac_coeffs.specs.Written.{block_of};
+ghost use Rattle.dirac_coeffs.specs.Written.{AreIndicesOf, block_of};
 
 use crate::codeblock_writer::write_all;
+use crate::indices::Indices;
 use crate::layout::BandLayout;
 use dirac_arith::Encoder;
 use dirac_types::NoMemory;
 use std::alloc::Global;
 
-/// The arithmetic block of a subband's coefficients, whose zero flags are true for codeblocks of zeros.
-/// `parent` holds the values of the parent band by rows, and is empty where there is none.
+/// The arithmetic block of a subband's coefficients, whose zero flags are true for codeblocks of zeros, and in codeblock
+/// mode 1 of the quantiser indices of its codeblocks, where the band's is `index`. `parent` holds the values of the
+/// parent band by rows, and is empty where there is none.
 pub fn write_block(
     alloc: Global,
     values: &[i64],
+    indices: &Indices,
     layout: BandLayout,
     parent: &[i64],
+    index: u8,
 ) -> Result<Vec<u8>, NoMemory>
     requires layout { IsBandLayout layout }
-    requires len { length values.now ≡ layout.width * layout.height }
-    requires magnitudes_bounded { AreSmall values.now }
-    ensures exact { IfOk result (λ block. block.items ≡ block_of layout parent.now values.now) }
-    ensures read_back { IfOk result (λ block. band_read layout parent.now block.items ≡ Ok values.now) }
+    requires lawful { AreLawful layout index values.now indices.now }
+    requires indices { AreIndicesOf layout index values.now indices.now }
+    ensures exact { IfOk result (λ block. block.items ≡ block_of layout parent.now index values.now indices.now) }
+    ensures read_back { IfOk result (λ block. band_read layout parent.now index block.items
+        ≡ Ok (content values.now indices.now)) }
 {
     let mut encoder = Encoder::new(alloc);
-    write_all(&mut encoder, values, layout, parent)?;
+    write_all(&mut encoder, values, indices, layout, parent, index)?;
     encoder.finish()
 }

@@ -1,9 +1,11 @@
 ghost use Rattle.std.specs.Prelude.{◌≡◌, ◌+◌, ◌*◌, ◌^◌, ◌<◌, ◌≤◌, length};
 ghost use Rattle.dirac_coeffs.specs.Answers.{Moves};
-ghost use Rattle.dirac_coeffs.specs.BandRead.{progress, filled_step, block_step, blocks_step, block_rows_step};
+ghost use Rattle.dirac_coeffs.specs.BandRead.{progress, band_progress, filled_step, unskipped_step, block_step, blocks_step, block_rows_step};
 ghost use Rattle.dirac_coeffs.specs.Layouts.{IsBandLayout, span_of};
 
+use crate::indices::Indices;
 use crate::layout::BandLayout;
+use crate::offsets::{note_former, read_offset};
 use crate::spans::{codeblock_span, has_flags};
 use crate::values::read_rows;
 use dirac_arith::{Decoder, ZERO_FLAG};
@@ -23,7 +25,7 @@ fn read_block_values(
     requires column { cx < layout.across }
     requires len { length values.old ≡ layout.width * layout.height }
     requires no_overflow { decoder.old.at.doublings < 2 ^ 58 }
-    ensures value { Moves result values.new decoder.new (filled_step layout parent.now cy cx
+    ensures value { Moves result (progress values.new decoder.new) (filled_step layout parent.now cy cx
         (progress values.old decoder.old)) }
     ensures len { length values.new ≡ length values.old }
     ensures few_doublings { decoder.new.at.doublings ≤ decoder.old.at.doublings + 702 * LARGEST_TABLE_SIDE * span_of
@@ -43,13 +45,14 @@ fn read_block_values(
     )
 }
 
-/// Reads codeblock `cx` of row `cy`, unless its zero flag skips it.
-#[tactic(auto, unfolding(crate::specs::BandRead::block_step))]
-fn read_codeblock(
+/// Reads a codeblock that isn't skipped: in mode 1 the offset of its index, and its values.
+fn read_unskipped(
     decoder: &mut Decoder<'_>,
     values: &mut [i64],
+    indices: &mut Indices,
     layout: BandLayout,
     parent: &[i64],
+    index: u8,
     cy: u32,
     cx: u32,
 ) -> Result<(), Cause>
@@ -57,19 +60,55 @@ fn read_codeblock(
     requires row { cy < layout.down }
     requires column { cx < layout.across }
     requires len { length values.old ≡ layout.width * layout.height }
-    requires no_overflow { decoder.old.at.doublings < 2 ^ 57 }
-    ensures value { Moves result values.new decoder.new (block_step layout parent.now cy cx
-        (progress values.old decoder.old)) }
+    requires count { length indices.old ≡ layout.across * layout.down }
+    requires no_overflow { decoder.old.at.doublings < 2 ^ 57 + 9 }
+    ensures value { Moves result (band_progress values.new indices.new decoder.new) (unskipped_step layout parent.now
+        index cy cx (band_progress values.old indices.old decoder.old)) }
     ensures len { length values.new ≡ length values.old }
-    ensures few_doublings { decoder.new.at.doublings ≤ decoder.old.at.doublings + 9 + 702 * LARGEST_TABLE_SIDE * span_of
-        layout.width layout.across cx }
+    ensures count { length indices.new ≡ length indices.old }
+    ensures few_doublings { decoder.new.at.doublings ≤ decoder.old.at.doublings + 702 + 702 * LARGEST_TABLE_SIDE
+        * span_of layout.width layout.across cx }
+{
+    match read_offset(decoder, indices, layout, index, cy, cx) {
+        Ok(()) => read_block_values(decoder, values, layout, parent, cy, cx),
+        Err(cause) => Err(cause),
+    }
+}
+
+/// Reads codeblock `cx` of row `cy`, unless its zero flag skips it.
+#[tactic(auto, unfolding(crate::specs::BandRead::block_step))]
+fn read_codeblock(
+    decoder: &mut Decoder<'_>,
+    values: &mut [i64],
+    indices: &mut Indices,
+    layout: BandLayout,
+    parent: &[i64],
+    index: u8,
+    cy: u32,
+    cx: u32,
+) -> Result<(), Cause>
+    requires layout { IsBandLayout layout }
+    requires row { cy < layout.down }
+    requires column { cx < layout.across }
+    requires len { length values.old ≡ layout.width * layout.height }
+    requires count { length indices.old ≡ layout.across * layout.down }
+    requires no_overflow { decoder.old.at.doublings < 2 ^ 57 }
+    ensures value { Moves result (band_progress values.new indices.new decoder.new) (block_step layout parent.now index
+        cy cx (band_progress values.old indices.old decoder.old)) }
+    ensures len { length values.new ≡ length values.old }
+    ensures count { length indices.new ≡ length indices.old }
+    ensures few_doublings { decoder.new.at.doublings ≤ decoder.old.at.doublings + 711 + 702 * LARGEST_TABLE_SIDE
+        * span_of layout.width layout.across cx }
 {
     if !has_flags(layout) {
-        return read_block_values(decoder, values, layout, parent, cy, cx);
+        return read_unskipped(decoder, values, indices, layout, parent, index, cy, cx);
     }
     match decoder.decision(ZERO_FLAG) {
-        Ok(true) => Ok(()),
-        Ok(false) => read_block_values(decoder, values, layout, parent, cy, cx),
+        Ok(true) => {
+            note_former(indices, layout, index, cy, cx);
+            Ok(())
+        }
+        Ok(false) => read_unskipped(decoder, values, indices, layout, parent, index, cy, cx),
         Err(cause) => Err(cause),
     }
 }
@@ -78,22 +117,26 @@ fn read_codeblock(
 fn read_codeblocks(
     decoder: &mut Decoder<'_>,
     values: &mut [i64],
+    indices: &mut Indices,
     layout: BandLayout,
     parent: &[i64],
+    index: u8,
     cy: u32,
 ) -> Result<(), Cause>
     requires layout { IsBandLayout layout }
     requires row { cy < layout.down }
     requires len { length values.old ≡ layout.width * layout.height }
+    requires count { length indices.old ≡ layout.across * layout.down }
     requires no_overflow { decoder.old.at.doublings < 2 ^ 56 }
-    ensures value { Moves result values.new decoder.new (blocks_step layout parent.now cy layout.across
-        (progress values.old decoder.old)) }
+    ensures value { Moves result (band_progress values.new indices.new decoder.new) (blocks_step layout parent.now index
+        cy layout.across (band_progress values.old indices.old decoder.old)) }
     ensures len { length values.new ≡ length values.old }
-    ensures few_doublings { decoder.new.at.doublings ≤ decoder.old.at.doublings + 9 * LARGEST_TABLE_SIDE + 702 *
+    ensures count { length indices.new ≡ length indices.old }
+    ensures few_doublings { decoder.new.at.doublings ≤ decoder.old.at.doublings + 711 * LARGEST_TABLE_SIDE + 702 *
         LARGEST_TABLE_SIDE * LARGEST_TABLE_SIDE }
 {
     'across: for cx in 0..layout.across {
-        match read_codeblock(decoder, values, layout, parent, cy, cx) {
+        match read_codeblock(decoder, values, indices, layout, parent, index, cy, cx) {
             Ok(()) => {}
             Err(cause) => return Err(cause),
         }
@@ -101,22 +144,26 @@ fn read_codeblocks(
     Ok(())
 }
 
-/// Reads all codeblocks of a band into values that are zeros.
+/// Reads all codeblocks of a band of this index into values that are zeros, and indices that are the band's.
 pub fn read_all(
     decoder: &mut Decoder<'_>,
     values: &mut [i64],
+    indices: &mut Indices,
     layout: BandLayout,
     parent: &[i64],
+    index: u8,
 ) -> Result<(), Cause>
     requires layout { IsBandLayout layout }
     requires len { length values.old ≡ layout.width * layout.height }
+    requires count { length indices.old ≡ layout.across * layout.down }
     requires at_the_start { decoder.old.at.doublings ≡ 0 }
-    ensures value { Moves result values.new decoder.new (block_rows_step layout parent.now layout.down
-        (progress values.old decoder.old)) }
+    ensures value { Moves result (band_progress values.new indices.new decoder.new) (block_rows_step layout parent.now
+        index layout.down (band_progress values.old indices.old decoder.old)) }
     ensures len { length values.new ≡ length values.old }
+    ensures count { length indices.new ≡ length indices.old }
 {
     'down: for cy in 0..layout.down {
-        match read_codeblocks(decoder, values, layout, parent, cy) {
+        match read_codeblocks(decoder, values, indices, layout, parent, index, cy) {
             Ok(()) => {}
             Err(cause) => return Err(cause),
         }

@@ -1,11 +1,13 @@
 //! What holds of all subbands and blocks, each as the contract of a function that does nothing.
-ghost use Rattle.dirac_coeffs.specs.Laws.{OneBandIsCarried, NoBandBesideLong, OnesCarryNothing, BandIsRead, LongIsRefused, OnesAreRefused, BlocksAreShort};
+ghost use Rattle.dirac_coeffs.specs.Laws.{OneBandIsCarried, NoBandBesideLong, NoBandBesideNoIndex, LongOrNoIndex, OnesCarryNothing, BandIsRead, LongIsRefused, NoIndexIsRefused, OnesAreRefused, BlocksAreShort};
 
-/// A block carries the decisions of one band at most, and none beside those of a number that is too long;
-/// one that begins with sixteen ones carries neither.
+/// A block carries the decisions of one band at most, and none beside those of a number that is too long, or of an
+/// offset that leads to no index; it doesn't carry both of these. One that begins with sixteen ones carries none.
 pub fn one_band_is_carried()
     ensures one_band_is_carried { OneBandIsCarried }
     ensures or_long { NoBandBesideLong }
+    ensures or_no_index { NoBandBesideNoIndex }
+    ensures not_both { LongOrNoIndex }
     ensures or_ones { OnesCarryNothing }
 {}
 
@@ -13,6 +15,7 @@ pub fn one_band_is_carried()
 pub fn a_block_reads_to_its_band()
     ensures carried { BandIsRead }
     ensures long { LongIsRefused }
+    ensures no_index { NoIndexIsRefused }
     ensures ones { OnesAreRefused }
 {}
 

@@ -6,5 +6,7 @@ fn is_shared<T: Send + Sync>() {}
 /// Each of these types may be shared by threads and sent to them.
 fn are_shared() {
     is_shared::<crate::BandLayout>();
+    is_shared::<crate::Indices>();
+    is_shared::<crate::BandBlock>();
     is_shared::<crate::CodedBand>();
 }

@@ -50,7 +50,7 @@ fn read_at(
     requires left { left ≡ left_of layout.width values.old x y }
     requires corner { corner ≡ corner_of layout.width values.old x y }
     requires no_overflow { decoder.old.at.doublings < 2 ^ 61 }
-    ensures value { Moves result values.new decoder.new (value_step (frame_of layout parent.now) x y
+    ensures value { Moves result (progress values.new decoder.new) (value_step (frame_of layout parent.now) x y
         (progress values.old decoder.old)) }
     ensures written { IfOk result (λ v. values.new ≡ slice_set values.old (y * layout.width + x) v) }
     ensures len { length values.new ≡ length values.old }
@@ -83,7 +83,7 @@ fn read_row(
     requires row { y < LARGEST_TABLE_SIDE }
     requires inside { (y + 1) * layout.width ≤ length values.old }
     requires no_overflow { decoder.old.at.doublings < 2 ^ 60 }
-    ensures value { Moves result values.new decoder.new (row_step (frame_of layout parent.now) y from count
+    ensures value { Moves result (progress values.new decoder.new) (row_step (frame_of layout parent.now) y from count
         (progress values.old decoder.old)) }
     ensures len { length values.new ≡ length values.old }
     ensures few_doublings { decoder.new.at.doublings ≤ decoder.old.at.doublings + 702 * count }
@@ -120,8 +120,8 @@ pub fn read_rows(
     requires rows { top + rows ≤ LARGEST_TABLE_SIDE }
     requires inside { (top + rows) * layout.width ≤ length values.old }
     requires no_overflow { decoder.old.at.doublings < 2 ^ 59 }
-    ensures value { Moves result values.new decoder.new (rows_step (frame_of layout parent.now) from count top rows
-        (progress values.old decoder.old)) }
+    ensures value { Moves result (progress values.new decoder.new) (rows_step (frame_of layout parent.now) from count
+        top rows (progress values.old decoder.old)) }
     ensures len { length values.new ≡ length values.old }
     ensures few_doublings { decoder.new.at.doublings ≤ decoder.old.at.doublings + 702 * LARGEST_TABLE_SIDE * count }
 {

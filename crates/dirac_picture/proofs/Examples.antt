@@ -11,18 +11,18 @@ parameters = record { wavelet = 1; depth = 2; counts = (1, 1) ∷ (2, 1) ∷ (4,
 seven_bands : band_count 2 ≡ 7
 seven_bands = refl
 
-first_band : layout_of parameters 10 6 0 ≡ record { band = LL; width = 3; height = 2; across = 1; down = 1 }
+first_band : layout_of parameters 10 6 0 ≡ record { band = LL; width = 3; height = 2; across = 1; down = 1; mode = 0 }
 unfolding layout_of parameters
 first_band = refl
 
-third_band : layout_of parameters 10 6 2 ≡ record { band = LH; width = 3; height = 2; across = 2; down = 1 }
+third_band : layout_of parameters 10 6 2 ≡ record { band = LH; width = 3; height = 2; across = 2; down = 1; mode = 0 }
 unfolding layout_of parameters
 third_band = refl
 
-fifth_band : layout_of parameters 10 6 4 ≡ record { band = HL; width = 6; height = 4; across = 4; down = 3 }
+fifth_band : layout_of parameters 10 6 4 ≡ record { band = HL; width = 6; height = 4; across = 4; down = 3; mode = 0 }
 unfolding layout_of parameters
 fifth_band = refl
 
-last_band : layout_of parameters 10 6 6 ≡ record { band = HH; width = 6; height = 4; across = 4; down = 3 }
+last_band : layout_of parameters 10 6 6 ≡ record { band = HH; width = 6; height = 4; across = 4; down = 3; mode = 0 }
 unfolding layout_of parameters
 last_band = refl

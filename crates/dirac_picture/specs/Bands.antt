@@ -25,7 +25,7 @@ counts_among (Some counts) = counts
 abbrev pub counts_at : List (ℕ × ℕ) → ℕ → ℕ × ℕ
 counts_at counts level = counts_among (slice_get counts level)
 
--- what band n of a plane of this size is; the counts of its level serve all three planes
+-- what band n of a plane of this size is, in codeblock mode 0; the counts of its level serve all three planes
 unfoldable pub layout_of : Transform → ℕ → ℕ → ℕ → BandLayout
 layout_of t width height n = record {
   band = orientation_of n;
@@ -33,6 +33,7 @@ layout_of t width height n = record {
   height = band_length height t.depth (level_of n);
   across = (counts_at t.counts (level_of n)).0;
   down = (counts_at t.counts (level_of n)).1;
+  mode = 0;
 }
 
 -- the values of a band, where there is one

@@ -132,6 +132,7 @@ fn single(alloc: Global, bytes: &[u8]) -> Result<(u8, i64), Stop> {
         height: 1,
         across: 1,
         down: 1,
+        mode: 0,
     };
     let coded = read_band(alloc, &mut BitReader::new(bytes), layout, None)?;
     if coded.table.width() == 1 && coded.table.height() == 1 {

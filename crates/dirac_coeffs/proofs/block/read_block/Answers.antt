@@ -3,10 +3,16 @@ use Rattle.dirac_types.specs.declared.faults.Cause.{Cause}
 use Rattle.dirac_types.specs.declared.faults.Cause.TheVariants as causes
 use Rattle.dirac_types.specs.declared.faults.Stop.{Stop}
 use Rattle.dirac_types.specs.declared.faults.Stop.TheVariants as stop
-use Rattle.dirac_types.specs.Table.{Table}
-use Rattle.dirac_coeffs.specs.BandRead.{progress, band_read}
-use Rattle.dirac_coeffs.proofs.Read.{steps_answer, band_carried, refused_is_long, written_over, table_written}
+use Rattle.dirac_coeffs.specs.declared.layout.BandBlock.{BandBlock}
+use Rattle.dirac_coeffs.specs.BandRead.{band_progress, content, band_read}
+use Rattle.dirac_coeffs.proofs.Read.{steps_answer, band_carried, break_carried, written_over, table_written}
 use Rattle.dirac_coeffs.proofs.block.read_block.Goals as goal
+
+-- the cause of a refusal
+abbrev cause_in : Result BandBlock Stop → Cause
+cause_in (Ok x) = causes.CodeWord
+cause_in (Err (stop.Refused q)) = q.cause
+cause_in (Err stop.NoMemory) = causes.CodeWord
 
 pub returns-in-Ok-clause-value : goal.returns-in-Ok-clause-value
 returns-in-Ok-clause-value c =
@@ -16,24 +22,28 @@ returns-in-Ok-clause-value c =
     let t = c.in_ok-table.table in
     let vs = c.values_mut.result.now in
     let ws = c.read_all.new.values in
-    let read = steps_answer layout parent block t vs c.new-decoder.result (Ok (progress ws c.read_all.new.decoder)) c.requires c.in_ok-table.ensures c.values_mut.ensures.value c.new-decoder.ensures c.in-Ok.ensures.value in
+    let read = steps_answer layout parent c.args.index block t vs c.in_ok-indices.indices c.new-decoder.result (Ok (band_progress ws c.read_all.new.indices c.read_all.new.decoder)) c.requires.layout c.requires.index c.in_ok-table.ensures c.values_mut.ensures.value c.in_ok-indices.ensures c.new-decoder.ensures c.in-Ok.ensures.value in
     let over = written_over t.values ws (c.read_all.ensures.len ∙ ap length c.values_mut.ensures.value) in (
       table_written layout t (replicate (layout.width * layout.height) (pos 0)) ws c.in_ok-table.ensures,
-      subst (λ (l : List ℤ). band_read layout parent block ≡ Ok l) (sym over) read,
+      subst (λ (l : List ℤ). band_read layout parent c.args.index block ≡ Ok (content l c.read_all.new.indices)) (sym over) read,
     )
 
-pub returns-in-Ok-clause-magnitudes_bounded : goal.returns-in-Ok-clause-magnitudes_bounded
-returns-in-Ok-clause-magnitudes_bounded c =
-    let ws = c.read_all.new.values in
+pub returns-in-Ok-clause-lawful : goal.returns-in-Ok-clause-lawful
+returns-in-Ok-clause-lawful c =
     let t = c.in_ok-table.table in
-    (band_carried c.args.layout c.args.parent.now c.args.block.now (take (length t.values) (ws ++ drop (length ws) t.values)) c.requires (returns-in-Ok-clause-value c).1).1.small
+    let ws = c.read_all.new.values in
+    (band_carried c.args.layout c.args.parent.now c.args.index c.args.block.now (take (length t.values) (ws ++ drop (length ws) t.values)) c.read_all.new.indices c.requires.layout c.requires.index (returns-in-Ok-clause-value c).1).1.lawful
 
 pub returns-in-Err-clause-value : goal.returns-in-Err-clause-value
 returns-in-Err-clause-value c =
-    (refl, steps_answer c.args.layout c.args.parent.now c.args.block.now c.in_ok-table.table c.values_mut.result.now c.new-decoder.result (Err c.in-Err.cause) c.requires c.in_ok-table.ensures c.values_mut.ensures.value c.new-decoder.ensures c.in-Err.ensures.value)
+    (refl, steps_answer c.args.layout c.args.parent.now c.args.index c.args.block.now c.in_ok-table.table c.values_mut.result.now c.in_ok-indices.indices c.new-decoder.result (Err c.in-Err.cause) c.requires.layout c.requires.index c.in_ok-table.ensures c.values_mut.ensures.value c.in_ok-indices.ensures c.new-decoder.ensures c.in-Err.ensures.value)
 
 pub returns-in-Err-clause-long : goal.returns-in-Err-clause-long
 returns-in-Err-clause-long c = λ e.
-    let cause_in : Result Table Stop → Cause = λ r. elim r [ Ok x ↦ causes.CodeWord | Err s ↦ elim s [ stop.Refused q ↦ q.cause | stop.NoMemory ↦ causes.CodeWord ] ] in
     let same : c.in-Err.cause ≡ causes.NumberTooLong = ap cause_in e in
-    refused_is_long c.args.layout c.args.parent.now c.args.block.now c.requires (subst (λ (k : Cause). band_read c.args.layout c.args.parent.now c.args.block.now ≡ Err k) same (returns-in-Err-clause-value c).1)
+    break_carried c.args.layout c.args.parent.now c.args.index c.args.block.now causes.NumberTooLong c.requires.layout c.requires.index (λ k. absurd cc) (subst (λ (k : Cause). band_read c.args.layout c.args.parent.now c.args.index c.args.block.now ≡ Err k) same (returns-in-Err-clause-value c).1)
+
+pub returns-in-Err-clause-no_index : goal.returns-in-Err-clause-no_index
+returns-in-Err-clause-no_index c = λ e.
+    let same : c.in-Err.cause ≡ causes.QuantIndex = ap cause_in e in
+    break_carried c.args.layout c.args.parent.now c.args.index c.args.block.now causes.QuantIndex c.requires.layout c.requires.index (λ k. absurd cc) (subst (λ (k : Cause). band_read c.args.layout c.args.parent.now c.args.index c.args.block.now ≡ Err k) same (returns-in-Err-clause-value c).1)

@@ -14,6 +14,6 @@ down-preserved c =
     let layout = c.args.layout in
     let parent = c.args.parent.now in
     let xs = c.args.values.now in
-    let marks = marks_of layout xs in
+    let marks = marks_of layout c.args.index xs c.args.indices.now in
     let n = c.down.cy in
     narrowed_more _ _ _ (bands_part layout parent xs marks n) (blocks_part layout parent xs (marks n) n layout.across) _ c.down.invariant c.in-Ok.ensures (bands_next layout parent xs marks n)

@@ -5,4 +5,4 @@ use Rattle.dirac_coeffs.specs.Written.{marks_of}
 use Rattle.dirac_coeffs.proofs.codeblock_writer.write_all.Given as goal
 
 abbrev pub invariant-down : goal.invariant-down
-invariant-down l = l.encoder ≡ narrowed_by l.fn.encoder (bands_part l.layout l.parent l.values (marks_of l.layout l.values) l.cy)
+invariant-down l = l.encoder ≡ narrowed_by l.fn.encoder (bands_part l.layout l.parent l.values (marks_of l.layout l.index l.values l.indices) l.cy)

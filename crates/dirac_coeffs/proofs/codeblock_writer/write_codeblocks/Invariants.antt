@@ -5,4 +5,4 @@ use Rattle.dirac_coeffs.specs.Written.{marks_of}
 use Rattle.dirac_coeffs.proofs.codeblock_writer.write_codeblocks.Given as goal
 
 abbrev pub invariant-across : goal.invariant-across
-invariant-across l = l.encoder ≡ narrowed_by l.fn.encoder (blocks_part l.layout l.parent l.values (marks_of l.layout l.values l.cy) l.cy l.cx)
+invariant-across l = l.encoder ≡ narrowed_by l.fn.encoder (blocks_part l.layout l.parent l.values (marks_of l.layout l.index l.values l.indices l.cy) l.cy l.cx)

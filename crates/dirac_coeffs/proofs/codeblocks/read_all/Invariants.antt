@@ -1,11 +1,12 @@
 use Rattle.std.proofs.Common.{◌≡◌, ◌+◌, ◌*◌, ◌≤◌, length, Ok}
-use Rattle.dirac_coeffs.specs.BandRead.{progress, block_rows_step}
+use Rattle.dirac_coeffs.specs.BandRead.{band_progress, block_rows_step}
 use Rattle.dirac_coeffs.proofs.codeblocks.read_all.Given as goal
 
 abbrev pub invariant-down : goal.invariant-down
 invariant-down l =
     record {
-      value : block_rows_step l.layout l.parent l.cy (progress l.fn.values l.fn.decoder) ≡ Ok (progress l.values l.decoder);
+      value : block_rows_step l.layout l.parent l.index l.cy (band_progress l.fn.values l.fn.indices l.fn.decoder) ≡ Ok (band_progress l.values l.indices l.decoder);
       len : length l.values ≡ length l.fn.values;
-      few : l.decoder.at.doublings ≤ (9 * 8192 + 702 * 8192 * 8192) * l.cy;
+      count : length l.indices ≡ length l.fn.indices;
+      few : l.decoder.at.doublings ≤ (711 * 8192 + 702 * 8192 * 8192) * l.cy;
     }

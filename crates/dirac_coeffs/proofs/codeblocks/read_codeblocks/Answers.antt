@@ -1,5 +1,5 @@
 use Rattle.std.proofs.Common.{◌+◌, ◌∙◌, arith, refl}
-use Rattle.dirac_coeffs.specs.BandRead.{progress, block_step}
+use Rattle.dirac_coeffs.specs.BandRead.{band_progress, block_step}
 use Rattle.dirac_coeffs.proofs.Edges.{edge_most, span_end}
 use Rattle.dirac_coeffs.proofs.Repeating.{repeated_none, repeated_next, repeated_stops}
 use Rattle.dirac_coeffs.proofs.codeblocks.read_codeblocks.Goals as goal
@@ -7,8 +7,9 @@ use Rattle.dirac_coeffs.proofs.codeblocks.read_codeblocks.Goals as goal
 pub across-init : goal.across-init
 across-init c =
     record {
-      value = repeated_none (block_step c.args.layout c.args.parent.now c.args.cy) (progress c.args.values.now c.args.decoder.now);
+      value = repeated_none (block_step c.args.layout c.args.parent.now c.args.index c.args.cy) (band_progress c.args.values.now c.args.indices.now c.args.decoder.now);
       len = refl;
+      count = refl;
       few = omega arith;
     }
 
@@ -16,14 +17,15 @@ pub across-preserved : goal.across-preserved
 across-preserved c =
     record {
       value =
-          repeated_next (block_step c.args.layout c.args.parent.now c.args.cy) c.across.cx (progress c.args.values.now c.args.decoder.now) (progress c.across.values c.across.decoder) _ c.across.invariant.value c.in-Ok.ensures.value;
+          repeated_next (block_step c.args.layout c.args.parent.now c.args.index c.args.cy) c.across.cx (band_progress c.args.values.now c.args.indices.now c.args.decoder.now) (band_progress c.across.values c.across.indices c.across.decoder) _ c.across.invariant.value c.in-Ok.ensures.value;
       len = c.read_codeblock.ensures.len ∙ c.across.invariant.len;
+      count = c.read_codeblock.ensures.count ∙ c.across.invariant.count;
       few = omega (arith, c.read_codeblock.ensures.few_doublings, c.across.invariant.few, span_end c.args.layout.width c.args.layout.across c.across.cx (omega arith));
     }
 
 pub returns-in-Err-clause-value : goal.returns-in-Err-clause-value
 returns-in-Err-clause-value c =
-    repeated_stops (block_step c.args.layout c.args.parent.now c.args.cy) c.across.cx c.args.layout.across (progress c.args.values.now c.args.decoder.now) (progress c.across.values c.across.decoder) c.in-Err.cause (omega arith) c.across.invariant.value c.in-Err.ensures.value
+    repeated_stops (block_step c.args.layout c.args.parent.now c.args.index c.args.cy) c.across.cx c.args.layout.across (band_progress c.args.values.now c.args.indices.now c.args.decoder.now) (band_progress c.across.values c.across.indices c.across.decoder) c.in-Err.cause (omega arith) c.across.invariant.value c.in-Err.ensures.value
 
 pub returns-in-Err-clause-few_doublings : goal.returns-in-Err-clause-few_doublings
 returns-in-Err-clause-few_doublings c =

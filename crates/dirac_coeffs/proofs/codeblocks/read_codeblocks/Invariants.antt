@@ -1,12 +1,13 @@
 use Rattle.std.proofs.Common.{◌≡◌, ◌+◌, ◌*◌, ◌≤◌, length, Ok}
 use Rattle.dirac_bands.specs.Geometry.{edge_of}
-use Rattle.dirac_coeffs.specs.BandRead.{progress, blocks_step}
+use Rattle.dirac_coeffs.specs.BandRead.{band_progress, blocks_step}
 use Rattle.dirac_coeffs.proofs.codeblocks.read_codeblocks.Given as goal
 
 abbrev pub invariant-across : goal.invariant-across
 invariant-across l =
     record {
-      value : blocks_step l.layout l.parent l.cy l.cx (progress l.fn.values l.fn.decoder) ≡ Ok (progress l.values l.decoder);
+      value : blocks_step l.layout l.parent l.index l.cy l.cx (band_progress l.fn.values l.fn.indices l.fn.decoder) ≡ Ok (band_progress l.values l.indices l.decoder);
       len : length l.values ≡ length l.fn.values;
-      few : l.decoder.at.doublings ≤ l.fn.decoder.at.doublings + 9 * l.cx + 702 * 8192 * edge_of l.layout.width l.layout.across l.cx;
+      count : length l.indices ≡ length l.fn.indices;
+      few : l.decoder.at.doublings ≤ l.fn.decoder.at.doublings + 711 * l.cx + 702 * 8192 * edge_of l.layout.width l.layout.across l.cx;
     }

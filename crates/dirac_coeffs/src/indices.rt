@@ -1,0 +1,87 @@
+ghost use Rattle.std.specs.Prelude.{◌≡◌, ◌*◌, ◌<◌, length, replicate, slice_set, IfOk};
+ghost use Rattle.dirac_coeffs.specs.Indices as spec;
+ghost use Rattle.dirac_coeffs.specs.Layouts.{IsBandLayout};
+
+use crate::layout::BandLayout;
+use dirac_types::NoMemory;
+use std::alloc::Global;
+use std::marker::Model;
+
+/// The follow context of the offset of a codeblock's quantiser index.
+pub const OFFSET_FOLLOW: [u8; 1] = [19];
+
+/// The digits of such an offset.
+pub const OFFSET_DIGITS: u8 = 20;
+
+/// The sign of such an offset.
+pub const OFFSET_SIGN: u8 = 21;
+
+/// The quantiser indices of a subband's codeblocks, by rows.
+///
+/// It is seen as a list.
+#[derive(Debug, Drop)]
+pub struct Indices {
+    list: Vec<u8>,
+}
+
+impl Model for Indices {
+    ghost use Rattle.std.specs.Prelude.{ℕ, List};
+
+    ghost Value = { List ℕ };
+
+    ghost view = { λ i. i.list.items };
+}
+
+impl Indices {
+    /// So many codeblocks, all of this index.
+    pub fn try_new(alloc: Global, count: u32, value: u8) -> Result<Indices, NoMemory>
+        ensures { IfOk result (λ i. i ≡ replicate count value) }
+    {
+        Ok(Indices {
+            list: vec![in alloc; value; count as usize]?,
+        })
+    }
+
+    /// The index of codeblock `c`, counted from 0.
+    pub fn at(&self, c: u32) -> u8
+        requires { c < length self.now }
+        ensures { result ≡ spec.index_at self.now c }
+    {
+        self.list[c as usize]
+    }
+
+    /// Changes the index of codeblock `c`.
+    pub fn set(&mut self, c: u32, value: u8)
+        requires { c < length self.old }
+        ensures { self.new ≡ slice_set self.old c value }
+    {
+        self.list[c as usize] = value;
+    }
+}
+
+/// The indices of a band's codeblocks that are all its own.
+pub fn equal_indices(alloc: Global, layout: BandLayout, index: u8) -> Result<Indices, NoMemory>
+    requires { IsBandLayout layout }
+    ensures { IfOk result (λ i. i ≡ spec.all_equal layout index) }
+{
+    Indices::try_new(alloc, layout.across * layout.down, index)
+}
+
+/// The place of codeblock `cx` of row `cy` among all.
+pub fn codeblock_place(layout: BandLayout, cy: u32, cx: u32) -> u32
+    requires layout { IsBandLayout layout }
+    requires row { cy < layout.down }
+    requires column { cx < layout.across }
+    ensures value { result ≡ spec.place_of layout cy cx }
+    ensures inside { result < layout.across * layout.down }
+{
+    cy * layout.across + cx
+}
+
+/// The index of the codeblock before codeblock `c`; before the first one the band's holds.
+pub fn former_index(indices: &Indices, index: u8, c: u32) -> u8
+    requires { c < length indices.now }
+    ensures { result ≡ spec.index_before index indices.now c }
+{
+    if c == 0 { index } else { indices.at(c - 1) }
+}

@@ -1,0 +1,107 @@
+ghost use Rattle.std.specs.Prelude.{◌≡◌, ℤ, pos, ◌+◌, ◌-◌, ◌+ℤ◌, ◌*◌, ◌^◌, ◌<◌, ◌≤◌, true, List, length, unsigned_abs};
+ghost use Rattle.dirac_arith.specs.Deciding.{Gives};
+ghost use Rattle.dirac_coeffs.specs.Answers.{Moves};
+ghost use Rattle.dirac_coeffs.specs.BandRead.{band_progress, offset_step};
+ghost use Rattle.dirac_coeffs.specs.Indices as spec;
+ghost use Rattle.dirac_coeffs.specs.Layouts.{IsBandLayout};
+
+use crate::indices::{
+    Indices, OFFSET_DIGITS, OFFSET_FOLLOW, OFFSET_SIGN, codeblock_place, former_index,
+};
+use crate::layout::BandLayout;
+use dirac_arith::Decoder;
+use dirac_types::{Cause, LARGEST_INDEX};
+
+/// An index and an offset.
+fn sum_of(former: u8, offset: i64) -> i64
+    requires { unsigned_abs offset < 2 ^ 39 - 1 }
+    ensures { result ≡ pos former +ℤ offset }
+{
+    i64::from(former) + offset
+}
+
+/// Whether a sum is the index of a quantiser.
+fn is_index(sum: i64) -> bool
+    ensures { result ≡ spec.is_index sum }
+{
+    0 <= sum && sum <= i64::from(LARGEST_INDEX)
+}
+
+/// A sum as the index that it is.
+#[tactic(auto, using(crate::proofs::OffsetsRead::index_few))]
+fn as_index(sum: i64) -> u8
+    requires { spec.is_index sum ≡ true }
+    ensures { result ≡ unsigned_abs sum }
+{
+    sum.unsigned_abs() as u8
+}
+
+/// Reads an index as an offset from a former one.
+fn read_index(decoder: &mut Decoder<'_>, former: u8) -> Result<u8, Cause>
+    requires no_overflow { decoder.old.at.doublings < 2 ^ 61 }
+    ensures value { Gives result decoder.new (spec.index_read former decoder.old) }
+    ensures few_doublings { decoder.new.at.doublings ≤ decoder.old.at.doublings + 702 }
+{
+    match decoder.signed(&OFFSET_FOLLOW, OFFSET_DIGITS, OFFSET_SIGN) {
+        Ok(offset) => {
+            let sum = sum_of(former, offset);
+            if is_index(sum) {
+                Ok(as_index(sum))
+            } else {
+                Err(Cause::QuantIndex)
+            }
+        }
+        Err(cause) => Err(cause),
+    }
+}
+
+/// Reads the offset of the index of codeblock `cx` of row `cy`, where the mode has one, and notes the index.
+#[tactic(auto, unfolding(crate::specs::BandRead::offset_step))]
+pub fn read_offset(
+    decoder: &mut Decoder<'_>,
+    indices: &mut Indices,
+    layout: BandLayout,
+    index: u8,
+    cy: u32,
+    cx: u32,
+) -> Result<(), Cause>
+    requires layout { IsBandLayout layout }
+    requires row { cy < layout.down }
+    requires column { cx < layout.across }
+    requires count { length indices.old ≡ layout.across * layout.down }
+    requires no_overflow { decoder.old.at.doublings < 2 ^ 61 }
+    ensures value { (xs : List ℤ) → Moves result (band_progress xs indices.new decoder.new) (offset_step layout.mode
+        index (spec.place_of layout cy cx) (band_progress xs indices.old decoder.old)) }
+    ensures count { length indices.new ≡ length indices.old }
+    ensures few_doublings { decoder.new.at.doublings ≤ decoder.old.at.doublings + 702 }
+{
+    if layout.mode == 0 {
+        return Ok(());
+    }
+    let c = codeblock_place(layout, cy, cx);
+    let former = former_index(indices, index, c);
+    match read_index(decoder, former) {
+        Ok(next) => {
+            indices.set(c, next);
+            Ok(())
+        }
+        Err(cause) => Err(cause),
+    }
+}
+
+/// Notes that a skipped codeblock has the index of the one before it, which in mode 0 it has already.
+pub fn note_former(indices: &mut Indices, layout: BandLayout, index: u8, cy: u32, cx: u32)
+    requires layout { IsBandLayout layout }
+    requires row { cy < layout.down }
+    requires column { cx < layout.across }
+    requires count { length indices.old ≡ layout.across * layout.down }
+    ensures value { indices.new ≡ spec.with_former layout.mode index (spec.place_of layout cy cx) indices.old }
+    ensures count { length indices.new ≡ length indices.old }
+{
+    if layout.mode == 0 {
+        return;
+    }
+    let c = codeblock_place(layout, cy, cx);
+    let former = former_index(indices, index, c);
+    indices.set(c, former);
+}
