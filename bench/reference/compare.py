@@ -549,7 +549,7 @@ def expected_of_words(words):
 def make_word_list(source):
     command = "encode"
     if source.random() < 0.07:
-        command = source.choice(["list", "decode", "make", "make", "", "Encode", "encode ", "join"])
+        command = source.choice(["list", "decode", "make", "make", "", "Encode", "encode ", "joins"])
     words = [command] + [random_word(source) for _ in range(source.choice([0, 1, 2, 3, 5, 8, 25]))]
     if command == "make":
         # pictures of any size take the plain encoder too long: none is made, or too many

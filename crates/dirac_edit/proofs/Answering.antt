@@ -26,7 +26,7 @@ pub nothing_in_front : (out : Option (List ℕ)) (bytes : List ℕ) → AppendsF
 nothing_in_front out bytes = ([], bytes, refl, Appends-nil out)
 
 -- the reading stopped
-stopped_by : (answer : Edited) (refusal : Option Edited) (bytes : List ℕ) (out : Option (List ℕ)) → StopsReading answer → AnswersEdit answer refusal bytes out out
+pub stopped_by : (answer : Edited) (refusal : Option Edited) (bytes : List ℕ) (out : Option (List ℕ)) → StopsReading answer → AnswersEdit answer refusal bytes out out
 stopped_by edited.Done refusal bytes out stops = absurd stops
 stopped_by (edited.Fault fault) refusal bytes out stops = absurd stops
 stopped_by (edited.NoSuchPoint n) refusal bytes out stops = absurd stops

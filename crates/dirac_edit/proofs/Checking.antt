@@ -24,7 +24,7 @@ use Rattle.dirac_edit.proofs.Keeping.{part_kept}
 use Rattle.dirac_edit.proofs.Opening.{open_is}
 
 -- a stream without a fault is cut to its lawful end
-ends_well : (units : List UnitText) (state : StreamState) (unit_place : UnitPlace) (end : Option Fault) → (outcome state unit_place units end).end ≡ None → end ≡ None
+pub ends_well : (units : List UnitText) (state : StreamState) (unit_place : UnitPlace) (end : Option Fault) → (outcome state unit_place units end).end ≡ None → end ≡ None
 unfolding outcome
 ends_well [] state unit_place end none = none
 ends_well (u ∷ units) state unit_place end none =

@@ -3,6 +3,12 @@ pub mod Going
 pub mod Written
 pub mod Texts
 pub mod Keeping
+pub mod Merging
+pub mod Numbered
+pub mod Placed
+pub mod Stepping
 pub mod Opening
 pub mod Checking
+pub mod Adding
 pub mod Answering
+pub mod Joined

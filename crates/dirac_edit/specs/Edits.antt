@@ -5,8 +5,10 @@ use Rattle.std.specs.Io.KnownBytes.{Appends, Keeps}
 use Rattle.dirac_types.specs.declared.faults.Fault.{Fault}
 use Rattle.dirac_io.specs.Writing.{AppendsFront}
 use Rattle.dirac_units.specs.Cut.{UnitText}
+use Rattle.dirac_decode.specs.Raw.{raws}
 use Rattle.dirac_decode.specs.Shown.{IsShown, Outcome}
 use Rattle.dirac_edit_laws.specs.Cut.{cut_bytes, end_point, open_cut, part_shown, wrong_point}
+use Rattle.dirac_edit_laws.specs.Joined.{joined_bytes}
 use Rattle.dirac_edit_laws.specs.Laws.{ShowsJust}
 use Rattle.dirac_edit_laws.specs.Texts.{points_of}
 use Rattle.dirac_edit.specs.declared.answers.Edited.{Edited}
@@ -57,3 +59,29 @@ IfUnwritten (edited.OpenCut n) P = P
 IfUnwritten edited.ReadFault P = P
 IfUnwritten edited.WriteFault P = ⊤
 IfUnwritten edited.NoMemory P = ⊤
+
+-- why a joining is refused: the first fault of the stream
+abbrev pub join_refusal : Option Fault → Option Edited
+join_refusal fault = option_map edited.Fault fault
+
+-- the answer and what was written are those of the joining of these bytes
+abbrev pub IsJoinedBy : List ℕ → Edited → Option (List ℕ) → Option (List ℕ) → Type 0
+IsJoinedBy bytes answer out out' =
+    (o : Outcome) × (stream : IsShown bytes o)
+    × AnswersEdit answer (join_refusal o.end) (joined_bytes stream.units) out out'
+
+-- these bytes, joined, have no fault, and show the raw pictures of these bytes, in order
+abbrev pub ShowsSame : List ℕ → Type 0
+ShowsSame bytes =
+    (o : Outcome) × (stream : IsShown bytes o) × (o' : Outcome) × IsShown (joined_bytes stream.units) o'
+    × (raws o'.shown ≡ raws o.shown) × (o'.end ≡ None)
+
+-- the answers of a joining
+abbrev pub IsJoinAnswer : Edited → Type 0
+IsJoinAnswer edited.Done = ⊤
+IsJoinAnswer (edited.Fault fault) = ⊤
+IsJoinAnswer (edited.NoSuchPoint n) = ⊥
+IsJoinAnswer (edited.OpenCut n) = ⊥
+IsJoinAnswer edited.ReadFault = ⊤
+IsJoinAnswer edited.WriteFault = ⊤
+IsJoinAnswer edited.NoMemory = ⊤

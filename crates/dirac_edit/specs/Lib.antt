@@ -3,3 +3,4 @@ pub mod Edits
 pub mod Steps
 pub mod Units
 pub mod Kept
+pub mod Merged

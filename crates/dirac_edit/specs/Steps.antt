@@ -4,10 +4,10 @@ use Rattle.std.specs.Prelude.{◌≡◌, ℕ, List, Option, None, Some, ⊤}
 use Rattle.dirac_units.specs.Cut.{UnitText}
 use Rattle.dirac_decode.specs.Shown.{IsShown, Outcome}
 use Rattle.dirac_edit_laws.specs.Cut.{end_point, part_of}
-use Rattle.dirac_edit_laws.specs.Texts.{SequenceText, points_of, with_pictures}
+use Rattle.dirac_edit_laws.specs.Texts.{SequenceText, points_of, sequences, with_pictures}
 use Rattle.dirac_edit.specs.declared.answers.Edited.{Edited}
 use Rattle.dirac_edit.specs.declared.answers.Edited.TheVariants as edited
-use Rattle.dirac_edit.specs.Edits.{ShowsPart, cut_refusal}
+use Rattle.dirac_edit.specs.Edits.{ShowsPart, ShowsSame, cut_refusal, join_refusal}
 
 -- the answers of a reading that stopped
 abbrev pub StopsReading : Edited → Type 0
@@ -59,3 +59,17 @@ pub record RefusesCut (bytes : List ℕ) (from : ℕ) (to : Option ℕ) (answer 
   pub outcome : Outcome
   pub stream : IsShown bytes outcome
   pub reason : IsReason answer (cut_refusal outcome.end stream.units from to)
+
+-- these bytes have no fault and show the same when they're joined, and these are their sequences
+pub record IsWhole (bytes : List ℕ) (all : List SequenceText) : Type 0 where
+  pub outcome : Outcome
+  pub stream : IsShown bytes outcome
+  pub allowed : join_refusal outcome.end ≡ None
+  pub shows : ShowsSame bytes
+  pub same : all ≡ sequences stream.units
+
+-- a joining of these bytes is refused by this answer, or memory was wanting
+pub record RefusesJoin (bytes : List ℕ) (answer : Edited) : Type 0 where
+  pub outcome : Outcome
+  pub stream : IsShown bytes outcome
+  pub reason : IsReason answer (join_refusal outcome.end)

@@ -8,7 +8,11 @@ mod answers;
 mod bounds;
 mod check;
 mod cut;
+mod join;
+mod joining;
+mod keys;
 mod lent;
+mod numbers;
 mod open;
 mod part;
 mod reading;
@@ -18,3 +22,4 @@ mod writing;
 
 pub use answers::Edited;
 pub use cut::cut_stream;
+pub use join::join_stream;

@@ -3,6 +3,7 @@ pub mod Closed
 pub mod Cutting
 pub mod EncodedCut
 pub mod EncodedMade
+pub mod EncodedPoints
 pub mod Grouping
 pub mod Joining
 pub mod Keys

@@ -8,6 +8,7 @@ use Rattle.dirac_stream.specs.Laws.{AreSources}
 use Rattle.dirac_stream.specs.Stream.{stream_units}
 use Rattle.dirac_edit_laws.specs.Cut.{cut_bytes, open_cut}
 use Rattle.dirac_edit_laws.specs.Laws.{ShowsJust}
+use Rattle.dirac_edit_laws.specs.Texts.{points_of}
 
 -- of these pictures, by number, those of the groups from a up to, and without, b
 abbrev pub of_groups : Settings → ℕ → ℕ → List Picture → List Picture
@@ -20,3 +21,9 @@ EncodedCutsShowTheirGroups =
     → b ≤ group_count t (length pictures)
     → (open_cut (stream_units t pictures) a b ≡ None)
     × ShowsJust (cut_bytes (stream_units t pictures) a b) (of_groups t a b (reconstructions t pictures))
+
+-- the encoder's stream has a point for each group, whatever the pictures and the settings
+abbrev pub EncodedStreamsHaveAPointAGroup : Type 0
+EncodedStreamsHaveAPointAGroup =
+    (t : Settings) (pictures : List Picture)
+    → points_of (stream_units t pictures) ≡ group_count t (length pictures)

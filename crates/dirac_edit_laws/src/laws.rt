@@ -1,7 +1,7 @@
 //! What holds of all parts and of all joined sequences, as the contracts of functions that do nothing.
 
 ghost use Rattle.dirac_edit_laws.specs.Alike.{ClosedPicturesAreAlike, PicturesOfPartsAreOfTheWhole};
-ghost use Rattle.dirac_edit_laws.specs.Encoded.{EncodedCutsShowTheirGroups};
+ghost use Rattle.dirac_edit_laws.specs.Encoded.{EncodedCutsShowTheirGroups, EncodedStreamsHaveAPointAGroup};
 ghost use Rattle.dirac_edit_laws.specs.Laws.{ClosedPartsShowTheWhole, CutsShowTheirParts, JoinedStreamsShowTheSame, PartsBeginAnywhere, UnitsShowTheirSequences};
 ghost use Rattle.dirac_edit_laws.specs.Later.{GreaterKeysLeaveLater};
 ghost use Rattle.dirac_edit_laws.specs.Numbers.{NumbersHaveTheirKeys};
@@ -82,3 +82,8 @@ pub fn encoded_cuts_show_their_groups()
     plans_can_be_coded();
     streams_show_their_pictures();
 }
+
+/// The encoder's stream has a point for each group of its pictures.
+pub fn encoded_streams_have_a_point_a_group()
+    ensures { EncodedStreamsHaveAPointAGroup }
+{}

@@ -4,9 +4,11 @@ use Rattle.std.specs.Prelude.{⊤}
 use Rattle.dirac_edit.specs.declared.answers.Edited.{Edited}
 use Rattle.dirac_edit.specs.declared.answers.Edited.TheVariants as edited
 use Rattle.dirac_edit.specs.Edits.{IfUnwritten}
+use Rattle.dirac_edit.specs.Edits as edits
 use Rattle.dirac_tool.specs.declared.ended.Ended.{Ended}
 use Rattle.dirac_tool.specs.declared.ended.Ended.TheVariants as ended
 use Rattle.dirac_tool.specs.Cutting.{IfUnwrittenBy, IsCutAnswer, ended_of}
+use Rattle.dirac_tool.specs.Joining.{IsJoinAnswer}
 
 pub is_answer : (how : Edited) → IsCutAnswer (ended_of how)
 is_answer edited.Done = tt
@@ -52,3 +54,12 @@ write_by (edited.OpenCut n) is = cc
 write_by edited.ReadFault is = cc
 write_by edited.WriteFault is = refl
 write_by edited.NoMemory is = cc
+
+pub is_join_answer : (how : Edited) → edits.IsJoinAnswer how → IsJoinAnswer (ended_of how)
+is_join_answer edited.Done is = tt
+is_join_answer (edited.Fault fault) is = tt
+is_join_answer (edited.NoSuchPoint n) is = absurd is
+is_join_answer (edited.OpenCut n) is = absurd is
+is_join_answer edited.ReadFault is = tt
+is_join_answer edited.WriteFault is = tt
+is_join_answer edited.NoMemory is = tt

@@ -10,5 +10,6 @@ pub mod Encoding
 pub mod Making
 pub mod Unmade
 pub mod Cutting
+pub mod Joining
 pub mod Running
 pub mod Workers

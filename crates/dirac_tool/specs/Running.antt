@@ -15,6 +15,7 @@ use Rattle.dirac_tool.specs.declared.words.WordsStop.TheVariants.{Usage}
 use Rattle.dirac_tool.specs.Cutting.{Cuts}
 use Rattle.dirac_tool.specs.Decoding.{IsDecoded, IsDecodeAnswer, TellsFew}
 use Rattle.dirac_tool.specs.Encoding.{IsEncoded, IsEncodeAnswer}
+use Rattle.dirac_tool.specs.Joining.{Joins}
 use Rattle.dirac_tool.specs.Listing.{IsListed, IsListAnswer}
 use Rattle.dirac_tool.specs.Making.{AnswersMake, first_bad_for_make}
 use Rattle.dirac_tool.specs.Workers.{bad_workers}
@@ -95,6 +96,8 @@ RunsTo (Ok (command.Cut from to)) old new answer =
     Cuts from to old.held new.held old.out new.out answer × (new.side ≡ old.side)
 RunsTo (Ok (command.Rate t budget)) old new answer =
     RatesUnless (first_bad_for_rate t budget) t budget old new answer
+RunsTo (Ok command.Join) old new answer =
+    Joins old.held new.held old.out new.out answer × (new.side ≡ old.side)
 
 -- the first setting that is out of its range, where the words fit a command with settings
 abbrev pub bad_setting : Result Command WordsStop → Option BadSetting

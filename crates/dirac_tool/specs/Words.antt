@@ -67,6 +67,7 @@ command_read (word ∷ words) =
     else if bytes_eq word (codes "pardecode") then pardecode_read words
     else if bytes_eq word (codes "cut") then cut_read words
     else if bytes_eq word (codes "rate") then rate_read words
+    else if bytes_eq word (codes "join") then alone command.Join words
     else Err (Usage 0)
 
 -- the path that these words give, where all settings are in their ranges

@@ -28,7 +28,7 @@ pub fn cut<S: Source, K: Sink>(
 }
 
 /// How a run ends that edits a stream.
-fn ended_of(edited: Edited) -> Ended
+pub(crate) fn ended_of(edited: Edited) -> Ended
     ensures { result ≡ ended_by edited }
 {
     match edited {

@@ -8,7 +8,7 @@ use std::test::Fail;
 use std::thread::Threads;
 
 // Runs words over bytes in pieces, and compares the answer and what came out.
-fn writes<R: Abort + Threads + Sync>(
+pub(crate) fn writes<R: Abort + Threads + Sync>(
     rt: &R,
     alloc: Global,
     words: &[&str],

@@ -16,6 +16,9 @@ mod ended;
 mod fault_tests;
 #[cfg(test)]
 mod inter_tests;
+mod join;
+#[cfg(test)]
+mod join_tests;
 mod line;
 mod list;
 mod make;

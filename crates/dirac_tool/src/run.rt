@@ -11,6 +11,7 @@ use crate::cut::cut;
 use crate::decode::{check_workers, decode};
 use crate::encode::encode;
 use crate::ended::Ended;
+use crate::join::join;
 use crate::list::list;
 use crate::make::{check_make, make};
 use crate::rate::{check_rate, rate};
@@ -54,6 +55,8 @@ pub fn run<R: Threads + Sync, S: Source, K: Sink, N: Sink, G: RowGate>(
     // What is refused is refused before anything is written, also where the sink tells no bytes.
     ensures cut_untouched { (from : ℕ) (to : Option ℕ) → command_read words.now ≡ Ok (Command.Cut from to)
         → IfUnwrittenBy result (out.new ≡ out.old) }
+    ensures join_side { command_read words.now ≡ Ok Command.Join → side.new ≡ side.old }
+    ensures join_untouched { command_read words.now ≡ Ok Command.Join → IfUnwrittenBy result (out.new ≡ out.old) }
 
     // A fault of the outside comes only where its count rose in this call.
     ensures read { result ≡ Ended.ReadFault → Rose (S.faults source.old) (S.faults source.new) }
@@ -84,5 +87,6 @@ pub fn run<R: Threads + Sync, S: Source, K: Sink, N: Sink, G: RowGate>(
             Ok(()) => rate(rt, alloc, source, out, side, &settings, budget, gate),
             Err(bad) => Ended::BadSettings(bad),
         },
+        Ok(Command::Join) => join(alloc, source, out),
     }
 }

@@ -66,6 +66,8 @@ pub enum Command {
     Cut(u64, Option<u64>),
     /// Encodes raw pictures, so that each picture's unit has at most so many bytes.
     Rate(Settings, u32),
+    /// Joins the sequences of a stream.
+    Join,
 }
 
 /// Why words aren't run.
@@ -75,7 +77,7 @@ pub enum WordsStop {
     Usage(u32),
 }
 
-/// Reads the words: the first is the command. A command that isn't built doesn't fit. `list` and `decode` take
+/// Reads the words: the first is the command. A command that isn't built doesn't fit. `list`, `decode` and `join` take
 /// no further word, `encode` its settings and the path of its reconstructions, in any order, `make` its settings and
 /// the number of pictures, `pardecode` the number of workers, `cut` its points, and `rate` the words of `encode` and a
 /// budget.
@@ -99,6 +101,8 @@ pub fn read_words(words: &Words) -> Result<Command, WordsStop>
         cut(others)
     } else if first.as_str() == "rate" {
         rate(others)
+    } else if first.as_str() == "join" {
+        alone(Command::Join, others)
     } else {
         Err(WordsStop::Usage(0))
     }
@@ -186,6 +190,7 @@ pub fn recon_path(words: &Words) -> Option<&str>
         Ok(Command::Make(_, _)) => None,
         Ok(Command::Pardecode(_)) => None,
         Ok(Command::Cut(_, _)) => None,
+        Ok(Command::Join) => None,
         Err(_) => None,
     }
 }

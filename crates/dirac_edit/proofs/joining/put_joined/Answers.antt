@@ -1,0 +1,88 @@
+use Rattle.std.proofs.Common.{◌≡◌, ◌∙◌, ◌<◌, ◌==◌, ℕ, false, true, ap, arith, length, refl, subst, sym}
+use Rattle.std.proofs.lemmas.Bool.{eqb-false, eqb-true}
+use Rattle.std.specs.Io.KnownBytes.{Appends}
+use Rattle.dirac_io.specs.Writing.{AppendsFront}
+use Rattle.dirac_stream.specs.Stream.{end_unit}
+use Rattle.dirac_edit_laws.specs.Joined.{bare, bytes_or_bare, joined}
+use Rattle.dirac_edit.proofs.Stepping.{here_bare, here_ended, here_first, here_next, here_passed, here_stopped}
+use Rattle.dirac_edit.proofs.Written.{all_written, last_part_written}
+use Rattle.dirac_edit.proofs.joining.put_joined.Goals as goal
+
+pub returns-in-Failed-clause-front : goal.returns-in-Failed-clause-front
+returns-in-Failed-clause-front g c =
+    let t = c.sequence-item.result in
+    let filled : (length c.pictures.result.now == 0) ≡ false = sym c.is_empty.ensures ∙ c.if-is_empty.false in
+    let some : 0 < length t.pictures = omega (arith, eqb-false (length c.pictures.result.now) 0 filled, ap length c.pictures.ensures) in
+    here_stopped c.args.sequences.now c.loop-sequence.progress c.loop-sequence.sequence-index t (g.K.Sink.taken c.args.out.now) (g.K.Sink.taken c.loop-sequence.out) (g.K.Sink.taken c.put.new.out)
+    c.loop-sequence.invariant.here c.loop-sequence-test.true c.sequence-item.is some c.put.ensures.numbered c.in-Failed.ensures.front
+
+pub returns-in-NoMemory-clause-front : goal.returns-in-NoMemory-clause-front
+returns-in-NoMemory-clause-front g c =
+    let t = c.sequence-item.result in
+    let filled : (length c.pictures.result.now == 0) ≡ false = sym c.is_empty.ensures ∙ c.if-is_empty.false in
+    let some : 0 < length t.pictures = omega (arith, eqb-false (length c.pictures.result.now) 0 filled, ap length c.pictures.ensures) in
+    here_stopped c.args.sequences.now c.loop-sequence.progress c.loop-sequence.sequence-index t (g.K.Sink.taken c.args.out.now) (g.K.Sink.taken c.loop-sequence.out) (g.K.Sink.taken c.put.new.out)
+    c.loop-sequence.invariant.here c.loop-sequence-test.true c.sequence-item.is some c.put.ensures.numbered c.in-NoMemory.ensures.front
+
+pub loop-sequence-init : goal.loop-sequence-init
+loop-sequence-init g c = record {
+  here = here_first c.args.sequences.now c.new-progress.result (g.K.Sink.taken c.args.out.now) c.new-progress.ensures;
+  count = omega arith;
+}
+
+pub loop-sequence-preserved : goal.loop-sequence-preserved
+loop-sequence-preserved g c =
+    let t = c.sequence-item.result in
+    let filled : (length c.pictures.result.now == 0) ≡ false = sym c.is_empty.ensures ∙ c.if-is_empty.false in
+    let some : 0 < length t.pictures = omega (arith, eqb-false (length c.pictures.result.now) 0 filled, ap length c.pictures.ensures) in
+    record {
+      here = here_next c.args.sequences.now c.loop-sequence.progress c.put.new.self c.loop-sequence.sequence-index t (g.K.Sink.taken c.args.out.now) (g.K.Sink.taken c.loop-sequence.out) (g.K.Sink.taken c.put.new.out)
+          c.loop-sequence.invariant.here c.loop-sequence-test.true c.sequence-item.is some c.put.ensures.numbered (c.in-All.ensures.behind refl) (c.in-All.ensures.all refl);
+      count = omega (arith, c.loop-sequence.invariant.count, c.put.ensures.count);
+    }
+
+pub loop-sequence-preserved-then-is_empty : goal.loop-sequence-preserved-then-is_empty
+loop-sequence-preserved-then-is_empty g c =
+    let t = c.sequence-item.result in
+    let empty : (length c.pictures.result.now == 0) ≡ true = sym c.is_empty.ensures ∙ c.if-is_empty.true in
+    let none : length t.pictures ≡ 0 = sym (ap length c.pictures.ensures) ∙ eqb-true (length c.pictures.result.now) 0 empty in
+    record {
+      here = here_passed c.args.sequences.now c.loop-sequence.progress c.loop-sequence.sequence-index t (g.K.Sink.taken c.args.out.now) (g.K.Sink.taken c.loop-sequence.out) c.loop-sequence.invariant.here c.loop-sequence-test.true c.sequence-item.is none;
+      count = c.loop-sequence.invariant.count;
+    }
+
+pub returns-then-is_bare-clause-all : goal.returns-then-is_bare-clause-all
+returns-then-is_bare-clause-all g c all =
+    let sequences = c.args.sequences.now in
+    let out0 = g.K.Sink.taken c.args.out.now in
+    let out = g.K.Sink.taken c.loop-sequence.out in
+    all_written (bytes_or_bare sequences (joined sequences)) (bare sequences) out0 out (g.K.Sink.taken c.put_bare.new.out)
+    (here_bare sequences c.loop-sequence.progress c.loop-sequence.sequence-index out0 out c.loop-sequence-test.false (sym c.is_bare.ensures ∙ c.if-is_bare.true) c.loop-sequence.invariant.here)
+    (c.put_bare.ensures.all all)
+
+pub returns-then-is_bare-clause-front : goal.returns-then-is_bare-clause-front
+returns-then-is_bare-clause-front g c =
+    let sequences = c.args.sequences.now in
+    let out0 = g.K.Sink.taken c.args.out.now in
+    let out = g.K.Sink.taken c.loop-sequence.out in
+    last_part_written (bytes_or_bare sequences (joined sequences)) (bare sequences) out0 out (g.K.Sink.taken c.put_bare.new.out)
+    (here_bare sequences c.loop-sequence.progress c.loop-sequence.sequence-index out0 out c.loop-sequence-test.false (sym c.is_bare.ensures ∙ c.if-is_bare.true) c.loop-sequence.invariant.here)
+    c.put_bare.ensures.front
+
+pub returns-clause-all : goal.returns-clause-all
+returns-clause-all g c all =
+    let sequences = c.args.sequences.now in
+    let out0 = g.K.Sink.taken c.args.out.now in
+    let out = g.K.Sink.taken c.loop-sequence.out in
+    all_written (bytes_or_bare sequences (joined sequences)) (end_unit c.loop-sequence.progress.previous) out0 out (g.K.Sink.taken c.put_end.new.out)
+    (here_ended sequences c.loop-sequence.progress c.loop-sequence.sequence-index out0 out c.loop-sequence-test.false (sym c.is_bare.ensures ∙ c.if-is_bare.false) c.loop-sequence.invariant.here)
+    (subst (λ (n : ℕ). Appends out (g.K.Sink.taken c.put_end.new.out) (end_unit n)) c.previous.ensures (c.put_end.ensures.all all))
+
+pub returns-clause-front : goal.returns-clause-front
+returns-clause-front g c =
+    let sequences = c.args.sequences.now in
+    let out0 = g.K.Sink.taken c.args.out.now in
+    let out = g.K.Sink.taken c.loop-sequence.out in
+    last_part_written (bytes_or_bare sequences (joined sequences)) (end_unit c.loop-sequence.progress.previous) out0 out (g.K.Sink.taken c.put_end.new.out)
+    (here_ended sequences c.loop-sequence.progress c.loop-sequence.sequence-index out0 out c.loop-sequence-test.false (sym c.is_bare.ensures ∙ c.if-is_bare.false) c.loop-sequence.invariant.here)
+    (subst (λ (n : ℕ). AppendsFront out (g.K.Sink.taken c.put_end.new.out) (end_unit n)) c.previous.ensures c.put_end.ensures.front)

@@ -1,0 +1,119 @@
+-- Sequences joined as they are written, one behind another.
+-- Inner: for the proofs of this crate.
+use Rattle.std.specs.Prelude.{ℕ, ℤ, ◌+◌, ◌-◌, ◌%◌, ◌^◌, max, nat_le, ◌&&◌, if◌then◌else◌, Bool, List, [], ◌∷◌, ◌++◌, length, drop, map, Option, None, Some}
+use Rattle.std.specs.Int.{to_be_bytes, w32}
+use borrow.Author.Differences.{up, down}
+use Rattle.dirac_units.specs.declared.codes.TheConstants.{SEQUENCE_HEADER}
+use Rattle.dirac_decode.specs.StreamState.{is_same}
+use Rattle.dirac_stream.specs.Stream.{end_unit, unit}
+use Rattle.dirac_edit_laws.specs.Joined.{Group, Keyed, first_number, high, keyed_from, number_of}
+use Rattle.dirac_edit_laws.specs.Texts.{PictureText, SequenceText}
+use Rattle.dirac_edit.specs.declared.keys.Keys.{Keys}
+
+-- how far a number is above 0, and how far below it
+abbrev pub up_from_0 : ℤ → ℕ
+up_from_0 z = up z
+
+abbrev pub down_from_0 : ℤ → ℕ
+down_from_0 z = down z
+
+-- the greatest key, and how far the least one is below 0
+unfoldable pub above : List Keyed → ℕ
+above [] = 0
+above (k ∷ keyed) = max (up k.key) (above keyed)
+
+unfoldable pub below : List Keyed → ℕ
+below [] = 0
+below (k ∷ keyed) = max (down k.key) (below keyed)
+
+-- where the keys of these pictures lie
+abbrev pub keys_among : List PictureText → Keys
+keys_among pictures = record {
+  first = first_number pictures;
+  above = above (map (keyed_from (first_number pictures)) pictures);
+  below = below (map (keyed_from (first_number pictures)) pictures);
+}
+
+-- what a later sequence is compared with: the header of the sequence that was written last, its first number and its
+-- greatest key
+pub record Latest : Type 0 where
+  pub header : List ℕ
+  pub first : ℕ
+  pub high : ℕ
+
+-- the latter's keys are moved so far: the least of them comes right behind the greatest of the former's
+abbrev pub shift_onto : Latest → Keys → ℕ
+shift_onto l k = l.high + 1 + k.below
+
+-- equal headers, and room for the moved keys
+abbrev pub may_follow : Latest → List ℕ → Keys → Bool
+may_follow l header k = is_same header l.header && nat_le (shift_onto l k + k.above) (2 ^ 31 - 1)
+
+-- how far numbers are moved, modulo 2 ^ 32
+abbrev pub way_onto : Latest → Keys → ℕ
+way_onto l k = ((l.first + shift_onto l k) % 2 ^ 32 + (2 ^ 32 - k.first)) % 2 ^ 32
+
+-- a picture whose number is moved so far
+abbrev pub moved_on : ℕ → PictureText → PictureText
+moved_on way p =
+    record p { payload = to_be_bytes w32 ((number_of p.payload + way) % 2 ^ 32) ++ drop 4 p.payload }
+
+-- the units of pictures behind a unit of this length
+unfoldable pub units_behind : ℕ → List PictureText → List ℕ
+units_behind previous [] = []
+units_behind previous (p ∷ pictures) =
+    unit p.code previous p.payload ++ units_behind (13 + length p.payload) pictures
+
+-- the length of the last of these units
+unfoldable pub length_behind : ℕ → List PictureText → ℕ
+length_behind previous [] = previous
+length_behind previous (p ∷ pictures) = length_behind (13 + length p.payload) pictures
+
+-- the units of a sequence with its own header, behind a unit of this length, up to its end unit
+abbrev pub own_bytes : ℕ → SequenceText → List ℕ
+own_bytes previous s =
+    unit SEQUENCE_HEADER previous s.header ++ units_behind (13 + length s.header) (map (moved_on 0) s.pictures)
+
+-- the length of the last of these units
+abbrev pub own_length : SequenceText → ℕ
+own_length s = length_behind (13 + length s.header) (map (moved_on 0) s.pictures)
+
+-- how far the writing is: the sequence that was written last, and the length of the last unit
+pub record Progress : Type 0 where
+  pub latest : Option Latest
+  pub previous : ℕ
+
+-- what is written of a sequence, and how far the writing is behind it
+pub record Added : Type 0 where
+  pub bytes : List ℕ
+  pub latest : Latest
+  pub previous : ℕ
+
+-- a sequence of its own, behind these bytes
+abbrev pub own : List ℕ → ℕ → SequenceText → Keys → Added
+own before previous s k = record {
+  bytes = before ++ own_bytes previous s;
+  latest = record { header = s.header; first = k.first; high = k.above };
+  previous = own_length s;
+}
+
+-- a sequence that is appended to the one before it
+abbrev pub onto : Latest → ℕ → SequenceText → Keys → Added
+onto l previous s k = record {
+  bytes = units_behind previous (map (moved_on (way_onto l k)) s.pictures);
+  latest = record { header = l.header; first = l.first; high = shift_onto l k + k.above };
+  previous = length_behind previous (map (moved_on (way_onto l k)) s.pictures);
+}
+
+-- a sequence, behind what was written; one of its own stands behind the end unit of the one before it, of 13 bytes
+abbrev pub added_behind : Option Latest → ℕ → SequenceText → Keys → Added
+added_behind None previous s k = own [] previous s k
+added_behind (Some l) previous s k =
+    if may_follow l s.header k then onto l previous s k else own (end_unit previous) 13 s k
+
+abbrev pub added : Progress → SequenceText → Added
+added p s = added_behind p.latest p.previous s (keys_among s.pictures)
+
+-- how far the writing is behind it
+abbrev pub behind : Progress → SequenceText → Progress
+behind p s = record { latest = Some (added p s).latest; previous = (added p s).previous }

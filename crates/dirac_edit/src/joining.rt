@@ -1,0 +1,322 @@
+//! Sequences, written one behind another: those whose keys leave room are appended to the one before them.
+
+ghost use Rattle.std.specs.Prelude.{◌≡◌, ◌≤◌, ◌<◌, ◌+◌, ◌++◌, ◌^◌, length, map, None, Some, MatchOption, false, true, is_none};
+ghost use Rattle.std.specs.Int.{to_be_bytes, w32};
+ghost use Rattle.std.specs.Io.KnownBytes.{Appends};
+ghost use Rattle.dirac_io.specs.Faults.{Rose};
+ghost use Rattle.dirac_io.specs.Writing.{AppendsFront};
+ghost use Rattle.dirac_decode.specs.StreamState.{is_same as same_header};
+ghost use Rattle.dirac_stream.specs.Stream.{end_unit, unit};
+ghost use Rattle.dirac_edit_laws.specs.Joined.{bare, bytes_or_bare, first_number, joined};
+ghost use Rattle.dirac_edit.specs.Merged.{added, behind, length_behind, may_follow, moved_on, own_bytes, own_length, shift_onto, units_behind, way_onto};
+
+use crate::keys::{Keys, keys_of};
+use crate::numbers::{behind_number, number_in};
+use crate::sequence::{HeldPicture, HeldSequence};
+use crate::writing::{put_end, put_unit, unit_length};
+use dirac_io::{Put, Sink, put_all};
+use dirac_units::{PARSE_INFO_LENGTH, ParseInfo, SEQUENCE_HEADER, write_info};
+use std::marker::Model;
+
+// The greatest key that a sequence may have.
+const GREATEST_KEY: u64 = 0x7FFF_FFFF;
+
+// The length of a picture's unit up to the end of its number.
+const NUMBERED_LENGTH: usize = PARSE_INFO_LENGTH + 4;
+
+/// The sequence that was written last, to which another may be appended.
+#[derive(Drop)]
+struct Latest<'a> {
+    header: &'a [u8],
+    first: u32,
+    // its greatest key
+    high: u32,
+}
+
+impl<'a> Model for Latest<'a> {
+    ghost use Rattle.dirac_edit.specs.Merged.{Latest as LatestText};
+
+    ghost Value = { LatestText };
+
+    ghost view = { λ l. record { header = l.header.now; first = l.first; high = l.high } };
+}
+
+/// How a sequence is appended to another: how far its numbers are moved, and the greatest key of both.
+#[derive(Clone, Copy)]
+struct Merge {
+    way: u32,
+    high: u32,
+}
+
+impl<'a> Latest<'a> {
+    /// A sequence of its own.
+    fn of(header: &'a [u8], keys: Keys) -> Latest<'a>
+        ensures { result ≡ record { header = header.now; first = keys.first; high = keys.above } }
+    {
+        Latest {
+            header,
+            first: keys.first,
+            high: keys.above,
+        }
+    }
+
+    /// The same with this greatest key.
+    fn raised(self, high: u32) -> Latest<'a>
+        ensures { result ≡ record { header = self.entry.header; first = self.entry.first; high = high } }
+    {
+        Latest {
+            header: self.header,
+            first: self.first,
+            high,
+        }
+    }
+
+    /// How a sequence of this header and these keys is appended, if it is.
+    fn merge(&self, header: &[u8], keys: Keys) -> Option<Merge>
+        ensures { MatchOption result (may_follow self.now header.now keys ≡ false) (λ m.
+            (may_follow self.now header.now keys ≡ true) × (m ≡ record {
+              way = way_onto self.now keys;
+              high = shift_onto self.now keys + keys.above;
+            })) }
+    {
+        let by = u64::from(self.high) + 1 + u64::from(keys.below);
+        let high = by + u64::from(keys.above);
+        if !is_same(header, self.header) || high > GREATEST_KEY {
+            return None;
+        }
+        Some(Merge {
+            way: self.first.wrapping_add(by as u32).wrapping_sub(keys.first),
+            high: high as u32,
+        })
+    }
+}
+
+/// Whether two headers have equal payloads.
+fn is_same(header: &[u8], former: &[u8]) -> bool
+    ensures { result ≡ same_header header.now former.now }
+{
+    header.len() == former.len() && header.starts_with(former)
+}
+
+/// How far the writing is: the sequence that was written last, and the length of the last unit.
+#[derive(Drop)]
+struct Progress<'a> {
+    latest: Option<Latest<'a>>,
+    previous: u32,
+}
+
+impl<'a> Model for Progress<'a> {
+    ghost use Rattle.dirac_edit.specs.Merged.{Progress as ProgressOf};
+
+    ghost Value = { ProgressOf };
+
+    ghost view = { λ p. record { latest = p.latest; previous = p.previous } };
+}
+
+impl<'a> Progress<'a> {
+    /// Before the first sequence.
+    fn new() -> Progress<'a>
+        ensures { result ≡ record { latest = None; previous = 0 } }
+    {
+        Progress {
+            latest: None,
+            previous: 0,
+        }
+    }
+
+    /// Whether nothing is written yet.
+    fn is_bare(&self) -> bool
+        ensures { result ≡ is_none self.now.latest }
+    {
+        self.latest.is_none()
+    }
+
+    /// The length of the last unit.
+    fn previous(&self) -> u32
+        ensures { result ≡ self.now.previous }
+    {
+        self.previous
+    }
+
+    /// Writes a sequence, appended to the one before it where it may be.
+    fn put<K: Sink>(&mut self, out: &mut K, sequence: &HeldSequence<'a>) -> Put
+        ensures all { result ≡ Put.All
+            → Appends (K.taken out.old) (K.taken out.new) (added self.old sequence.now).bytes }
+        ensures behind { result ≡ Put.All → self.new ≡ behind self.old sequence.now }
+        ensures numbered { first_number sequence.now.pictures < 2 ^ 32 }
+        ensures front { AppendsFront (K.taken out.old) (K.taken out.new) (added self.old sequence.now).bytes }
+        ensures failed { result ≡ Put.Failed → Rose (K.faults out.old) (K.faults out.new) }
+        ensures count { K.faults out.old ≤ K.faults out.new }
+    {
+        let keys = keys_of(sequence.pictures());
+        let Some(latest) = self.latest.take() else {
+            self.latest = Some(Latest::of(sequence.header(), keys));
+            return put_own(out, &mut self.previous, sequence);
+        };
+        match latest.merge(sequence.header(), keys) {
+            Some(merge) => {
+                self.latest = Some(latest.raised(merge.high));
+                put_units(out, &mut self.previous, merge.way, sequence.pictures())
+            }
+            None => {
+                self.latest = Some(Latest::of(sequence.header(), keys));
+                put_apart(out, &mut self.previous, sequence)
+            }
+        }
+    }
+}
+
+/// Writes a picture's unit with this number and this rest of its payload, behind a unit of `previous` bytes.
+fn put_numbered<K: Sink>(out: &mut K, code: u8, previous: u32, number: u32, rest: &[u8]) -> Put
+    requires { 17 + length rest.now < 2 ^ 32 }
+    ensures all { result ≡ Put.All → Appends (K.taken out.old) (K.taken out.new)
+        (unit code previous (to_be_bytes w32 number ++ rest.now)) }
+    ensures front { AppendsFront (K.taken out.old) (K.taken out.new)
+        (unit code previous (to_be_bytes w32 number ++ rest.now)) }
+    ensures failed { result ≡ Put.Failed → Rose (K.faults out.old) (K.faults out.new) }
+    ensures count { K.faults out.old ≤ K.faults out.new }
+{
+    let info = write_info(ParseInfo {
+        code,
+        next: numbered_length(rest),
+        previous,
+    });
+    match put_both(out, &info, &number.to_be_bytes()) {
+        Put::All => put_all(out, rest),
+        Put::Failed => Put::Failed,
+        Put::NoMemory => Put::NoMemory,
+    }
+}
+
+/// Writes two pieces.
+fn put_both<K: Sink>(out: &mut K, first: &[u8], second: &[u8]) -> Put
+    ensures all { result ≡ Put.All → Appends (K.taken out.old) (K.taken out.new) (first.now ++ second.now) }
+    ensures front { AppendsFront (K.taken out.old) (K.taken out.new) (first.now ++ second.now) }
+    ensures failed { result ≡ Put.Failed → Rose (K.faults out.old) (K.faults out.new) }
+    ensures count { K.faults out.old ≤ K.faults out.new }
+{
+    match put_all(out, first) {
+        Put::All => put_all(out, second),
+        Put::Failed => Put::Failed,
+        Put::NoMemory => Put::NoMemory,
+    }
+}
+
+/// The length of a picture's unit, which has this behind its number.
+fn numbered_length(rest: &[u8]) -> u32
+    requires { 17 + length rest.now < 2 ^ 32 }
+    ensures { result ≡ 17 + length rest.now }
+{
+    (NUMBERED_LENGTH + rest.len()) as u32
+}
+
+/// Writes the units of pictures whose numbers are moved on by `way`, behind a unit of `previous` bytes.
+fn put_units<K: Sink>(
+    out: &mut K,
+    previous: &mut u32,
+    way: u32,
+    pictures: &[HeldPicture<'_>],
+) -> Put
+    ensures all { result ≡ Put.All → Appends (K.taken out.old) (K.taken out.new)
+        (units_behind previous.old (map (moved_on way) pictures.now)) }
+    ensures last { result ≡ Put.All → previous.new ≡ length_behind previous.old (map (moved_on way) pictures.now) }
+    ensures front { AppendsFront (K.taken out.old) (K.taken out.new)
+        (units_behind previous.old (map (moved_on way) pictures.now)) }
+    ensures failed { result ≡ Put.Failed → Rose (K.faults out.old) (K.faults out.new) }
+    ensures count { K.faults out.old ≤ K.faults out.new }
+{
+    for picture in pictures {
+        let payload = picture.payload();
+        let number = number_in(payload).wrapping_add(way);
+        let rest = behind_number(payload);
+        match put_numbered(out, picture.code(), *previous, number, rest) {
+            Put::All => {}
+            Put::Failed => return Put::Failed,
+            Put::NoMemory => return Put::NoMemory,
+        }
+        *previous = numbered_length(rest);
+    }
+    Put::All
+}
+
+/// Writes the header and the pictures of a sequence, behind a unit of `previous` bytes.
+fn put_own<K: Sink>(out: &mut K, previous: &mut u32, sequence: &HeldSequence<'_>) -> Put
+    ensures all { result ≡ Put.All → Appends (K.taken out.old) (K.taken out.new)
+        (own_bytes previous.old sequence.now) }
+    ensures last { result ≡ Put.All → previous.new ≡ own_length sequence.now }
+    ensures front { AppendsFront (K.taken out.old) (K.taken out.new) (own_bytes previous.old sequence.now) }
+    ensures failed { result ≡ Put.Failed → Rose (K.faults out.old) (K.faults out.new) }
+    ensures count { K.faults out.old ≤ K.faults out.new }
+{
+    let header = sequence.header();
+    match put_unit(out, SEQUENCE_HEADER, *previous, header) {
+        Put::All => {}
+        Put::Failed => return Put::Failed,
+        Put::NoMemory => return Put::NoMemory,
+    }
+    *previous = unit_length(header);
+    put_units(out, previous, 0, sequence.pictures())
+}
+
+/// Writes an end unit behind a unit of `previous` bytes, and behind it a sequence.
+fn put_apart<K: Sink>(out: &mut K, previous: &mut u32, sequence: &HeldSequence<'_>) -> Put
+    ensures all { result ≡ Put.All → Appends (K.taken out.old) (K.taken out.new)
+        (end_unit previous.old ++ own_bytes 13 sequence.now) }
+    ensures last { result ≡ Put.All → previous.new ≡ own_length sequence.now }
+    ensures front { AppendsFront (K.taken out.old) (K.taken out.new)
+        (end_unit previous.old ++ own_bytes 13 sequence.now) }
+    ensures failed { result ≡ Put.Failed → Rose (K.faults out.old) (K.faults out.new) }
+    ensures count { K.faults out.old ≤ K.faults out.new }
+{
+    match put_end(out, *previous) {
+        Put::All => {}
+        Put::Failed => return Put::Failed,
+        Put::NoMemory => return Put::NoMemory,
+    }
+    *previous = PARSE_INFO_LENGTH as u32;
+    put_own(out, previous, sequence)
+}
+
+/// Writes a stream without pictures: the first header, where there is one, and an end unit.
+fn put_bare<K: Sink>(out: &mut K, sequences: &[HeldSequence<'_>]) -> Put
+    ensures all { result ≡ Put.All → Appends (K.taken out.old) (K.taken out.new) (bare sequences.now) }
+    ensures front { AppendsFront (K.taken out.old) (K.taken out.new) (bare sequences.now) }
+    ensures failed { result ≡ Put.Failed → Rose (K.faults out.old) (K.faults out.new) }
+    ensures count { K.faults out.old ≤ K.faults out.new }
+{
+    let Some(sequence) = sequences.first() else {
+        return put_end(out, 0);
+    };
+    let header = sequence.header();
+    match put_unit(out, SEQUENCE_HEADER, 0, header) {
+        Put::All => put_end(out, unit_length(header)),
+        Put::Failed => Put::Failed,
+        Put::NoMemory => Put::NoMemory,
+    }
+}
+
+/// Writes sequences, joined.
+pub(crate) fn put_joined<K: Sink>(out: &mut K, sequences: &[HeldSequence<'_>]) -> Put
+    ensures all { result ≡ Put.All → Appends (K.taken out.old) (K.taken out.new)
+        (bytes_or_bare sequences.now (joined sequences.now)) }
+    ensures front { AppendsFront (K.taken out.old) (K.taken out.new)
+        (bytes_or_bare sequences.now (joined sequences.now)) }
+    ensures failed { result ≡ Put.Failed → Rose (K.faults out.old) (K.faults out.new) }
+    ensures count { K.faults out.old ≤ K.faults out.new }
+{
+    let mut progress = Progress::new();
+    for sequence in sequences {
+        if sequence.pictures().is_empty() {
+            continue;
+        }
+        match progress.put(out, sequence) {
+            Put::All => {}
+            Put::Failed => return Put::Failed,
+            Put::NoMemory => return Put::NoMemory,
+        }
+    }
+    if progress.is_bare() {
+        return put_bare(out, sequences);
+    }
+    put_end(out, progress.previous())
+}
