@@ -11,4 +11,5 @@ pub mod Making
 pub mod Unmade
 pub mod Cutting
 pub mod Running
+pub mod Flushing
 pub mod Workers
