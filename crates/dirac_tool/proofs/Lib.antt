@@ -2,6 +2,7 @@ pub mod Behind
 pub mod Decoded
 pub mod Edits
 mod Examples
+pub mod Flushing
 pub mod LastRow
 pub mod Listed
 pub mod Loans

@@ -12,4 +12,5 @@ pub mod Unmade
 pub mod Cutting
 pub mod Joining
 pub mod Running
+pub mod Flushing
 pub mod Workers

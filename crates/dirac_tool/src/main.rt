@@ -14,6 +14,9 @@ mod encode_tests;
 mod ended;
 #[cfg(test)]
 mod fault_tests;
+mod flushed;
+#[cfg(test)]
+mod flushed_tests;
 #[cfg(test)]
 mod inter_tests;
 mod join;
@@ -40,18 +43,17 @@ mod tests;
 mod tries;
 mod words;
 
-use crate::ended::{Ended, after_flushes, ended_text, status};
-use crate::run::run;
+use crate::ended::{Ended, ended_text, status};
+use crate::flushed::{run_beside, run_on};
 use crate::words::{Command, Words, read_words, recon_path};
-use dirac_io::{NullSink, OpenGate, ReaderSource, Sink, WriterSink};
+use dirac_io::{NullSink, ReaderSource, WriterSink};
 use dirac_types::NoMemory;
 use std::alloc::Global;
 use std::env;
 use std::env::Env;
 use std::fs::File;
-use std::io::{BufReader, ErrorKind, Read, Write};
+use std::io::{BufReader, ErrorKind, Write};
 use std::process::ExitCode;
-use std::thread::Threads;
 
 // The status where the file of the reconstructions can't be made.
 const NO_FILE: u8 = 12;
@@ -67,7 +69,8 @@ fn main(rt: HostRuntime) -> ExitCode {
     let Ok(input) = BufReader::with_capacity(alloc, READ_AHEAD, rt.stdin()) else {
         return ExitCode::from(status(&Ended::NoMemory));
     };
-    let output = rt.stdout();
+    let mut input = ReaderSource::new(input);
+    let mut output = WriterSink::new(rt.stdout());
     let ended = match recon_path(&words) {
         Some(path) => {
             let Ok(file) = File::create(&rt, path) else {
@@ -75,10 +78,21 @@ fn main(rt: HostRuntime) -> ExitCode {
                 let _ = writeln!(rt.stderr(), "cannot make recon file");
                 return ExitCode::from(NO_FILE);
             };
-            run_beside(&rt, alloc, &words, input, output, file)
+            let mut side = WriterSink::new(file);
+            run_beside(&rt, alloc, &words, &mut input, &mut output, &mut side)
         }
-        None if has_recon(&words) => run_on(&rt, alloc, &words, input, output, &mut NullSink),
-        None => run_beside(&rt, alloc, &words, input, output, rt.stderr()),
+        None if has_recon(&words) => run_on(
+            &rt,
+            alloc,
+            &words,
+            &mut input,
+            &mut output,
+            &mut NullSink,
+        ),
+        None => {
+            let mut side = WriterSink::new(rt.stderr());
+            run_beside(&rt, alloc, &words, &mut input, &mut output, &mut side)
+        }
     };
     if let Ok(text) = ended_text(alloc, &ended) {
         if !text.is_empty() {
@@ -94,44 +108,6 @@ fn has_recon(words: &Words) -> bool {
         read_words(words),
         Ok(Command::Encode(_) | Command::Rate(_, _))
     )
-}
-
-// Runs the words on an input and an output, and flushes what came out.
-fn run_on<R: Threads + Sync, I: Read, O: Write, N: Sink>(
-    rt: &R,
-    alloc: Global,
-    words: &Words,
-    input: I,
-    output: O,
-    side: &mut N,
-) -> Ended
-where
-    I: Drop,
-    O: Drop,
-{
-    let mut source = ReaderSource::new(input);
-    let mut out = WriterSink::new(output);
-    let ended = run(rt, alloc, words, &mut source, &mut out, side, &OpenGate);
-    after_flushes(ended, out.flush(), true)
-}
-
-// Runs the words beside a writer, which is flushed behind what came out.
-fn run_beside<R: Threads + Sync, I: Read, O: Write, W: Write>(
-    rt: &R,
-    alloc: Global,
-    words: &Words,
-    input: I,
-    output: O,
-    writer: W,
-) -> Ended
-where
-    I: Drop,
-    O: Drop,
-    W: Drop,
-{
-    let mut side = WriterSink::new(writer);
-    let ended = run_on(rt, alloc, words, input, output, &mut side);
-    after_flushes(ended, true, side.flush())
 }
 
 // The words behind the program's name. Where they can't be fetched there is none.
