@@ -23,7 +23,7 @@ precision_within s a = a.1.1.1.1.1.1.1.1.1.1.1.1.1.1.0.1
 
 pub workers_within : (s : Settings) → IsAccepted s → (1 ≤ s.workers) × (s.workers ≤ 64)
 unfolding table
-workers_within s a = let row = a.1.1.1.1.1.1.1.1.1.1.1.1.1.1.1.1.1.1.1.1.0 in (row.0, omega (arith, row.1))
+workers_within s a = let row = a.1.1.1.1.1.1.1.1.1.1.1.1.1.1.1.1.1.1.1.1.1.0 in (row.0, omega (arith, row.1))
 
 pub bias_within : (s : Settings) → IsAccepted s → s.bias ≤ 255
 unfolding table
