@@ -4,7 +4,8 @@ use Rattle.dirac_types.specs.declared.picture.Picture.{Picture}
 use Rattle.dirac_types.specs.declared.settings.Settings.{Settings}
 use Rattle.dirac_units.specs.Codes.{is_intra}
 use Rattle.dirac_units.specs.Cut.{UnitText}
-use Rattle.dirac_plan.specs.Plan.{group_count, plan}
+use Rattle.dirac_plan.specs.Plan.{frames_plan, group_count, plan}
+use Rattle.dirac_plan.proofs.Fields.{plan_of_frames}
 use Rattle.dirac_stream.specs.Coding.{Made, coding}
 use Rattle.dirac_stream.specs.Stream.{end_text, header_text, picture_length, picture_text, units_from, units_in}
 use Rattle.dirac_edit_laws.specs.Encoded.{EncodedStreamsHaveAPointAGroup}
@@ -43,7 +44,8 @@ units_count t [] = refl
 units_count t (m ∷ ms) = from_none (points_of (units_from t 0 (m ∷ ms))) ∙ made_count (m ∷ ms) t 0 0
 
 pub points_are_groups : EncodedStreamsHaveAPointAGroup
-unfolding plan
-points_are_groups t pictures =
+unfolding frames_plan
+points_are_groups t pictures frames =
     let n = length pictures in
-    units_count t (coding t pictures) ∙ made_points t pictures [] (plan n t) 0 ∙ points_groups t n (group_count t n) 0 0 ∙ sym (from_none (group_count t n))
+    units_count t (coding t pictures) ∙ made_points t pictures [] (plan n t) 0 ∙ ap (λ p. planned_points 0 p) (plan_of_frames n t frames)
+    ∙ points_groups t n (group_count t n) 0 0 ∙ sym (from_none (group_count t n))

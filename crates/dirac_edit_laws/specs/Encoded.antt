@@ -22,8 +22,8 @@ EncodedCutsShowTheirGroups =
     → (open_cut (stream_units t pictures) a b ≡ None)
     × ShowsJust (cut_bytes (stream_units t pictures) a b) (of_groups t a b (reconstructions t pictures))
 
--- the encoder's stream has a point for each group, whatever the pictures and the settings
+-- the encoder's stream of frames has a point for each group, whatever the pictures and the other settings
 abbrev pub EncodedStreamsHaveAPointAGroup : Type 0
 EncodedStreamsHaveAPointAGroup =
-    (t : Settings) (pictures : List Picture)
+    (t : Settings) (pictures : List Picture) → t.fields ≡ 0
     → points_of (stream_units t pictures) ≡ group_count t (length pictures)
