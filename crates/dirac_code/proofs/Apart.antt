@@ -15,6 +15,7 @@ use Rattle.dirac_header.specs.declared.transform.Transform.{Transform}
 use Rattle.dirac_header.specs.Written.{transform_bits}
 use Rattle.dirac_coeffs.specs.declared.layout.BandLayout.{BandLayout}
 use Rattle.dirac_coeffs.specs.declared.layout.CodedBand.{CodedBand}
+use Rattle.dirac_coeffs.specs.Indices.{all_equal}
 use Rattle.dirac_coeffs.specs.Written.{block_of, is_zero_band, with_band, with_block}
 use Rattle.dirac_picture.specs.declared.coded.CodedResidual.{CodedResidual}
 use Rattle.dirac_picture.specs.Bands.{layout_of, parent_values}
@@ -71,7 +72,7 @@ either_behind true index block old bits whole = ap (λ l. l ++ uint 0) (up_behin
 either_behind false index block old bits whole = ap (with_block index block) (up_behind old bits whole) ∙ block_behind index block old (up_to_byte bits) whole
 
 band_behind : (layout : BandLayout) (parent : List ℤ) (b : CodedBand) (old bits : List Bool) → IsWhole old → with_band layout parent b (old ++ bits) ≡ old ++ with_band layout parent b bits
-band_behind layout parent b old bits whole = either_behind (is_zero_band b.table.values) b.index (block_of layout parent b.table.values) old bits whole
+band_behind layout parent b old bits whole = either_behind (is_zero_band b.table.values) b.index (block_of layout parent b.index b.table.values (all_equal layout b.index)) old bits whole
 
 bands_behind : (t : Transform) (width height : ℕ) (before bands : List CodedBand) (old bits : List Bool) → IsWhole old → with_bands t width height before bands (old ++ bits) ≡ old ++ with_bands t width height before bands bits
 bands_behind t width height before [] old bits whole = refl
@@ -83,7 +84,7 @@ bands_behind t width height before (b ∷ bands) old bits whole =
 -- a band begins at a byte
 band_from_byte : (layout : BandLayout) (parent : List ℤ) (b : CodedBand) (bits : List Bool) → with_band layout parent b (up_to_byte bits) ≡ with_band layout parent b bits
 band_from_byte layout parent b bits =
-    ap (λ l. if is_zero_band b.table.values then l ++ uint 0 else with_block b.index (block_of layout parent b.table.values) l) (up_twice bits)
+    ap (λ l. if is_zero_band b.table.values then l ++ uint 0 else with_block b.index (block_of layout parent b.index b.table.values (all_equal layout b.index)) l) (up_twice bits)
 
 bands_from_byte : (t : Transform) (width height : ℕ) (bands : List CodedBand) (bits : List Bool) → 0 < length bands → with_plane t width height bands (up_to_byte bits) ≡ with_plane t width height bands bits
 bands_from_byte t width height [] bits some = absurd (omega arith)
