@@ -114,22 +114,22 @@ fn keeps_other_sequences_apart(rt: HostRuntime) -> Result<(), Fail> {
     let end = header(0x10, 0, 31);
     // keys up to 2 ^ 31 - 2 leave room for one key more; keys up to 2 ^ 31 - 1 don't
     for (last, leaves_room) in [(0xFE, true), (0xFF, false)] {
-        let front = joined(
+        let pictures = joined(
             alloc,
             &[
                 &STREAM[..50],
                 &header(0x0C, 31, 31),
                 &[0x7F, 0xFF, 0xFF, last],
                 &STREAM[36..50],
-                &end,
             ],
         )?;
+        let front = joined(alloc, &[pictures.as_slice(), &end])?;
         let rest = joined(alloc, &[&header(0x00, 19, 13), &STREAM[13..50], &end])?;
         let whole = joined(alloc, &[front.as_slice(), rest.as_slice()])?;
         let merged = joined(
             alloc,
             &[
-                &front[..81],
+                pictures.as_slice(),
                 &header(0x0C, 31, 31),
                 &[0x7F, 0xFF, 0xFF, 0xFF],
                 &STREAM[36..50],
