@@ -8,6 +8,12 @@ use std::test::Fail;
 
 // STREAM joined with itself: the second half has numbers 2 and 3, and one end unit ends it all.
 fn joined_twice(alloc: Global) -> Result<Vec<u8>, Fail> {
+    let pictures = pictures_twice(alloc)?;
+    joined(alloc, &[pictures.as_slice(), &STREAM[82..]])
+}
+
+// The same without its end unit.
+fn pictures_twice(alloc: Global) -> Result<Vec<u8>, Fail> {
     joined(
         alloc,
         &[
@@ -16,7 +22,7 @@ fn joined_twice(alloc: Global) -> Result<Vec<u8>, Fail> {
             &[0x00, 0x00, 0x00, 0x02],
             &STREAM[36..63],
             &[0x00, 0x00, 0x00, 0x03],
-            &STREAM[67..],
+            &STREAM[67..82],
         ],
     )
 }
@@ -32,6 +38,7 @@ fn joins_sequences(rt: HostRuntime) -> Result<(), Fail> {
     let alloc = rt.alloc();
     let twice = joined(alloc, &[&STREAM, &STREAM])?;
     let once = joined_twice(alloc)?;
+    let pictures = pictures_twice(alloc)?;
     assert_eq!(rt; twice.len(), 190);
     assert_eq!(rt; once.len(), 158);
     // the former half's last key is 1, so the least one behind it is 2
@@ -39,7 +46,7 @@ fn joins_sequences(rt: HostRuntime) -> Result<(), Fail> {
     let thrice = joined(
         alloc,
         &[
-            &once[..145],
+            pictures.as_slice(),
             &header(0x0C, 31, 32),
             &[0x00, 0x00, 0x00, 0x04],
             &STREAM[36..63],
@@ -54,7 +61,9 @@ fn joins_sequences(rt: HostRuntime) -> Result<(), Fail> {
     let follows = joined(
         alloc,
         &[
-            &last[..50],
+            &STREAM[..32],
+            &[0xFF, 0xFF, 0xFF, 0xFF],
+            &STREAM[36..50],
             &header(0x0C, 31, 31),
             &[0x00, 0x00, 0x00, 0x00],
             &STREAM[36..50],
