@@ -27,8 +27,7 @@ unfolding table sequence_of
 size_accepted s a = (a.1.1.0.0, a.1.1.0.1, a.1.1.1.0.0, a.1.1.1.0.1)
 
 pub levels_accepted : (s : Settings) → IsAccepted s → s.pyramid ≤ 4
-unfolding table
-levels_accepted s a = a.1.1.1.1.1.1.1.1.1.1.1.1.1.1.1.1.1.1.1.0.1
+levels_accepted s a = (in_range s a).pyramid
 
 pub pyramid_length : (t : Table) (levels : ℕ) → length (pyramid_of t levels) ≡ levels + 1
 pyramid_length t levels = length-map-range_with_len (level_of t) 0 (levels + 1)

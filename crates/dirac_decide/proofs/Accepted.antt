@@ -1,7 +1,8 @@
 -- What accepted settings give.
 use Rattle.std.proofs.Common.{◌≡◌, ℕ, ◌+◌, ◌-◌, ◌*◌, ◌≤◌, ◌==◌, arith, inl, inr, sym, ◌∙◌}
 use Rattle.dirac_types.specs.declared.settings.Settings.{Settings}
-use Rattle.dirac_types.specs.Settings.{IsAccepted, table}
+use Rattle.dirac_types.specs.Settings.{IsAccepted}
+use Rattle.dirac_types.proofs.Accepted.{in_range}
 use Rattle.dirac_types.specs.declared.picture.Picture.{Picture}
 use Rattle.dirac_types.specs.declared.formats.BlockGrid.{BlockGrid}
 use Rattle.dirac_types.specs.declared.formats.Chroma.{Chroma}
@@ -14,20 +15,16 @@ use Rattle.dirac_picture.specs.Grammar.{superblocks_over}
 use Rattle.dirac_decide.specs.Deciding.{IsFieldSize, IsSearched, IsView, View}
 
 pub blocks_within : (s : Settings) → IsAccepted s → (2 ≤ s.blocks) × (s.blocks ≤ 4)
-unfolding table
-blocks_within s a = let row = a.1.1.1.1.1.1.1.1.1.1.1.1.1.0 in (row.0, row.1)
+blocks_within s a = (in_range s a).blocks
 
 pub precision_within : (s : Settings) → IsAccepted s → s.precision ≤ 3
-unfolding table
-precision_within s a = a.1.1.1.1.1.1.1.1.1.1.1.1.1.1.0.1
+precision_within s a = (in_range s a).precision
 
 pub workers_within : (s : Settings) → IsAccepted s → (1 ≤ s.workers) × (s.workers ≤ 64)
-unfolding table
-workers_within s a = let row = a.1.1.1.1.1.1.1.1.1.1.1.1.1.1.1.1.1.1.1.1.1.0 in (row.0, omega (arith, row.1))
+workers_within s a = (in_range s a).workers
 
 pub bias_within : (s : Settings) → IsAccepted s → s.bias ≤ 255
-unfolding table
-bias_within s a = a.1.1.1.1.1.1.1.1.1.1.1.1.1.1.1.1.1.1.1.1.0.1
+bias_within s a = (in_range s a).bias
 
 -- the grids of the block indices
 pub record IsGrid (g : BlockGrid) : Type 0 where

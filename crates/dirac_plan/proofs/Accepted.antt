@@ -1,7 +1,8 @@
 -- What accepted settings say of groups.
-use Rattle.std.proofs.Common.{◌≤◌, arith}
+use Rattle.std.proofs.Common.{◌≤◌}
 use Rattle.dirac_types.specs.declared.settings.Settings.{Settings}
-use Rattle.dirac_types.specs.Settings.{IsAccepted, table}
+use Rattle.dirac_types.specs.Settings.{IsAccepted}
+use Rattle.dirac_types.proofs.Accepted.{in_range}
 
 pub record IsPaced (s : Settings) : Type 0 where
   pub gop_least : 1 ≤ s.gop
@@ -9,9 +10,8 @@ pub record IsPaced (s : Settings) : Type 0 where
   pub between_most : s.between ≤ 3
 
 pub paced : (s : Settings) → IsAccepted s → IsPaced s
-unfolding table
-paced s is = record {
-  gop_least = is.1.1.1.1.1.1.1.1.1.1.1.1.1.1.1.1.0.0;
-  gop_most = omega (arith, is.1.1.1.1.1.1.1.1.1.1.1.1.1.1.1.1.0.1);
-  between_most = is.1.1.1.1.1.1.1.1.1.1.1.1.1.1.1.1.1.0.1;
+paced s is = let range = in_range s is in record {
+  gop_least = range.gop.0;
+  gop_most = range.gop.1;
+  between_most = range.between;
 }

@@ -1,5 +1,5 @@
 -- The bits of a sequence header spell the sequence of its settings.
-use Rattle.std.proofs.Common.{◌≡◌, ℕ, ◌+◌, ◌≤◌, ◌==◌, ◌%◌, ◌/◌, ◌&&◌, not, if◌then◌else◌, Bool, true, false, List, [], ◌∷◌, ◌++◌, length, refl, sym, ap, ap₂, subst, ◌∙◌, arith, inl, inr, append_assoc, append-nil}
+use Rattle.std.proofs.Common.{◌≡◌, ℕ, ◌+◌, ◌*◌, ◌≤◌, ◌==◌, ◌%◌, ◌/◌, ◌&&◌, not, if◌then◌else◌, Bool, true, false, List, [], ◌∷◌, ◌++◌, length, refl, sym, ap, ap₂, subst, ◌∙◌, arith, inl, inr, append_assoc, append-nil}
 use Rattle.std.proofs.lemmas.Bool.{and_parts, and_from, eq-eqb, eqb-true, cases_eq, ne_eqb}
 use Rattle.dirac_sequence.specs.Ratios.{ratio_across, ratio_down}
 use Rattle.dirac_types.specs.declared.faults.Cause.TheVariants.{Preset, Size, ChromaFormat, RateIndex, SignalRange as SignalIndex, Depth8}
@@ -11,7 +11,7 @@ use Rattle.dirac_bits.specs.Spelling.{Spells}
 use Rattle.dirac_bits.specs.Syntax.{Syntax, done, refuse, ◌>>=◌, field, between, custom}
 use Rattle.dirac_sequence.specs.declared.sequence.Sequence.{Sequence}
 use Rattle.dirac_sequence.specs.declared.sequence.SignalRange.{SignalRange}
-use Rattle.dirac_sequence.specs.Grammar.{base_format, size, chroma_of, own_chroma, is_whole, chroma, sampling, rate, fraction, frames, aspect, clean_area, own_range, signal_range, signal, is_depth, samples, colours, values, coding_mode, sequence}
+use Rattle.dirac_sequence.specs.Grammar.{base_format, size, chroma_of, own_chroma, is_whole, chroma, sampling, rate, fraction, frames, aspect, clean_area, own_range, signal_range, signal, is_depth, samples, colours, values, has_whole_fields, coding_mode, sequence}
 use Rattle.dirac_sequence.specs.Tables.{preset, rate_of, range_of}
 use Rattle.dirac_sequence.specs.Written.{IsWritable, is_same, index_of, is_own_size, is_own_chroma, is_own_rate, is_own_signal, custom_bits, base_bits, whole_area_bits, frames_bits, samples_bits, sequence_bits, sequence_of}
 use Rattle.dirac_bits.proofs.Fields.{spells_then, spells_last, field_spelled, between_is}
@@ -190,8 +190,12 @@ whole_area t true k w =
     (true, whole_area_bits t, refl, (t.width, uint t.height ++ (uint 0 ++ uint 0), omega arith, parts, (t.height, uint 0 ++ uint 0, omega arith, refl, (0, uint 0, omega arith, refl, (0, [], omega arith, sym (append-nil (uint 0)), (refl, refl))))))
 whole_area t false k w = (false, [], refl, (refl, refl))
 
-samples_spelled : (t : Settings) (k : ℕ) → IsWritable t → Spells (samples (framed t)) (sequence_of t) k (samples_bits t)
-unfolding samples begun framed aspect sequence_of preset
+-- the sequence before its coding mode is known: as of frames
+shown : Settings → Sequence
+shown t = record (sequence_of t) { fields = false }
+
+samples_spelled : (t : Settings) (k : ℕ) → IsWritable t → Spells (samples (framed t)) (shown t) k (samples_bits t)
+unfolding samples begun framed shown aspect sequence_of preset
 samples_spelled t k w =
     let a : List Bool = false ∷ [] in
     let b = custom_bits (is_own_size t) (whole_area_bits t) in
@@ -205,39 +209,51 @@ samples_spelled t k w =
     done (record s { aspect = aspect; clean = clean; luma = signal.luma; colour = signal.colour }) in
     let third : ℕ × ℕ → ℕ × ℕ × ℕ × ℕ → Syntax Sequence = λ aspect clean. signal default >>= make aspect clean in
     let second : ℕ × ℕ → Syntax Sequence = λ aspect. clean_area s.clean >>= third aspect in
-    let last : Spells (third s.aspect area) (sequence_of t) k2 c =
-    spells_last (signal default) (make s.aspect area) (range_of t.signal) (sequence_of t) k2 c (signal_spelled t k2 w) (refl, refl) in
-    let more : Spells (second s.aspect) (sequence_of t) k1 (b ++ c) =
-    spells_then (clean_area s.clean) (third s.aspect) area (sequence_of t) k1 b c (whole_area t (is_own_size t) k1 w) last in
-    let all = spells_then (aspect s.aspect) second s.aspect (sequence_of t) k a (b ++ c) (false, [], refl, (refl, refl)) more in
+    let last : Spells (third s.aspect area) (shown t) k2 c =
+    spells_last (signal default) (make s.aspect area) (range_of t.signal) (shown t) k2 c (signal_spelled t k2 w) (refl, refl) in
+    let more : Spells (second s.aspect) (shown t) k1 (b ++ c) =
+    spells_then (clean_area s.clean) (third s.aspect) area (shown t) k1 b c (whole_area t (is_own_size t) k1 w) last in
+    let all = spells_then (aspect s.aspect) second s.aspect (shown t) k a (b ++ c) (false, [], refl, (refl, refl)) more in
     let parts : a ++ (b ++ c) ≡ samples_bits t = simp append_assoc in
-    subst (λ (l : List Bool). Spells (samples s) (sequence_of t) k l) parts all
+    subst (λ (l : List Bool). Spells (samples s) (shown t) k l) parts all
 
-values_spelled : (t : Settings) (k : ℕ) → IsWritable t → Spells values (sequence_of t) k (base_bits t ++ frames_bits t ++ samples_bits t)
+values_spelled : (t : Settings) (k : ℕ) → IsWritable t → Spells values (shown t) k (base_bits t ++ frames_bits t ++ samples_bits t)
 unfolding values
 values_spelled t k w =
     let a = base_bits t in
     let b = frames_bits t in
     let c = samples_bits t in
     let second : Sequence → Syntax Sequence = λ s. frames s >>= samples in
-    let more = spells_then (frames (begun t)) samples (framed t) (sequence_of t) (k + length a) b c (frames_spelled t (k + length a) w) (samples_spelled t (k + length a + length b) w) in
-    let all = spells_then base_format second (begun t) (sequence_of t) k a (b ++ c) (base_spelled t k w) more in
+    let more = spells_then (frames (begun t)) samples (framed t) (shown t) (k + length a) b c (frames_spelled t (k + length a) w) (samples_spelled t (k + length a + length b) w) in
+    let all = spells_then base_format second (begun t) (shown t) k a (b ++ c) (base_spelled t k w) more in
     let parts : a ++ (b ++ c) ≡ a ++ b ++ c = simp append_assoc in
-    subst (λ (l : List Bool). Spells values (sequence_of t) k l) parts all
+    subst (λ (l : List Bool). Spells values (shown t) k l) parts all
+
+-- the coding mode: frames, or fields of a height that allows them
+mode_spelled : (t : Settings) (k : ℕ) → IsWritable t → Spells (coding_mode (shown t)) (sequence_of t) k (uint t.fields)
+unfolding coding_mode shown sequence_of
+mode_spelled t k w = elim (cases_eq t.fields 1) [
+  | inl one ↦
+    let whole : has_whole_fields (shown t) ≡ true = eq-eqb (t.height % (2 * ratio_down (chroma_of t.chroma))) 0 (w.whole_fields one) in
+    (t.fields, [], omega (arith, one), sym (append-nil (uint t.fields)), rw (one, whole) (refl, refl))
+  | inr other ↦
+    let none : t.fields ≡ 0 = omega (arith, w.mode) in
+    (t.fields, [], omega (arith, none), sym (append-nil (uint t.fields)), rw none (refl, refl))
+]
 
 pub sequence_spelled : (t : Settings) (k : ℕ) → IsWritable t → Spells sequence (sequence_of t) k (sequence_bits t)
-unfolding sequence colours coding_mode sequence_of
+unfolding sequence colours
 sequence_spelled t k w =
     let a = base_bits t ++ frames_bits t ++ samples_bits t in
     let b : List Bool = false ∷ [] in
-    let c = uint 0 in
+    let c = uint t.fields in
     let k1 = k + length a in
     let k2 = k1 + length b in
     let third : Sequence → Unit {0} → Syntax Sequence = λ s none. coding_mode s in
     let second : Sequence → Syntax Sequence = λ s. colours >>= third s in
-    let last : Spells (third (sequence_of t) tt) (sequence_of t) k2 c = (0, [], omega arith, sym (append-nil (uint 0)), (refl, refl)) in
-    let more : Spells (second (sequence_of t)) (sequence_of t) k1 (b ++ c) =
-    spells_then colours (third (sequence_of t)) tt (sequence_of t) k1 b c (false, [], refl, (refl, refl)) last in
-    let all = spells_then values second (sequence_of t) (sequence_of t) k a (b ++ c) (values_spelled t k w) more in
+    let last : Spells (third (shown t) tt) (sequence_of t) k2 c = mode_spelled t k2 w in
+    let more : Spells (second (shown t)) (sequence_of t) k1 (b ++ c) =
+    spells_then colours (third (shown t)) tt (sequence_of t) k1 b c (false, [], refl, (refl, refl)) last in
+    let all = spells_then values second (shown t) (sequence_of t) k a (b ++ c) (values_spelled t k w) more in
     let parts : a ++ (b ++ c) ≡ sequence_bits t = simp append_assoc in
     subst (λ (l : List Bool). Spells sequence (sequence_of t) k l) parts all

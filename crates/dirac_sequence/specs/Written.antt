@@ -1,5 +1,5 @@
 -- The sequence header that the encoder writes for its settings.
-use Rattle.std.specs.Prelude.{◌≡◌, ℕ, ◌≤◌, ◌%◌, ◌==◌, ◌&&◌, not, if◌then◌else◌, Bool, true, false, List, [], ◌∷◌, ◌++◌}
+use Rattle.std.specs.Prelude.{◌≡◌, ℕ, ◌≤◌, ◌*◌, ◌%◌, ◌==◌, ◌&&◌, not, if◌then◌else◌, Bool, true, false, List, [], ◌∷◌, ◌++◌}
 use Rattle.dirac_types.specs.declared.formats.Chroma.{Chroma}
 use Rattle.dirac_types.specs.declared.formats.Chroma.TheVariants.{C444, C422, C420}
 use Rattle.dirac_types.specs.declared.settings.Settings.{Settings}
@@ -23,6 +23,8 @@ pub record IsWritable (t : Settings) : Type 0 where
   pub signal : (1 ≤ t.signal) × (t.signal ≤ 2)
   pub profile : t.profile ≤ 255
   pub level : t.level ≤ 255
+  pub mode : t.fields ≤ 1
+  pub whole_fields : t.fields ≡ 1 → t.height % (2 * ratio_down (chroma_of t.chroma)) ≡ 0
 
 -- both numbers are the same
 abbrev pub is_same : ℕ × ℕ → ℕ × ℕ → Bool
@@ -66,7 +68,7 @@ sequence_of t = record (preset t.base) {
   clean = if is_own_size t then (t.width, t.height, 0, 0) else (preset t.base).clean;
   luma = (range_of t.signal).luma;
   colour = (range_of t.signal).colour;
-  fields = false;
+  fields = t.fields == 1;
 }
 
 -- a custom flag, and behind it where it is set what it announces
@@ -96,9 +98,9 @@ samples_bits t =
     ++ custom_bits (is_own_size t) (whole_area_bits t)
     ++ custom_bits (is_own_signal t) (numbers.uint t.signal)
 
--- the header: behind its values no colours of its own, and picture coding mode 0
+-- the header: behind its values no colours of its own, and the picture coding mode, 1 for fields
 abbrev pub sequence_bits : Settings → List Bool
-sequence_bits t = base_bits t ++ frames_bits t ++ samples_bits t ++ (false ∷ []) ++ numbers.uint 0
+sequence_bits t = base_bits t ++ frames_bits t ++ samples_bits t ++ (false ∷ []) ++ numbers.uint t.fields
 
 -- the header's bytes, its last byte filled up with bits 0
 unfoldable pub sequence_payload : Settings → List ℕ

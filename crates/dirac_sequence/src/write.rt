@@ -18,7 +18,7 @@ use dirac_types::{Chroma, NoMemory, Settings};
 use std::alloc::Global;
 
 /// The sequence that the encoder's pictures make with these settings: version 2.2, its picture size, chroma format,
-/// frame rate and signal range, and what the settings don't say as the base video format has it.
+/// frame rate and signal range, whether they are fields, and what the settings don't say as the base video format has it.
 pub fn sequence_of(settings: &Settings) -> Sequence
     requires { IsAccepted settings.now }
     ensures value { result ≡ written.sequence_of settings.now }
@@ -52,7 +52,7 @@ fn made(settings: &Settings) -> Sequence
         clean,
         luma: signal.luma,
         colour: signal.colour,
-        fields: false,
+        fields: settings.fields == 1,
         ..base
     }
 }
@@ -153,7 +153,7 @@ fn write_fields(w: &mut BitWriter, settings: &Settings) -> Result<(), NoMemory>
     write_frames(w, settings, &base)?;
     write_samples(w, settings, &base)?;
     w.bit(false)?;
-    w.uint(0)?;
+    w.uint(u64::from(settings.fields))?;
     Ok(())
 }
 

@@ -59,12 +59,11 @@ use Rattle.dirac_plan_laws.specs.Headers.{IsPlanned, header_of}
 -- ---- settings
 
 pub predicting : (t : Settings) → IsAccepted t → IsPredicting t
-unfolding table
-predicting t is = record {
+predicting t is = let range = in_range t is in record {
   lawful = sequence_lawful t (codable t is).sequence;
-  some_blocks = is.1.1.1.1.1.1.1.1.1.1.1.1.1.0.0;
-  most_blocks = is.1.1.1.1.1.1.1.1.1.1.1.1.1.0.1;
-  precision = is.1.1.1.1.1.1.1.1.1.1.1.1.1.1.0.1;
+  some_blocks = range.blocks.0;
+  most_blocks = range.blocks.1;
+  precision = range.precision;
 }
 
 -- ---- what is left fits what codes it

@@ -1,10 +1,11 @@
 -- The definitions of numbers, computed on small cases.
-use Rattle.std.proofs.Common.{◌≡◌, ℕ, true, false, [], ◌∷◌, pos, negsuc, refl, Some}
+use Rattle.std.proofs.Common.{◌≡◌, ℕ, true, false, [], ◌∷◌, pos, negsuc, refl, Some, None}
 use Rattle.dirac_types.specs.declared.settings.Name.TheVariants as name
 use Rattle.dirac_types.specs.declared.settings.Settings.{Settings}
 use Rattle.dirac_types.specs.Bits.{bits_of, number_from}
 use Rattle.dirac_types.specs.Bytes.{bytes_in, bytes_of}
 use Rattle.dirac_types.specs.Settings.{first_bad, table, format_of, formats, of_base, defaults as gives}
+use Rattle.dirac_types.specs.Sizes.{picture_height}
 use Rattle.dirac_types.specs.Numbers.{digits_within, digits_of, uint, sint, literal}
 use Rattle.dirac_types.specs.Table.{Table, cell_at, table_at}
 
@@ -44,10 +45,18 @@ field_height : first_bad (table (record (of_base 0) { width = 8; height = 10; fi
 unfolding table format_of
 field_height = refl
 
--- fields are not accepted
-no_fields : first_bad (table (record (of_base 0) { fields = 1 })) ≡ Some (record { name = name.Fields; value = 1 })
+-- fields are accepted, and have half the rows of a frame
+fields : first_bad (table (record (of_base 0) { fields = 1 })) ≡ None
 unfolding table format_of
-no_fields = refl
+fields = refl
+
+field_rows : picture_height (record (of_base 0) { fields = 1 }) ≡ 240
+unfolding format_of
+field_rows = refl
+
+no_third_mode : first_bad (table (record (of_base 0) { fields = 2 })) ≡ Some (record { name = name.Fields; value = 2 })
+unfolding table format_of
+no_third_mode = refl
 
 unknown_base : first_bad (table (record (of_base 0) { base = 17; chroma = 3 })) ≡ Some (record { name = name.Base; value = 17 })
 unfolding table format_of

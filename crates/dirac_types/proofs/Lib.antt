@@ -1,8 +1,8 @@
+pub mod Accepted
 pub mod Answers
 pub mod Bounds
 pub mod Digits
 mod Examples
-pub mod Frames
 pub mod Heights
 pub mod InRange
 pub mod Rows

@@ -38,13 +38,14 @@ table s =
     ∷ setting name.Height s.height 1 LARGEST_HEIGHT (step_of_height s.chroma s.fields)
     ∷ setting name.Rate s.rate 1 10 1
     ∷ setting name.Signal s.signal 1 2 1
-    ∷ setting name.Fields s.fields 0 0 1
+    ∷ setting name.Fields s.fields 0 1 1
     ∷ setting name.Profile s.profile 0 255 1
     ∷ setting name.Level s.level 0 255 1
     ∷ setting name.Wavelet s.wavelet 0 LARGEST_WAVELET 1
     ∷ setting name.Depth s.depth 1 LARGEST_ENCODED_DEPTH 1
     ∷ setting name.Index s.index 0 LARGEST_INDEX 1
     ∷ setting name.Codeblocks s.codeblocks 1 8 1
+    ∷ setting name.Finer s.finer 0 0 1
     ∷ setting name.Blocks s.blocks 2 4 1
     ∷ setting name.Precision s.precision 0 3 1
     ∷ setting name.References s.references 1 2 1
@@ -119,6 +120,7 @@ of_base base = let format = format_of base in record {
   depth = 4;
   index = 12;
   codeblocks = 1;
+  finer = 0;
   blocks = 2;
   precision = 2;
   references = 2;

@@ -1,13 +1,13 @@
 -- The sizes of the pictures of settings, and of their planes.
-use Rattle.std.specs.Prelude.{ℕ, ◌/◌}
+use Rattle.std.specs.Prelude.{ℕ, ◌/◌, ◌==◌, if◌then◌else◌}
 use Rattle.dirac_types.specs.declared.formats.Component.{Component}
 use Rattle.dirac_types.specs.declared.formats.Component.TheVariants as component
 use Rattle.dirac_types.specs.declared.settings.Settings.{Settings}
 use Rattle.dirac_types.specs.Settings.{step_across, step_down}
 
--- the rows of a picture: each picture is a whole frame
+-- the rows of a picture: those of a frame, or half of them where each picture is a field
 abbrev pub picture_height : Settings → ℕ
-picture_height t = t.height
+picture_height t = if t.fields == 1 then t.height / 2 else t.height
 
 -- the columns of a plane
 abbrev pub plane_width : Settings → Component → ℕ

@@ -32,7 +32,7 @@ pub struct Format {
 
 /// The settings with their ranges, in the order in which they are checked.
 #[tactic(auto, unfolding(crate::specs::Settings::table))]
-pub fn table(s: &Settings) -> [Ranged; 24]
+pub fn table(s: &Settings) -> [Ranged; 25]
     ensures value { result ≡ settings.table s.now }
     ensures whole { All (λ r. 1 ≤ r.step) result }
 {
@@ -55,13 +55,14 @@ pub fn table(s: &Settings) -> [Ranged; 24]
         ),
         setting(Name::Rate, s.rate, 1, 10, 1),
         setting(Name::Signal, s.signal, 1, 2, 1),
-        setting(Name::Fields, s.fields, 0, 0, 1),
+        setting(Name::Fields, s.fields, 0, 1, 1),
         setting(Name::Profile, s.profile, 0, 255, 1),
         setting(Name::Level, s.level, 0, 255, 1),
         setting(Name::Wavelet, s.wavelet, 0, LARGEST_WAVELET, 1),
         setting(Name::Depth, s.depth, 1, LARGEST_ENCODED_DEPTH, 1),
         setting(Name::Index, s.index, 0, LARGEST_INDEX, 1),
         setting(Name::Codeblocks, s.codeblocks, 1, 8, 1),
+        setting(Name::Finer, s.finer, 0, 0, 1),
         setting(Name::Blocks, s.blocks, 2, 4, 1),
         setting(Name::Precision, s.precision, 0, 3, 1),
         setting(Name::References, s.references, 1, 2, 1),

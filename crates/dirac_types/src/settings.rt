@@ -20,6 +20,7 @@ pub enum Name {
     Depth,
     Index,
     Codeblocks,
+    Finer,
     Blocks,
     Precision,
     References,
@@ -54,6 +55,7 @@ impl Name {
             Name::Depth => "depth",
             Name::Index => "index",
             Name::Codeblocks => "codeblocks",
+            Name::Finer => "finer",
             Name::Blocks => "blocks",
             Name::Precision => "precision",
             Name::References => "references",
@@ -93,7 +95,7 @@ pub struct Settings {
     pub rate: u32,
     /// The index of the signal range.
     pub signal: u32,
-    /// 1 where each picture is a field, with half the rows of a frame; else 0. For now only 0 is accepted.
+    /// 1 where each picture is a field, with half the rows of a frame; else 0.
     pub fields: u32,
     /// Written into the sequence header as it is, like the level.
     pub profile: u32,
@@ -106,6 +108,8 @@ pub struct Settings {
     pub index: u32,
     /// The most codeblocks of a subband above the lowest, across and down.
     pub codeblocks: u32,
+    /// How much finer codeblocks of small coefficients are quantised. For now only 0 is accepted.
+    pub finer: u32,
     /// The index of the block parameters.
     pub blocks: u32,
     /// How many times a luma sample is halved for motion vectors.
@@ -151,6 +155,7 @@ impl Settings {
             depth: 4,
             index: 12,
             codeblocks: 1,
+            finer: 0,
             blocks: 2,
             precision: 2,
             references: 2,

@@ -13,7 +13,11 @@ impl Settings {
     pub fn picture_height(&self) -> u32
         ensures { result ≡ sizes.picture_height self.now }
     {
-        self.height
+        if self.fields == 1 {
+            self.height / 2
+        } else {
+            self.height
+        }
     }
 
     /// The number of columns of a plane of a picture.
