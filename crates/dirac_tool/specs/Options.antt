@@ -113,6 +113,7 @@ changed words d = record {
   depth = value_or words name.Depth d.depth;
   index = value_or words name.Index d.index;
   codeblocks = value_or words name.Codeblocks d.codeblocks;
+  finer = d.finer;
   blocks = value_or words name.Blocks d.blocks;
   precision = value_or words name.Precision d.precision;
   references = value_or words name.References d.references;

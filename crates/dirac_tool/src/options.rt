@@ -230,6 +230,7 @@ pub fn settings_given(words: &[String]) -> Settings
         depth: value_or(words, Name::Depth, d.depth),
         index: value_or(words, Name::Index, d.index),
         codeblocks: value_or(words, Name::Codeblocks, d.codeblocks),
+        finer: d.finer,
         blocks: value_or(words, Name::Blocks, d.blocks),
         precision: value_or(words, Name::Precision, d.precision),
         references: value_or(words, Name::References, d.references),
