@@ -4,7 +4,11 @@ use Rattle.dirac_sequence.specs.Sizes.{picture_height}
 use Rattle.std.specs.Option.{ForSome}
 use Rattle.std.proofs.lemmas.List.FromFn.{length-map-range_with_len}
 use Rattle.std.proofs.lemmas.Nat.{div_below}
-use Rattle.dirac_types.specs.Settings.{IsAccepted, table}
+use Rattle.dirac_types.specs.Settings.{IsAccepted}
+use Rattle.dirac_types.specs.Sizes as settings_sizes
+use Rattle.dirac_types.specs.declared.limits.TheConstants.{LARGEST_HEIGHT}
+use Rattle.dirac_types.proofs.Accepted.{in_range}
+use Rattle.dirac_types.proofs.Heights.{picture_rows}
 use Rattle.dirac_types.specs.Table.{Table}
 use Rattle.dirac_types.specs.declared.picture.Picture.{Picture}
 use Rattle.dirac_types.specs.declared.settings.Settings.{Settings}
@@ -23,8 +27,12 @@ use Rattle.dirac_choose.specs.Chosen.{searched_in, view_in}
 use Rattle.dirac_choose.specs.Lent.{HasLuma}
 
 pub size_accepted : (s : Settings) → IsAccepted s → IsSize (sequence_of s).width (picture_height (sequence_of s))
-unfolding table sequence_of
-size_accepted s a = (a.1.1.0.0, a.1.1.0.1, a.1.1.1.0.0, a.1.1.1.0.1)
+unfolding sequence_of
+size_accepted s a =
+    let range = in_range s a in
+    let rows = picture_rows s a in
+    let most : settings_sizes.picture_height s ≤ LARGEST_HEIGHT = omega (arith, rows.most, range.height.1) in
+    (range.width.0, range.width.1, rows.some, most)
 
 pub levels_accepted : (s : Settings) → IsAccepted s → s.pyramid ≤ 4
 levels_accepted s a = (in_range s a).pyramid
