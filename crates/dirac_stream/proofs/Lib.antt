@@ -7,6 +7,7 @@ pub mod Fitting
 pub mod Sourcing
 pub mod Encodings
 pub mod Behind
+pub mod Sizes
 pub mod Counting
 pub mod Pictures
 pub mod Written

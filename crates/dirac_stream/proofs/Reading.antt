@@ -10,7 +10,9 @@ use Rattle.dirac_types.specs.Bytes.{bytes_in, bytes_of}
 use Rattle.dirac_types.specs.declared.formats.Kind.{Kind}
 use Rattle.dirac_types.specs.declared.picture.Picture.{Picture}
 use Rattle.dirac_types.specs.declared.settings.Settings.{Settings}
-use Rattle.dirac_types.specs.Settings.{IsAccepted, table}
+use Rattle.dirac_types.specs.Settings.{IsAccepted}
+use Rattle.dirac_types.specs.Sizes.{picture_height}
+use Rattle.dirac_types.proofs.Accepted.{in_range}
 use Rattle.dirac_types.specs.Numbers.{uint}
 use Rattle.dirac_types.specs.Table.{Table}
 use Rattle.dirac_arith.specs.Interval.{Decision}
@@ -48,11 +50,12 @@ use Rattle.dirac_stream.specs.Payload.{HasSpelledBlocks, payload_of, with_blocks
 use Rattle.dirac_choose.specs.Chosen.{ChosenTablesFit, IsChosen, chosen}
 use Rattle.dirac_stream.specs.Writable.{AreSmall, IsCodable, IsWritten}
 use Rattle.dirac_stream.proofs.Behind.{whole_starts}
-use Rattle.dirac_stream.proofs.Coding.{bands_fit, bands_zeros, bands_small, codable, is_written, sequence_lawful}
+use Rattle.dirac_stream.proofs.Coding.{bands_fit, bands_zeros, bands_small, codable, is_written}
 use Rattle.dirac_stream.proofs.Headers.{length-bytes_in}
 use Rattle.dirac_stream.proofs.InBytes.{bytes_again}
 use Rattle.dirac_stream.proofs.Lefts.{IsPredicting, differences_small, found_is, named_is, picture_is, predicted_are, samples_are}
 use Rattle.dirac_stream.proofs.Pictures.{behind_align, fields_spelled, flag_spelled, left_out, motion_spelled, no_flag, no_motion, not_left_out, picture_spelled}
+use Rattle.dirac_stream.proofs.Sizes.{sequence_lawful}
 use Rattle.dirac_stream.proofs.Written.{residual_written}
 use Rattle.dirac_plan_laws.specs.Headers.{IsPlanned, header_of}
 
@@ -119,12 +122,12 @@ residual_fits t refs q p m accepted listed source planned found is =
     let s = sequence_of t in
     let left : (o : Component) → IsLeft (width_of s o) (height_of s o) (left_of t refs (header_of q) m p o) = λ o. left_fits t refs q p m o accepted listed source planned found is in
     let bands : Component → List _ = λ o. bands_of t (kind_of m) (left_of t refs (header_of q) m p o) in
-    let y = level_bands t (kind_of m) t.width t.height (left_of t refs (header_of q) m p component.Y) codes (left component.Y) in
+    let y = level_bands t (kind_of m) t.width (picture_height t) (left_of t refs (header_of q) m p component.Y) codes (left component.Y) in
     let u = level_bands t (kind_of m) (chroma_width s) (chroma_height s) (left_of t refs (header_of q) m p component.U) codes (left component.U) in
     let v = level_bands t (kind_of m) (chroma_width s) (chroma_height s) (left_of t refs (header_of q) m p component.V) codes (left component.V) in
     is_written t (residual_of t refs (header_of q) m p) codes refl
-    (bands_fit t t.width t.height (bands component.Y) codes.depth.0 y) (bands_fit t (chroma_width s) (chroma_height s) (bands component.U) codes.depth.0 u) (bands_fit t (chroma_width s) (chroma_height s) (bands component.V) codes.depth.0 v)
-    (bands_zeros (lowest_size t.width t.depth) (lowest_size t.height t.depth) t.depth (bands component.Y) y)
+    (bands_fit t t.width (picture_height t) (bands component.Y) codes.depth.0 y) (bands_fit t (chroma_width s) (chroma_height s) (bands component.U) codes.depth.0 u) (bands_fit t (chroma_width s) (chroma_height s) (bands component.V) codes.depth.0 v)
+    (bands_zeros (lowest_size t.width t.depth) (lowest_size (picture_height t) t.depth) t.depth (bands component.Y) y)
     (bands_zeros (lowest_size (chroma_width s) t.depth) (lowest_size (chroma_height s) t.depth) t.depth (bands component.U) u)
     (bands_zeros (lowest_size (chroma_width s) t.depth) (lowest_size (chroma_height s) t.depth) t.depth (bands component.V) v)
 
@@ -289,7 +292,7 @@ residual_small t refs q p m accepted listed source planned found is =
     let left : (o : Component) → IsLeft (width_of s o) (height_of s o) (left_of t refs (header_of q) m p o) = λ o. left_fits t refs q p m o accepted listed source planned found is in
     let bands : Component → List _ = λ o. bands_of t (kind_of m) (left_of t refs (header_of q) m p o) in
     record {
-      y = bands_small (lowest_size t.width t.depth) (lowest_size t.height t.depth) t.depth (bands component.Y) (level_bands t (kind_of m) t.width t.height (left_of t refs (header_of q) m p component.Y) codes (left component.Y));
+      y = bands_small (lowest_size t.width t.depth) (lowest_size (picture_height t) t.depth) t.depth (bands component.Y) (level_bands t (kind_of m) t.width (picture_height t) (left_of t refs (header_of q) m p component.Y) codes (left component.Y));
       u = bands_small (lowest_size (chroma_width s) t.depth) (lowest_size (chroma_height s) t.depth) t.depth (bands component.U) (level_bands t (kind_of m) (chroma_width s) (chroma_height s) (left_of t refs (header_of q) m p component.U) codes (left component.U));
       v = bands_small (lowest_size (chroma_width s) t.depth) (lowest_size (chroma_height s) t.depth) t.depth (bands component.V) (level_bands t (kind_of m) (chroma_width s) (chroma_height s) (left_of t refs (header_of q) m p component.V) codes (left component.V));
     }

@@ -9,6 +9,7 @@ use Rattle.std.proofs.lemmas.List.{length-map, get_or-map, get_or_default, lengt
 use Rattle.dirac_types.specs.declared.picture.Picture.{Picture}
 use Rattle.dirac_types.specs.declared.settings.Settings.{Settings}
 use Rattle.dirac_types.specs.Settings.{IsAccepted}
+use Rattle.dirac_types.specs.Sizes.{picture_height}
 use Rattle.dirac_types.specs.Samples.{clip}
 use Rattle.dirac_units.specs.Cut.{IsCut, start}
 use Rattle.dirac_sequence.specs.Written.{sequence_of}
@@ -107,7 +108,7 @@ raws_in t (suc count) number bytes all =
     let r = raw_length t in
     let s = sequence_of t in
     let parts = below_first r count bytes all in
-    ap₂ (λ (l m : List ℕ). l ++ m) (raw_again t.width t.height (chroma_width s) (chroma_height s) number (take r bytes) parts.0) (raws_in t count (number + 1) (drop r bytes) parts.1)
+    ap₂ (λ (l m : List ℕ). l ++ m) (raw_again t.width (picture_height t) (chroma_width s) (chroma_height s) number (take r bytes) parts.0) (raws_in t count (number + 1) (drop r bytes) parts.1)
     ∙ sym (first_bytes r count bytes)
 
 wholes_in : (t : Settings) (count number : ℕ) (bytes : List ℕ) → count * raw_length t ≤ length bytes → AllByRecursion IsWhole (pictures_in t count number bytes)

@@ -5,6 +5,7 @@ use Rattle.dirac_types.specs.declared.formats.Kind.{Kind}
 use Rattle.dirac_types.specs.declared.formats.Kind.TheVariants.{Intra, Inter}
 use Rattle.dirac_types.specs.declared.picture.Picture.{Picture}
 use Rattle.dirac_types.specs.declared.settings.Settings.{Settings}
+use Rattle.dirac_types.specs.Sizes.{picture_height}
 use Rattle.dirac_types.specs.Table.{Table}
 use Rattle.dirac_sequence.specs.Written.{sequence_of}
 use Rattle.dirac_header.specs.declared.header.PictureHeader.{PictureHeader}
@@ -37,7 +38,7 @@ unfoldable pub counts_below : Settings → ℕ → List (ℕ × ℕ)
 counts_below t zero = []
 counts_below t (suc level) =
     counts_below t level
-    ++ (count_of t.codeblocks t.width t.depth level, count_of t.codeblocks t.height t.depth level) ∷ []
+    ++ (count_of t.codeblocks t.width t.depth level, count_of t.codeblocks (picture_height t) t.depth level) ∷ []
 
 -- the transform parameters of these settings
 abbrev pub transform_of : Settings → Transform
@@ -122,6 +123,6 @@ pub record IsPlane (width height : ℕ) (t : Table) : Type 0 where
 
 -- a picture that can be coded with these settings
 pub record IsSource (t : Settings) (p : Picture) : Type 0 where
-  pub y : IsPlane t.width t.height p.y
+  pub y : IsPlane t.width (picture_height t) p.y
   pub u : IsPlane (chroma_width (sequence_of t)) (chroma_height (sequence_of t)) p.u
   pub v : IsPlane (chroma_width (sequence_of t)) (chroma_height (sequence_of t)) p.v

@@ -2,6 +2,7 @@
 use Rattle.std.specs.Prelude.{ℕ, zero, suc, ℤ, pos, ◌+◌, ◌*◌, ◌/◌, ◌%◌, ◌-ℤ◌, List, [], ◌∷◌, length, map, min, take, drop}
 use Rattle.dirac_types.specs.declared.picture.Picture.{Picture}
 use Rattle.dirac_types.specs.declared.settings.Settings.{Settings}
+use Rattle.dirac_types.specs.Sizes.{picture_height}
 use Rattle.dirac_types.specs.Table.{Table}
 use Rattle.dirac_sequence.specs.Written.{sequence_of}
 use Rattle.dirac_picture.specs.Grammar.{chroma_height, chroma_width}
@@ -16,7 +17,7 @@ plane_from width height bytes = record { width = width; height = height; values 
 
 -- the bytes of a plane of luma, and of one of chroma
 abbrev pub luma_bytes : Settings → ℕ
-luma_bytes t = t.width * t.height
+luma_bytes t = t.width * picture_height t
 
 abbrev pub chroma_bytes : Settings → ℕ
 chroma_bytes t = chroma_width (sequence_of t) * chroma_height (sequence_of t)
@@ -37,7 +38,7 @@ picture_in width height chroma_width chroma_height number bytes = record {
 -- the picture of this number with these settings
 abbrev pub picture_from : Settings → ℕ → List ℕ → Picture
 picture_from t number bytes =
-    picture_in t.width t.height (chroma_width (sequence_of t)) (chroma_height (sequence_of t)) number bytes
+    picture_in t.width (picture_height t) (chroma_width (sequence_of t)) (chroma_height (sequence_of t)) number bytes
 
 -- how many whole raw pictures these bytes are, and how many bytes are left over
 abbrev pub whole_pictures : Settings → List ℕ → ℕ
