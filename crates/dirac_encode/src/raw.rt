@@ -4,6 +4,7 @@ ghost use Rattle.std.specs.Prelude.{◌≡◌, ◌+◌, ◌*◌, ◌≤◌, ◌<
 ghost use Rattle.dirac_residual.specs.Residual.{clip};
 ghost use Rattle.dirac_analysis.specs.Fits.{AreSamples};
 ghost use Rattle.dirac_types.specs.Settings.{IsAccepted};
+ghost use Rattle.dirac_types.specs.Sizes.{picture_height};
 ghost use Rattle.dirac_sequence.specs.Lawful.{IsSequence};
 ghost use Rattle.dirac_picture.specs.Fits.{IsPlaneSize};
 ghost use Rattle.dirac_picture.specs.Grammar.{chroma_height, chroma_width};
@@ -58,9 +59,10 @@ pub fn raw_length(settings: &Settings) -> usize
 }
 
 fn length_in(settings: &Settings, sequence: &Sequence) -> usize
-    requires luma { IsPlaneSize settings.now.width settings.now.height }
+    requires luma { IsPlaneSize settings.now.width (picture_height settings.now) }
     requires chroma { IsPlaneSize (chroma_width sequence.now) (chroma_height sequence.now) }
-    ensures { result ≡ settings.now.width * settings.now.height + chroma_width sequence.now * chroma_height sequence.now
+    ensures { result ≡ settings.now.width * picture_height settings.now
+        + chroma_width sequence.now * chroma_height sequence.now
         + chroma_width sequence.now * chroma_height sequence.now }
 {
     let width = sequence.plane_width(Component::U);
@@ -96,12 +98,13 @@ fn planes_of(
     bytes: &[u8],
 ) -> Result<Picture, NoMemory>
     requires sequence { IsSequence sequence.now }
-    requires luma { IsPlaneSize settings.now.width settings.now.height }
+    requires luma { IsPlaneSize settings.now.width (picture_height settings.now) }
     requires chroma { IsPlaneSize (chroma_width sequence.now) (chroma_height sequence.now) }
-    requires bytes { length bytes.now ≡ settings.now.width * settings.now.height + chroma_width sequence.now *
-        chroma_height sequence.now + chroma_width sequence.now * chroma_height sequence.now }
-    ensures value { IfOk result (λ p. p ≡ picture_in settings.now.width settings.now.height (chroma_width sequence.now)
-        (chroma_height sequence.now) number bytes.now) }
+    requires bytes { length bytes.now ≡ settings.now.width * picture_height settings.now
+        + chroma_width sequence.now * chroma_height sequence.now
+        + chroma_width sequence.now * chroma_height sequence.now }
+    ensures value { IfOk result (λ p. p ≡ picture_in settings.now.width (picture_height settings.now)
+        (chroma_width sequence.now) (chroma_height sequence.now) number bytes.now) }
     ensures y { IfOk result (λ p. AreSamples p.y.values) }
     ensures u { IfOk result (λ p. AreSamples p.u.values) }
     ensures v { IfOk result (λ p. AreSamples p.v.values) }

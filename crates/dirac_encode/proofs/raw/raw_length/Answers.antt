@@ -1,4 +1,5 @@
 use Rattle.std.proofs.Common.{◌+◌, ◌*◌, ap, ◌∙◌}
+use Rattle.dirac_types.specs.Sizes.{picture_height}
 use Rattle.dirac_sequence.specs.declared.sequence.Sequence.{Sequence}
 use Rattle.dirac_picture.specs.Grammar.{chroma_height, chroma_width}
 use Rattle.dirac_stream.proofs.Coding.{codable}
@@ -17,4 +18,4 @@ pub returns : goal.returns
 returns c =
     let t = c.args.settings.now in
     c.length_in.ensures
-    ∙ ap (λ (s : Sequence). t.width * t.height + chroma_width s * chroma_height s + chroma_width s * chroma_height s) c.sequence_of-sequence.ensures.value
+    ∙ ap (λ (s : Sequence). t.width * picture_height t + chroma_width s * chroma_height s + chroma_width s * chroma_height s) c.sequence_of-sequence.ensures.value
