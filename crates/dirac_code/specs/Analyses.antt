@@ -1,5 +1,5 @@
 -- The planes of a picture, analysed and quantised.
-use Rattle.std.specs.Prelude.{◌≡◌}
+use Rattle.std.specs.Prelude.{◌≡◌, ℕ}
 use Rattle.dirac_types.specs.declared.formats.Component.{Component}
 use Rattle.dirac_types.specs.declared.formats.Component.TheVariants as component
 use Rattle.dirac_types.specs.declared.formats.Kind.{Kind}
@@ -13,8 +13,8 @@ use Rattle.dirac_code.specs.declared.residual.AnalysedPlanes.{AnalysedPlanes}
 
 -- a plane is analysed with these settings, so that it can be quantised
 pub record IsAnalysed (t : Settings) (kind : Kind) (plane : Table) (a : Analysis) : Type 0 where
-  pub same : a ≡ plane_analysis kind t.wavelet t.depth plane
-  pub fits : AreQuantisable a
+  pub same : a ≡ plane_analysis kind (transform_of t) plane
+  pub fits : AreQuantisable t.depth a
 
 -- the planes of a picture are
 pub record AreAnalysed (t : Settings) (kind : Kind) (of_y of_u of_v : Table) (a : AnalysedPlanes) : Type 0 where
@@ -28,17 +28,17 @@ analysis_of a component.Y = a.y
 analysis_of a component.U = a.u
 analysis_of a component.V = a.v
 
--- planes that can be quantised
-pub record AreQuantisablePlanes (a : AnalysedPlanes) : Type 0 where
-  pub y : AreQuantisable a.y
-  pub u : AreQuantisable a.u
-  pub v : AreQuantisable a.v
+-- planes of so many levels that can be quantised
+pub record AreQuantisablePlanes (depth : ℕ) (a : AnalysedPlanes) : Type 0 where
+  pub y : AreQuantisable depth a.y
+  pub u : AreQuantisable depth a.u
+  pub v : AreQuantisable depth a.v
 
 -- the coded residual of analysed planes, at the index of these settings
 abbrev pub quantised_planes : Settings → Kind → AnalysedPlanes → CodedResidual
 quantised_planes t kind a = record {
   transform = transform_of t;
-  y = quantised kind t.index a.y;
-  u = quantised kind t.index a.u;
-  v = quantised kind t.index a.v;
+  y = quantised kind (transform_of t) t.index a.y;
+  u = quantised kind (transform_of t) t.index a.u;
+  v = quantised kind (transform_of t) t.index a.v;
 }

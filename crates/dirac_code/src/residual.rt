@@ -6,7 +6,7 @@ ghost use Rattle.dirac_coeffs.specs.Contexts as contexts;
 ghost use Rattle.dirac_coeffs.specs.Written.{is_zero_band};
 ghost use Rattle.dirac_residual.specs.Zeros.{are_zero_bands};
 ghost use Rattle.dirac_analysis.specs.Analysis.{quantised};
-ghost use Rattle.dirac_analysis.specs.Fits.{AreDifferences};
+ghost use Rattle.dirac_analysis.specs.Fits.{AreDifferences, AreQuantisable};
 ghost use Rattle.dirac_decode.specs.Content.{plane_of};
 ghost use Rattle.dirac_stream.specs.Coded as coding;
 ghost use Rattle.dirac_stream.specs.Writable.{IsCodable};
@@ -48,13 +48,8 @@ fn analyse_values(
     requires magnitudes_bounded { AreDifferences plane.now.values }
     ensures { IfOk result (IsAnalysed settings.now kind plane.now) }
 {
-    let analysed = analyse(
-        alloc,
-        kind,
-        plane,
-        settings.wavelet as u8,
-        settings.depth as u8,
-    )?;
+    let transform = transform_of(settings);
+    let analysed = analyse(alloc, kind, plane, &transform)?;
     Ok(analysed)
 }
 
@@ -198,6 +193,21 @@ pub(crate) fn analyse_rest_side_by_side<R: Threads + Sync>(
     Ok(AnalysedPlanes { y, u, v })
 }
 
+/// The subbands of an analysed plane, quantised at the index of these settings.
+fn quantise_one(
+    alloc: Global,
+    settings: &Settings,
+    kind: Kind,
+    plane: &AnalysedPlane,
+) -> Result<PlaneBands, NoMemory>
+    requires codable { IsCodable settings.now }
+    requires fits { AreQuantisable settings.now.depth plane.now }
+    ensures { IfOk result (λ b. b ≡ quantised kind (coding.transform_of settings.now) settings.now.index plane.now) }
+{
+    let transform = transform_of(settings);
+    quantise_plane(alloc, kind, &transform, plane, settings.index as u8)
+}
+
 /// The coded residual of analysed planes, quantised at the index of these settings.
 pub(crate) fn quantise_planes(
     alloc: Global,
@@ -206,13 +216,12 @@ pub(crate) fn quantise_planes(
     planes: &AnalysedPlanes,
 ) -> Result<CodedResidual, NoMemory>
     requires codable { IsCodable settings.now }
-    requires fits { AreQuantisablePlanes planes.now }
+    requires fits { AreQuantisablePlanes settings.now.depth planes.now }
     ensures { IfOk result (λ r. r ≡ quantised_planes settings.now kind planes.now) }
 {
-    let index = settings.index as u8;
-    let y = quantise_plane(alloc, kind, &planes.y, index)?;
-    let u = quantise_plane(alloc, kind, &planes.u, index)?;
-    let v = quantise_plane(alloc, kind, &planes.v, index)?;
+    let y = quantise_one(alloc, settings, kind, &planes.y)?;
+    let u = quantise_one(alloc, settings, kind, &planes.u)?;
+    let v = quantise_one(alloc, settings, kind, &planes.v)?;
     Ok(with_transform(settings, y, u, v))
 }
 
@@ -225,14 +234,14 @@ fn quantise_component(
     component: Component,
 ) -> Result<PlaneBands, NoMemory>
     requires codable { IsCodable settings.now }
-    requires fits { AreQuantisablePlanes planes.now }
-    ensures { IfOk result (λ b. b ≡ quantised kind settings.now.index (analysis_of planes.now component)) }
+    requires fits { AreQuantisablePlanes settings.now.depth planes.now }
+    ensures { IfOk result (λ b. b ≡ quantised kind (coding.transform_of settings.now) settings.now.index
+        (analysis_of planes.now component)) }
 {
-    let index = settings.index as u8;
     match component {
-        Component::Y => quantise_plane(alloc, kind, &planes.y, index),
-        Component::U => quantise_plane(alloc, kind, &planes.u, index),
-        Component::V => quantise_plane(alloc, kind, &planes.v, index),
+        Component::Y => quantise_one(alloc, settings, kind, &planes.y),
+        Component::U => quantise_one(alloc, settings, kind, &planes.u),
+        Component::V => quantise_one(alloc, settings, kind, &planes.v),
     }
 }
 
@@ -246,13 +255,14 @@ pub(crate) fn quantise_side_by_side<R: Threads + Sync>(
     planes: &AnalysedPlanes,
 ) -> Result<CodedResidual, NoMemory>
     requires codable { IsCodable settings.now }
-    requires fits { AreQuantisablePlanes planes.now }
+    requires fits { AreQuantisablePlanes settings.now.depth planes.now }
     ensures { IfOk result (λ r. r ≡ quantised_planes settings.now kind planes.now) }
 {
     let work = |component: Component| -> Result<PlaneBands, NoMemory>
-        requires { IsCodable settings.now × AreQuantisablePlanes planes.now }
+        requires { IsCodable settings.now × AreQuantisablePlanes settings.now.depth planes.now }
         ensures { IfOk result (λ b. b
-            ≡ quantised kind settings.entry.now.index (analysis_of planes.entry.now component)) }
+            ≡ quantised kind (coding.transform_of settings.entry.now) settings.entry.now.index
+            (analysis_of planes.entry.now component)) }
     { quantise_component(alloc, settings, kind, planes, component) };
     let Planes { y, u, v } = side_by_side(rt, workers, &work)?;
     Ok(with_transform(settings, y, u, v))

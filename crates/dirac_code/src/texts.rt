@@ -7,7 +7,7 @@ ghost use Rattle.dirac_sequence.specs.Lawful.{IsSequence};
 ghost use Rattle.dirac_picture.specs.Fits.{AreBandsOf, IsLayout, IsPlaneSize};
 ghost use Rattle.dirac_decode.specs.Content as content;
 ghost use Rattle.dirac_stream.specs.Payload.{with_plane};
-ghost use Rattle.dirac_stream.specs.Writable.{HaveZeros, IsWritten};
+ghost use Rattle.dirac_stream.specs.Writable.{AreWritable, IsWritten};
 ghost use Rattle.dirac_code.specs.Texts.{AreTexts, text_of};
 
 use crate::bands::write_plane;
@@ -40,7 +40,7 @@ fn plane_text(
     requires layout { IsLayout transform.now }
     requires size { IsPlaneSize width height }
     requires bands { AreBandsOf transform.now width height bands.now }
-    requires zeros { HaveZeros bands.now }
+    requires writable { AreWritable transform.now width height bands.now }
     ensures { IfOk result (λ v. bits_of v.items ≡ up_to_byte (with_plane transform.now width height bands.now [])) }
 {
     let mut w = BitWriter::new(alloc);

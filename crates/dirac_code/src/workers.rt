@@ -90,7 +90,7 @@ pub(crate) trait Workers {
     ) -> Result<CodedResidual, NoMemory>
         requires shared { are_shared self.now }
         requires codable { IsCodable settings.now }
-        requires fits { AreQuantisablePlanes planes.now }
+        requires fits { AreQuantisablePlanes settings.now.depth planes.now }
         ensures { IfOk result (λ r. r ≡ quantised_planes settings.now kind planes.now) };
 
     /// Writes the bands of a coded picture, and shows it.

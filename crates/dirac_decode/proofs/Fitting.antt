@@ -12,7 +12,7 @@ use Rattle.dirac_picture.specs.Bands.{layout_of}
 use Rattle.dirac_picture.specs.Fits as picture
 use Rattle.dirac_residual.specs.Fits as plane
 
-pub bands_of_plane : (t : Transform) (width height : ℕ) (bands : List CodedBand) → picture.AreBandsOf t width height bands → plane.AreBandsOf t.depth width height bands
+pub bands_of_plane : (t : Transform) (width height : ℕ) (bands : List CodedBand) → picture.IsLayout t → picture.AreBandsOf t width height bands → plane.AreBandsOf t width height bands
 unfolding layout_of
 bands_of_plane t width height bands fits = record {
   count = fits.count;
@@ -22,7 +22,7 @@ bands_of_plane t width height bands fits = record {
 }
 
 -- those of each plane of a picture's residual
-pub bands_of_part : (s : Sequence) (r : CodedResidual) (p : Component) → picture.IsResidual s r → plane.AreBandsOf r.transform.depth (width_of s p) (height_of s p) (bands_of r p)
+pub bands_of_part : (s : Sequence) (r : CodedResidual) (p : Component) → picture.IsResidual s r → plane.AreBandsOf r.transform (width_of s p) (height_of s p) (bands_of r p)
 bands_of_part s r component.Y fits = bands_of_plane r.transform s.width (picture_height s) r.y fits.y
 bands_of_part s r component.U fits = bands_of_plane r.transform (width_of s component.U) (height_of s component.U) r.u fits.u
 bands_of_part s r component.V fits = bands_of_plane r.transform (width_of s component.V) (height_of s component.V) r.v fits.v

@@ -26,7 +26,7 @@ use Rattle.dirac_analysis.specs.Analysis.{plane_bands}
 use Rattle.dirac_analysis.proofs.Undone.{planes_kept}
 use Rattle.dirac_decode.specs.Content.{bands_of as bands_in, compensation, height_of, named, plane_of, predicted_among, rebuilt, residual_among, samples_from, width_of}
 use Rattle.dirac_plan.specs.declared.planned.Planned.{Planned}
-use Rattle.dirac_stream.specs.Coded.{IsSource, are_zero_bands, bands_of, coded_of, coded_with, is_zero_residual, kind_of, left_of, less_prediction, motion_of, residual_of, residual_unless_zero}
+use Rattle.dirac_stream.specs.Coded.{IsSource, are_zero_bands, bands_of, coded_of, coded_with, is_zero_residual, kind_of, left_of, less_prediction, motion_of, residual_of, residual_unless_zero, transform_of}
 use Rattle.dirac_stream.specs.Coding.{IndexRule, Job, blank, coded_under, job_of, made_under, own_index, refs_after, shown_of}
 use Rattle.dirac_stream.specs.Laws.{AreMade, AreNumbered, GivesIndices, IsWhole, JobsAreKept, SourcesAreKept, SourcesAreKeptUnder}
 use Rattle.dirac_stream.specs.Tables.{TablesAreChosen}
@@ -68,18 +68,18 @@ whole_plane p component.U is = is.u
 whole_plane p component.V is = is.v
 
 bands_at_zero : (t : Settings) (plane : Table) (width height : ℕ) → IsCodable t → t.index ≡ 0 → plane.width ≡ width → plane.height ≡ height → length plane.values ≡ plane.width * plane.height
-    → residual t.wavelet t.depth Inter (bands_of t Inter plane) width height ≡ plane
+    → residual (transform_of t) Inter (bands_of t Inter plane) width height ≡ plane
 bands_at_zero t plane width height codes none ew eh whole =
-    ap₂ (λ (w h : ℕ). residual t.wavelet t.depth Inter (bands_of t Inter plane) w h) (sym ew) (sym eh)
-    ∙ ap (λ index. residual t.wavelet t.depth Inter (plane_bands Inter t.wavelet t.depth index plane) plane.width plane.height) none
-    ∙ planes_kept Inter t.wavelet t.depth plane codes.wavelet whole
+    ap₂ (λ (w h : ℕ). residual (transform_of t) Inter (bands_of t Inter plane) w h) (sym ew) (sym eh)
+    ∙ ap (λ index. residual (transform_of t) Inter (plane_bands Inter (transform_of t) index plane) plane.width plane.height) none
+    ∙ planes_kept Inter (transform_of t) plane codes.wavelet whole
 
 intra_at_zero : (t : Settings) (plane : Table) (width height : ℕ) → IsCodable t → t.index ≡ 0 → plane.width ≡ width → plane.height ≡ height → length plane.values ≡ plane.width * plane.height
-    → residual t.wavelet t.depth Intra (bands_of t Intra plane) width height ≡ plane
+    → residual (transform_of t) Intra (bands_of t Intra plane) width height ≡ plane
 intra_at_zero t plane width height codes none ew eh whole =
-    ap₂ (λ (w h : ℕ). residual t.wavelet t.depth Intra (bands_of t Intra plane) w h) (sym ew) (sym eh)
-    ∙ ap (λ index. residual t.wavelet t.depth Intra (plane_bands Intra t.wavelet t.depth index plane) plane.width plane.height) none
-    ∙ planes_kept Intra t.wavelet t.depth plane codes.wavelet whole
+    ap₂ (λ (w h : ℕ). residual (transform_of t) Intra (bands_of t Intra plane) w h) (sym ew) (sym eh)
+    ∙ ap (λ index. residual (transform_of t) Intra (plane_bands Intra (transform_of t) index plane) plane.width plane.height) none
+    ∙ planes_kept Intra (transform_of t) plane codes.wavelet whole
 
 zero_part : (r : CodedResidual) (o : Component) → is_zero_residual r ≡ true → are_zero_bands (bands_in r o) ≡ true
 zero_part r component.Y e = (and_parts (are_zero_bands r.y) (are_zero_bands r.u) (and_parts (are_zero_bands r.y && are_zero_bands r.u) (are_zero_bands r.v) e).0).0
@@ -88,8 +88,8 @@ zero_part r component.V e = (and_parts (are_zero_bands r.y && are_zero_bands r.u
 
 -- a residual that is left out, being zero, is the same as one that is written
 left_out_again : (s : Sequence) (r : CodedResidual) (o : Component) (b : Bool) → is_zero_residual r ≡ b
-    → residual_among s Inter o (if b then None else Some r) ≡ residual r.transform.wavelet r.transform.depth Inter (bands_in r o) (width_of s o) (height_of s o)
-left_out_again s r o true e = sym (zeros_stand r.transform.wavelet r.transform.depth (bands_in r o) (width_of s o) (height_of s o) (zero_part r o e))
+    → residual_among s Inter o (if b then None else Some r) ≡ residual r.transform Inter (bands_in r o) (width_of s o) (height_of s o)
+left_out_again s r o true e = sym (zeros_stand r.transform (bands_in r o) (width_of s o) (height_of s o) (zero_part r o e))
 left_out_again s r o false e = refl
 
 length-predicted : (s : Sequence) (m : CodedMotion) (first second : Option Picture) (o : Component) → (first ≡ None → ⊥) → length (predicted_among s m first second o) ≡ width_of s o * height_of s o
@@ -110,7 +110,7 @@ plane_kept t refs q p None o codes source whole found none stays moves =
     let plane = source_plane t p o source in
     let r = residual_of t refs (header_of q) None p in
     ap clipped
-    (ap (λ bands. residual t.wavelet t.depth Intra bands (width_of s o) (height_of s o)) (part_bands t refs q None p o)
+    (ap (λ bands. residual (transform_of t) Intra bands (width_of s o) (height_of s o)) (part_bands t refs q None p o)
     ∙ intra_at_zero t (plane_of p o) (width_of s o) (height_of s o) codes none plane.across plane.down (whole_plane p o whole))
     ∙ clipped_again (plane_of p o) plane.samples
 plane_kept t refs q p (Some m) o codes source whole found none stays moves =
@@ -125,7 +125,7 @@ plane_kept t refs q p (Some m) o codes source whole found none stays moves =
     let size : length left.values ≡ left.width * left.height = length-zip (plane_of p o).values ps few ∙ whole_plane p o whole in
     let again : residual_among s Inter o (residual_unless_zero (Some m) r) ≡ left =
     left_out_again s r o (is_zero_residual r) refl
-    ∙ ap (λ bands. residual t.wavelet t.depth Inter bands (width_of s o) (height_of s o)) (part_bands t refs q (Some m) p o)
+    ∙ ap (λ bands. residual (transform_of t) Inter bands (width_of s o) (height_of s o)) (part_bands t refs q (Some m) p o)
     ∙ bands_at_zero t left (width_of s o) (height_of s o) codes none plane.across plane.down size in
     ap (λ x. clipped (with_prediction x ps)) again ∙ ap clipped (added_again (plane_of p o) ps few) ∙ clipped_again (plane_of p o) plane.samples
 

@@ -43,14 +43,14 @@ use Rattle.dirac_analysis.specs.Fits.{AreDifferences, AreLevelBands}
 use Rattle.dirac_analysis.proofs.Fitting.{planes_fit, samples_small}
 use Rattle.dirac_decode.specs.Content.{IsPicture, height_of, named, plane_of, width_of}
 use Rattle.dirac_plan.specs.declared.planned.Planned.{Planned}
-use Rattle.dirac_stream.specs.Coded.{IsPlane, IsSource, bands_of, coded_with, is_zero_residual, kind_of, left_of, motion_with, residual_of, residual_unless_zero}
+use Rattle.dirac_stream.specs.Coded.{IsPlane, IsSource, bands_of, coded_with, is_zero_residual, kind_of, left_of, motion_with, residual_of, residual_unless_zero, transform_of}
 use Rattle.dirac_stream.specs.Laws.{JobsAreRead, JobsAreSmall}
 use Rattle.dirac_stream.specs.Tables.{TablesAreChosen}
 use Rattle.dirac_stream.specs.Payload.{HasSpelledBlocks, payload_of, with_blocks, with_coefficients, with_flag, with_motion, with_picture, with_residual}
 use Rattle.dirac_choose.specs.Chosen.{ChosenTablesFit, IsChosen, chosen}
 use Rattle.dirac_stream.specs.Writable.{AreSmall, IsCodable, IsWritten}
 use Rattle.dirac_stream.proofs.Behind.{whole_starts}
-use Rattle.dirac_stream.proofs.Coding.{bands_fit, bands_zeros, bands_small, codable, is_written}
+use Rattle.dirac_stream.proofs.Coding.{bands_fit, bands_writable, bands_small, codable, is_written}
 use Rattle.dirac_stream.proofs.Headers.{length-bytes_in}
 use Rattle.dirac_stream.proofs.InBytes.{bytes_again}
 use Rattle.dirac_stream.proofs.Lefts.{IsPredicting, differences_small, found_is, named_is, picture_is, predicted_are, samples_are}
@@ -108,11 +108,11 @@ left_fits t refs q p (Some m) o accepted listed source planned found (moves b in
           (second_found refs q planned found));
     }
 
-level_bands : (t : Settings) (kind : Kind) (width height : ℕ) (plane : Table) → IsCodable t → IsLeft width height plane → AreLevelBands (lowest_size width t.depth) (lowest_size height t.depth) t.depth (bands_of t kind plane)
+level_bands : (t : Settings) (kind : Kind) (width height : ℕ) (plane : Table) → IsCodable t → IsLeft width height plane → AreLevelBands (transform_of t).counts (lowest_size width t.depth) (lowest_size height t.depth) t.depth (bands_of t kind plane)
 level_bands t kind width height plane codes is =
-    subst (λ w. AreLevelBands (lowest_size w t.depth) (lowest_size height t.depth) t.depth (bands_of t kind plane)) is.across
-    (subst (λ h. AreLevelBands (lowest_size plane.width t.depth) (lowest_size h t.depth) t.depth (bands_of t kind plane)) is.down
-    (planes_fit kind t.wavelet t.depth t.index plane codes.wavelet codes.depth.1 codes.index is.small))
+    subst (λ w. AreLevelBands (transform_of t).counts (lowest_size w t.depth) (lowest_size height t.depth) t.depth (bands_of t kind plane)) is.across
+    (subst (λ h. AreLevelBands (transform_of t).counts (lowest_size plane.width t.depth) (lowest_size h t.depth) t.depth (bands_of t kind plane)) is.down
+    (planes_fit kind (transform_of t) t.index plane codes.wavelet codes.depth.1 codes.index is.small))
 
 pub residual_fits : (t : Settings) (refs : List Picture) (q : Planned) (p : Picture) (m : Option CodedMotion) → IsAccepted t → AllByRecursion (IsSource t) refs → IsSource t p → IsPlanned q → are_listed refs (header_of q) ≡ true
     → Moves t q m → IsWritten (sequence_of t) (residual_of t refs (header_of q) m p)
@@ -127,9 +127,8 @@ residual_fits t refs q p m accepted listed source planned found is =
     let v = level_bands t (kind_of m) (chroma_width s) (chroma_height s) (left_of t refs (header_of q) m p component.V) codes (left component.V) in
     is_written t (residual_of t refs (header_of q) m p) codes refl
     (bands_fit t t.width (picture_height t) (bands component.Y) codes.depth.0 y) (bands_fit t (chroma_width s) (chroma_height s) (bands component.U) codes.depth.0 u) (bands_fit t (chroma_width s) (chroma_height s) (bands component.V) codes.depth.0 v)
-    (bands_zeros (lowest_size t.width t.depth) (lowest_size (picture_height t) t.depth) t.depth (bands component.Y) y)
-    (bands_zeros (lowest_size (chroma_width s) t.depth) (lowest_size (chroma_height s) t.depth) t.depth (bands component.U) u)
-    (bands_zeros (lowest_size (chroma_width s) t.depth) (lowest_size (chroma_height s) t.depth) t.depth (bands component.V) v)
+    (bands_writable t t.width (picture_height t) (bands component.Y) codes.depth.0 y) (bands_writable t (chroma_width s) (chroma_height s) (bands component.U) codes.depth.0 u)
+    (bands_writable t (chroma_width s) (chroma_height s) (bands component.V) codes.depth.0 v)
 
 -- ---- the lengths of blocks
 
@@ -292,9 +291,9 @@ residual_small t refs q p m accepted listed source planned found is =
     let left : (o : Component) → IsLeft (width_of s o) (height_of s o) (left_of t refs (header_of q) m p o) = λ o. left_fits t refs q p m o accepted listed source planned found is in
     let bands : Component → List _ = λ o. bands_of t (kind_of m) (left_of t refs (header_of q) m p o) in
     record {
-      y = bands_small (lowest_size t.width t.depth) (lowest_size (picture_height t) t.depth) t.depth (bands component.Y) (level_bands t (kind_of m) t.width (picture_height t) (left_of t refs (header_of q) m p component.Y) codes (left component.Y));
-      u = bands_small (lowest_size (chroma_width s) t.depth) (lowest_size (chroma_height s) t.depth) t.depth (bands component.U) (level_bands t (kind_of m) (chroma_width s) (chroma_height s) (left_of t refs (header_of q) m p component.U) codes (left component.U));
-      v = bands_small (lowest_size (chroma_width s) t.depth) (lowest_size (chroma_height s) t.depth) t.depth (bands component.V) (level_bands t (kind_of m) (chroma_width s) (chroma_height s) (left_of t refs (header_of q) m p component.V) codes (left component.V));
+      y = bands_small (transform_of t).counts (lowest_size t.width t.depth) (lowest_size (picture_height t) t.depth) t.depth (bands component.Y) (level_bands t (kind_of m) t.width (picture_height t) (left_of t refs (header_of q) m p component.Y) codes (left component.Y));
+      u = bands_small (transform_of t).counts (lowest_size (chroma_width s) t.depth) (lowest_size (chroma_height s) t.depth) t.depth (bands component.U) (level_bands t (kind_of m) (chroma_width s) (chroma_height s) (left_of t refs (header_of q) m p component.U) codes (left component.U));
+      v = bands_small (transform_of t).counts (lowest_size (chroma_width s) t.depth) (lowest_size (chroma_height s) t.depth) t.depth (bands component.V) (level_bands t (kind_of m) (chroma_width s) (chroma_height s) (left_of t refs (header_of q) m p component.V) codes (left component.V));
     }
 
 pub jobs_small : TablesAreChosen → JobsAreSmall

@@ -42,7 +42,7 @@ counts_below t (suc level) =
 
 -- the transform parameters of these settings
 abbrev pub transform_of : Settings → Transform
-transform_of t = record { wavelet = t.wavelet; depth = t.depth; counts = counts_below t (t.depth + 1) }
+transform_of t = record { wavelet = t.wavelet; depth = t.depth; counts = counts_below t (t.depth + 1); mode = 0 }
 
 -- an inter picture's motion by a block table, with block index and precision of the settings, without global motion,
 -- with default weights
@@ -82,7 +82,7 @@ left_of t refs head (Some m) p component =
 
 -- its quantised bands
 abbrev pub bands_of : Settings → Kind → Table → List CodedBand
-bands_of t kind plane = plane_bands kind t.wavelet t.depth t.index plane
+bands_of t kind plane = plane_bands kind (transform_of t) t.index plane
 
 -- the coded residual of a source
 abbrev pub residual_of : Settings → List Picture → PictureHeader → Option CodedMotion → Picture → CodedResidual
