@@ -1,5 +1,24 @@
 -- A subband in a payload: the length of its block, and where that isn't 0 its quantiser index and the block.
-use Rattle.std.specs.Prelude.{◌≡◌, ℕ, ℤ, pos, ◌*◌, ◌==◌, if◌then◌else◌, List, [], length, All, replicate, Option, Some, None, Result, Ok, Err}
+use Rattle.std.specs.Prelude.{
+  ◌≡◌,
+  ℕ,
+  ℤ,
+  pos,
+  ◌*◌,
+  ◌==◌,
+  if◌then◌else◌,
+  List,
+  [],
+  length,
+  All,
+  replicate,
+  Option,
+  Some,
+  None,
+  Result,
+  Ok,
+  Err,
+}
 use Rattle.std.specs.Borrow.{Bor}
 use Rattle.dirac_types.specs.declared.limits.TheConstants.{LARGEST_INDEX}
 use Rattle.dirac_types.specs.Limits.{IsIndex}
@@ -55,8 +74,8 @@ values_of_parent (Some t) = t.now.values
 abbrev pub IsParentOf : BandLayout → Bor Table → Type 0
 IsParentOf layout t = (layout.width ≡ 2 * t.now.width) × (layout.height ≡ 2 * t.now.height)
 
--- what a coded band is: an index of a quantiser, one for each codeblock, which in mode 0 are all the band's, and a table
--- of the spot's sizes whose values can be spelt
+-- what a coded band is: an index of a quantiser, one for each codeblock, which in mode 0 are all the band's, and a
+-- table of the band's sizes whose values can be spelt
 pub record IsCodedBand (layout : BandLayout) (b : CodedBand) : Type 0 where
   pub index : IsIndex b.index
   pub width : b.table.width ≡ layout.width

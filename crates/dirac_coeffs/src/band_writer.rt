@@ -31,7 +31,14 @@ fn write_coded(
         band.now.table.values band.now.indices) w.old) }
 {
     let index = band.index;
-    let block = write_block(alloc, band.table.values(), &band.indices, layout, parent, index)?;
+    let block = write_block(
+        alloc,
+        band.table.values(),
+        &band.indices,
+        layout,
+        parent,
+        index,
+    )?;
     w.uint(block.len() as u64)?;
     w.uint(u64::from(index))?;
     w.align()?;

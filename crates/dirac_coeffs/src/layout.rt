@@ -22,8 +22,8 @@ pub struct BandBlock {
 }
 
 /// A subband as it is coded: its quantiser index, that of each codeblock by rows, and the quantised coefficients. In
-/// codeblock mode 0 each codeblock has the band's index; in mode 1 a skipped one has that of the codeblock before it, at
-/// first the band's. Where the block's length is 0 all three are zeros.
+/// codeblock mode 0 each codeblock has the band's index; in mode 1 a skipped one has that of the codeblock before it,
+/// at first the band's. Where the block's length is 0 all three are zeros.
 #[derive(Debug, Drop)]
 pub struct CodedBand {
     pub index: u8,
