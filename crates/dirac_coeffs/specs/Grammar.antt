@@ -1,24 +1,6 @@
 -- A subband in a payload: the length of its block, and where that isn't 0 its quantiser index and the block.
-use Rattle.std.specs.Prelude.{
-  ◌≡◌,
-  ℕ,
-  ℤ,
-  pos,
-  ◌*◌,
-  ◌==◌,
-  if◌then◌else◌,
-  List,
-  [],
-  length,
-  All,
-  replicate,
-  Option,
-  Some,
-  None,
-  Result,
-  Ok,
-  Err,
-}
+use Rattle.std.specs.Prelude.{◌≡◌, ℕ, ℤ, pos, ◌*◌, ◌==◌, if◌then◌else◌, List, [], length, All, replicate, Option, Some}
+use Rattle.std.specs.Prelude.{None, Result, Ok, Err}
 use Rattle.std.specs.Borrow.{Bor}
 use Rattle.dirac_types.specs.declared.limits.TheConstants.{LARGEST_INDEX}
 use Rattle.dirac_types.specs.Limits.{IsIndex}

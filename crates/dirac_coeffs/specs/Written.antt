@@ -1,22 +1,6 @@
 -- How a subband is written: the marks of its codeblocks, its block, and its bits.
-use Rattle.std.specs.Prelude.{
-  ◌≡◌,
-  ℕ,
-  zero,
-  suc,
-  ℤ,
-  pos,
-  ◌+◌,
-  ◌<◌,
-  ◌-ℤ◌,
-  ◌&&◌,
-  Bool,
-  true,
-  List,
-  ◌++◌,
-  length,
-  if◌then◌else◌,
-}
+use Rattle.std.specs.Prelude.{◌≡◌, ℕ, zero, suc, ℤ, pos, ◌+◌, ◌<◌, ◌-ℤ◌, ◌&&◌, Bool, true, List, ◌++◌, length}
+use Rattle.std.specs.Prelude.{if◌then◌else◌}
 use Rattle.std.specs.List.{list_all}
 use Rattle.dirac_types.specs.Bits.{bits_of}
 use Rattle.dirac_types.specs.Numbers.{uint}
