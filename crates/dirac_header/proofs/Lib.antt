@@ -4,3 +4,4 @@ pub mod Spelled
 pub mod HeaderSpelled
 pub mod TransformSpelled
 pub mod PredictionSpelled
+mod Examples

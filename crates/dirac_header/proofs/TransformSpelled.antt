@@ -10,9 +10,10 @@ use Rattle.dirac_types.specs.Numbers.{uint}
 use Rattle.dirac_bits.specs.Spelling.{Spells}
 use Rattle.dirac_bits.specs.Syntax.{Syntax, done, ◌>>=◌, field, between}
 use Rattle.dirac_bands.specs.Geometry.{padded_size, band_length}
+use Rattle.dirac_header.specs.declared.transform.Partition.{Partition}
 use Rattle.dirac_header.specs.declared.transform.Transform.{Transform}
-use Rattle.dirac_header.specs.Transform.{level_counts, counts_behind, partition, codeblocks, transform}
-use Rattle.dirac_header.specs.Written.{counts_bits, is_above_one, is_parted, partition_bits, codeblock_bits, transform_bits, IsTransform, FitFrom, TransformBehind}
+use Rattle.dirac_header.specs.Transform.{level_counts, counts_behind, partition, undivided, codeblocks, transform}
+use Rattle.dirac_header.specs.Written.{counts_bits, is_above_one, is_divided, is_parted, partition_bits, codeblock_bits, transform_bits, IsTransform, FitFrom, TransformBehind}
 use Rattle.dirac_header.proofs.Sizes.{band_small}
 use Rattle.dirac_bits.proofs.Fields.{spells_then, spells_last, field_spelled, between_is}
 
@@ -63,24 +64,27 @@ counts_spelled width height depth before (c ∷ counts) k size some fit =
     (level_spelled width height depth (length before) c.0 c.1 k size some.0 fit.0 fit.1)
     (subst (λ (xs : List (ℕ × ℕ)). Spells (rest c) xs k1 (counts_bits counts)) same more)
 
-partition_spelled : (width height depth : ℕ) (counts : List (ℕ × ℕ)) (k : ℕ) → IsSize width height depth → length counts ≡ depth + 1 → AllByRecursion (λ c. (1 ≤ c.0) × (1 ≤ c.1)) counts
-    → FitFrom width height depth 0 counts → Spells (partition width height depth) counts k (counts_bits counts ++ uint 0)
+partition_spelled : (width height depth : ℕ) (counts : List (ℕ × ℕ)) (mode k : ℕ) → IsSize width height depth → length counts ≡ depth + 1 → AllByRecursion (λ c. (1 ≤ c.0) × (1 ≤ c.1)) counts
+    → mode ≤ 1 → FitFrom width height depth 0 counts → Spells (partition width height depth) (record { counts = counts; mode = mode }) k (counts_bits counts ++ uint mode)
 unfolding partition
-partition_spelled width height depth counts k size levels some fit =
-    let mode : List (ℕ × ℕ) → Syntax (List (ℕ × ℕ)) = λ all. field CodeblockMode (between 0 0) >>= λ n. done all in
+partition_spelled width height depth counts mode k size levels some few fit =
+    let blocks : Partition = record { counts = counts; mode = mode } in
+    let make : List (ℕ × ℕ) → ℕ → Syntax Partition = λ all n. done (record { counts = all; mode = n }) in
+    let behind : List (ℕ × ℕ) → Syntax Partition = λ all. field CodeblockMode (between 0 1) >>= make all in
     let k1 = k + length (counts_bits counts) in
     let all = counts_spelled width height depth [] counts k size some fit in
-    let last : Spells (mode counts) counts k1 (uint 0) = (0, [], omega arith, sym (append-nil (uint 0)), (refl, refl)) in
-    spells_then (counts_behind width height depth [] (depth + 1)) mode counts counts k (counts_bits counts) (uint 0)
+    let mode_field = field_spelled CodeblockMode (between 0 1) mode k1 (omega arith) (between_is 0 1 mode (omega arith) few) in
+    let last : Spells (behind counts) blocks k1 (uint mode) = spells_last (field CodeblockMode (between 0 1)) (make counts) mode blocks k1 (uint mode) mode_field (refl, refl) in
+    spells_then (counts_behind width height depth [] (depth + 1)) behind counts blocks k (counts_bits counts) (uint mode)
     (subst (λ (n : ℕ). Spells (counts_behind width height depth [] n) counts k (counts_bits counts)) levels all) last
 
 -- where no count is above 1, all are 1
-all_ones : (counts : List (ℕ × ℕ)) (n : ℕ) → length counts ≡ n → AllByRecursion (λ c. (1 ≤ c.0) × (1 ≤ c.1)) counts → is_parted counts ≡ false → counts ≡ replicate n (1, 1)
+all_ones : (counts : List (ℕ × ℕ)) (n : ℕ) → length counts ≡ n → AllByRecursion (λ c. (1 ≤ c.0) × (1 ≤ c.1)) counts → is_divided counts ≡ false → counts ≡ replicate n (1, 1)
 all_ones [] zero levels some one = refl
 all_ones [] (suc n) levels some one = absurd (omega arith)
 all_ones (c ∷ counts) zero levels some one = absurd (omega arith)
 all_ones (c ∷ counts) (suc n) levels some one =
-    let parts = or_parts (nat_lt 1 c.0 || nat_lt 1 c.1) (is_parted counts) one in
+    let parts = or_parts (nat_lt 1 c.0 || nat_lt 1 c.1) (is_divided counts) one in
     let two = or_parts (nat_lt 1 c.0) (nat_lt 1 c.1) parts.0 in
     let across_few : c.0 ≤ 1 = ltb-false 1 c.0 two.0 in
     let down_few : c.1 ≤ 1 = ltb-false 1 c.1 two.1 in
@@ -92,37 +96,50 @@ all_ones (c ∷ counts) (suc n) levels some one =
     let others = all_ones counts n (omega arith) some.1 parts.1 in
     ap₂ (λ (x : ℕ × ℕ) (xs : List (ℕ × ℕ)). x ∷ xs) here others
 
-codeblocks_spelled : (width height depth : ℕ) (counts : List (ℕ × ℕ)) (k : ℕ) → IsSize width height depth → length counts ≡ depth + 1 → AllByRecursion (λ c. (1 ≤ c.0) × (1 ≤ c.1)) counts
-    → FitFrom width height depth 0 counts → Spells (codeblocks width height depth) counts k (codeblock_bits counts)
+-- without a flag all counts are 1 and the mode is 0
+undivided_is : (counts : List (ℕ × ℕ)) (mode depth : ℕ) → length counts ≡ depth + 1 → AllByRecursion (λ c. (1 ≤ c.0) × (1 ≤ c.1)) counts → is_parted counts mode ≡ false
+    → undivided depth ≡ record { counts = counts; mode = mode }
+undivided_is counts mode depth levels some one =
+    let parts = or_parts (is_divided counts) (nat_lt 0 mode) one in
+    let few : mode ≤ 0 = ltb-false 0 mode parts.1 in
+    let none : 0 ≡ mode = omega (arith, few) in
+    let make : List (ℕ × ℕ) → ℕ → Partition = λ all n. record { counts = all; mode = n } in
+    ap₂ make (sym (all_ones counts (depth + 1) levels some parts.0)) none
+
+codeblocks_spelled : (width height depth : ℕ) (counts : List (ℕ × ℕ)) (mode k : ℕ) → IsSize width height depth → length counts ≡ depth + 1 → AllByRecursion (λ c. (1 ≤ c.0) × (1 ≤ c.1)) counts
+    → mode ≤ 1 → FitFrom width height depth 0 counts → Spells (codeblocks width height depth) (record { counts = counts; mode = mode }) k (codeblock_bits counts mode)
 unfolding codeblocks
-codeblocks_spelled width height depth counts k size levels some fit =
-    let bits : Bool → List Bool = λ t. (t ∷ []) ++ partition_bits t counts in
-    elim (cases_Bool (is_parted counts)) [
+codeblocks_spelled width height depth counts mode k size levels some few fit =
+    let blocks : Partition = record { counts = counts; mode = mode } in
+    let bits : Bool → List Bool = λ t. (t ∷ []) ++ partition_bits t counts mode in
+    elim (cases_Bool (is_parted counts mode)) [
       | inl parted ↦
-          subst (λ (t : Bool). Spells (codeblocks width height depth) counts k (bits t)) (sym parted)
-          (true, counts_bits counts ++ uint 0, refl, partition_spelled width height depth counts (k + 1) size levels some fit)
+          subst (λ (t : Bool). Spells (codeblocks width height depth) blocks k (bits t)) (sym parted)
+          (true, counts_bits counts ++ uint mode, refl, partition_spelled width height depth counts mode (k + 1) size levels some few fit)
       | inr one ↦
-          subst (λ (t : Bool). Spells (codeblocks width height depth) counts k (bits t)) (sym one) (false, [], refl, (sym (all_ones counts (depth + 1) levels some one), refl))
+          subst (λ (t : Bool). Spells (codeblocks width height depth) blocks k (bits t)) (sym one) (false, [], refl, (undivided_is counts mode depth levels some one, refl))
     ]
 
 fields_spelled : (width height : ℕ) (t : Transform) (k : ℕ) → IsTransform t → width < 2 ^ 32 → height < 2 ^ 32 → FitFrom width height t.depth 0 t.counts → Spells (transform width height) t k (transform_bits t)
 unfolding transform
 fields_spelled width height t k is columns rows fit =
     let size : IsSize width height t.depth = record { columns = columns; rows = rows; some = is.some; few = is.few } in
-    let make : ℕ → ℕ → List (ℕ × ℕ) → Syntax Transform = λ wavelet depth counts. done (record { wavelet = wavelet; depth = depth; counts = counts }) in
+    let blocks : Partition = record { counts = t.counts; mode = t.mode } in
+    let make : ℕ → ℕ → Partition → Syntax Transform = λ wavelet depth b. done (record { wavelet = wavelet; depth = depth; counts = b.counts; mode = b.mode }) in
     let second : ℕ → ℕ → Syntax Transform = λ wavelet depth. codeblocks width height depth >>= make wavelet depth in
     let first : ℕ → Syntax Transform = λ wavelet. field Depth (between 1 5) >>= second wavelet in
+    let behind = codeblock_bits t.counts t.mode in
     let k1 = k + length (uint t.wavelet) in
     let k2 = k1 + length (uint t.depth) in
-    let all = codeblocks_spelled width height t.depth t.counts k2 size is.levels is.counts fit in
-    let last : Spells (second t.wavelet t.depth) t k2 (codeblock_bits t.counts) =
-    spells_last (codeblocks width height t.depth) (make t.wavelet t.depth) t.counts t k2 (codeblock_bits t.counts) all (refl, refl) in
+    let all = codeblocks_spelled width height t.depth t.counts t.mode k2 size is.levels is.counts is.mode fit in
+    let last : Spells (second t.wavelet t.depth) t k2 behind =
+    spells_last (codeblocks width height t.depth) (make t.wavelet t.depth) blocks t k2 behind all (refl, refl) in
     let depth = field_spelled Depth (between 1 5) t.depth k1 (omega (arith, is.few)) (between_is 1 5 t.depth is.some is.few) in
-    let two : Spells (first t.wavelet) t k1 (uint t.depth ++ codeblock_bits t.counts) =
-    spells_then (field Depth (between 1 5)) (second t.wavelet) t.depth t k1 (uint t.depth) (codeblock_bits t.counts) depth last in
+    let two : Spells (first t.wavelet) t k1 (uint t.depth ++ behind) =
+    spells_then (field Depth (between 1 5)) (second t.wavelet) t.depth t k1 (uint t.depth) behind depth last in
     let wavelet = field_spelled Wavelet (between 0 6) t.wavelet k (omega (arith, is.wavelet)) (between_is 0 6 t.wavelet (omega arith) is.wavelet) in
-    let all_bits = spells_then (field Wavelet (between 0 6)) first t.wavelet t k (uint t.wavelet) (uint t.depth ++ codeblock_bits t.counts) wavelet two in
-    let parts : uint t.wavelet ++ (uint t.depth ++ codeblock_bits t.counts) ≡ transform_bits t = sym (append_assoc (uint t.wavelet) (uint t.depth) (codeblock_bits t.counts)) in
+    let all_bits = spells_then (field Wavelet (between 0 6)) first t.wavelet t k (uint t.wavelet) (uint t.depth ++ behind) wavelet two in
+    let parts : uint t.wavelet ++ (uint t.depth ++ behind) ≡ transform_bits t = sym (append_assoc (uint t.wavelet) (uint t.depth) behind) in
     subst (λ (l : List Bool). Spells (transform width height) t k l) parts all_bits
 
 -- the bits behind others, spelled
@@ -149,16 +166,16 @@ level_written old mid new all counts level c so_far is first second =
     ap (λ l. l ++ rest) grown ∙ parts ∙ ap (λ xs. old ++ counts_bits xs) (sym (level_next counts level c is)) ∙ so_far
 
 -- whether a count of this level or of a later one is above 1
-parted_from : (counts : List (ℕ × ℕ)) (level : ℕ) (c : ℕ × ℕ) → slice_get counts level ≡ Some c → is_parted (drop level counts) ≡ (is_above_one c.0 c.1 || is_parted (drop (level + 1) counts))
-parted_from counts level c is = ap is_parted (level_next counts level c is)
+divided_from : (counts : List (ℕ × ℕ)) (level : ℕ) (c : ℕ × ℕ) → slice_get counts level ≡ Some c → is_divided (drop level counts) ≡ (is_above_one c.0 c.1 || is_divided (drop (level + 1) counts))
+divided_from counts level c is = ap is_divided (level_next counts level c is)
 
-pub parted_later : (counts : List (ℕ × ℕ)) (level across down : ℕ) → slice_get counts level ≡ Some (across, down) → is_above_one across down ≡ false
-    → is_parted (drop (level + 1) counts) ≡ is_parted (drop level counts)
-parted_later counts level across down is not_here = sym (parted_from counts level (across, down) is ∙ ap (λ (t : Bool). t || is_parted (drop (level + 1) counts)) not_here)
+pub divided_later : (counts : List (ℕ × ℕ)) (level across down : ℕ) → slice_get counts level ≡ Some (across, down) → is_above_one across down ≡ false
+    → is_divided (drop (level + 1) counts) ≡ is_divided (drop level counts)
+divided_later counts level across down is not_here = sym (divided_from counts level (across, down) is ∙ ap (λ (t : Bool). t || is_divided (drop (level + 1) counts)) not_here)
 
-pub parted_here : (counts : List (ℕ × ℕ)) (level across down : ℕ) → slice_get counts level ≡ Some (across, down) → is_above_one across down ≡ true
-    → is_parted (drop level counts) ≡ true
-parted_here counts level across down is here = parted_from counts level (across, down) is ∙ ap (λ (t : Bool). t || is_parted (drop (level + 1) counts)) here
+pub divided_here : (counts : List (ℕ × ℕ)) (level across down : ℕ) → slice_get counts level ≡ Some (across, down) → is_above_one across down ≡ true
+    → is_divided (drop level counts) ≡ true
+divided_here counts level across down is here = divided_from counts level (across, down) is ∙ ap (λ (t : Bool). t || is_divided (drop (level + 1) counts)) here
 
-pub none_parted : (counts : List (ℕ × ℕ)) (n : ℕ) → n ≡ length counts → is_parted (drop n counts) ≡ false
-none_parted counts n is = ap is_parted (drop_all n counts (omega arith))
+pub none_divided : (counts : List (ℕ × ℕ)) (n : ℕ) → n ≡ length counts → is_divided (drop n counts) ≡ false
+none_divided counts n is = ap is_divided (drop_all n counts (omega arith))

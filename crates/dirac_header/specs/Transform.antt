@@ -4,6 +4,7 @@ use Rattle.dirac_types.specs.declared.limits.TheConstants.{LARGEST_DEPTH, LARGES
 use Rattle.dirac_types.specs.declared.faults.Cause.TheVariants.{Wavelet, Depth, Codeblocks, CodeblockMode}
 use Rattle.dirac_bits.specs.Syntax.{Syntax, done, ◌>>=◌, flag, field, between}
 pub use Rattle.dirac_bands.specs.Geometry.{band_length}
+use Rattle.dirac_header.specs.declared.transform.Partition.{Partition}
 use Rattle.dirac_header.specs.declared.transform.Transform.{Transform}
 
 -- the counts of codeblocks of one level, across and down, at most as many as its luma bands have columns and rows
@@ -20,23 +21,27 @@ counts_behind width height depth before (suc more) = do
   counts ← level_counts width height depth (length before)
   counts_behind width height depth (before ++ counts ∷ []) more
 
--- the counts that stand behind a partition flag, and the codeblock mode, which is 0
-unfoldable pub partition : ℕ → ℕ → ℕ → Syntax (List (ℕ × ℕ))
+-- the counts that stand behind a partition flag, and the codeblock mode, 0 or 1
+unfoldable pub partition : ℕ → ℕ → ℕ → Syntax Partition
 partition width height depth = do
   counts ← counts_behind width height depth [] (depth + 1)
-  mode ← field CodeblockMode (between 0 0)
-  done counts
+  mode ← field CodeblockMode (between 0 1)
+  done (record { counts = counts; mode = mode })
 
--- the counts of codeblocks of levels 0 to depth; without a partition flag all are 1
-unfoldable pub codeblocks : ℕ → ℕ → ℕ → Syntax (List (ℕ × ℕ))
+-- one codeblock a band, and mode 0
+abbrev pub undivided : ℕ → Partition
+undivided depth = record { counts = replicate (depth + 1) (1, 1); mode = 0 }
+
+-- the counts of levels 0 to depth and the mode; without a partition flag all counts are 1 and the mode is 0
+unfoldable pub codeblocks : ℕ → ℕ → ℕ → Syntax Partition
 codeblocks width height depth = do
   parted ← flag
-  if parted then partition width height depth else done (replicate (depth + 1) (1, 1))
+  if parted then partition width height depth else done (undivided depth)
 
 -- the transform parameters of a picture of this size in luma samples
 unfoldable pub transform : ℕ → ℕ → Syntax Transform
 transform width height = do
   wavelet ← field Wavelet (between 0 LARGEST_WAVELET)
   depth ← field Depth (between 1 LARGEST_DEPTH)
-  counts ← codeblocks width height depth
-  done (record { wavelet = wavelet; depth = depth; counts = counts })
+  blocks ← codeblocks width height depth
+  done (record { wavelet = wavelet; depth = depth; counts = blocks.counts; mode = blocks.mode })

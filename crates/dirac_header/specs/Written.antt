@@ -70,21 +70,25 @@ abbrev pub is_above_one : ℕ → ℕ → Bool
 is_above_one across down = nat_lt 1 across || nat_lt 1 down
 
 -- some level has
-abbrev pub is_parted : List (ℕ × ℕ) → Bool
-is_parted [] = false
-is_parted (c ∷ counts) = is_above_one c.0 c.1 || is_parted counts
+abbrev pub is_divided : List (ℕ × ℕ) → Bool
+is_divided [] = false
+is_divided (c ∷ counts) = is_above_one c.0 c.1 || is_divided counts
 
--- where the partition flag is set, the counts and codeblock mode 0
-abbrev pub partition_bits : Bool → List (ℕ × ℕ) → List Bool
-partition_bits parted counts = if parted then counts_bits counts ++ numbers.uint 0 else []
+-- the partition flag: some level has more than one codeblock, or the codeblock mode isn't 0
+abbrev pub is_parted : List (ℕ × ℕ) → ℕ → Bool
+is_parted counts mode = is_divided counts || nat_lt 0 mode
+
+-- where the partition flag is set, the counts and the codeblock mode
+abbrev pub partition_bits : Bool → List (ℕ × ℕ) → ℕ → List Bool
+partition_bits parted counts mode = if parted then counts_bits counts ++ numbers.uint mode else []
 
 -- the partition flag and what stands behind it
-abbrev pub codeblock_bits : List (ℕ × ℕ) → List Bool
-codeblock_bits counts = (is_parted counts ∷ []) ++ partition_bits (is_parted counts) counts
+abbrev pub codeblock_bits : List (ℕ × ℕ) → ℕ → List Bool
+codeblock_bits counts mode = (is_parted counts mode ∷ []) ++ partition_bits (is_parted counts mode) counts mode
 
 -- transform parameters
 abbrev pub transform_bits : Transform → List Bool
-transform_bits t = numbers.uint t.wavelet ++ numbers.uint t.depth ++ codeblock_bits t.counts
+transform_bits t = numbers.uint t.wavelet ++ numbers.uint t.depth ++ codeblock_bits t.counts t.mode
 
 -- transform parameters that can be written
 pub record IsTransform (t : Transform) : Type 0 where
@@ -93,6 +97,7 @@ pub record IsTransform (t : Transform) : Type 0 where
   pub few : t.depth ≤ 5
   pub levels : length t.counts ≡ t.depth + 1
   pub counts : AllByRecursion (λ c. (1 ≤ c.0) × (1 ≤ c.1)) t.counts
+  pub mode : t.mode ≤ 1
 
 -- the luma bands, from this level on, have as many columns and rows as there are codeblocks, or more
 abbrev pub FitFrom : ℕ → ℕ → ℕ → ℕ → List (ℕ × ℕ) → Type 0

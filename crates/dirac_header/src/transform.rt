@@ -20,6 +20,18 @@ pub struct Transform {
     pub depth: u8,
     /// The counts of codeblocks of levels 0 to `depth`.
     pub counts: Counts,
+    /// The codeblock mode: in mode 0 all codeblocks of a subband have its quantiser index; in mode 1 each may
+    /// change it.
+    pub mode: u8,
+}
+
+/// How the subbands are divided into codeblocks, as the partition flag and what stands behind it say.
+#[derive(Drop)]
+pub struct Partition {
+    /// The counts of codeblocks, level by level from level 0.
+    pub counts: Counts,
+    /// The codeblock mode, 0 or 1.
+    pub mode: u8,
 }
 
 /// The transform parameters of a picture of `width` by `height` luma samples: transform parameters, Dirac specification.
@@ -35,6 +47,7 @@ pub fn read_transform(r: &mut BitReader<'_>, width: u32, height: u32) -> Result<
     ensures wavelet { IfOk result (λ t. IsWavelet t.wavelet) }
     ensures depth { IfOk result (λ t. IsDepth t.depth) }
     ensures levels { IfOk result (λ t. length t.counts ≡ t.depth + 1) }
+    ensures mode { IfOk result (λ t. t.mode ≤ 1) }
 {
     let _at = r.place();
     read_fields(r, width, height)
@@ -48,14 +61,16 @@ fn read_fields(r: &mut BitReader<'_>, width: u32, height: u32) -> Result<Transfo
     ensures wavelet { IfOk result (λ t. IsWavelet t.wavelet) }
     ensures depth { IfOk result (λ t. IsDepth t.depth) }
     ensures levels { IfOk result (λ t. length t.counts ≡ t.depth + 1) }
+    ensures mode { IfOk result (λ t. t.mode ≤ 1) }
 {
     let wavelet = r.field(Cause::Wavelet, 0, LARGEST_WAVELET as u64)?;
     let depth = r.field(Cause::Depth, 1, LARGEST_DEPTH as u64)?;
-    let counts = read_codeblocks(r, width, height, depth as u8)?;
+    let Partition { counts, mode } = read_codeblocks(r, width, height, depth as u8)?;
     Ok(Transform {
         wavelet: wavelet as u8,
         depth: depth as u8,
         counts,
+        mode,
     })
 }
 
@@ -65,17 +80,21 @@ fn read_codeblocks(
     width: u32,
     height: u32,
     depth: u8,
-) -> Result<Counts, Refusal>
+) -> Result<Partition, Refusal>
     requires { IsDepth depth }
     ensures value { Reads (λ c. c) result r.new (read (grammar.codeblocks width height depth) r.old) }
     ensures place_inside { IfErr result (λ e. e.at ≤ length r.old.bytes) }
     ensures kept { r.new.bytes ≡ r.old.bytes }
-    ensures levels { IfOk result (λ c. length c ≡ depth + 1) }
+    ensures levels { IfOk result (λ c. length c.counts ≡ depth + 1) }
+    ensures mode { IfOk result (λ c. c.mode ≤ 1) }
 {
     if r.bit()? {
         read_partition(r, width, height, depth)
     } else {
-        Ok(all_ones(depth))
+        Ok(Partition {
+            counts: all_ones(depth),
+            mode: 0,
+        })
     }
 }
 
@@ -97,16 +116,20 @@ fn read_partition(
     width: u32,
     height: u32,
     depth: u8,
-) -> Result<Counts, Refusal>
+) -> Result<Partition, Refusal>
     requires { IsDepth depth }
     ensures value { Reads (λ c. c) result r.new (read (grammar.partition width height depth) r.old) }
     ensures place_inside { IfErr result (λ e. e.at ≤ length r.old.bytes) }
     ensures kept { r.new.bytes ≡ r.old.bytes }
-    ensures levels { IfOk result (λ c. length c ≡ depth + 1) }
+    ensures levels { IfOk result (λ c. length c.counts ≡ depth + 1) }
+    ensures mode { IfOk result (λ c. c.mode ≤ 1) }
 {
     let counts = read_counts(r, width, height, depth)?;
-    r.field(Cause::CodeblockMode, 0, 0)?;
-    Ok(counts)
+    let mode = r.field(Cause::CodeblockMode, 0, 1)?;
+    Ok(Partition {
+        counts,
+        mode: mode as u8,
+    })
 }
 
 fn read_counts(r: &mut BitReader<'_>, width: u32, height: u32, depth: u8) -> Result<Counts, Refusal>

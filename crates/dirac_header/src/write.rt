@@ -87,7 +87,7 @@ fn offset_to(from: u32, to: u32) -> i64
 }
 
 /// Writes transform parameters: transform parameters, Dirac specification. The partition flag is set exactly where a
-/// count is above 1.
+/// count is above 1 or the codeblock mode is 1.
 ///
 /// After want of memory a part of them may stand.
 pub fn write_transform(w: &mut BitWriter, t: &Transform) -> Result<(), NoMemory>
@@ -105,33 +105,45 @@ fn write_parameters(w: &mut BitWriter, t: &Transform) -> Result<(), NoMemory>
 {
     w.uint(u64::from(t.wavelet))?;
     w.uint(u64::from(t.depth))?;
-    write_codeblocks(w, &t.counts)?;
+    write_codeblocks(w, &t.counts, t.mode)?;
     Ok(())
 }
 
-fn write_codeblocks(w: &mut BitWriter, counts: &Counts) -> Result<(), NoMemory>
-    ensures exact { OnOk result (w.new ≡ w.old ++ written.codeblock_bits counts.now) }
+fn write_codeblocks(w: &mut BitWriter, counts: &Counts, mode: u8) -> Result<(), NoMemory>
+    ensures exact { OnOk result (w.new ≡ w.old ++ written.codeblock_bits counts.now mode) }
 {
-    let parted = is_parted(counts);
+    let parted = is_parted(counts, mode);
     w.bit(parted)?;
-    write_partition(w, parted, counts)?;
+    write_partition(w, parted, counts, mode)?;
     Ok(())
 }
 
-fn write_partition(w: &mut BitWriter, parted: bool, counts: &Counts) -> Result<(), NoMemory>
-    ensures exact { OnOk result (w.new ≡ w.old ++ written.partition_bits parted counts.now) }
+fn write_partition(
+    w: &mut BitWriter,
+    parted: bool,
+    counts: &Counts,
+    mode: u8,
+) -> Result<(), NoMemory>
+    ensures exact { OnOk result (w.new ≡ w.old ++ written.partition_bits parted counts.now mode) }
 {
     if parted {
         write_counts(w, counts)?;
-        w.uint(0)?;
+        w.uint(u64::from(mode))?;
     }
     Ok(())
 }
 
+/// The partition flag of these counts and this codeblock mode.
+fn is_parted(counts: &Counts, mode: u8) -> bool
+    ensures { result ≡ written.is_parted counts.now mode }
+{
+    is_divided(counts) || mode > 0
+}
+
 /// Whether a count is above 1.
-#[tactic(auto, using(crate::proofs::TransformSpelled::parted_later, crate::proofs::TransformSpelled::parted_here, crate::proofs::TransformSpelled::none_parted))]
-fn is_parted(counts: &Counts) -> bool
-    ensures { result ≡ written.is_parted counts.now }
+#[tactic(auto, using(crate::proofs::TransformSpelled::divided_later, crate::proofs::TransformSpelled::divided_here, crate::proofs::TransformSpelled::none_divided))]
+fn is_divided(counts: &Counts) -> bool
+    ensures { result ≡ written.is_divided counts.now }
 {
     'levels: for level in 0..counts.len() {
         let (across, down) = counts.at(level);
