@@ -11,3 +11,5 @@ pub mod Whole
 pub mod Given
 pub mod Runs
 pub mod Writes
+pub mod Fronts
+pub mod Examples

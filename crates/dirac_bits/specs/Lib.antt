@@ -7,5 +7,6 @@ pub mod Answers
 pub mod Laws
 pub mod BitPlaces
 pub mod Writing
+pub mod Fronts
 pub use Rattle.dirac_types.specs.Bits
 pub use Rattle.dirac_types.specs.Numbers

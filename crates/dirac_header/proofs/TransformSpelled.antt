@@ -7,6 +7,7 @@ use Rattle.std.proofs.lemmas.List.{drop_more, drop_all}
 use Rattle.std.proofs.lemmas.Option.{slice_get_within, get_or_from_slice_get}
 use Rattle.dirac_types.specs.declared.faults.Cause.TheVariants.{Wavelet, Depth, Codeblocks, CodeblockMode}
 use Rattle.dirac_types.specs.Numbers.{uint}
+use Rattle.dirac_bits.specs.Fronts.{HoldsFront}
 use Rattle.dirac_bits.specs.Spelling.{Spells}
 use Rattle.dirac_bits.specs.Syntax.{Syntax, done, ◌>>=◌, field, between}
 use Rattle.dirac_bands.specs.Geometry.{padded_size, band_length}
@@ -15,6 +16,7 @@ use Rattle.dirac_header.specs.declared.transform.Transform.{Transform}
 use Rattle.dirac_header.specs.Transform.{level_counts, counts_behind, partition, undivided, codeblocks, transform}
 use Rattle.dirac_header.specs.Written.{counts_bits, is_above_one, is_divided, is_parted, partition_bits, codeblock_bits, transform_bits, IsTransform, FitFrom, TransformBehind}
 use Rattle.dirac_header.proofs.Sizes.{band_small}
+use Rattle.dirac_bits.proofs.Fronts.{further_stand}
 use Rattle.dirac_bits.proofs.Fields.{spells_then, spells_last, field_spelled, between_is}
 
 -- bands of a picture have no more columns or rows than a count can be
@@ -164,6 +166,24 @@ level_written old mid new all counts level c so_far is first second =
     let grown : new ≡ (old ++ a) ++ b = second ∙ ap (λ l. l ++ b) first in
     let parts : ((old ++ a) ++ b) ++ rest ≡ old ++ ((a ++ b) ++ rest) = simp append_assoc in
     ap (λ l. l ++ rest) grown ∙ parts ∙ ap (λ xs. old ++ counts_bits xs) (sym (level_next counts level c is)) ∙ so_far
+
+-- the first number of a level written
+pub level_begun : (old at mid all : List Bool) (counts : List (ℕ × ℕ)) (level : ℕ) (c : ℕ × ℕ) → at ++ counts_bits (drop level counts) ≡ all → HoldsFront old at all
+    → slice_get counts level ≡ Some c → mid ≡ at ++ uint c.0 → HoldsFront old mid all
+level_begun old at mid all counts level c so_far holds is first =
+    let a = uint c.0 in
+    let b = uint c.1 in
+    let rest = counts_bits (drop (level + 1) counts) in
+    let parts : at ++ ((a ++ b) ++ rest) ≡ (at ++ a) ++ (b ++ rest) = simp append_assoc in
+    further_stand a (b ++ rest) holds first
+    (sym so_far ∙ ap (λ xs. at ++ counts_bits xs) (level_next counts level c is) ∙ parts ∙ ap (λ l. l ++ (b ++ rest)) (sym first))
+
+-- and the second
+pub level_ended : (old at mid new all : List Bool) (counts : List (ℕ × ℕ)) (level : ℕ) (c : ℕ × ℕ) → at ++ counts_bits (drop level counts) ≡ all → HoldsFront old at all
+    → slice_get counts level ≡ Some c → mid ≡ at ++ uint c.0 → new ≡ mid ++ uint c.1 → HoldsFront old new all
+level_ended old at mid new all counts level c so_far holds is first second =
+    further_stand (uint c.1) (counts_bits (drop (level + 1) counts)) (level_begun old at mid all counts level c so_far holds is first) second
+    (sym (level_written at mid new all counts level c so_far is first second))
 
 -- whether a count of this level or of a later one is above 1
 divided_from : (counts : List (ℕ × ℕ)) (level : ℕ) (c : ℕ × ℕ) → slice_get counts level ≡ Some c → is_divided (drop level counts) ≡ (is_above_one c.0 c.1 || is_divided (drop (level + 1) counts))

@@ -1,6 +1,7 @@
 //! Picture headers and parameters, written.
 
-ghost use Rattle.std.specs.Prelude.{◌≡◌, ℕ, ◌≤◌, ◌^◌, ◌++◌, OnOk, unsigned_abs};
+ghost use Rattle.std.specs.Prelude.{◌≡◌, ℕ, ◌≤◌, ◌^◌, ◌++◌, OnOk, OnErr, unsigned_abs};
+ghost use Rattle.dirac_bits.specs.Fronts.{HoldsFront};
 ghost use Rattle.dirac_header.specs.Codes.{is_reference};
 ghost use Rattle.dirac_header.specs.Header as grammar;
 ghost use Rattle.dirac_header.specs.Written as written;
@@ -15,11 +16,12 @@ use dirac_units::is_reference;
 /// Writes the header of a picture with this parse code: picture header, Dirac specification. Bits 0 up to the next byte
 /// stand before it. Each offset is written as a number from -2^31 to 2^31 - 1.
 ///
-/// After want of memory a part of it may stand.
+/// After want of memory what stood before still stands, with a front of these bits behind it.
 pub fn write_header(w: &mut BitWriter, header: &PictureHeader, code: u8) -> Result<(), NoMemory>
     requires references { written.HasReferences code header.now }
     requires retire { written.MayRetire (is_reference code) header.now.number header.now.retire }
     ensures exact { OnOk result (w.new ≡ w.old ++ written.header_bits w.old code header.now) }
+    ensures front { OnErr result (HoldsFront w.old w.new (w.old ++ written.header_bits w.old code header.now)) }
     // These bits spell the header.
     ensures spelled { OnOk result (written.SpelledBehind (grammar.header code) header.now w.old w.new) }
 {
@@ -29,6 +31,7 @@ pub fn write_header(w: &mut BitWriter, header: &PictureHeader, code: u8) -> Resu
 
 fn write_fields(w: &mut BitWriter, header: PictureHeader, code: u8) -> Result<(), NoMemory>
     ensures exact { OnOk result (w.new ≡ w.old ++ written.header_bits w.old code header) }
+    ensures front { OnErr result (HoldsFront w.old w.new (w.old ++ written.header_bits w.old code header)) }
     ensures range { written.IsInRange header }
 {
     w.align()?;
@@ -41,6 +44,7 @@ fn write_fields(w: &mut BitWriter, header: PictureHeader, code: u8) -> Result<()
 
 fn write_reference(w: &mut BitWriter, number: u32, reference: Option<u32>) -> Result<(), NoMemory>
     ensures exact { OnOk result (w.new ≡ w.old ++ written.reference_bits number reference) }
+    ensures front { OnErr result (HoldsFront w.old w.new (w.old ++ written.reference_bits number reference)) }
 {
     if let Some(reference) = reference {
         w.sint(offset_to(number, reference))?;
@@ -55,6 +59,7 @@ fn write_retirement(
     retire: Option<u32>,
 ) -> Result<(), NoMemory>
     ensures exact { OnOk result (w.new ≡ w.old ++ written.retirement_bits there number retire) }
+    ensures front { OnErr result (HoldsFront w.old w.new (w.old ++ written.retirement_bits there number retire)) }
 {
     if there {
         w.sint(retired_offset(number, retire))?;
@@ -89,10 +94,11 @@ fn offset_to(from: u32, to: u32) -> i64
 /// Writes transform parameters: transform parameters, Dirac specification. The partition flag is set exactly where a
 /// count is above 1 or the codeblock mode is 1.
 ///
-/// After want of memory a part of them may stand.
+/// After want of memory what stood before still stands, with a front of these bits behind it.
 pub fn write_transform(w: &mut BitWriter, t: &Transform) -> Result<(), NoMemory>
     requires { written.IsTransform t.now }
     ensures exact { OnOk result (w.new ≡ w.old ++ written.transform_bits t.now) }
+    ensures front { OnErr result (HoldsFront w.old w.new (w.old ++ written.transform_bits t.now)) }
     // These bits spell the parameters.
     ensures spelled { OnOk result (written.TransformBehind t.now w.old w.new) }
 {
@@ -102,6 +108,7 @@ pub fn write_transform(w: &mut BitWriter, t: &Transform) -> Result<(), NoMemory>
 
 fn write_parameters(w: &mut BitWriter, t: &Transform) -> Result<(), NoMemory>
     ensures exact { OnOk result (w.new ≡ w.old ++ written.transform_bits t.now) }
+    ensures front { OnErr result (HoldsFront w.old w.new (w.old ++ written.transform_bits t.now)) }
 {
     w.uint(u64::from(t.wavelet))?;
     w.uint(u64::from(t.depth))?;
@@ -111,6 +118,7 @@ fn write_parameters(w: &mut BitWriter, t: &Transform) -> Result<(), NoMemory>
 
 fn write_codeblocks(w: &mut BitWriter, counts: &Counts, mode: u8) -> Result<(), NoMemory>
     ensures exact { OnOk result (w.new ≡ w.old ++ written.codeblock_bits counts.now mode) }
+    ensures front { OnErr result (HoldsFront w.old w.new (w.old ++ written.codeblock_bits counts.now mode)) }
 {
     let parted = is_parted(counts, mode);
     w.bit(parted)?;
@@ -125,6 +133,7 @@ fn write_partition(
     mode: u8,
 ) -> Result<(), NoMemory>
     ensures exact { OnOk result (w.new ≡ w.old ++ written.partition_bits parted counts.now mode) }
+    ensures front { OnErr result (HoldsFront w.old w.new (w.old ++ written.partition_bits parted counts.now mode)) }
 {
     if parted {
         write_counts(w, counts)?;
@@ -162,6 +171,7 @@ fn is_above_one(across: u32, down: u32) -> bool
 
 fn write_counts(w: &mut BitWriter, counts: &Counts) -> Result<(), NoMemory>
     ensures exact { OnOk result (w.new ≡ w.old ++ written.counts_bits counts.now) }
+    ensures front { OnErr result (HoldsFront w.old w.new (w.old ++ written.counts_bits counts.now)) }
 {
     'levels: for level in 0..counts.len() {
         let (across, down) = counts.at(level);
@@ -175,11 +185,12 @@ fn write_counts(w: &mut BitWriter, counts: &Counts) -> Result<(), NoMemory>
 /// parameters `blocks`, motion vectors of 2^`precision` parts of a luma sample, no global motion, mode 0 and the default
 /// weights. Bits 0 up to the next byte stand before them.
 ///
-/// After want of memory a part of them may stand.
+/// After want of memory what stood before still stands, with a front of these bits behind it.
 pub fn write_prediction(w: &mut BitWriter, blocks: u32, precision: u32) -> Result<(), NoMemory>
     requires blocks { (2 ≤ blocks) × (blocks ≤ 4) }
     requires precision { precision ≤ 3 }
     ensures exact { OnOk result (w.new ≡ w.old ++ written.prediction_bits w.old blocks precision) }
+    ensures front { OnErr result (HoldsFront w.old w.new (w.old ++ written.prediction_bits w.old blocks precision)) }
     // These bits spell the parameters.
     ensures spelled { OnOk result (written.PredictionBehind blocks precision w.old w.new) }
 {
@@ -189,6 +200,7 @@ pub fn write_prediction(w: &mut BitWriter, blocks: u32, precision: u32) -> Resul
 
 fn write_choices(w: &mut BitWriter, blocks: u32, precision: u32) -> Result<(), NoMemory>
     ensures exact { OnOk result (w.new ≡ w.old ++ written.prediction_bits w.old blocks precision) }
+    ensures front { OnErr result (HoldsFront w.old w.new (w.old ++ written.prediction_bits w.old blocks precision)) }
 {
     w.align()?;
     w.uint(u64::from(blocks))?;
