@@ -92,13 +92,15 @@ def random_sequence_header(source):
     longest = source.choice([6, 12, 20, 40])
     width = source.randrange(1, longest // across + 1) * across
     height = source.randrange(1, longest // down + 1) * down
+    are_fields = source.random() < 0.3
+    frame_height = 2 * height if are_fields else height
     base = source.randrange(len(decoder.BASE_FORMATS))
     writer = encoder.BitWriter()
     writer.unsigned(source.randrange(3))
     for _ in ("minor version", "profile", "level"):
         writer.unsigned(random_free_number(source))
     writer.unsigned(base)
-    writer.flag(1).unsigned(width).unsigned(height).flag(1).unsigned(chroma)
+    writer.flag(1).unsigned(width).unsigned(frame_height).flag(1).unsigned(chroma)
 
     def index_or_pair(limit):
         index = source.randrange(limit)
@@ -109,10 +111,10 @@ def random_sequence_header(source):
     random_group(source, writer, 0.3, lambda: writer.unsigned(source.randrange(2)))
     random_group(source, writer, 0.3, lambda: index_or_pair(11))
     random_group(source, writer, 0.3, lambda: index_or_pair(7))
-    random_group(source, writer, 0.3, lambda: writer.unsigned(width).unsigned(height).unsigned(0).unsigned(0))
+    random_group(source, writer, 0.3, lambda: writer.unsigned(width).unsigned(frame_height).unsigned(0).unsigned(0))
     random_group(source, writer, 1 if base >= 7 else 0.3, lambda: random_signal_range(source, writer))
     random_group(source, writer, 0.3, lambda: random_colour_specification(source, writer))
-    payload = writer.unsigned(0).payload()
+    payload = writer.unsigned(int(are_fields)).payload()
     if source.random() < 0.2:
         payload += random_bytes(source, source.randrange(1, 4))
     return payload, decoder.Sequence(width, height, chroma)
@@ -385,7 +387,9 @@ def random_settings(source):
     settings = encoder.default_settings(source.choice([0, 0, 0, 2, 7, 8, 15]))
     settings["chroma"] = source.choice([0, 1, 2, settings["chroma"]])
     across, down = decoder.CHROMA_RATIOS[settings["chroma"]]
-    settings.update(width=across * source.randrange(1, 9), height=down * source.randrange(1, 9))
+    settings["fields"] = source.choice([0, 0, 1])
+    rows = down * source.randrange(1, 9)
+    settings.update(width=across * source.randrange(1, 9), height=2 * rows if settings["fields"] else rows)
     settings.update(wavelet=source.randrange(7), depth=source.randrange(1, 5))
     settings.update(index=source.choice([0, 0, 12, 5, 30, 99]), codeblocks=source.choice([1, 1, 2, 3, 8]))
     if source.random() < 0.5:
@@ -393,8 +397,7 @@ def random_settings(source):
         settings.update(profile=source.randrange(256), level=source.randrange(256))
     if source.random() < 0.2:
         settings["pictures"] = source.randrange(1, 5)
-    settings.update(gop=min(source.choice([1, 2, 3, 4, 6, 12]), encoder.LONGEST_GROUP))
-    settings.update(workers=min(source.choice([1, 1, 2, 3, 64]), encoder.MOST_WORKERS))
+    settings.update(gop=source.choice([1, 2, 3, 4, 6, 12]), workers=source.choice([1, 1, 2, 3, 64]))
     for name, lowest, highest in SEARCH_RANGES:
         if source.random() < 0.5:
             settings[name] = source.randrange(lowest, highest + 1)
@@ -423,10 +426,10 @@ def random_unit_limit(source, settings, data):
 
 def make_encoding(source):
     settings = random_settings(source)
-    sizes = decoder.plane_sizes(decoder.Sequence(settings["width"], settings["height"], settings["chroma"]))
+    sizes = decoder.plane_sizes(encoder.sequence_of(settings))
     length = sum(width * height for width, height in sizes)
     left = source.choice([0, 0, 0, 1, source.randrange(length)])
-    data = random_raw_input(source, length * source.randrange(8) + left)
+    data = random_raw_input(source, length * source.randrange(14 if settings["fields"] else 8) + left)
     if source.random() < 0.3:
         settings["unit_bytes"] = random_unit_limit(source, settings, data)
     defaults = encoder.default_settings(settings["base"]) | {"base": 0}

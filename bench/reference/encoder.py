@@ -19,11 +19,6 @@ UNIT_TOO_LONG = 6
 TOO_MANY_PICTURES = 7
 PARTIAL_PICTURE = 5
 
-# What the product takes so far. Once it writes groups these are 65535, 12 and 64.
-LONGEST_GROUP = 65535
-DEFAULT_GROUP = 12
-MOST_WORKERS = 64
-
 # name, lowest, highest, in the order of their check
 SETTING_RANGES = [
     ("base", 0, 16),
@@ -32,6 +27,7 @@ SETTING_RANGES = [
     ("height", 1, 2304),
     ("rate", 1, 10),
     ("signal", 1, 2),
+    ("fields", 0, 1),
     ("profile", 0, 255),
     ("level", 0, 255),
     ("wavelet", 0, 6),
@@ -41,17 +37,18 @@ SETTING_RANGES = [
     ("blocks", 2, 4),
     ("precision", 0, 3),
     ("references", 1, 2),
-    ("gop", 1, LONGEST_GROUP),
+    ("gop", 1, 65535),
     ("between", 0, 3),
     ("range", 0, 16),
     ("pyramid", 0, 4),
     ("bias", 0, 255),
-    ("workers", 1, MOST_WORKERS),
+    ("workers", 1, 64),
     ("pictures", 1, 2147483647),
     ("unit_bytes", 14, 4294967295),
 ]
 
 SETTING_DEFAULTS = {
+    "fields": 0,
     "profile": 0,
     "level": 0,
     "wavelet": 0,
@@ -61,7 +58,7 @@ SETTING_DEFAULTS = {
     "blocks": 2,
     "precision": 2,
     "references": 2,
-    "gop": DEFAULT_GROUP,
+    "gop": 12,
     "between": 2,
     "range": 4,
     "pyramid": 3,
@@ -87,8 +84,8 @@ def out_of_range(settings):
         unit = 1
         if name == "width" and settings["chroma"] > 0:
             unit = 2
-        if name == "height" and settings["chroma"] == 2:
-            unit = 2
+        if name == "height":
+            unit = (2 if settings["chroma"] == 2 else 1) * (2 if settings["fields"] == 1 else 1)
         if not lowest <= settings[name] <= highest or settings[name] % unit != 0:
             return name
     return None
@@ -253,7 +250,10 @@ def plane_subbands(plane, settings, is_intra):
 
 
 class Planned(NamedTuple):
-    """A picture as it is coded: its number, its parse code, the numbers of its references, what it retires or None."""
+    """A picture as it is coded: its number, its parse code, the numbers of its references, what it retires or None.
+
+    Frames are planned in the same form, by the numbers of frames.
+    """
 
     number: int
     code: int
@@ -262,7 +262,7 @@ class Planned(NamedTuple):
 
 
 def anchor_offsets(length, between):
-    """The places of the anchors in a group of so many pictures."""
+    """The places of the anchors in a group of so many frames."""
     offsets = [0]
     while offsets[-1] < length - 1:
         offsets.append(min(offsets[-1] + between + 1, length - 1))
@@ -270,6 +270,7 @@ def anchor_offsets(length, between):
 
 
 def plan_group(first, length, settings):
+    """The frames of a group in coding order."""
     anchors = [first + offset for offset in anchor_offsets(length, settings["between"])]
     has_two = settings["references"] == 2
     planned = [Planned(first, INTRA_REFERENCE_PICTURE, [], None)]
@@ -285,12 +286,30 @@ def plan_group(first, length, settings):
     return planned
 
 
-def plan(count, settings):
-    """So many pictures in coding order."""
+def fields_of(frame, count):
+    """The fields of a planned frame in order, where there are so many fields at all."""
+    first = 2 * frame.number
     planned = []
-    for first in range(0, count, settings["gop"]):
-        planned += plan_group(first, min(settings["gop"], count - first), settings)
+    for parity in range(min(2, count - first)):
+        code, references = frame.code, [2 * number + parity for number in frame.references]
+        if parity == 1 and frame.code == INTRA_REFERENCE_PICTURE:
+            code, references = INTER_REFERENCE_PICTURES[1], [first]
+        # a reference to a second field that isn't there is to the first one of its frame
+        references = [number if number < count else number - 1 for number in references]
+        retired = None if frame.retired is None else 2 * frame.retired + parity
+        planned.append(Planned(first + parity, code, references, retired))
     return planned
+
+
+def plan(count, settings):
+    """So many pictures in coding order; they are frames, or with `fields` the fields of frames."""
+    frame_count = decoder.divide_up(count, 2) if settings["fields"] else count
+    frames = []
+    for first in range(0, frame_count, settings["gop"]):
+        frames += plan_group(first, min(settings["gop"], frame_count - first), settings)
+    if not settings["fields"]:
+        return frames
+    return [field for frame in frames for field in fields_of(frame, count)]
 
 
 # The search
@@ -338,7 +357,7 @@ class Grid(NamedTuple):
 def block_grid(settings):
     _, separation = decoder.BLOCK_PRESETS[settings["blocks"]]
     across = 4 * decoder.divide_up(settings["width"], 4 * separation)
-    down = 4 * decoder.divide_up(settings["height"], 4 * separation)
+    down = 4 * decoder.divide_up(picture_height(settings), 4 * separation)
     return Grid(across, down, separation, separation)
 
 
@@ -636,7 +655,7 @@ def sequence_header(settings):
         writer.unsigned(width).unsigned(height).unsigned(0).unsigned(0)
     write_custom(writer, settings["signal"], base.signal)
     writer.flag(0)
-    return writer.unsigned(0).payload()
+    return writer.unsigned(settings["fields"]).payload()
 
 
 def write_custom(writer, value, base_value):
@@ -646,8 +665,13 @@ def write_custom(writer, value, base_value):
         writer.unsigned(value)
 
 
+def picture_height(settings):
+    """The rows of a picture: half a frame's where it is a field."""
+    return settings["height"] // 2 if settings["fields"] else settings["height"]
+
+
 def sequence_of(settings):
-    return decoder.Sequence(settings["width"], settings["height"], settings["chroma"])
+    return decoder.Sequence(settings["width"], picture_height(settings), settings["chroma"])
 
 
 def codeblock_counts(settings):
@@ -656,7 +680,7 @@ def codeblock_counts(settings):
     counts = [(1, 1)]
     for level in range(1, depth + 1):
         columns = decoder.subband_length(settings["width"], depth, level)
-        rows = decoder.subband_length(settings["height"], depth, level)
+        rows = decoder.subband_length(picture_height(settings), depth, level)
         counts.append((min(most, columns), min(most, rows)))
     return counts
 

@@ -3,6 +3,7 @@ use Rattle.std.proofs.Common.{◌≡◌, ℕ, zero, suc, ◌+◌, ◌*◌, ◌/�
 use Rattle.std.proofs.lemmas.List.FromFn.{length-map-range_with_len}
 use Rattle.dirac_types.specs.declared.settings.Settings.{Settings}
 use Rattle.dirac_types.specs.Settings.{IsAccepted, step_across, step_down}
+use Rattle.dirac_types.specs.Sizes.{picture_height}
 use Rattle.dirac_generator.specs.Generated.{generated_byte, generated_rows, generated, generated_from, chroma_across, luma_count, chroma_count, picture_count}
 use Rattle.dirac_generator.proofs.Sizes.{sizes_fit, times_some, times_le, count_bounded}
 
@@ -39,11 +40,14 @@ pictures_length t (suc count) number =
     length-append (generated t number) (generated_from t count (number + 1)) ∙ ap₂ (λ (a b : ℕ). a + b) (picture_length_is t number) (pictures_length t count (number + 1))
     ∙ more_times count (picture_count t)
 
+luma_some : (luma chroma : ℕ) → 1 ≤ luma → 1 ≤ luma + (chroma + chroma)
+luma_some luma chroma some = omega arith
+
 pub count_fits : (t : Settings) → IsAccepted t → (1 ≤ picture_count t) × (picture_count t ≤ 28311552)
 count_fits t is =
     let f = sizes_fit t is in
-    let some = times_some t.width t.height f.across.0 f.down.0 in
-    (omega arith, count_bounded t.width t.height (step_across t.chroma) (step_down t.chroma) f.across.1 f.down.1)
+    let some = times_some t.width (picture_height t) f.across.0 f.down.0 in
+    (luma_some (luma_count t) (chroma_count t) some, count_bounded t.width (picture_height t) (step_across t.chroma) (step_down t.chroma) f.across.1 f.down.1)
 
 pub times_bounded : (count size most : ℕ) → count ≤ 1000 → size ≤ most → count * size ≤ 1000 * most
 times_bounded count size most few fits = times_le count size 1000 most few fits

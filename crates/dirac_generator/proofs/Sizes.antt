@@ -4,22 +4,25 @@ use Rattle.std.proofs.Math.Nat.{div-le_self}
 use mathlib.Core.Logic.{dite}
 use native.Mathlib.Decide.{ℕ_discrete}
 use Rattle.dirac_types.specs.declared.settings.Settings.{Settings}
-use Rattle.dirac_types.specs.Settings.{IsAccepted, table, step_across, step_down}
-use Rattle.dirac_types.proofs.Heights.{height_divides}
+use Rattle.dirac_types.specs.Settings.{IsAccepted, step_across}
+use Rattle.dirac_types.specs.Sizes.{picture_height}
+use Rattle.dirac_types.proofs.Accepted.{in_range}
+use Rattle.dirac_types.proofs.Heights.{picture_rows}
 
+-- the columns and rows of a picture, a frame or a field
 pub record FitsSizes (t : Settings) : Type 0 where
   pub across : (1 ≤ t.width) × (t.width ≤ 4096)
-  pub down : (1 ≤ t.height) × (t.height ≤ 2304)
+  pub down : (1 ≤ picture_height t) × (picture_height t ≤ 2304)
   pub across_divides : t.width % step_across t.chroma ≡ 0
-  pub down_divides : t.height % step_down t.chroma ≡ 0
+
+at_most : (rows frame : ℕ) → rows ≤ frame → frame ≤ 2304 → rows ≤ 2304
+at_most rows frame low most = omega arith
 
 pub sizes_fit : (t : Settings) → IsAccepted t → FitsSizes t
-unfolding table
-sizes_fit t is = record {
-  across = (is.1.1.0.0, is.1.1.0.1);
-  down = (is.1.1.1.0.0, is.1.1.1.0.1);
-  across_divides = is.1.1.0.2;
-  down_divides = height_divides t.chroma t.fields t.height is.1.1.1.0.2;
+sizes_fit t is = let range = in_range t is in let rows = picture_rows t is in record {
+  across = range.width;
+  down = (rows.some, at_most (picture_height t) t.height rows.most range.height.1);
+  across_divides = range.whole_across;
 }
 
 -- a positive number that is divided exactly by 1 or 2

@@ -1,5 +1,6 @@
 use Rattle.std.proofs.Common.{◌≤◌, ℕ, subst, sym}
 use Rattle.dirac_types.specs.Settings.{step_across, step_down}
+use Rattle.dirac_types.specs.Sizes.{picture_height}
 use Rattle.dirac_generator.proofs.Sizes.{sizes_fit, chroma_some, times_some, bounded_by}
 use Rattle.dirac_generator.proofs.picture.sizes_of.Goals as goal
 
@@ -10,11 +11,11 @@ returns-clause-some_chroma c =
 pub returns-clause-some_luma : goal.returns-clause-some_luma
 returns-clause-some_luma c =
     let f = sizes_fit c.args.settings.now c.requires in
-    (f.across.0, f.across.1, rw c.picture_height.ensures (times_some c.args.settings.now.width c.args.settings.now.height f.across.0 f.down.0))
+    (f.across.0, f.across.1, rw c.picture_height.ensures (times_some c.args.settings.now.width (picture_height c.args.settings.now) f.across.0 f.down.0))
 
 pub returns-clause-bounded : goal.returns-clause-bounded
 returns-clause-bounded c =
     let t = c.args.settings.now in
     let f = sizes_fit t c.requires in
     rw c.picture_height.ensures
-    (bounded_by t.width t.height c.plane_width-across.result c.plane_height-down.result (step_across t.chroma) (step_down t.chroma) c.plane_width-across.ensures c.plane_height-down.ensures f.across.1 f.down.1)
+    (bounded_by t.width (picture_height t) c.plane_width-across.result c.plane_height-down.result (step_across t.chroma) (step_down t.chroma) c.plane_width-across.ensures c.plane_height-down.ensures f.across.1 f.down.1)
