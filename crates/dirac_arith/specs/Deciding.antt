@@ -34,7 +34,8 @@ unfoldable pub decided : ℕ → Reading → Result (Bool × Reading) Cause
 decided context r =
     if front r.block 16 == 0xFFFF then Err CodeWord else Ok (truth_of context r, after r (context, truth_of context r))
 
--- a number, its digits so far making `value`, where so many more may follow: digit number i is next, behind its follow decision
+-- a number, its digits so far making `value`, where so many more may follow: digit number i is next, behind its follow
+-- decision
 unfoldable pub number_from_digit : List ℕ → ℕ → ℕ → ℕ → ℕ → Reading → Result (ℕ × Reading) Cause
 number_from_digit follow bits i zero value r = do
   last ← decided (follow_at follow i) r

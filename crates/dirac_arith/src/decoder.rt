@@ -87,8 +87,9 @@ impl<'a> Decoder<'a> {
         Ok(decided.truth)
     }
 
-    /// A number, whose follow decisions stand in these contexts, the last one repeated, and its digits in the context `bits`.
-    /// One of more than 38 digits behind its leading one is refused `NumberTooLong`; the decisions up to there were taken.
+    /// A number, whose follow decisions stand in these contexts, the last one repeated, and its digits in the context
+    /// `bits`. One of more than 38 digits behind its leading one is refused `NumberTooLong`; the decisions up to there
+    /// were taken.
     pub fn number(&mut self, follow: &[u8], bits: u8) -> Result<u64, Cause>
         requires not_empty { 0 < length follow.now }
         requires follow { AreContexts follow.now }

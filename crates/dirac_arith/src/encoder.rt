@@ -112,7 +112,8 @@ impl Encoder {
         Ok(())
     }
 
-    /// A number, whose follow decisions stand in these contexts, the last one repeated, and its digits in the context `bits`.
+    /// A number, whose follow decisions stand in these contexts, the last one repeated, and its digits in the context
+    /// `bits`.
     pub fn number(&mut self, follow: &[u8], bits: u8, value: u64) -> Result<(), NoMemory>
         requires not_empty { 0 < length follow.now }
         requires follow { AreContexts follow.now }

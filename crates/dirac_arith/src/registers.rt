@@ -124,7 +124,8 @@ pub fn decide(registers: Registers, probability: u16) -> Decided
     ensures stands { (block : List ℕ) (low k : ℕ) → Stands block registers low k →
         let split = registers.range * probability / 2 ^ 16 in
         let part = part_of registers.range split result.truth in
-        Stands block result.registers ((low + lift_of split result.truth) * 2 ^ doublings_for part) (k + doublings_for part) }
+        Stands block result.registers ((low + lift_of split result.truth) * 2 ^ doublings_for part)
+        (k + doublings_for part) }
     ensures range { let part = part_of registers.range (registers.range * probability / 2 ^ 16) result.truth in
         result.registers.range ≡ part * 2 ^ doublings_for part }
     ensures wide { 0x4000 < result.registers.range }

@@ -1,4 +1,5 @@
--- How four subbands of one level make one plane: LL at even columns and rows, HL at odd columns, LH at odd rows, HH at both odd.
+-- How four subbands of one level make one plane: LL at even columns and rows, HL at odd columns, LH at odd rows, HH at
+-- both odd.
 use Rattle.std.specs.Prelude.{ℕ, ℤ, pos, ◌+◌, ◌*◌, ◌/◌, ◌%◌, ◌==◌, List, length, map, slice_index_or, if◌then◌else◌}
 use Rattle.std.specs.List.{range_with_len}
 use Rattle.dirac_types.specs.Table.{Table, table_at, table_of}

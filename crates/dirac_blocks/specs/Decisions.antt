@@ -1,5 +1,6 @@
 -- The decisions that a block table is coded by, told from the finished table: nine lists with two references, seven
--- with one. Predictions are read off the values of the whole, and nothing is said of the order in which a reader fills them in.
+-- with one. Predictions are read off the values of the whole, and nothing is said of the order in which a reader fills
+-- them in.
 use Rattle.std.specs.Prelude.{◌≡◌, ℕ, zero, suc, ℤ, ◌+◌, ◌-◌, ◌-ℤ◌, ◌*◌, ◌%◌, ◌^◌, ◌<◌, ◌==◌, Bool, true, false, not, ◌||◌, if◌then◌else◌, List, [], ◌∷◌, ◌++◌, Option, Some, None, option_map}
 use Rattle.dirac_arith.specs.declared.contexts.TheConstants.{DC_DIGITS, DC_FOLLOW, DC_SIGN, REFERENCE_1, REFERENCE_2, SPLIT_DIGITS, SPLIT_FOLLOW, VECTOR_DIGITS, VECTOR_FOLLOW, VECTOR_SIGN}
 use Rattle.dirac_types.specs.declared.formats.Vector.{Vector}

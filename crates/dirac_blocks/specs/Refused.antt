@@ -17,7 +17,8 @@ use Rattle.dirac_blocks.specs.Parts.{vector_at, dc_at, part_at}
 use Rattle.dirac_blocks.specs.Reached.{SameBlocks}
 use Rattle.dirac_blocks.specs.Tables.{BlockTable, IsBlockTable, block_at, split_at, unit_size}
 
--- a value that is told by its difference: the contexts of that, the prediction, and the cause where the sum hasn't 16 bits
+-- a value that is told by its difference: the contexts of that, the prediction, and the cause where the sum hasn't 16
+-- bits
 pub record ByDifference : Type 0 where
   pub follow : List ℕ
   pub bits : ℕ
@@ -44,7 +45,8 @@ value_told (parts.Down k) t i j =
 value_told (parts.Dc c) t i j =
     if is_dc (block_at t i j) then Some (dc_told (predicted dc_of (dc_at c t) i j)) else None
 
--- what a list breaks off in: digits and one more follow decision that is false, or a number whose sum with the prediction hasn't 16 bits
+-- what a list breaks off in: digits and one more follow decision that is false, or a number whose sum with the
+-- prediction hasn't 16 bits
 pub data Break : Type 0 where
   long : List Bool → Break
   beyond : ℤ → Break

@@ -46,7 +46,8 @@ fn read_split_row(
     requires at_most_1024 { table.old.across ≤ 1024 }
     requires grey { AllGrey table.old.blocks }
     requires no_overflow { decoder.old.at.doublings < 2 ^ 60 }
-    ensures value { Moves result table.new decoder.new (repeated (split_step sy) count (progress table.old decoder.old)) }
+    ensures value { Moves result table.new decoder.new
+        (repeated (split_step sy) count (progress table.old decoder.old)) }
     ensures blocks { SameBlocks table.old table.new }
     ensures few_doublings { decoder.new.at.doublings ≤ decoder.old.at.doublings + 693 * count }
 {

@@ -38,7 +38,8 @@ impl Model for Decoder {
 
     ghost view = { λ d. decoding d.units d.state d.draining d.given d.stream_end };
 
-    ghost invariant = { λ d. (d.given + length d.state.waiting ≤ d.units.unit_place.index) × (d.units.unit_place.index < 2 ^ 64) × (d.stream_end ≡ Going → d.units.stream_end ≡ Going) };
+    ghost invariant = { λ d. (d.given + length d.state.waiting ≤ d.units.unit_place.index)
+        × (d.units.unit_place.index < 2 ^ 64) × (d.stream_end ≡ Going → d.units.stream_end ≡ Going) };
 }
 
 impl Decoder {

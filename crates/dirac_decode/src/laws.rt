@@ -1,8 +1,8 @@
 //! What holds of all streams, as the contract of a function that does nothing.
 ghost use Rattle.dirac_decode.specs.Sequences.{EachIsFlushed, LastIsFlushed};
 
-/// A law of the definitions: a stream shows the pictures of each of its sequences in the order of delivery, one sequence
-/// after another.
+/// A law of the definitions: a stream shows the pictures of each of its sequences in the order of delivery, one
+/// sequence after another.
 pub fn a_stream_shows_its_sequences()
     ensures each { EachIsFlushed }
     ensures last { LastIsFlushed }

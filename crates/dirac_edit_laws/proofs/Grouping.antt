@@ -8,7 +8,7 @@ use Rattle.dirac_types.specs.declared.settings.Settings.{Settings}
 use Rattle.dirac_units.specs.Codes.{is_intra}
 use Rattle.dirac_plan.specs.declared.planned.Planned.{Planned}
 use Rattle.dirac_plan.specs.Plan.{anchor_of, anchor_offset, anchors_behind, between_of, group, group_at, group_count, retired_of, second_of, step}
-use Rattle.dirac_plan.proofs.Items.{each_of}
+use Rattle.dirac_plan.proofs.Items.{each_of, each_once}
 use Rattle.dirac_plan.proofs.Numbers.{either, of_number, sum_groups}
 use Rattle.dirac_plan_laws.specs.References.{AreServed}
 use Rattle.dirac_plan_laws.proofs.Each.{each_joined, each_mapped}
@@ -23,10 +23,6 @@ pub groups_served : (s : Settings) (n i m : ℕ) → AreServed [] (groups_at s n
 groups_served s n i m = served_all (groups_at s n i m) [] (served_groups s n m i [])
 
 -- how many they are
-each_once : (xs : List Planned) → sum_by (of_number (λ _. 1)) xs ≡ length xs
-each_once [] = refl
-each_once (x ∷ xs) = omega (arith, sum_by-cons (of_number (λ _. 1)) x xs, each_once xs)
-
 pub length_groups : (s : Settings) (n i m : ℕ) → 0 < s.gop → i + m ≤ group_count s n → length (groups_at s n i m) ≡ min n ((i + m) * s.gop) - i * s.gop
 length_groups s n i m some h =
     let count = min n ((i + m) * s.gop) - i * s.gop in

@@ -2,8 +2,9 @@
 use Rattle.std.specs.Prelude.{ℕ, ℤ, pos, neg_ℤ, Bool, true, false, ◌+◌, ◌*◌, ◌==◌, ◌-ℤ◌, ◌++◌, unsigned_abs, List, [], ◌∷◌, if◌then◌else◌}
 use Rattle.dirac_lift.specs.Lifting.{Step, lift, opposite}
 
--- Each step is told by its shift, by the standard's D, at which the index of its taps begins, and by its taps.
--- An even step of tap i reads place 2 (n + i) - 1, which is in pair n + i - 1; an odd one reads place 2 (n + i), in pair n + i.
+-- Each step is told by its shift, by the standard's D, at which the index of its taps begins, and by its taps. An even
+-- step of tap i reads place 2 (n + i) - 1, which is in pair n + i - 1; an odd one reads place 2 (n + i), in pair n +
+-- i.
 
 -- even places minus a rounded sum of odd ones
 abbrev pub even_minus : ℕ → ℤ → List ℤ → Step

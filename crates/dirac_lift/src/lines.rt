@@ -181,8 +181,8 @@ fn run_analysis(wavelet: u8, line: &mut [i128])
 }
 
 /// The synthesis of a line of even length in place (one-dimensional synthesis, Dirac specification). Wavelets are
-/// named by their index: 0 Deslauriers-Dubuc (9,7), 1 LeGall (5,3), 2 Deslauriers-Dubuc (13,7), 3 and 4 Haar without and
-/// with shift, 5 Fidelity, 6 Daubechies (9,7).
+/// named by their index: 0 Deslauriers-Dubuc (9,7), 1 LeGall (5,3), 2 Deslauriers-Dubuc (13,7), 3 and 4 Haar without
+/// and with shift, 5 Fidelity, 6 Daubechies (9,7).
 pub fn synth_line(wavelet: u8, line: &mut [i128])
     requires wavelet { IsWavelet wavelet }
     requires even { length line.old % 2 ≡ 0 }

@@ -11,7 +11,8 @@ use Rattle.dirac_plan.proofs.Lists.{get_joined, get_mapped}
 use Rattle.dirac_plan.proofs.Anchors.{anchor_is}
 use Rattle.dirac_plan.proofs.Numbers.{of_number, sum_group, sum_frames}
 
-each_once : (xs : List Planned) → sum_by (of_number (λ _. 1)) xs ≡ length xs
+-- each is one
+pub each_once : (xs : List Planned) → sum_by (of_number (λ _. 1)) xs ≡ length xs
 each_once [] = refl
 each_once (x ∷ xs) = omega (arith, sum_by-cons (of_number (λ _. 1)) x xs, each_once xs)
 

@@ -45,7 +45,8 @@ impl Model for Planner {
       waiting = p.queue.items;
     } };
 
-    ghost invariant = { λ p. (p.queue.capacity ≡ waiting_places p.settings) × IsPlanning p.settings p.accepted p.given p.ended p.queue.items };
+    ghost invariant = { λ p. (p.queue.capacity ≡ waiting_places p.settings)
+        × IsPlanning p.settings p.accepted p.given p.ended p.queue.items };
 }
 
 impl Planner {

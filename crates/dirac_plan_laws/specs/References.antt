@@ -5,13 +5,10 @@ use Rattle.dirac_types.specs.declared.settings.Settings.{Settings}
 use Rattle.dirac_refs.specs.References.{Commit, as_reference, committed, refs_of}
 use Rattle.dirac_picture.specs.Grammar.{are_listed}
 use Rattle.dirac_plan.specs.declared.planned.Planned.{Planned}
+pub use Rattle.dirac_plan.specs.Frames.{planned_number}
 use Rattle.dirac_plan.specs.Plan.{plan}
 use Rattle.dirac_plan.specs.Waiting.{number_of}
 use Rattle.dirac_plan_laws.specs.Headers.{header_of}
-
--- the number of a planned picture
-abbrev pub planned_number : Planned → ℕ
-planned_number p = p.number
 
 -- these pictures have the numbers of the planned ones: they are what those become
 abbrev pub ArePlanned : List Planned → List Picture → Type 0

@@ -142,7 +142,8 @@ pub fn push_further(
     requires former { HasFormer stage (lent before) i j }
     ensures value { IfOk result (λ _. list.new ≡ list.old ++ further_candidates stage settings.now.range
         (lent before.entry) i j) }
-    ensures within { All (IsWithinReach (2 ^ 24)) (further_candidates stage settings.now.range (lent before.entry) i j) }
+    ensures within { All (IsWithinReach (2 ^ 24))
+        (further_candidates stage settings.now.range (lent before.entry) i j) }
 {
     match (stage, before) {
         (Stage::Finer(_), Some(field)) => push_finer(list, room, field, i, j),

@@ -54,7 +54,8 @@ pub fn search_rows(
     requires stage { IsStage settings.now stage }
     requires former { HasFormerField (given search.now) stage (lent before) }
     requires row { row < search.now.down }
-    ensures { IfOk result (λ v. v.items ≡ superblock_row (given search.now) settings.now stage (lent before.entry) row) }
+    ensures { IfOk result (λ v. v.items
+        ≡ superblock_row (given search.now) settings.now stage (lent before.entry) row) }
 {
     let mut room = new_room(alloc);
     let mut vectors = Vec::new(alloc);

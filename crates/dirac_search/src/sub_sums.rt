@@ -51,8 +51,8 @@ fn sum_sub_row(
     row_differences(source, x, y, samples)
 }
 
-/// The sum of absolute differences of four rows of eight samples of the source, from row `y` on, and of those to which a
-/// vector in parts of a sample leads, where the source has all these columns.
+/// The sum of absolute differences of four rows of eight samples of the source, from row `y` on, and of those to which
+/// a vector in parts of a sample leads, where the source has all these columns.
 #[inline(always)]
 fn sum_four_sub_rows(source: &Plane, up: &UpPlane, precision: u8, x: u32, y: u32, v: Vector) -> u32
     requires x { x ≤ 2 ^ 20 }

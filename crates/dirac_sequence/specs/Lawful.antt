@@ -14,7 +14,8 @@ pub record HasFrames (s : Sequence) : Type 0 where
   pub whole_across : s.width % ratio_across s.chroma ≡ 0
   pub whole_down : s.height % ratio_down s.chroma ≡ 0
 
--- a sequence that a header can have: such frames, and where each picture is a field, two fields in each with whole chroma samples
+-- a sequence that a header can have: such frames, and where each picture is a field, two fields in each with whole
+-- chroma samples
 pub record IsSequence (s : Sequence) : Type 0 where
   pub frames : HasFrames s
   pub whole_fields : s.fields ≡ true → s.height % (2 * ratio_down s.chroma) ≡ 0

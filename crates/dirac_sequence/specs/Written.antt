@@ -54,7 +54,8 @@ is_own_signal t =
     not (is_same (range_of t.signal).luma (preset t.base).luma
     && is_same (range_of t.signal).colour (preset t.base).colour)
 
--- the sequence of these settings: version 2.2, and what they don't say as the base has it; with a size of its own all of a picture is shown
+-- the sequence of these settings: version 2.2, and what they don't say as the base has it; with a size of its own all
+-- of a picture is shown
 unfoldable pub sequence_of : Settings → Sequence
 sequence_of t = record (preset t.base) {
   major = 2;

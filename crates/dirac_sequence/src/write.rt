@@ -18,7 +18,8 @@ use dirac_types::{Chroma, NoMemory, Settings};
 use std::alloc::Global;
 
 /// The sequence that the encoder's pictures make with these settings: version 2.2, its picture size, chroma format,
-/// frame rate and signal range, whether they are fields, and what the settings don't say as the base video format has it.
+/// frame rate and signal range, whether they are fields, and what the settings don't say as the base video format has
+/// it.
 pub fn sequence_of(settings: &Settings) -> Sequence
     requires { IsAccepted settings.now }
     ensures value { result ≡ written.sequence_of settings.now }
@@ -114,8 +115,8 @@ fn is_own_signal(settings: &Settings, base: &Sequence) -> bool
     !(is_same(signal.luma, base.luma) && is_same(signal.colour, base.colour))
 }
 
-/// The bytes of the sequence header of these settings: sequence header, Dirac specification. A custom flag is set exactly
-/// where a value differs from the base's, and for the clean area where the size does.
+/// The bytes of the sequence header of these settings: sequence header, Dirac specification. A custom flag is set
+/// exactly where a value differs from the base's, and for the clean area where the size does.
 pub fn write_sequence(alloc: Global, settings: &Settings) -> Result<Vec<u8>, NoMemory>
     requires { IsAccepted settings.now }
     ensures exact { IfOk result (λ v. v.items ≡ written.sequence_payload settings.now) }

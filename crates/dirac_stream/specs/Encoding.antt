@@ -99,8 +99,8 @@ EndsStream encoded.TooManyPictures = ⊤
 EndsStream answer = ⊥
 
 -- under a rule for their indices the stream of these bytes' pictures is cut into its units, has no fault and shows
--- their reconstructions; where every index is 0 these are the pictures themselves; the raw bytes of the pictures are the
--- first of these bytes
+-- their reconstructions; where every index is 0 these are the pictures themselves; the raw bytes of the pictures are
+-- the first of these bytes
 pub record IsRecoveredUnder (f : IndexRule) (t : Settings) (bytes : List ℕ) : Type 0 where
   pub cut : IsCut start (stream_under f t (sources t bytes)) (units_under f t (sources t bytes)) None
   pub shows : (o : Outcome) × IsShown (stream_under f t (sources t bytes)) o

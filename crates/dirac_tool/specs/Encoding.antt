@@ -34,7 +34,8 @@ EndsStream (ended.PartialPicture n) = ⊤
 EndsStream ended.TooManyPictures = ⊤
 EndsStream answer = ⊥
 
--- the answer, and what both sinks took, are those of the encoding of these bytes; a whole stream is decoded to what the side got, and at index 0 to the input
+-- the answer, and what both sinks took, are those of the encoding of these bytes; a whole stream is decoded to what
+-- the side got, and at index 0 to the input
 abbrev pub IsEncoded : Settings → List ℕ → Ended → Option (List ℕ) → Option (List ℕ) → Option (List ℕ) → Option (List ℕ)
     → Type 0
 IsEncoded t bytes answer out out' side side' =

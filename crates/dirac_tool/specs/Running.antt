@@ -65,7 +65,8 @@ pub record Makes (t : Settings) (count : ℕ) (old new : Held) (answer : Ended) 
   pub unread : new.held ≡ old.held
   pub side : new.side ≡ old.side
 
--- `make`: the first setting that is out of its range, or else the number of pictures, is answered and nothing is written
+-- `make`: the first setting that is out of its range, or else the number of pictures, is answered and nothing is
+-- written
 abbrev pub MakesUnless : Option BadSetting → Settings → ℕ → Held → Held → Ended → Type 0
 MakesUnless (Some bad) t count old new answer = (answer ≡ ended.BadSettings bad) × (new ≡ old)
 MakesUnless None t count old new answer = Makes t count old new answer

@@ -81,7 +81,7 @@ path_behind (Ok (command.Encode s)) words = path_accepted (first_bad (table s)) 
 path_behind (Ok (command.Rate s budget)) words = path_accepted (first_bad_for_rate s budget) words
 path_behind _ words = None
 
--- the path of the reconstructions, where the words fit `encode` or `rate`, give one, and the settings and the budget are
--- accepted
+-- the path of the reconstructions, where the words fit `encode` or `rate`, give one, and the settings and the budget
+-- are accepted
 unfoldable pub path_read : List (List ℕ) → Option (List ℕ)
 path_read words = path_behind (command_read words) (drop 1 words)

@@ -194,8 +194,8 @@ fn refuses_words_of_encode(rt: HostRuntime) -> Result<(), Fail> {
     Ok(())
 }
 
-// Small pictures: how many samples they have across and down, their chroma format, the quantiser index, the codeblocks of
-// each direction, and how many bytes two of them have.
+// Small pictures: how many samples they have across and down, their chroma format, the quantiser index, the codeblocks
+// of each direction, and how many bytes two of them have.
 #[derive(Clone, Copy)]
 struct Shape {
     width: u32,

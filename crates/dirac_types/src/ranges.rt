@@ -34,7 +34,7 @@ pub struct Format {
 #[tactic(auto, unfolding(crate::specs::Settings::table))]
 pub fn table(s: &Settings) -> [Ranged; 25]
     ensures value { result ≡ settings.table s.now }
-    ensures whole { All (λ r. 1 ≤ r.step) result }
+    ensures steps_at_least_1 { All (λ r. 1 ≤ r.step) result }
 {
     [
         setting(Name::Base, s.base, 0, 16, 1),
@@ -92,7 +92,7 @@ fn setting(name: Name, value: u32, least: u32, most: u32, step: u32) -> Ranged
 /// Luma samples beside each other for one chroma sample.
 pub fn step_across(chroma: u32) -> u32
     ensures value { result ≡ settings.step_across chroma }
-    ensures whole { 1 ≤ result }
+    ensures at_least_1 { 1 ≤ result }
 {
     if chroma == 0 { 1 } else { 2 }
 }
@@ -100,7 +100,7 @@ pub fn step_across(chroma: u32) -> u32
 /// Luma samples below each other for one chroma sample.
 pub fn step_down(chroma: u32) -> u32
     ensures value { result ≡ settings.step_down chroma }
-    ensures whole { 1 ≤ result }
+    ensures at_least_1 { 1 ≤ result }
 {
     if chroma == 2 { 2 } else { 1 }
 }
@@ -108,7 +108,7 @@ pub fn step_down(chroma: u32) -> u32
 /// The number of rows that divides the height of a frame: with fields each of its two fields has whole chroma samples.
 pub fn step_of_height(chroma: u32, fields: u32) -> u32
     ensures value { result ≡ settings.step_of_height chroma fields }
-    ensures whole { 1 ≤ result }
+    ensures at_least_1 { 1 ≤ result }
 {
     if fields == 1 {
         2 * step_down(chroma)

@@ -18,7 +18,8 @@ fn short_lines(rt: HostRuntime) {
     assert!(rt; line == [9, 10, 21, 18]);
 }
 
-/// Ten values, whose both ends clamp, and what each wavelet makes of them, by a plain program from the standard's formulas.
+/// Ten values, whose both ends clamp, and what each wavelet makes of them, by a plain program from the standard's
+/// formulas.
 const LINE: [i128; 10] = [100, -7, 33, 12, -250, 61, 5, -90, 17, 44];
 
 #[test]
