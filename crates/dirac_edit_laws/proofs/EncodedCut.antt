@@ -2,16 +2,14 @@
 use Rattle.std.proofs.Common.{◌≡◌, ◌==◌, ℕ, ℤ, zero, suc, pos, ◌+ℤ◌, ◌+◌, ◌-◌, ◌*◌, ◌/◌, ◌%◌, ◌<◌, ◌≤◌, ◌^◌, min, nat_le, nat_lt, if◌then◌else◌, Bool, true, false, List, [], ◌∷◌, ◌++◌, length, map, take, drop, None, Some, refl, sym, ◌∙◌, ap, ap₂, subst, arith, append_assoc, append-nil, length-append}
 use Rattle.std.specs.Prelude.{slice_get, ◌≤ℤ◌}
 use Rattle.std.specs.Int.{cast_signed, w32}
-use Rattle.std.specs.List.{AllByRecursion, filter, flat_map, range_with_len}
+use Rattle.std.specs.List.{AllByRecursion, filter}
 use Rattle.std.proofs.lemmas.Bool.{leb-false, lt-ltb}
-use Rattle.std.proofs.lemmas.Grind.{flat_map-append}
 use Rattle.std.proofs.lemmas.Int.{ints, to_z_pos}
 use Rattle.std.proofs.lemmas.List.{drop_at, length-map, map-append, take_at}
 use Rattle.std.proofs.lemmas.List.Elements.{filter-append}
 use Rattle.dirac_types.specs.declared.picture.Picture.{Picture}
 use Rattle.dirac_types.specs.declared.settings.Settings.{Settings}
 use Rattle.dirac_types.specs.Settings.{IsAccepted}
-use Rattle.dirac_types.proofs.Frames.{frames_alone}
 use Rattle.dirac_types.specs.Bits.{bit_value, number_from}
 use Rattle.dirac_types.specs.Bytes.{bytes_in}
 use Rattle.dirac_units.specs.Codes.{is_intra}
@@ -25,15 +23,14 @@ use Rattle.dirac_refs.specs.declared.waiting.Waiting.{Waiting}
 use Rattle.dirac_refs.specs.Delivery.{delivered, flush, flushed, flushed_by, key_of, least, least_place, others, picture_of, pushed_all}
 use Rattle.dirac_refs.proofs.Least.{leaves_first}
 use Rattle.dirac_plan.specs.declared.planned.Planned.{Planned}
-use Rattle.dirac_plan.specs.Plan.{frames_plan, group_at, group_count, plan}
+use Rattle.dirac_plan.specs.Plan.{plan}
+use Rattle.dirac_plan.specs.Planning.{group_pictures}
 use Rattle.dirac_plan.proofs.Accepted.{paced}
-use Rattle.dirac_plan.proofs.Anchors.{uncovered}
-use Rattle.dirac_plan.proofs.Fields.{length_plan, plan_of_frames}
-use Rattle.dirac_plan.proofs.Lists.{range_split}
+use Rattle.dirac_plan.proofs.Fields.{length_plan}
 use Rattle.dirac_plan_laws.specs.Headers.{IsPictureCode}
 use Rattle.dirac_plan_laws.specs.Order.{as_waiting}
 use Rattle.dirac_plan_laws.specs.Plans.{PlansCanBeCoded}
-use Rattle.dirac_plan_laws.proofs.Each.{each_append}
+use Rattle.dirac_plan_laws.proofs.Each.{each_append, each_more}
 use Rattle.dirac_stream.specs.Coding.{Made, coded_under, coding, job_of, made, own_index, pushed, reconstructions, refs_after, shown_of}
 use Rattle.dirac_stream.specs.Laws.{AreMade, AreSources, Begins, JobsAreRead}
 use Rattle.dirac_stream.specs.Payload.{payload_of, with_picture as picture_bits}
@@ -42,19 +39,21 @@ use Rattle.dirac_stream.proofs.Headers.{header_read, header_short}
 use Rattle.dirac_stream.proofs.Indices.{own_gives, sources_under}
 use Rattle.dirac_stream.proofs.Sourcing.{jobs_read_under, sources_leave, sources_made}
 use Rattle.dirac_edit_laws.specs.Cut.{cut_bytes, first_of, open_among, open_cut, open_from, part_rebuilt, part_shown_of, restricted}
-use Rattle.dirac_edit_laws.specs.Encoded.{EncodedCutsShowTheirGroups, of_groups}
+use Rattle.dirac_edit_laws.specs.Encoded.{EncodedCutsShowTheirGroups, groups_in, of_groups}
 use Rattle.dirac_edit_laws.specs.Laws.{ShowsJust}
 use Rattle.dirac_edit_laws.specs.Later.{AreNotBefore}
 use Rattle.dirac_edit_laws.specs.Rebuilt.{IsRead, RebuiltText, all_shown, in_order, picture_in, rebuilt_from, waiting_from}
 use Rattle.dirac_edit_laws.specs.Texts.{PictureText, SequenceText, picture_text, points_with, sequences, sequences_from, with_pictures}
 use Rattle.dirac_edit_laws.specs.Units.{sequences_bytes}
 use Rattle.dirac_edit_laws.proofs.Cutting.{Fits, FitsPicture, FitsSequence}
-use Rattle.dirac_edit_laws.proofs.EncodedMade.{BeginsIntra, coded_from, all_rebuilt, are_rebuilt, before_part, behind_point, coded_append, from_point, index_behind, index_up, made_begins, made_points, pictures_made, points_behind, points_up, rebuilt_append, refs_behind, served_closed, text_made, texts_made}
-use Rattle.dirac_edit_laws.proofs.Grouping.{LiesIn, groups_at, groups_begin, groups_lie, groups_served, length_groups, points_groups}
+use Rattle.dirac_edit_laws.proofs.EncodedMade.{BeginsIntra, coded_from, all_rebuilt, are_rebuilt, before_part, behind_point, coded_append, from_point, index_behind, index_up, made_begins, made_points, pictures_made, points_behind, points_up, rebuilt_append, refs_behind, text_made, texts_made}
+use Rattle.dirac_edit_laws.proofs.Grouping.{LiesIn}
+use Rattle.dirac_edit_laws.proofs.Inside.{alone_behind, below_behind, closed_part, few_behind, made_back, made_front}
 use Rattle.dirac_edit_laws.proofs.Joining.{keys_from}
 use Rattle.dirac_edit_laws.proofs.Keys.{AreAtLeast, AreAtMost, key_in, not_before}
 use Rattle.dirac_edit_laws.proofs.Later.{later_leave_later, left_from, length_remove}
 use Rattle.dirac_edit_laws.proofs.Parts.{RisesAll, RisesOpen, all_kept, is_among, rebuilt_is, same_with_pictures, texts_rise}
+use Rattle.dirac_edit_laws.proofs.PlannedParts.{first_planned, length_part, part_at, part_begins, part_begins_intra, part_first, part_from, part_lies, part_points, part_split, plan_is, some_pictures}
 use Rattle.dirac_edit_laws.proofs.Shifted.{flush_moved, waiting_with}
 use Rattle.dirac_edit_laws.proofs.UnitKinds.{behind_end, behind_header, behind_picture, kind_of, of_end, of_header, of_other, of_picture}
 use Rattle.dirac_edit_laws.proofs.Walking.{first_in, longer}
@@ -222,33 +221,51 @@ own_order ps first high all small begin =
 
 -- ---- the plan in three parts
 
-groups_split : (t : Settings) (n i m k j : ℕ) → i + m ≡ j → groups_at t n i (m + k) ≡ groups_at t n i m ++ groups_at t n j k
-groups_split t n i m k j is = ap (flat_map (group_at t n)) (range_split i m k j is) ∙ flat_map-append (group_at t n) (range_with_len i m) (range_with_len j k)
-
 -- what becomes of m groups from group i on, with these pictures listed before
 abbrev groups_made : Settings → List Picture → List Picture → ℕ → ℕ → List Made
-groups_made t pictures refs i m = coded_from t refs (map (job_of pictures) (groups_at t (length pictures) i m))
+groups_made t pictures refs i m = coded_from t refs (map (job_of pictures) (part_at t (length pictures) i m))
 
 abbrev first_refs : Settings → List Picture → ℕ → List Picture
-first_refs t pictures a = refs_behind t pictures [] (groups_at t (length pictures) 0 a)
+first_refs t pictures a = refs_behind t pictures [] (part_at t (length pictures) 0 a)
 
 abbrev second_refs : Settings → List Picture → ℕ → ℕ → List Picture
-second_refs t pictures a m = refs_behind t pictures (first_refs t pictures a) (groups_at t (length pictures) a m)
+second_refs t pictures a m = refs_behind t pictures (first_refs t pictures a) (part_at t (length pictures) a m)
 
-coding_split : (t : Settings) (pictures : List Picture) (a m e : ℕ) → IsAccepted t → group_count t (length pictures) ≡ a + (m + e)
+-- the plan: the groups before group a, m groups from there on, and those behind them
+plan_parts : (t : Settings) (n a m e : ℕ) → groups_in t n ≡ a + (m + e) → plan n t ≡ part_at t n 0 a ++ (part_at t n a m ++ part_at t n (a + m) e)
+plan_parts t n a m e is =
+    plan_is t n ∙ ap (part_at t n 0) is ∙ part_split t n 0 a (m + e) a (omega arith)
+    ∙ ap (λ qs. part_at t n 0 a ++ qs) (part_split t n a m e (a + m) refl)
+
+coding_split : (t : Settings) (pictures : List Picture) (a m e : ℕ) → groups_in t (length pictures) ≡ a + (m + e)
     → coding t pictures ≡ groups_made t pictures [] 0 a ++ (groups_made t pictures (first_refs t pictures a) a m ++ groups_made t pictures (second_refs t pictures a m) (a + m) e)
-unfolding frames_plan
-coding_split t pictures a m e accepted is =
+coding_split t pictures a m e is =
     let n = length pictures in
     let code : List Picture → List Planned → List Made = λ refs qs. coded_from t refs (map (job_of pictures) qs) in
-    let first = groups_at t n 0 a in
-    let second = groups_at t n a m in
-    let refs = first_refs t pictures a in
-    ap (code []) (plan_of_frames n t (frames_alone t accepted))
-    ∙ ap (λ k. code [] (groups_at t n 0 k)) is
-    ∙ ap (code []) (groups_split t n 0 a (m + e) a (omega arith))
-    ∙ coded_append t pictures [] first (groups_at t n a (m + e))
-    ∙ ap (λ x. code [] first ++ x) (ap (code refs) (groups_split t n a m e (a + m) refl) ∙ coded_append t pictures refs second (groups_at t n (a + m) e))
+    let first = part_at t n 0 a in
+    let second = part_at t n a m in
+    let third = part_at t n (a + m) e in
+    ap (code []) (plan_parts t n a m e is)
+    ∙ coded_append t pictures [] first (second ++ third)
+    ∙ ap (λ x. code [] first ++ x) (coded_append t pictures (first_refs t pictures a) second third)
+
+-- the part refers to none before it
+closed_groups : (t : Settings) (pictures : List Picture) (a m e index points : ℕ) → 0 < t.gop → groups_in t (length pictures) ≡ a + (m + e) → AreMade t [] (coding t pictures)
+    → open_from [] (all_rebuilt index points (groups_made t pictures (first_refs t pictures a) a m)) ≡ None
+closed_groups t pictures a m e index points some is made =
+    let n = length pictures in
+    let first = part_at t n 0 a in
+    let second = part_at t n a m in
+    let third = part_at t n (a + m) e in
+    let low : ℕ = a * group_pictures t in
+    let all = subst (λ (qs : List Planned). AreMade t [] (coded_from t [] (map (job_of pictures) qs))) (plan_parts t n a m e is) made in
+    let behind = made_back t pictures first (second ++ third) [] all in
+    let mine = made_front t pictures second third (first_refs t pictures a) behind in
+    let top : 0 * group_pictures t + (min n ((0 + a) * group_pictures t) - 0 * group_pictures t) ≤ low = omega arith in
+    let lie = part_lies t n 0 a some (omega (arith, is)) in
+    let below = each_more (LiesIn (0 * group_pictures t) (min n ((0 + a) * group_pictures t) - 0 * group_pictures t)) (λ (q : Planned). q.number < low) first (λ q l. omega (arith, top, l.high)) lie in
+    closed_part t pictures low second (first_refs t pictures a) [] index points mine (part_from t n a m) (few_behind t pictures first [] (omega arith))
+    (alone_behind low (first_refs t pictures a) (below_behind t pictures low first [] below tt))
 
 -- ---- the part's pictures, rebuilt
 
@@ -358,43 +375,49 @@ numbers_within (p ∷ ps) low high low' high' less more all = ((omega (arith, le
 abbrev shown_groups : Settings → List Picture → List Picture → ℕ → ℕ → List Picture
 shown_groups t pictures refs i m = map shown_of (groups_made t pictures refs i m)
 
-groups_numbers : (t : Settings) (pictures refs : List Picture) (i m : ℕ) → 0 < t.gop → i + m ≤ group_count t (length pictures)
-    → AreNumbers (i * t.gop) (i * t.gop + (min (length pictures) ((i + m) * t.gop) - i * t.gop)) (shown_groups t pictures refs i m)
+-- the number of the first of them
+first_made : (t : Settings) (pictures refs : List Picture) (qs : List Planned) → first_in (map shown_of (coded_from t refs (map (job_of pictures) qs))) ≡ first_planned qs
+unfolding coded_under
+first_made t pictures refs [] = refl
+first_made t pictures refs (q ∷ qs) = refl
+
+groups_numbers : (t : Settings) (pictures refs : List Picture) (i m : ℕ) → 0 < t.gop → i + m ≤ groups_in t (length pictures)
+    → AreNumbers (i * group_pictures t) (i * group_pictures t + (min (length pictures) ((i + m) * group_pictures t) - i * group_pictures t)) (shown_groups t pictures refs i m)
 groups_numbers t pictures refs i m some h =
     let n = length pictures in
-    numbers_lie t pictures refs (groups_at t n i m) (i * t.gop) (min n ((i + m) * t.gop) - i * t.gop) (groups_lie t n i m some h)
+    numbers_lie t pictures refs (part_at t n i m) (i * group_pictures t) (min n ((i + m) * group_pictures t) - i * group_pictures t) (part_lies t n i m some h)
 
-groups_length : (t : Settings) (pictures refs : List Picture) (i m : ℕ) → 0 < t.gop → i + m ≤ group_count t (length pictures)
-    → length (flush (map as_waiting (shown_groups t pictures refs i m))) ≡ min (length pictures) ((i + m) * t.gop) - i * t.gop
+groups_length : (t : Settings) (pictures refs : List Picture) (i m : ℕ) → 0 < t.gop → i + m ≤ groups_in t (length pictures)
+    → length (flush (map as_waiting (shown_groups t pictures refs i m))) ≡ min (length pictures) ((i + m) * group_pictures t) - i * group_pictures t
 groups_length t pictures refs i m some h =
     let ps = shown_groups t pictures refs i m in
-    flush_length (map as_waiting ps) ∙ length-map ps as_waiting ∙ length_shown t pictures refs (groups_at t (length pictures) i m) ∙ length_groups t (length pictures) i m some h
+    flush_length (map as_waiting ps) ∙ length-map ps as_waiting ∙ length_shown t pictures refs (part_at t (length pictures) i m) ∙ length_part t (length pictures) i m some h
 
 -- ---- where the parts lie
 
 record AreParts (t : Settings) (pictures : List Picture) (a m e : ℕ) : Type 0 where
-  pub first : AreNumbers 0 (a * t.gop) (shown_groups t pictures [] 0 a)
-  pub second : AreNumbers (a * t.gop) (min (length pictures) ((a + m) * t.gop)) (shown_groups t pictures (first_refs t pictures a) a m)
-  pub third : AreNumbers (min (length pictures) ((a + m) * t.gop)) (length pictures) (shown_groups t pictures (second_refs t pictures a m) (a + m) e)
+  pub first : AreNumbers 0 (a * group_pictures t) (shown_groups t pictures [] 0 a)
+  pub second : AreNumbers (a * group_pictures t) (min (length pictures) ((a + m) * group_pictures t)) (shown_groups t pictures (first_refs t pictures a) a m)
+  pub third : AreNumbers (min (length pictures) ((a + m) * group_pictures t)) (length pictures) (shown_groups t pictures (second_refs t pictures a m) (a + m) e)
 
 -- numbers between a first one and an end that may lie before it
 top_is : (first n end : ℕ) → first ≤ n → first ≤ end → first + (min n end - first) ≡ min n end
 top_is first n end low up = omega arith
 
-last_part : (t : Settings) (pictures refs : List Picture) (i e : ℕ) → 0 < t.gop → i + e ≤ group_count t (length pictures) → AreNumbers (min (length pictures) (i * t.gop)) (length pictures) (shown_groups t pictures refs i e)
+last_part : (t : Settings) (pictures refs : List Picture) (i e : ℕ) → 0 < t.gop → i + e ≤ groups_in t (length pictures) → AreNumbers (min (length pictures) (i * group_pictures t)) (length pictures) (shown_groups t pictures refs i e)
 unfolding coded_under
 last_part t pictures refs i zero some h = tt
 last_part t pictures refs i (suc e) some h =
     let n = length pictures in
-    let gop = t.gop in
-    let low : i * gop < n = uncovered n gop i some (omega arith) in
+    let gop = group_pictures t in
+    let low : i * gop < n = part_begins t n i some (omega arith) in
     let wide : i * gop ≤ (i + suc e) * gop = omega arith in
     numbers_within (shown_groups t pictures refs i (suc e)) (i * gop) (i * gop + (min n ((i + suc e) * gop) - i * gop)) (min n (i * gop)) n (omega arith) (omega arith) (groups_numbers t pictures refs i (suc e) some h)
 
-are_parts : (t : Settings) (pictures : List Picture) (a m e : ℕ) → 0 < t.gop → group_count t (length pictures) ≡ a + (m + e) → a * t.gop ≤ length pictures → AreParts t pictures a m e
+are_parts : (t : Settings) (pictures : List Picture) (a m e : ℕ) → 0 < t.gop → groups_in t (length pictures) ≡ a + (m + e) → a * group_pictures t ≤ length pictures → AreParts t pictures a m e
 are_parts t pictures a m e some is low =
     let n = length pictures in
-    let gop = t.gop in
+    let gop = group_pictures t in
     let xs = shown_groups t pictures [] 0 a in
     let ys = shown_groups t pictures (first_refs t pictures a) a m in
     let zs = shown_groups t pictures (second_refs t pictures a m) (a + m) e in
@@ -408,7 +431,7 @@ are_parts t pictures a m e some is low =
     }
 
 -- the reconstructions, part by part
-reconstructions_split : PlansCanBeCoded → (t : Settings) (pictures : List Picture) (a m e : ℕ) → IsAccepted t → length pictures < 2 ^ 31 → 0 < t.gop → group_count t (length pictures) ≡ a + (m + e) → a * t.gop ≤ length pictures
+reconstructions_split : PlansCanBeCoded → (t : Settings) (pictures : List Picture) (a m e : ℕ) → IsAccepted t → length pictures < 2 ^ 31 → 0 < t.gop → groups_in t (length pictures) ≡ a + (m + e) → a * group_pictures t ≤ length pictures
     → reconstructions t pictures
     ≡ flush (map as_waiting (shown_groups t pictures [] 0 a)) ++ (flush (map as_waiting (shown_groups t pictures (first_refs t pictures a) a m)) ++ flush (map as_waiting (shown_groups t pictures (second_refs t pictures a m) (a + m) e)))
 reconstructions_split plans t pictures a m e accepted few some is low =
@@ -417,25 +440,25 @@ reconstructions_split plans t pictures a m e accepted few some is low =
     let ys = shown_groups t pictures (first_refs t pictures a) a m in
     let zs = shown_groups t pictures (second_refs t pictures a m) (a + m) e in
     let all : map shown_of (coding t pictures) ≡ xs ++ (ys ++ zs) =
-    ap (map shown_of) (coding_split t pictures a m e accepted is)
+    ap (map shown_of) (coding_split t pictures a m e is)
     ∙ map-append shown_of (groups_made t pictures [] 0 a) (groups_made t pictures (first_refs t pictures a) a m ++ groups_made t pictures (second_refs t pictures a m) (a + m) e)
     ∙ ap (λ l. xs ++ l) (map-append shown_of (groups_made t pictures (first_refs t pictures a) a m) (groups_made t pictures (second_refs t pictures a m) (a + m) e)) in
     let parts = are_parts t pictures a m e some is low in
-    let high = min n ((a + m) * t.gop) in
-    let wide : a * t.gop ≤ (a + m) * t.gop = omega arith in
-    let over : a * t.gop ≤ high = omega arith in
+    let high = min n ((a + m) * group_pictures t) in
+    let wide : a * group_pictures t ≤ (a + m) * group_pictures t = omega arith in
+    let over : a * group_pictures t ≤ high = omega arith in
     let within : high ≤ n = omega arith in
-    let both = each_append (λ (p : Picture). (a * t.gop ≤ p.number) × (p.number < n)) ys zs (numbers_within ys (a * t.gop) high (a * t.gop) n (omega arith) within parts.second) (numbers_within zs high n (a * t.gop) n over (omega arith) parts.third) in
+    let both = each_append (λ (p : Picture). (a * group_pictures t ≤ p.number) × (p.number < n)) ys zs (numbers_within ys (a * group_pictures t) high (a * group_pictures t) n (omega arith) within parts.second) (numbers_within zs high n (a * group_pictures t) n over (omega arith) parts.third) in
     sym (sources_leave plans own_index t pictures accepted few) ∙ ap flush (as_pushed (coding t pictures) ∙ ap (map as_waiting) all)
-    ∙ parts_leave xs ys zs (a * t.gop) high n parts.first both parts.second parts.third (omega (arith, few)) low within
+    ∙ parts_leave xs ys zs (a * group_pictures t) high n parts.first both parts.second parts.third (omega (arith, few)) low within
 
 -- those of the groups
-groups_slice : PlansCanBeCoded → (t : Settings) (pictures : List Picture) (a m e : ℕ) → IsAccepted t → length pictures < 2 ^ 31 → 0 < t.gop → group_count t (length pictures) ≡ a + (m + e) → a * t.gop ≤ length pictures
+groups_slice : PlansCanBeCoded → (t : Settings) (pictures : List Picture) (a m e : ℕ) → IsAccepted t → length pictures < 2 ^ 31 → 0 < t.gop → groups_in t (length pictures) ≡ a + (m + e) → a * group_pictures t ≤ length pictures
     → of_groups t a (a + m) (reconstructions t pictures) ≡ flush (map as_waiting (shown_groups t pictures (first_refs t pictures a) a m))
 unfolding coded_under
 groups_slice plans t pictures a m zero accepted few some is low =
     let n = length pictures in
-    let gop = t.gop in
+    let gop = group_pictures t in
     let fs = flush (map as_waiting (shown_groups t pictures [] 0 a)) in
     let gs = flush (map as_waiting (shown_groups t pictures (first_refs t pictures a) a m)) in
     let k = (a + m - a) * gop in
@@ -446,7 +469,7 @@ groups_slice plans t pictures a m zero accepted few some is low =
     ap (λ l. take k (drop (a * gop) l)) (reconstructions_split plans t pictures a m 0 accepted few some is low) ∙ slice_last fs gs (a * gop) k one (omega arith)
 groups_slice plans t pictures a m (suc e) accepted few some is low =
     let n = length pictures in
-    let gop = t.gop in
+    let gop = group_pictures t in
     let fs = flush (map as_waiting (shown_groups t pictures [] 0 a)) in
     let gs = flush (map as_waiting (shown_groups t pictures (first_refs t pictures a) a m)) in
     let hs = flush (map as_waiting (shown_groups t pictures (second_refs t pictures a m) (a + m) (suc e))) in
@@ -455,7 +478,7 @@ groups_slice plans t pictures a m (suc e) accepted few some is low =
     let two = groups_length t pictures (first_refs t pictures a) a m some (omega (arith, is)) in
     let span : (a + m - a) * gop ≡ m * gop = ap (λ x. x * gop) (let e : a + m - a ≡ m = omega arith in e) in
     let long : (a + m) * gop ≡ a * gop + m * gop = omega arith in
-    let more : (a + m) * gop < n = uncovered n gop (a + m) some (omega (arith, is)) in
+    let more : (a + m) * gop < n = part_begins t n (a + m) some (omega (arith, is)) in
     let same : length gs ≡ k = two ∙ omega arith in
     ap (λ l. take k (drop (a * gop) l)) (reconstructions_split plans t pictures a m (suc e) accepted few some is low) ∙ slice_full fs gs hs (a * gop) k one same
 
@@ -496,14 +519,14 @@ part_stands written units T a b rs pictures one read fits rebuilt many closed sh
     let bytes : cut_bytes units a b ≡ sequences_bytes 0 (part ∷ []) = ap (λ ts. sequences_bytes 0 (with_pictures (map (restricted a b) ts))) one ∙ ap (sequences_bytes 0) parts in
     (ap (open_among a b) one ∙ none, subst (λ l. ShowsJust l pictures) (sym bytes) shows)
 
-encoded_by : IsReadAsWritten → PlansCanBeCoded → JobsAreRead → (t : Settings) (pictures : List Picture) (a m e : ℕ) → AreSources t pictures → group_count t (length pictures) ≡ a + (suc m + e)
+encoded_by : IsReadAsWritten → PlansCanBeCoded → JobsAreRead → (t : Settings) (pictures : List Picture) (a m e : ℕ) → AreSources t pictures → groups_in t (length pictures) ≡ a + (suc m + e)
     → (open_cut (stream_units t pictures) a (a + suc m) ≡ None) × ShowsJust (cut_bytes (stream_units t pictures) a (a + suc m)) (of_groups t a (a + suc m) (reconstructions t pictures))
 unfolding coded_under
 encoded_by written plans law t pictures a m e is count =
     let n = length pictures in
     let some : 0 < t.gop = omega (arith, (paced t is.accepted).gop_least) in
-    let inside : a * t.gop < n = uncovered n t.gop a some (omega (arith, count)) in
-    let low : a * t.gop ≤ n = omega arith in
+    let inside : a * group_pictures t < n = part_begins t n a some (omega (arith, count)) in
+    let low : a * group_pictures t ≤ n = omega arith in
     let ms = coding t pictures in
     let made = sources_made plans (jobs_read_under law) own_index own_gives t pictures (sources_under t pictures is) in
     let codes = codes_of t ms [] made.0 in
@@ -513,26 +536,26 @@ encoded_by written plans law t pictures a m e is count =
     let rebuilt = are_rebuilt t ms [] 0 0 made.0 in
     let read : IsRead T = record { sequence = sequence_of t; header = header_read t is.accepted; pictures = rebuilt.read } in
     let fits : FitsSequence T = record { header = header_fits t; pictures = texts_fit_made t pictures [] (plan n t) 0 0 is.short codes } in
-    let first = groups_at t n 0 a in
-    let second = groups_at t n a (suc m) in
-    let third = groups_at t n (a + suc m) e in
+    let first = part_at t n 0 a in
+    let second = part_at t n a (suc m) in
+    let third = part_at t n (a + suc m) e in
     let refs = first_refs t pictures a in
     let xs = groups_made t pictures [] 0 a in
     let ys = groups_made t pictures refs a (suc m) in
     let zs = groups_made t pictures (second_refs t pictures a (suc m)) (a + suc m) e in
     let i = index_behind 0 xs in
-    let ahead : points_behind 0 xs ≡ a = made_points t pictures [] first 0 ∙ points_groups t n a 0 0 ∙ omega arith in
-    let behind : points_behind a ys ≡ a + suc m = made_points t pictures refs second a ∙ points_groups t n (suc m) a a in
-    let chosen = part_made a (suc m) 0 xs ys zs ahead (made_begins t pictures refs second (groups_begin t n (suc m) a)) behind (made_begins t pictures (second_refs t pictures a (suc m)) third (groups_begin t n e (a + suc m))) in
+    let ahead : points_behind 0 xs ≡ a = made_points t pictures [] first 0 ∙ part_points t n a 0 0 ∙ omega arith in
+    let behind : points_behind a ys ≡ a + suc m = made_points t pictures refs second a ∙ part_points t n (suc m) a a in
+    let chosen = part_made a (suc m) 0 xs ys zs ahead (made_begins t pictures refs second (part_begins_intra t n (suc m) a)) behind (made_begins t pictures (second_refs t pictures a (suc m)) third (part_begins_intra t n e (a + suc m))) in
     let part : part_rebuilt a (a + suc m) T ≡ all_rebuilt i a ys =
-    ap (filter (is_among a (a + suc m))) (rebuilt_is (sequence_of t) T (header_read t is.accepted) ∙ rebuilt.same ∙ ap (all_rebuilt 0 0) (coding_split t pictures a (suc m) e is.accepted count)) ∙ chosen in
-    let closed = served_closed t pictures second refs [] i a (groups_served t n a (suc m)) in
+    ap (filter (is_among a (a + suc m))) (rebuilt_is (sequence_of t) T (header_read t is.accepted) ∙ rebuilt.same ∙ ap (all_rebuilt 0 0) (coding_split t pictures a (suc m) e count)) ∙ chosen in
+    let closed = closed_groups t pictures a (suc m) e i a some count made.0 in
     let ps = map shown_of ys in
     let parts = are_parts t pictures a (suc m) e some count low in
-    let wide : a * t.gop + t.gop ≤ (a + suc m) * t.gop = omega arith in
-    let many : 0 < length (all_rebuilt i a ys) = omega (arith, rebuilt_length ys i a, length-map ys shown_of, length_shown t pictures refs second, length_groups t n a (suc m) some (omega (arith, count)), inside, some) in
-    let begin : first_in ps ≡ Some (a * t.gop) = refl in
-    let own = own_order ps (a * t.gop) (min n ((a + suc m) * t.gop)) parts.second (omega (arith, is.few)) begin in
+    let wide : a * group_pictures t + group_pictures t ≤ (a + suc m) * group_pictures t = omega arith in
+    let many : 0 < length (all_rebuilt i a ys) = omega (arith, rebuilt_length ys i a, length-map ys shown_of, length_shown t pictures refs second, length_part t n a (suc m) some (omega (arith, count)), inside, some_pictures t some) in
+    let begin : first_in ps ≡ Some (a * group_pictures t) = first_made t pictures refs second ∙ part_first t n a m in
+    let own = own_order ps (a * group_pictures t) (min n ((a + suc m) * group_pictures t)) parts.second (omega (arith, is.few)) begin in
     let shown : in_order (map picture_in (all_rebuilt i a ys)) ≡ of_groups t a (a + suc m) (reconstructions t pictures) =
     ap in_order (pictures_made ys i a) ∙ sym own ∙ sym (groups_slice plans t pictures a (suc m) e is.accepted is.few some count low) in
     part_stands written (stream_units t pictures) T a (a + suc m) (all_rebuilt i a ys) (of_groups t a (a + suc m) (reconstructions t pictures)) one read fits part many closed shown
@@ -540,7 +563,7 @@ encoded_by written plans law t pictures a m e is count =
 pub encoded_cuts : IsReadAsWritten → PlansCanBeCoded → JobsAreRead → EncodedCutsShowTheirGroups
 encoded_cuts written plans law t pictures a b is less within =
     let m = b - a - 1 in
-    let e = group_count t (length pictures) - b in
+    let e = groups_in t (length pictures) - b in
     let same : a + suc m ≡ b = omega arith in
-    let count : group_count t (length pictures) ≡ a + (suc m + e) = omega arith in
+    let count : groups_in t (length pictures) ≡ a + (suc m + e) = omega arith in
     subst (λ x. (open_cut (stream_units t pictures) a x ≡ None) × ShowsJust (cut_bytes (stream_units t pictures) a x) (of_groups t a x (reconstructions t pictures))) same (encoded_by written plans law t pictures a m e is count)

@@ -8,11 +8,10 @@ use Rattle.dirac_sequence.specs.Written.{sequence_of}
 use Rattle.dirac_refs.specs.References.{as_reference, committed}
 use Rattle.dirac_decode.specs.Content.{rebuilt}
 use Rattle.dirac_plan.specs.declared.planned.Planned.{Planned}
-use Rattle.dirac_plan_laws.specs.References.{AreServed}
 use Rattle.dirac_stream.specs.Coding.{Job, Made, coded_under, job_of, made, own_index, refs_after, shown_of}
 use Rattle.dirac_stream.specs.Laws.{AreMade}
-use Rattle.dirac_edit_laws.specs.Cut.{is_between, open_from}
-use Rattle.dirac_edit_laws.specs.Rebuilt.{AreRead, RebuiltText, list_behind, picture_in, rebuilt_from}
+use Rattle.dirac_edit_laws.specs.Cut.{is_between}
+use Rattle.dirac_edit_laws.specs.Rebuilt.{AreRead, RebuiltText, picture_in, rebuilt_from}
 use Rattle.dirac_edit_laws.specs.Texts.{PictureText}
 use Rattle.dirac_edit_laws.proofs.Closed.{one_rebuilt}
 use Rattle.dirac_edit_laws.proofs.Parts.{filter_in, filter_out, is_among}
@@ -183,14 +182,3 @@ pub coded_append : (t : Settings) (pictures refs : List Picture) (xs ys : List P
 unfolding coded_under
 coded_append t pictures refs [] ys = refl
 coded_append t pictures refs (x ∷ xs) ys = ap (λ ms. made t refs (job_of pictures x) ∷ ms) (coded_append t pictures (refs_after refs (made t refs (job_of pictures x))) xs ys)
-
--- served pictures are closed, whatever they were coded with
-pub served_closed : (t : Settings) (pictures : List Picture) (qs : List Planned) (refs list : List Picture) (index points : ℕ) → AreServed list qs → open_from list (all_rebuilt index points (coded_from t refs (map (job_of pictures) qs))) ≡ None
-unfolding coded_under open_from
-served_closed t pictures [] refs list index points served = refl
-served_closed t pictures (q ∷ qs) refs list index points served =
-    let m = made t refs (job_of pictures q) in
-    let r = rebuilt_made index points m in
-    let rest = all_rebuilt (suc (index_up index m)) (points_up points m) (coded_from t (refs_after refs m) (map (job_of pictures) qs)) in
-    ap (λ (b : Bool). if b then open_from (list_behind list r) rest else Some r.text.index) served.0
-    ∙ served_closed t pictures qs (refs_after refs m) (list_behind list r) (suc (index_up index m)) (points_up points m) (served.1 m.shown refl)

@@ -4,14 +4,14 @@ use Rattle.dirac_types.specs.declared.picture.Picture.{Picture}
 use Rattle.dirac_types.specs.declared.settings.Settings.{Settings}
 use Rattle.dirac_units.specs.Codes.{is_intra}
 use Rattle.dirac_units.specs.Cut.{UnitText}
-use Rattle.dirac_plan.specs.Plan.{frames_plan, group_count, plan}
-use Rattle.dirac_plan.proofs.Fields.{plan_of_frames}
+use Rattle.dirac_plan.specs.Plan.{plan}
 use Rattle.dirac_stream.specs.Coding.{Made, coding}
 use Rattle.dirac_stream.specs.Stream.{end_text, header_text, picture_length, picture_text, units_from, units_in}
-use Rattle.dirac_edit_laws.specs.Encoded.{EncodedStreamsHaveAPointAGroup}
+use Rattle.dirac_edit_laws.specs.Encoded.{EncodedStreamsHaveAPointAGroup, groups_in}
 use Rattle.dirac_edit_laws.specs.Texts.{points_of}
 use Rattle.dirac_edit_laws.proofs.EncodedMade.{made_points, points_behind}
-use Rattle.dirac_edit_laws.proofs.Grouping.{planned_points, points_groups}
+use Rattle.dirac_edit_laws.proofs.Grouping.{planned_points}
+use Rattle.dirac_edit_laws.proofs.PlannedParts.{part_points, plan_is}
 
 -- a sequence header before a picture is no point
 unit_points : (t : Settings) (m : Made) (previous : ℕ) (rest : List UnitText) (b : Bool)
@@ -44,8 +44,7 @@ units_count t [] = refl
 units_count t (m ∷ ms) = from_none (points_of (units_from t 0 (m ∷ ms))) ∙ made_count (m ∷ ms) t 0 0
 
 pub points_are_groups : EncodedStreamsHaveAPointAGroup
-unfolding frames_plan
-points_are_groups t pictures frames =
+points_are_groups t pictures =
     let n = length pictures in
-    units_count t (coding t pictures) ∙ made_points t pictures [] (plan n t) 0 ∙ ap (λ p. planned_points 0 p) (plan_of_frames n t frames)
-    ∙ points_groups t n (group_count t n) 0 0 ∙ sym (from_none (group_count t n))
+    units_count t (coding t pictures) ∙ made_points t pictures [] (plan n t) 0 ∙ ap (planned_points 0) (plan_is t n)
+    ∙ part_points t n (groups_in t n) 0 0 ∙ sym (from_none (groups_in t n))

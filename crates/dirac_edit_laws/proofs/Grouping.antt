@@ -1,4 +1,4 @@
--- The pictures of some groups of a plan: how many they are, their numbers, their intra pictures, and that they need no others.
+-- Some groups of a plan of frames: how many frames they are, their numbers, and their intra pictures.
 use Rattle.std.proofs.Common.{◌≡◌, ℕ, zero, suc, ◌+◌, ◌-◌, ◌*◌, ◌<◌, ◌≤◌, ◌&&◌, ◌==◌, nat_le, nat_lt, min, if◌then◌else◌, Bool, true, false, List, [], ◌∷◌, ◌++◌, length, Option, None, Some, refl, sym, ◌∙◌, ap, arith, sum_by}
 use Rattle.std.specs.List.{AllByRecursion, flat_map, range_with_len}
 use Rattle.std.proofs.lemmas.Bool.{and_from, and_parts, leb-true, le-leb, lt-ltb, ltb-true}
@@ -10,17 +10,11 @@ use Rattle.dirac_plan.specs.declared.planned.Planned.{Planned}
 use Rattle.dirac_plan.specs.Plan.{anchor_of, anchor_offset, anchors_behind, between_of, group, group_at, group_count, retired_of, second_of, step}
 use Rattle.dirac_plan.proofs.Items.{each_of, each_once}
 use Rattle.dirac_plan.proofs.Numbers.{either, of_number, sum_groups}
-use Rattle.dirac_plan_laws.specs.References.{AreServed}
 use Rattle.dirac_plan_laws.proofs.Each.{each_joined, each_mapped}
-use Rattle.dirac_plan_laws.proofs.Serving.{served_all, served_groups}
 
--- m groups from group i on, of n pictures
+-- m groups from group i on, of n frames
 abbrev pub groups_at : Settings → ℕ → ℕ → ℕ → List Planned
 groups_at s n i m = flat_map (group_at s n) (range_with_len i m)
-
--- they need no picture of another group
-pub groups_served : (s : Settings) (n i m : ℕ) → AreServed [] (groups_at s n i m)
-groups_served s n i m = served_all (groups_at s n i m) [] (served_groups s n m i [])
 
 -- how many they are
 pub length_groups : (s : Settings) (n i m : ℕ) → 0 < s.gop → i + m ≤ group_count s n → length (groups_at s n i m) ≡ min n ((i + m) * s.gop) - i * s.gop
@@ -82,7 +76,7 @@ groups_lie s n i m some h =
 
 -- ---- their intra pictures
 
-abbrev IsInter : Planned → Type 0
+abbrev pub IsInter : Planned → Type 0
 IsInter p = is_intra p.code ≡ false
 
 anchor_inter : (number before : ℕ) (second retired : Option ℕ) → IsInter (anchor_of number before second retired)
@@ -92,7 +86,7 @@ anchor_inter number before (Some second) retired = refl
 between_inter : (references before after number : ℕ) → IsInter (between_of references before after number)
 between_inter references before after number = either (references == 2) IsInter _ _ refl refl
 
-steps_inter : (s : Settings) (len first : ℕ) → AllByRecursion IsInter (flat_map (step s len first) (range_with_len 0 (anchors_behind s len)))
+pub steps_inter : (s : Settings) (len first : ℕ) → AllByRecursion IsInter (flat_map (step s len first) (range_with_len 0 (anchors_behind s len)))
 steps_inter s len first =
     each_joined IsInter (step s len first) 0 (anchors_behind s len) (λ k low high.
     let before = first + anchor_offset s len k in
@@ -110,11 +104,11 @@ abbrev pub planned_points : ℕ → List Planned → ℕ
 planned_points points [] = points
 planned_points points (q ∷ qs) = planned_points (planned_up points q) qs
 
-points_append : (xs ys : List Planned) (points : ℕ) → planned_points points (xs ++ ys) ≡ planned_points (planned_points points xs) ys
+pub points_append : (xs ys : List Planned) (points : ℕ) → planned_points points (xs ++ ys) ≡ planned_points (planned_points points xs) ys
 points_append [] ys points = refl
 points_append (x ∷ xs) ys points = points_append xs ys (planned_up points x)
 
-points_inter : (xs : List Planned) (points : ℕ) → AllByRecursion IsInter xs → planned_points points xs ≡ points
+pub points_inter : (xs : List Planned) (points : ℕ) → AllByRecursion IsInter xs → planned_points points xs ≡ points
 points_inter [] points all = refl
 points_inter (x ∷ xs) points all = ap (λ (b : Bool). planned_points (if b then suc points else points) xs) all.0 ∙ points_inter xs points all.1
 

@@ -5,12 +5,14 @@ pub mod EncodedCut
 pub mod EncodedMade
 pub mod EncodedPoints
 pub mod Grouping
+pub mod Inside
 pub mod Joining
 pub mod Keys
 pub mod Later
 pub mod Numbers
 pub mod Onward
 pub mod Parts
+pub mod PlannedParts
 pub mod Renumbered
 pub mod Restricted
 pub mod Shifted

@@ -83,7 +83,7 @@ pub fn encoded_cuts_show_their_groups()
     streams_show_their_pictures();
 }
 
-/// The encoder's stream of frames has a point for each group of its pictures.
+/// The encoder's stream has a point for each group of its pictures.
 pub fn encoded_streams_have_a_point_a_group()
     ensures { EncodedStreamsHaveAPointAGroup }
 {}

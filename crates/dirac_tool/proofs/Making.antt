@@ -9,7 +9,9 @@ use Rattle.dirac_types.specs.declared.ranges.Ranged.{Ranged}
 use Rattle.dirac_types.specs.declared.settings.BadSetting.{BadSetting}
 use Rattle.dirac_types.specs.declared.settings.Name.TheVariants as name
 use Rattle.dirac_types.specs.declared.settings.Settings.{Settings}
-use Rattle.dirac_types.specs.Settings.{IsAccepted, first_bad, is_in_range, setting, step_across, step_down, table, verdict}
+use Rattle.dirac_types.specs.Settings.{IsAccepted, first_bad, is_in_range, setting, step_down, verdict}
+use Rattle.dirac_types.specs.Sizes.{picture_height}
+use Rattle.dirac_types.proofs.Accepted.{in_range}
 use Rattle.dirac_types.specs.declared.formats.Chroma.TheVariants.{C444, C422, C420}
 use Rattle.dirac_sequence.specs.Grammar.{chroma_of}
 use Rattle.dirac_sequence.specs.Ratios.{ratio_across, ratio_down}
@@ -45,15 +47,11 @@ down_of n few = dite (ℕ_discrete n 0)
     (λ e. subst (λ (k : ℕ). ratio_down (chroma_of k) ≡ step_down k) (sym e) refl)
     (λ most. let e : n ≡ 2 = omega arith in subst (λ (k : ℕ). ratio_down (chroma_of k) ≡ step_down k) (sym e) refl))
 
-chroma_bounded : (t : Settings) → IsAccepted t → t.chroma ≤ 2
-unfolding table
-chroma_bounded t is = is.1.0.1
-
 pub same_count : (t : Settings) → IsAccepted t → picture_count t ≡ raw_length t
 unfolding sequence_of
 same_count t is =
     let across : chroma_across t ≡ chroma_width (sequence_of t) = ap (λ (k : ℕ). t.width / k) (sym (across_of (t.chroma == 0) (t.chroma == 1))) in
-    let down : chroma_down t ≡ chroma_height (sequence_of t) = ap (λ (k : ℕ). t.height / k) (sym (down_of t.chroma (chroma_bounded t is))) in
+    let down : chroma_down t ≡ chroma_height (sequence_of t) = ap (λ (k : ℕ). picture_height t / k) (sym (down_of t.chroma (in_range t is).chroma)) in
     let chroma = ap₂ (λ (a b : ℕ). a * b) across down in omega arith
 
 -- generated pictures are whole
