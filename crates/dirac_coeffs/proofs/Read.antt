@@ -20,7 +20,7 @@ use Rattle.dirac_coeffs.specs.Carried.{AreLawful, AreSmall, CarriesBand, Carries
 use Rattle.dirac_coeffs.specs.Decisions.{Marks, band_decisions}
 use Rattle.dirac_coeffs.specs.Grammar.{band_table}
 use Rattle.dirac_coeffs.specs.Indices.{all_equal}
-use Rattle.dirac_coeffs.specs.Laws.{BandIsRead, PlainIsEqual, LongIsRefused, NoIndexIsRefused, OnesAreRefused, OneBandIsCarried, NoBandBesideLong, NoBandBesideNoIndex, LongOrNoIndex, OnesCarryNothing}
+use Rattle.dirac_coeffs.specs.Laws.{BandIsRead, PlainIsEqual, LongIsRefused, NoIndexIsRefused, OnesAreRefused, OneBandIsCarried, NoBandBesideLong, NoBandBesideNoIndex, NotLongAndNoIndex, OnesCarryNothing}
 use Rattle.dirac_coeffs.specs.Layouts.{IsBandLayout}
 use Rattle.dirac_coeffs.proofs.Coding.{ones_apart, reads_carry}
 use Rattle.dirac_coeffs.proofs.Edges.{edge_last}
@@ -236,8 +236,8 @@ pub no_band_beside_no_index : NoBandBesideNoIndex
 no_band_beside_no_index layout parent index block xs is ms lawful a b =
     no_answer (band_read layout parent index block) (content xs is) QuantIndex (band_found layout parent index block xs is ms lawful a) (break_found layout parent index block QuantIndex lawful b)
 
-pub long_or_no_index : LongOrNoIndex
-long_or_no_index layout parent index block lawful a b =
+pub not_long_and_no_index : NotLongAndNoIndex
+not_long_and_no_index layout parent index block lawful a b =
     let same : Err NumberTooLong ≡ Err QuantIndex = sym (break_found layout parent index block NumberTooLong lawful a) ∙ break_found layout parent index block QuantIndex lawful b in
     absurd cc
 

@@ -34,8 +34,8 @@ IsZeroBlock layout xs cy cx =
 abbrev pub SkippedIsZero : BandLayout → List ℤ → ℕ → ℕ → Mark → Type 0
 SkippedIsZero layout xs cy cx mark = is_flagged layout ≡ true → mark.skipped ≡ true → IsZeroBlock layout xs cy cx
 
--- the index of codeblock cx of row cy is that of the one before it and the offset, which is 0 where the codeblock is
--- skipped, and in mode 0
+-- the index of codeblock cx of row cy is that of the codeblock before it plus the offset, which is 0 where the
+-- codeblock is skipped, and in mode 0
 pub record IsIndexed (layout : BandLayout) (index : ℕ) (indices : List ℕ) (cy cx : ℕ) (mark : Mark) : Type 0 where
   pub sum : pos (index_at indices (place_of layout cy cx))
       ≡ pos (index_before index indices (place_of layout cy cx)) +ℤ mark.offset
@@ -73,7 +73,8 @@ cause_of (long_offset digits) = NumberTooLong
 cause_of (beyond offset) = QuantIndex
 cause_of (long_value offset row column digits) = NumberTooLong
 
--- codeblock cx of row cy can break off so: no number has so many digits, and a value has a place in the codeblock
+-- codeblock cx of row cy can break off so: there are as many digits as a number may have, and a follow decision that is
+-- false would stand behind them; a value has a place in the codeblock
 abbrev pub IsBreak : BandLayout → ℕ → List ℕ → ℕ → ℕ → Break → Type 0
 IsBreak layout index indices cy cx (long_offset digits) = (layout.mode ≡ 1) × (length digits ≡ MOST_DIGITS)
 IsBreak layout index indices cy cx (beyond offset) =

@@ -21,7 +21,7 @@ OneBandIsCarried =
     CarriesBand layout parent index block ys js ms' →
     (xs ≡ ys) × (is ≡ js)
 
--- and none beside a number that is too long
+-- a block carries no band beside a number that is too long
 abbrev pub NoBandBesideLong : Type 0
 NoBandBesideLong =
     (layout : BandLayout) (parent : List ℤ) (index : ℕ) (block : List ℕ) (xs : List ℤ) (is : List ℕ)
@@ -31,7 +31,7 @@ NoBandBesideLong =
     CarriesLong layout parent index block →
     ⊥
 
--- nor beside an offset that leads to no index
+-- a block carries no band beside an offset that leads to no index
 abbrev pub NoBandBesideNoIndex : Type 0
 NoBandBesideNoIndex =
     (layout : BandLayout) (parent : List ℤ) (index : ℕ) (block : List ℕ) (xs : List ℤ) (is : List ℕ)
@@ -41,16 +41,16 @@ NoBandBesideNoIndex =
     CarriesNoIndex layout parent index block →
     ⊥
 
--- and it does not carry both of these
-abbrev pub LongOrNoIndex : Type 0
-LongOrNoIndex =
+-- a block does not carry both a number that is too long and an offset that leads to no index
+abbrev pub NotLongAndNoIndex : Type 0
+NotLongAndNoIndex =
     (layout : BandLayout) (parent : List ℤ) (index : ℕ) (block : List ℕ) →
     IsBandLayout layout →
     CarriesLong layout parent index block →
     CarriesNoIndex layout parent index block →
     ⊥
 
--- a block of ones carries none of them
+-- a block of ones carries no band, no number that is too long and no offset that leads to no index
 abbrev pub OnesCarryNothing : Type 0
 OnesCarryNothing =
     (layout : BandLayout) (parent : List ℤ) (index : ℕ) (block : List ℕ) →
@@ -69,7 +69,7 @@ BandIsRead =
     (band_read layout parent index block ≡ Ok (content xs is))
     ↔ ((ms : Marks) × CarriesBand layout parent index block xs is ms)
 
--- in mode 0 each codeblock of that has the band's index
+-- in mode 0 each codeblock of a band that a block reads to has the band's index
 abbrev pub PlainIsEqual : Type 0
 PlainIsEqual =
     (layout : BandLayout) (parent : List ℤ) (index : ℕ) (block : List ℕ) (xs : List ℤ) (is : List ℕ) →
@@ -79,7 +79,7 @@ PlainIsEqual =
     band_read layout parent index block ≡ Ok (content xs is) →
     is ≡ all_equal layout index
 
--- it is refused for a number that is too long exactly where it carries the decisions up to one
+-- a block is refused for a number that is too long exactly where it carries the decisions up to one
 abbrev pub LongIsRefused : Type 0
 LongIsRefused =
     (layout : BandLayout) (parent : List ℤ) (index : ℕ) (block : List ℕ) →
@@ -87,7 +87,7 @@ LongIsRefused =
     IsIndex index →
     (band_read layout parent index block ≡ Err NumberTooLong) ↔ CarriesLong layout parent index block
 
--- for its index exactly where it carries the decisions up to an offset that leads to none
+-- a block is refused for its index exactly where it carries the decisions up to an offset that leads to none
 abbrev pub NoIndexIsRefused : Type 0
 NoIndexIsRefused =
     (layout : BandLayout) (parent : List ℤ) (index : ℕ) (block : List ℕ) →
@@ -95,7 +95,7 @@ NoIndexIsRefused =
     IsIndex index →
     (band_read layout parent index block ≡ Err QuantIndex) ↔ CarriesNoIndex layout parent index block
 
--- and for its first bits exactly where sixteen of them are ones
+-- a block is refused for its first bits exactly where sixteen of them are ones
 abbrev pub OnesAreRefused : Type 0
 OnesAreRefused =
     (layout : BandLayout) (parent : List ℤ) (index : ℕ) (block : List ℕ) →

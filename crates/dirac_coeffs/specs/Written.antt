@@ -43,7 +43,8 @@ abbrev pub block_of : BandLayout → List ℤ → ℕ → List ℤ → List ℕ 
 block_of layout parent index xs indices =
     flush (band_decisions layout parent xs (marks_of layout index xs indices))
 
--- indices that a band's codeblocks can have: a skipped codeblock has that of the one before it, and in mode 0 each has
+-- indices that a band's codeblocks can have: a skipped codeblock has that of the codeblock before it, and in mode 0
+-- each codeblock has
 pub record AreIndicesOf (layout : BandLayout) (index : ℕ) (xs : List ℤ) (indices : List ℕ) : Type 0 where
   pub skipped : (cy cx : ℕ) → cy < layout.down → cx < layout.across → is_flagged layout ≡ true
       → is_zero_block layout xs cy cx ≡ true

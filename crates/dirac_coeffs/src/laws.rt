@@ -1,15 +1,15 @@
 //! What holds of all subbands and blocks, each as the contract of a function that does nothing.
-ghost use Rattle.dirac_coeffs.specs.Laws.{OneBandIsCarried, NoBandBesideLong, NoBandBesideNoIndex, LongOrNoIndex, OnesCarryNothing};
+ghost use Rattle.dirac_coeffs.specs.Laws.{OneBandIsCarried, NoBandBesideLong, NoBandBesideNoIndex, NotLongAndNoIndex, OnesCarryNothing};
 ghost use Rattle.dirac_coeffs.specs.Laws.{BandIsRead, PlainIsEqual, LongIsRefused, NoIndexIsRefused, OnesAreRefused, BlocksAreShort};
 
 /// A block carries the decisions of one band at most, and none beside those of a number that is too long, or of an
 /// offset that leads to no index; it doesn't carry both of these. One that begins with sixteen ones carries none.
 pub fn one_band_is_carried()
     ensures one_band_is_carried { OneBandIsCarried }
-    ensures or_long { NoBandBesideLong }
-    ensures or_no_index { NoBandBesideNoIndex }
-    ensures not_both { LongOrNoIndex }
-    ensures or_ones { OnesCarryNothing }
+    ensures no_band_beside_long_number { NoBandBesideLong }
+    ensures no_band_beside_no_index { NoBandBesideNoIndex }
+    ensures not_both { NotLongAndNoIndex }
+    ensures ones_carry_nothing { OnesCarryNothing }
 {}
 
 /// What a block reads to is the band whose decisions it carries. In codeblock mode 0 all its codeblocks have the band's
