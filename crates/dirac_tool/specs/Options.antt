@@ -15,8 +15,8 @@ use Rattle.dirac_tool.specs.declared.options.OptionsOf.TheVariants as options_of
 -- the names of the settings, in the order of their table
 abbrev pub names : List Name
 names =
-    name.Base ∷ name.Chroma ∷ name.Width ∷ name.Height ∷ name.Rate ∷ name.Signal ∷ name.Profile ∷ name.Level
-    ∷ name.Wavelet ∷ name.Depth ∷ name.Index ∷ name.Codeblocks ∷ name.Blocks ∷ name.Precision ∷ name.References
+    name.Base ∷ name.Chroma ∷ name.Width ∷ name.Height ∷ name.Rate ∷ name.Signal ∷ name.Fields ∷ name.Profile
+    ∷ name.Level ∷ name.Wavelet ∷ name.Depth ∷ name.Index ∷ name.Codeblocks ∷ name.Blocks ∷ name.Precision ∷ name.References
     ∷ name.Gop ∷ name.Between ∷ name.Range ∷ name.Pyramid ∷ name.Bias ∷ name.Workers ∷ name.Pictures ∷ name.UnitBytes
     ∷ []
 
@@ -106,7 +106,7 @@ changed words d = record {
   height = value_or words name.Height d.height;
   rate = value_or words name.Rate d.rate;
   signal = value_or words name.Signal d.signal;
-  fields = d.fields;
+  fields = value_or words name.Fields d.fields;
   profile = value_or words name.Profile d.profile;
   level = value_or words name.Level d.level;
   wavelet = value_or words name.Wavelet d.wavelet;

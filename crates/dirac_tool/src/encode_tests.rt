@@ -18,7 +18,7 @@ pub(crate) const SIZES: [&str; 3] = ["--width=8", "--height=8", "--depth=1"];
 pub(crate) const PLAIN: &str = "--index=12";
 
 // The words `encode`, these, and these.
-fn encode_words(alloc: Global, first: &[&str], more: &[&str]) -> Result<Words, Fail> {
+pub(crate) fn encode_words(alloc: Global, first: &[&str], more: &[&str]) -> Result<Words, Fail> {
     let mut words = Words::new(alloc);
     words.push("encode")?;
     for word in first {
@@ -272,7 +272,7 @@ fn coded_back<R: Abort + Threads + Sync>(
 }
 
 // The same, without an answer.
-fn codes_back<R: Abort + Threads + Sync>(
+pub(crate) fn codes_back<R: Abort + Threads + Sync>(
     rt: &R,
     alloc: Global,
     words: &Words,

@@ -14,6 +14,8 @@ mod encode_tests;
 mod ended;
 #[cfg(test)]
 mod fault_tests;
+#[cfg(test)]
+mod field_tests;
 mod flushed;
 #[cfg(test)]
 mod flushed_tests;

@@ -6,13 +6,14 @@ ghost use Rattle.dirac_tool.specs.Options as options;
 use dirac_types::{Name, Settings};
 
 // The names of the settings, in the order of their table.
-const NAMES: [Name; 23] = [
+const NAMES: [Name; 24] = [
     Name::Base,
     Name::Chroma,
     Name::Width,
     Name::Height,
     Name::Rate,
     Name::Signal,
+    Name::Fields,
     Name::Profile,
     Name::Level,
     Name::Wavelet,
@@ -223,7 +224,7 @@ pub fn settings_given(words: &[String]) -> Settings
         height: value_or(words, Name::Height, d.height),
         rate: value_or(words, Name::Rate, d.rate),
         signal: value_or(words, Name::Signal, d.signal),
-        fields: d.fields,
+        fields: value_or(words, Name::Fields, d.fields),
         profile: value_or(words, Name::Profile, d.profile),
         level: value_or(words, Name::Level, d.level),
         wavelet: value_or(words, Name::Wavelet, d.wavelet),
