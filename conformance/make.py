@@ -309,6 +309,35 @@ def fields():
     return made.intra(0, flat(250, 4)).inter(INTER_1, 1, (-1,), mixed_motion(409, 1)).end()
 
 
+@stream
+def fields_444():
+    """inter fields of one and two references in 4:4:4: frames of 26 by 18, so that a field has 9 rows"""
+    made = Stream().sequence((26, 18), 0, mode=1).intra(0, noise(410, 1))
+    made.inter(INTER_1, 1, (-1,), mixed_motion(411, 1), faint(412, 2))
+    made.inter(INTER_2, 2, (-2, -1), mixed_motion(413, 2), faint(414, 3))
+    return made.inter(INTER_2_UNLISTED, 3, (-2, -1), mixed_motion(415, 2, precision=1, blocks=3), faint(416)).end()
+
+
+@stream
+def fields_in_groups():
+    """thirteen fields of 20 by 12, 4:2:0, frame by frame, coded as 0 1, 4 5, 2 3, 8 9, 6 7, 12, 10 11: each refers to
+    fields of its own parity, but field 1 to field 0, and field 11 to the last frame's only field, which retires one
+    """
+    made = Stream().sequence((20, 24), 2, mode=1, sampling=1)
+    offsets = {1: (-1,), 4: (-4,), 5: (-4,), 8: (-4, -8), 9: (-4, -8), 12: (-4, -12), 11: (-2, 1)}
+    made.intra(0, noise(420, 3))
+    for number in (1, 4, 5, 2, 3, 8, 9, 6, 7, 12, 10, 11):
+        refers = offsets.get(number, (-2, 2))
+        is_anchor = number % 4 < 2
+        if is_anchor:
+            code = INTER_1 if len(refers) == 1 else INTER_2
+        else:
+            code = INTER_2_UNLISTED
+        motion = mixed_motion(420 + number, len(refers), precision=number % 3)
+        made.inter(code, number, refers, motion, faint(440 + number), -8 if number == 12 else 0)
+    return made.end()
+
+
 # Units
 
 
