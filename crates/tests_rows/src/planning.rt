@@ -56,6 +56,46 @@ fn plan_of_14_pictures(rt: HostRuntime) -> Result<(), NoMemory> {
     Ok(())
 }
 
+// Groups of five frames whose pictures are fields, one frame between two anchors; first with both fields of the last
+// frame, and then without its second one.
+#[test]
+fn plans_of_fields(rt: HostRuntime) -> Result<(), NoMemory> {
+    let mut settings = Settings::of_base(0);
+    settings.fields = 1;
+    settings.gop = 5;
+    settings.between = 1;
+    settings.references = 2;
+    assert!(rt; settings.check().is_ok());
+    let planned = plan(rt.alloc(), 10, &settings)?;
+    let wanted = [
+        row(0, 0x0C, None, None, None),
+        row(1, 0x0D, Some(0), None, None),
+        row(4, 0x0D, Some(0), None, None),
+        row(5, 0x0D, Some(1), None, None),
+        row(2, 0x0A, Some(0), Some(4), None),
+        row(3, 0x0A, Some(1), Some(5), None),
+        row(8, 0x0E, Some(4), Some(0), None),
+        row(9, 0x0E, Some(5), Some(1), None),
+        row(6, 0x0A, Some(4), Some(8), None),
+        row(7, 0x0A, Some(5), Some(9), None),
+    ];
+    assert!(rt; planned.as_slice() == wanted.as_slice());
+    let planned = plan(rt.alloc(), 9, &settings)?;
+    let wanted = [
+        row(0, 0x0C, None, None, None),
+        row(1, 0x0D, Some(0), None, None),
+        row(4, 0x0D, Some(0), None, None),
+        row(5, 0x0D, Some(1), None, None),
+        row(2, 0x0A, Some(0), Some(4), None),
+        row(3, 0x0A, Some(1), Some(5), None),
+        row(8, 0x0E, Some(4), Some(0), None),
+        row(6, 0x0A, Some(4), Some(8), None),
+        row(7, 0x0A, Some(5), Some(8), None),
+    ];
+    assert!(rt; planned.as_slice() == wanted.as_slice());
+    Ok(())
+}
+
 /// A picture of one grey sample a plane.
 fn numbered(alloc: Global, number: u32) -> Result<Picture, NoMemory>
     ensures { IfOk result (λ p. p.number ≡ number) }
