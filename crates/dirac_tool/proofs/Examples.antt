@@ -27,6 +27,11 @@ base_kept : command_read (codes "encode" ∷ codes "--base=99" ∷ []) ≡ Ok (E
 unfolding encode_read settings_given value_or value_in number_read fits is_new_setting is_new_path path_in format_of
 base_kept = refl
 
+-- fields, by their word
+of_fields : command_read (codes "encode" ∷ codes "--fields=1" ∷ codes "--gop=5" ∷ []) ≡ Ok (Encode (record (of_base 0) { fields = 1; gop = 5 }))
+unfolding encode_read settings_given value_or value_in number_read fits is_new_setting is_new_path path_in format_of
+of_fields = refl
+
 -- a name given a second time doesn't fit at its second place
 twice : command_read (codes "encode" ∷ codes "--width=8" ∷ codes "--width=8" ∷ []) ≡ Err (Usage 2)
 unfolding encode_read value_in number_read fits is_new_setting is_new_path path_in
