@@ -22,9 +22,11 @@ use Rattle.dirac_header.specs.declared.transform.Transform.{Transform}
 use Rattle.dirac_coeffs.specs.declared.layout.CodedBand.{CodedBand}
 use Rattle.dirac_coeffs.specs.Written.{is_zero_band}
 use Rattle.dirac_lift.specs.Level.{analysed}
-use Rattle.dirac_analysis.specs.Analysis.{coded, coded_bands, coded_lowest, differences, padded, reduced_values}
+use Rattle.dirac_analysis.specs.Analysis.{coded_bands, coded_lowest, differences, padded}
+use Rattle.dirac_analysis.specs.Coded.{coded}
 use Rattle.dirac_analysis.specs.Fits.{AreDifferences, AreLevelBands, AreSamples, IsLevelBand, IsDivisible, IsQuantisable, grown}
 use Rattle.dirac_analysis.specs.Laws.{PlanesFit}
+use Rattle.dirac_analysis.proofs.FinerBands.{coded_fits}
 use Rattle.dirac_analysis.proofs.OneLevel.{length-filled, level_grows, low_divisible, padded_divisible}
 use Rattle.dirac_analysis.proofs.Undone.{differences_sum, front_get}
 
@@ -92,29 +94,29 @@ band_quantisable b right below t band few across down is all =
 -- ---- a list of bands
 
 -- what is asked of band n
-Asked : List (ℕ × ℕ) → ℕ → ℕ → ℕ → CodedBand → Type 0
-Asked counts across down n b = IsLevelBand (counts_at counts (level_of n)) (across * 2 ^ ((n - 1) / 3)) (down * 2 ^ ((n - 1) / 3)) b
+Asked : List (ℕ × ℕ) → ℕ → ℕ → ℕ → ℕ → CodedBand → Type 0
+Asked counts finer across down n b = IsLevelBand (counts_at counts (level_of n)) finer (across * 2 ^ ((n - 1) / 3)) (down * 2 ^ ((n - 1) / 3)) b
 
-asked_here : (counts : List (ℕ × ℕ)) (across down doublings level n : ℕ) (b : CodedBand) (w h : ℕ) → (n - 1) / 3 ≡ doublings → level_of n ≡ level → w ≡ across * 2 ^ doublings → h ≡ down * 2 ^ doublings → IsLevelBand (counts_at counts level) w h b → Asked counts across down n b
+asked_here : (counts : List (ℕ × ℕ)) (finer across down doublings level n : ℕ) (b : CodedBand) (w h : ℕ) → (n - 1) / 3 ≡ doublings → level_of n ≡ level → w ≡ across * 2 ^ doublings → h ≡ down * 2 ^ doublings → IsLevelBand (counts_at counts level) finer w h b → Asked counts finer across down n b
 unfolding Asked
-asked_here counts across down doublings level n b w h twice at ew eh fits =
-    subst (λ k. IsLevelBand (counts_at counts k) (across * 2 ^ ((n - 1) / 3)) (down * 2 ^ ((n - 1) / 3)) b) (sym at)
-    (subst (λ k. IsLevelBand (counts_at counts level) (across * 2 ^ k) (down * 2 ^ k) b) (sym twice)
-    (subst (λ k. IsLevelBand (counts_at counts level) k (down * 2 ^ doublings) b) ew (subst (λ k. IsLevelBand (counts_at counts level) w k b) eh fits)))
+asked_here counts finer across down doublings level n b w h twice at ew eh fits =
+    subst (λ k. IsLevelBand (counts_at counts k) finer (across * 2 ^ ((n - 1) / 3)) (down * 2 ^ ((n - 1) / 3)) b) (sym at)
+    (subst (λ k. IsLevelBand (counts_at counts level) finer (across * 2 ^ k) (down * 2 ^ k) b) (sym twice)
+    (subst (λ k. IsLevelBand (counts_at counts level) finer k (down * 2 ^ doublings) b) ew (subst (λ k. IsLevelBand (counts_at counts level) finer w k b) eh fits)))
 
 found_single : (b x : CodedBand) (n : ℕ) → slice_get (b ∷ []) n ≡ Some x → (n ≡ 0) × (b ≡ x)
 found_single b x zero is = (refl, cc)
 found_single b x (suc n) is = absurd (omega (arith, slice_get_within {A = CodedBand} [] n x is))
 
-one_coded : (counts : List (ℕ × ℕ)) (across down : ℕ) (b : CodedBand) (w h : ℕ) → w ≡ across * 2 ^ 0 → h ≡ down * 2 ^ 0 → IsLevelBand (counts_at counts 0) w h b → AreLevelBands counts across down 0 (b ∷ [])
+one_coded : (counts : List (ℕ × ℕ)) (finer across down : ℕ) (b : CodedBand) (w h : ℕ) → w ≡ across * 2 ^ 0 → h ≡ down * 2 ^ 0 → IsLevelBand (counts_at counts 0) finer w h b → AreLevelBands counts finer across down 0 (b ∷ [])
 unfolding Asked
-one_coded counts across down b w h ew eh fits = record {
+one_coded counts finer across down b w h ew eh fits = record {
   count = refl;
   each = λ n x there.
       let found = found_single b x n there in
       let twice : (n - 1) / 3 ≡ 0 = omega (arith, found.0) in
       let level : level_of n ≡ 0 = omega (arith, found.0) in
-      subst (Asked counts across down n) found.1 (asked_here counts across down 0 0 n b w h twice level ew eh fits);
+      subst (Asked counts finer across down n) found.1 (asked_here counts finer across down 0 0 n b w h twice level ew eh fits);
 }
 
 -- one of three, behind others
@@ -132,11 +134,11 @@ found_three [] h l d x (suc (suc (suc n))) P is past ph pl pd = absurd (omega (a
 found_three (y ∷ xs) h l d x zero P is past ph pl pd = absurd (omega arith)
 found_three (y ∷ xs) h l d x (suc n) P is past ph pl pd = found_three xs h l d x n P is (omega arith) ph pl pd
 
-more_coded : (counts : List (ℕ × ℕ)) (across down depth : ℕ) (xs : List CodedBand) (h l d : CodedBand) (w v : ℕ) → w ≡ across * 2 ^ depth → v ≡ down * 2 ^ depth
-    → AreLevelBands counts across down depth xs → IsLevelBand (counts_at counts (suc depth)) w v h → IsLevelBand (counts_at counts (suc depth)) w v l → IsLevelBand (counts_at counts (suc depth)) w v d
-    → AreLevelBands counts across down (suc depth) (xs ++ h ∷ l ∷ d ∷ [])
+more_coded : (counts : List (ℕ × ℕ)) (finer across down depth : ℕ) (xs : List CodedBand) (h l d : CodedBand) (w v : ℕ) → w ≡ across * 2 ^ depth → v ≡ down * 2 ^ depth
+    → AreLevelBands counts finer across down depth xs → IsLevelBand (counts_at counts (suc depth)) finer w v h → IsLevelBand (counts_at counts (suc depth)) finer w v l → IsLevelBand (counts_at counts (suc depth)) finer w v d
+    → AreLevelBands counts finer across down (suc depth) (xs ++ h ∷ l ∷ d ∷ [])
 unfolding Asked
-more_coded counts across down depth xs h l d w v ew eh fits fh fl fd =
+more_coded counts finer across down depth xs h l d w v ew eh fits fh fl fd =
     let three : List CodedBand = h ∷ l ∷ d ∷ [] in
     record {
       count = omega (arith, length-append xs three, fits.count);
@@ -146,55 +148,12 @@ more_coded counts across down depth xs h l d w v ew eh fits fh fl fd =
             let within : n < length (xs ++ three) = slice_get_within (xs ++ three) n x there in
             let twice : (n - 1) / 3 ≡ depth = omega (arith, fits.count, within, behind, length-append xs three) in
             let level : level_of n ≡ suc depth = omega (arith, fits.count, within, behind, length-append xs three) in
-            let here : (b : CodedBand) → IsLevelBand (counts_at counts (suc depth)) w v b → Asked counts across down n b = λ b. asked_here counts across down depth (suc depth) n b w v twice level ew eh in
-            found_three xs h l d x n (Asked counts across down n) there behind (here h fh) (here l fl) (here d fd)
+            let here : (b : CodedBand) → IsLevelBand (counts_at counts (suc depth)) finer w v b → Asked counts finer across down n b = λ b. asked_here counts finer across down depth (suc depth) n b w v twice level ew eh in
+            found_three xs h l d x n (Asked counts finer across down n) there behind (here h fh) (here l fl) (here d fd)
       ];
     }
 
 -- ---- one band
-
--- a step is at least 1: a coded number is no larger than the value
-quarter_least : (a b c : Bool) (p : ℕ) → 0 < p → 4 ≤ (if a then 4 * p else if b then (503829 * p + 52958) / 105917 else if c then (665857 * p + 58854) / 117708 else (440253 * p + 32722) / 65444)
-quarter_least true b c p some = omega arith
-quarter_least false true c p some = omega arith
-quarter_least false false true p some = omega arith
-quarter_least false false false p some = omega arith
-
-steps_within : (m f : ℕ) → 4 ≤ f → 4 * m / f ≤ m
-steps_within m f least =
-    let quotient : 4 * m / f < m + 1 = div_below (4 * m) f (m + 1) (omega arith) (omega (arith, mul-le (m + 1) 4 (m + 1) f (omega arith) least)) in
-    omega (arith, quotient)
-
-signed_within : (v : ℤ) (m : ℕ) → m ≤ unsigned_abs v → unsigned_abs (with_sign_of v m) ≤ unsigned_abs v
-signed_within (pos n) m l = l
-signed_within (negsuc n) zero l = omega arith
-signed_within (negsuc n) (suc m) l = l
-
-reduced_within : (v : ℤ) (index : ℕ) → unsigned_abs (reduced v index) ≤ unsigned_abs v
-reduced_within v index =
-    let least : 4 ≤ factor_of index = quarter_least (index % 4 == 0) (index % 4 == 1) (index % 4 == 2) (2 ^ (index / 4)) (pow_pos (index / 4)) in
-    signed_within v (4 * unsigned_abs v / factor_of index) (steps_within (unsigned_abs v) (factor_of index) least)
-
-all_no_larger : (b : ℕ) (f : ℤ → ℤ) (xs : List ℤ) → ((v : ℤ) → unsigned_abs (f v) ≤ unsigned_abs v) → All (λ v. unsigned_abs v < b) xs → All (λ v. unsigned_abs v < b) (map f xs)
-all_no_larger b f xs within all k d l =
-    let inside : k < length xs = omega (arith, l, length-map xs f) in
-    rw (get_or_default (map f xs) k d (pos 0) l, get_or-map f xs k (pos 0) (pos 0) inside) (omega (arith, within (get_or xs k (pos 0)), all k (pos 0) inside))
-
-index_most : (z : Bool) (index : ℕ) → index ≤ 99 → (if z then 0 else index) ≤ 99
-index_most true index few = omega arith
-index_most false index few = few
-
--- a table that is coded
-coded_fits : (counts : ℕ × ℕ) (index : ℕ) (t : Table) → index ≤ 99 → length t.values ≡ t.width * t.height → All (λ v. unsigned_abs v < 2 ^ 38) t.values → IsLevelBand counts t.width t.height (coded counts index t)
-coded_fits counts index t few len small = record {
-  indices = refl;
-  index = index_most (is_zero_band (reduced_values index t)) index few;
-  across = refl;
-  down = refl;
-  len = length-map t.values (λ v. reduced v index) ∙ len;
-  small = all_no_larger (2 ^ 38) (λ v. reduced v index) t.values (λ v. reduced_within v index) small;
-  zeros = λ e. ap (λ z. if z then 0 else index) e;
-}
 
 -- the differences of a table
 differences_small : (b : ℕ) (t : Table) → length t.values ≡ t.width * t.height → All (λ v. unsigned_abs v ≤ b) t.values → All (λ v. unsigned_abs v ≤ 2 * b) (differences t).values
@@ -211,11 +170,11 @@ differences_small b t len all =
           differences_bound b t.width t.values (differences t).values 0 all_from (omega (arith, some)) all
     ]
 
-lowest_coded : (kind : Kind) (counts : ℕ × ℕ) (index : ℕ) (t : Table) → index ≤ 99 → length t.values ≡ t.width * t.height → All (λ v. unsigned_abs v ≤ 2 ^ 36) t.values → IsLevelBand counts t.width t.height (coded_lowest kind counts index t)
-lowest_coded Intra counts index t few len small =
-    coded_fits counts 0 (differences t) (omega arith) (sym (differences_sum t len).len ∙ len)
+lowest_coded : (kind : Kind) (counts : ℕ × ℕ) (finer index : ℕ) (t : Table) → index ≤ 99 → length t.values ≡ t.width * t.height → All (λ v. unsigned_abs v ≤ 2 ^ 36) t.values → IsLevelBand counts finer t.width t.height (coded_lowest kind counts finer index t)
+lowest_coded Intra counts finer index t few len small =
+    coded_fits counts finer 0 (differences t) (omega arith)
     (all_under (2 * 2 ^ 36) (2 ^ 38) (differences t).values (omega arith) (differences_small (2 ^ 36) t len small))
-lowest_coded Inter counts index t few len small = coded_fits counts index t few len (all_under (2 ^ 36) (2 ^ 38) t.values (omega arith) small)
+lowest_coded Inter counts finer index t few len small = coded_fits counts finer index t few (all_under (2 ^ 36) (2 ^ 38) t.values (omega arith) small)
 
 -- ---- the bands as they are defined
 
@@ -235,27 +194,27 @@ low_ready wavelet depth n t low l next few is_low across down is all =
     rw is_low (omega arith, (omega arith, (low_divisible wavelet n t whole, small)))
 
 -- a band of HL, LH or HH
-high_coded : (counts : ℕ × ℕ) (wavelet index depth right below : ℕ) (t : Table) → wavelet ≤ 6 → index ≤ 99 → IsDivisible (suc depth) t → All (λ v. unsigned_abs v ≤ 2 ^ 29) t.values → IsLevelBand counts (t.width / 2) (t.height / 2) (coded counts index (band_of (analysed wavelet t) right below))
-high_coded counts wavelet index depth right below t l few is small =
+high_coded : (counts : ℕ × ℕ) (finer wavelet index depth right below : ℕ) (t : Table) → wavelet ≤ 6 → index ≤ 99 → IsDivisible (suc depth) t → All (λ v. unsigned_abs v ≤ 2 ^ 29) t.values → IsLevelBand counts finer (t.width / 2) (t.height / 2) (coded counts finer index (band_of (analysed wavelet t) right below))
+high_coded counts finer wavelet index depth right below t l few is small =
     let grows : All (λ v. unsigned_abs v ≤ 128 * 2 ^ 29 + 32) (analysed wavelet t).values = level_grows wavelet (2 ^ 29) depth t l is small in
-    coded_fits counts index (band_of (analysed wavelet t) right below) few (length-filled (t.width / 2) (t.height / 2) (λ x y. table_at (analysed wavelet t) (2 * x + right) (2 * y + below)))
+    coded_fits counts finer index (band_of (analysed wavelet t) right below) few
     (band_under (128 * 2 ^ 29 + 32) right below (analysed wavelet t) (band_of (analysed wavelet t) right below) (omega arith) refl grows)
 
-bands_coded : (kind : Kind) (transform : Transform) (index n depth : ℕ) (t : Table) → transform.wavelet ≤ 6 → index ≤ 99 → n + depth ≤ 4 → (is : IsDivisible depth t) → All (λ v. unsigned_abs v ≤ grown n) t.values → AreLevelBands transform.counts is.across is.down depth (coded_bands kind transform index t depth)
+bands_coded : (kind : Kind) (transform : Transform) (finer index n depth : ℕ) (t : Table) → transform.wavelet ≤ 6 → index ≤ 99 → n + depth ≤ 4 → (is : IsDivisible depth t) → All (λ v. unsigned_abs v ≤ grown n) t.values → AreLevelBands transform.counts finer is.across is.down depth (coded_bands kind transform finer index t depth)
 unfolding coded_bands
-bands_coded kind transform index n zero t l few levels is all =
+bands_coded kind transform finer index n zero t l few levels is all =
     let counts : ℕ × ℕ = counts_at transform.counts 0 in
-    one_coded transform.counts is.across is.down (coded_lowest kind counts index t) t.width t.height is.width is.height (lowest_coded kind counts index t few is.len (small_lowest n t.values (omega arith) all))
-bands_coded kind transform index n (suc depth) t l few levels is all =
+    one_coded transform.counts finer is.across is.down (coded_lowest kind counts finer index t) t.width t.height is.width is.height (lowest_coded kind counts finer index t few is.len (small_lowest n t.values (omega arith) all))
+bands_coded kind transform finer index n (suc depth) t l few levels is all =
     let wavelet : ℕ = transform.wavelet in
     let counts : ℕ × ℕ = counts_at transform.counts (suc depth) in
     let mid : Table = analysed wavelet t in
     let low : IsDivisible depth (band_of mid 0 0) = low_divisible wavelet depth t is in
     let small : All (λ v. unsigned_abs v ≤ 2 ^ 29) t.values = small_above n t.values (omega arith) all in
-    more_coded transform.counts is.across is.down depth (coded_bands kind transform index (band_of mid 0 0) depth) (coded counts index (band_of mid 1 0)) (coded counts index (band_of mid 0 1)) (coded counts index (band_of mid 1 1)) (t.width / 2) (t.height / 2)
-    low.width low.height (bands_coded kind transform index (suc n) depth (band_of mid 0 0) l few (omega arith) low (low_small wavelet n depth t l is all))
-    (high_coded counts wavelet index depth 1 0 t l few is small) (high_coded counts wavelet index depth 0 1 t l few is small) (high_coded counts wavelet index depth 1 1 t l few is small)
+    more_coded transform.counts finer is.across is.down depth (coded_bands kind transform finer index (band_of mid 0 0) depth) (coded counts finer index (band_of mid 1 0)) (coded counts finer index (band_of mid 0 1)) (coded counts finer index (band_of mid 1 1)) (t.width / 2) (t.height / 2)
+    low.width low.height (bands_coded kind transform finer index (suc n) depth (band_of mid 0 0) l few (omega arith) low (low_small wavelet n depth t l is all))
+    (high_coded counts finer wavelet index depth 1 0 t l few is small) (high_coded counts finer wavelet index depth 0 1 t l few is small) (high_coded counts finer wavelet index depth 1 1 t l few is small)
 
 pub planes_fit : PlanesFit
-planes_fit kind transform index t l levels few samples =
-    bands_coded kind transform index 0 transform.depth (padded transform.depth t) l few (omega arith) (padded_divisible transform.depth t) (padded_small 0 transform.depth t samples)
+planes_fit kind transform finer index t l levels few samples =
+    bands_coded kind transform finer index 0 transform.depth (padded transform.depth t) l few (omega arith) (padded_divisible transform.depth t) (padded_small 0 transform.depth t samples)

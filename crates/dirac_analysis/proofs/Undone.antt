@@ -26,9 +26,11 @@ use Rattle.dirac_residual.specs.Codeblocks.{codeblock_of, index_in, restored_ban
 use Rattle.dirac_residual.specs.Residual.{after_levels, cut, restored_among, summed}
 use Rattle.dirac_residual.proofs.LevelLemmas.{more_levels}
 use Rattle.dirac_residual.proofs.Sizes.{size_within}
-use Rattle.dirac_analysis.specs.Analysis.{coded, coded_bands, coded_level, coded_lowest, differences, index_coded, padded, plane_bands, reduced_values}
+use Rattle.dirac_analysis.specs.Analysis.{coded_bands, coded_level, coded_lowest, differences, padded, plane_bands}
+use Rattle.dirac_analysis.specs.Coded.{coded, coded_by_one, index_coded, reduced_values}
 use Rattle.dirac_analysis.specs.Fits.{IsDivisible}
 use Rattle.dirac_analysis.specs.Laws.{PlanesAreKept}
+use Rattle.dirac_analysis.proofs.FinerBands.{coded_zero}
 use Rattle.dirac_analysis.proofs.OneLevel.{length-filled, level_back, low_divisible, padded_divisible, sizes_even}
 
 -- ---- one value
@@ -70,12 +72,12 @@ value_kept kind [] q = refl
 value_kept kind (x ∷ xs) zero = value_again kind x
 value_kept kind (x ∷ xs) (suc q) = value_kept kind xs q
 
--- a band coded at index 0
-band_again : (kind : Kind) (counts : ℕ × ℕ) (t : Table) → length t.values ≡ t.width * t.height → restored_band kind counts (coded counts 0 t) ≡ t
-band_again kind counts t len =
+-- a band whose codeblocks are all coded at index 0
+one_again : (kind : Kind) (counts : ℕ × ℕ) (t : Table) → length t.values ≡ t.width * t.height → restored_band kind counts (coded_by_one counts 0 t) ≡ t
+one_again kind counts t len =
     let w : ℕ = t.width in
     let h : ℕ = t.height in
-    let b : CodedBand = coded counts 0 t in
+    let b : CodedBand = coded_by_one counts 0 t in
     let f : ℕ → ℕ → ℤ = λ x y. restored (table_at b.table x y) (index_in counts b x y) kind in
     let each : (p : ℕ) → get_or t.values p (pos 0) ≡ f (p % w) (p / w) = λ p.
     sym (value_kept kind t.values p)
@@ -83,6 +85,10 @@ band_again kind counts t len =
     ∙ ap (λ i. restored (table_at b.table (p % w) (p / w)) i kind)
     (sym (index_zero (counts.0 * counts.1) (index_coded 0 t) (codeblock_of h counts.1 (p / w) * counts.0 + codeblock_of w counts.0 (p % w)) (zero_index (is_zero_band (reduced_values 0 t))))) in
     ap (λ (vs : List ℤ). record t { values = vs }) (sym (filled_by f t.values w h len each))
+
+-- a band coded at index 0
+band_again : (kind : Kind) (counts : ℕ × ℕ) (finer : ℕ) (t : Table) → length t.values ≡ t.width * t.height → restored_band kind counts (coded counts finer 0 t) ≡ t
+band_again kind counts finer t len = ap (restored_band kind counts) (coded_zero counts finer t len) ∙ one_again kind counts t len
 
 -- ---- the LL band
 
@@ -148,12 +154,12 @@ level_more t kind xs h l d n len =
 
 -- ---- the bands as they are defined
 
-length-coded_bands : (kind : Kind) (transform : Transform) (index : ℕ) (t : Table) (depth : ℕ) → length (coded_bands kind transform index t depth) ≡ 3 * depth + 1
+length-coded_bands : (kind : Kind) (transform : Transform) (finer index : ℕ) (t : Table) (depth : ℕ) → length (coded_bands kind transform finer index t depth) ≡ 3 * depth + 1
 unfolding coded_bands
-length-coded_bands kind transform index t zero = refl
-length-coded_bands kind transform index t (suc depth) =
+length-coded_bands kind transform finer index t zero = refl
+length-coded_bands kind transform finer index t (suc depth) =
     let mid : Table = analysed transform.wavelet t in
-    omega (arith, length-append (coded_bands kind transform index (band_of mid 0 0) depth) (coded_level (counts_at transform.counts (suc depth)) index mid), length-coded_bands kind transform index (band_of mid 0 0) depth)
+    omega (arith, length-append (coded_bands kind transform finer index (band_of mid 0 0) depth) (coded_level (counts_at transform.counts (suc depth)) finer index mid), length-coded_bands kind transform finer index (band_of mid 0 0) depth)
 
 -- ---- padding
 
@@ -176,37 +182,37 @@ empty_again t u none len =
 -- ---- a plane
 
 -- the LL band at index 0 holds its table
-lowest_kept : (kind : Kind) (counts : ℕ × ℕ) (t : Table) → 1 ≤ t.width → length t.values ≡ t.width * t.height → summed kind (restored_band kind counts (coded_lowest kind counts 0 t)) ≡ t
-lowest_kept Intra counts t some len =
-    ap dc_sum (band_again Intra counts (differences t) (sym (differences_sum t len).len ∙ len)) ∙ sums_again t some len
-lowest_kept Inter counts t some len = band_again Inter counts t len
+lowest_kept : (kind : Kind) (counts : ℕ × ℕ) (finer : ℕ) (t : Table) → 1 ≤ t.width → length t.values ≡ t.width * t.height → summed kind (restored_band kind counts (coded_lowest kind counts finer 0 t)) ≡ t
+lowest_kept Intra counts finer t some len =
+    ap dc_sum (band_again Intra counts finer (differences t) (sym (differences_sum t len).len ∙ len)) ∙ sums_again t some len
+lowest_kept Inter counts finer t some len = band_again Inter counts finer t len
 
 -- a band of a table has all its values
 length-band : (t : Table) (right below : ℕ) → length (band_of t right below).values ≡ (band_of t right below).width * (band_of t right below).height
 length-band t right below = length-filled (t.width / 2) (t.height / 2) (λ x y. table_at t (2 * x + right) (2 * y + below))
 
 -- the bands at index 0 hold the table
-bands_kept : (kind : Kind) (transform : Transform) (depth : ℕ) (t : Table) → transform.wavelet ≤ 6 → 1 ≤ t.width → IsDivisible depth t → after_levels transform kind (coded_bands kind transform 0 t depth) depth ≡ t
+bands_kept : (kind : Kind) (transform : Transform) (finer depth : ℕ) (t : Table) → transform.wavelet ≤ 6 → 1 ≤ t.width → IsDivisible depth t → after_levels transform kind (coded_bands kind transform finer 0 t depth) depth ≡ t
 unfolding after_levels coded_bands
-bands_kept kind transform zero t l some is = lowest_kept kind (counts_at transform.counts 0) t some is.len
-bands_kept kind transform (suc depth) t l some is =
+bands_kept kind transform finer zero t l some is = lowest_kept kind (counts_at transform.counts 0) finer t some is.len
+bands_kept kind transform finer (suc depth) t l some is =
     let wavelet : ℕ = transform.wavelet in
     let counts : ℕ × ℕ = counts_at transform.counts (suc depth) in
     let mid : Table = analysed wavelet t in
     let low : Table = band_of mid 0 0 in
-    level_more transform kind (coded_bands kind transform 0 low depth) (coded counts 0 (band_of mid 1 0)) (coded counts 0 (band_of mid 0 1)) (coded counts 0 (band_of mid 1 1)) depth (length-coded_bands kind transform 0 low depth)
+    level_more transform kind (coded_bands kind transform finer 0 low depth) (coded counts finer 0 (band_of mid 1 0)) (coded counts finer 0 (band_of mid 0 1)) (coded counts finer 0 (band_of mid 1 1)) depth (length-coded_bands kind transform finer 0 low depth)
     ∙ rw (
-      bands_kept kind transform depth low l (omega (arith, (sizes_even (suc depth) depth t refl is).0)) (low_divisible wavelet depth t is),
-      band_again kind counts (band_of mid 1 0) (length-band mid 1 0),
-      band_again kind counts (band_of mid 0 1) (length-band mid 0 1),
-      band_again kind counts (band_of mid 1 1) (length-band mid 1 1),
+      bands_kept kind transform finer depth low l (omega (arith, (sizes_even (suc depth) depth t refl is).0)) (low_divisible wavelet depth t is),
+      band_again kind counts finer (band_of mid 1 0) (length-band mid 1 0),
+      band_again kind counts finer (band_of mid 0 1) (length-band mid 0 1),
+      band_again kind counts finer (band_of mid 1 1) (length-band mid 1 1),
     )
     (level_back wavelet depth t l some is)
 
 pub planes_kept : PlanesAreKept
-planes_kept kind transform t l len = elim (cases_eq t.width 0) [
-  | inl none ↦ empty_again t (after_levels transform kind (plane_bands kind transform 0 t) transform.depth) none len
+planes_kept kind transform finer t l len = elim (cases_eq t.width 0) [
+  | inl none ↦ empty_again t (after_levels transform kind (plane_bands kind transform finer 0 t) transform.depth) none len
   | inr some ↦
-      ap (cut t.width t.height) (bands_kept kind transform transform.depth (padded transform.depth t) l (omega (arith, some, size_within t.width transform.depth)) (padded_divisible transform.depth t))
+      ap (cut t.width t.height) (bands_kept kind transform finer transform.depth (padded transform.depth t) l (omega (arith, some, size_within t.width transform.depth)) (padded_divisible transform.depth t))
       ∙ cut_again transform.depth t (omega (arith, some)) len
 ]

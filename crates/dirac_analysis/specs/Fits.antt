@@ -9,8 +9,9 @@ use Rattle.dirac_types.specs.Samples.{clip}
 use Rattle.dirac_bands.specs.Geometry.{level_of}
 pub use Rattle.dirac_bands.specs.Geometry.{lowest_size}
 use Rattle.dirac_header.specs.Counts.{counts_at}
+use Rattle.dirac_coeffs.specs.declared.layout.BandLayout.{BandLayout}
 use Rattle.dirac_coeffs.specs.declared.layout.CodedBand.{CodedBand}
-use Rattle.dirac_coeffs.specs.Written.{is_zero_band}
+use Rattle.dirac_coeffs.specs.Written.{AreIndicesOf, is_zero_band}
 use Rattle.dirac_analysis.specs.Analysis.{Analysis}
 
 -- samples are from -128 to 127: clipping keeps them
@@ -34,21 +35,34 @@ pub record IsDivisible (depth : ℕ) (t : Table) : Type 0 where
   pub height : t.height ≡ down * 2 ^ depth
   pub len : length t.values ≡ t.width * t.height
 
--- a coded band of these sizes, whose codeblocks, so many across and down, have its index
-pub record IsLevelBand (counts : ℕ × ℕ) (width height : ℕ) (b : CodedBand) : Type 0 where
+-- a band of these sizes and counts of codeblocks
+pub record IsLaidOut (counts : ℕ × ℕ) (width height : ℕ) (layout : BandLayout) : Type 0 where
+  pub width : layout.width ≡ width
+  pub height : layout.height ≡ height
+  pub across : layout.across ≡ counts.0
+  pub down : layout.down ≡ counts.1
+
+-- a coded band of these sizes, of so many codeblocks across and down: an index for each, in codeblock mode 0 the band's,
+-- where a skipped one has that of the one before it; a band of zeros has index 0 throughout
+pub record IsLevelBand (counts : ℕ × ℕ) (finer width height : ℕ) (b : CodedBand) : Type 0 where
   pub index : IsIndex b.index
-  pub indices : b.indices ≡ replicate (counts.0 * counts.1) b.index
+  pub count : length b.indices ≡ counts.0 * counts.1
+  pub each : All IsIndex b.indices
+  pub plain : finer ≡ 0 → b.indices ≡ replicate (counts.0 * counts.1) b.index
+  pub indices : (layout : BandLayout) → IsLaidOut counts width height layout → (layout.mode ≡ 0 → finer ≡ 0)
+      → AreIndicesOf layout b.index b.table.values b.indices
   pub across : b.table.width ≡ width
   pub down : b.table.height ≡ height
   pub len : length b.table.values ≡ width * height
   pub small : All (λ v. unsigned_abs v < 2 ^ 38) b.table.values
   pub zeros : is_zero_band b.table.values ≡ true → b.index ≡ 0
+  pub zero_indices : is_zero_band b.table.values ≡ true → b.indices ≡ replicate (counts.0 * counts.1) 0
 
 -- the bands of an analysis whose LL band has these sizes: those of a level are twice those of the level below
-pub record AreLevelBands (counts : List (ℕ × ℕ)) (across down depth : ℕ) (bands : List CodedBand) : Type 0 where
+pub record AreLevelBands (counts : List (ℕ × ℕ)) (finer across down depth : ℕ) (bands : List CodedBand) : Type 0 where
   pub count : length bands ≡ 3 * depth + 1
   pub each : (n : ℕ) (b : CodedBand) → slice_get bands n ≡ Some b
-      → IsLevelBand (counts_at counts (level_of n)) (across * 2 ^ ((n - 1) / 3)) (down * 2 ^ ((n - 1) / 3)) b
+      → IsLevelBand (counts_at counts (level_of n)) finer (across * 2 ^ ((n - 1) / 3)) (down * 2 ^ ((n - 1) / 3)) b
 
 -- a table whose values can be quantised
 pub record IsQuantisable (t : Table) : Type 0 where

@@ -13,14 +13,14 @@ use Rattle.dirac_analysis.specs.Fits.{AreDifferences, AreLevelBands}
 -- stay below 2^38
 abbrev pub PlanesFit : Type 0
 PlanesFit =
-    (kind : Kind) (transform : Transform) (index : ℕ) (t : Table) → IsWavelet transform.wavelet → transform.depth ≤ 4
+    (kind : Kind) (transform : Transform) (finer index : ℕ) (t : Table) → IsWavelet transform.wavelet → transform.depth ≤ 4
     → IsIndex index → AreDifferences t.values
-    → AreLevelBands transform.counts (lowest_size t.width transform.depth) (lowest_size t.height transform.depth)
-    transform.depth (plane_bands kind transform index t)
+    → AreLevelBands transform.counts finer (lowest_size t.width transform.depth) (lowest_size t.height transform.depth)
+    transform.depth (plane_bands kind transform finer index t)
 
 -- at index 0 nothing is lost
 abbrev pub PlanesAreKept : Type 0
 PlanesAreKept =
-    (kind : Kind) (transform : Transform) (t : Table) → IsWavelet transform.wavelet
+    (kind : Kind) (transform : Transform) (finer : ℕ) (t : Table) → IsWavelet transform.wavelet
     → length t.values ≡ t.width * t.height
-    → residual transform kind (plane_bands kind transform 0 t) t.width t.height ≡ t
+    → residual transform kind (plane_bands kind transform finer 0 t) t.width t.height ≡ t

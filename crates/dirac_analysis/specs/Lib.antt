@@ -1,3 +1,4 @@
 pub mod Analysis
+pub mod Coded
 pub mod Fits
 pub mod Laws

@@ -1,23 +1,42 @@
-ghost use Rattle.std.specs.Prelude.{◌≡◌, ◌-◌, ◌+◌, ◌*◌, ◌≤◌, ◌<◌, ◌^◌, length, map, unsigned_abs, IfOk, true};
+ghost use Rattle.std.specs.Prelude.{◌≡◌, ℕ, pos, ◌*◌, ◌/◌, ◌≤◌, ◌<◌, ◌^◌, length, map, slice_index_or, unsigned_abs, IfOk};
 ghost use Rattle.std.specs.List.{All};
 ghost use Rattle.dirac_types.specs.Limits.{IsIndex};
-ghost use Rattle.dirac_quant.specs.Quantiser.{reduced};
+ghost use Rattle.dirac_quant.specs.Quantiser.{reduced, with_sign_of};
 ghost use Rattle.dirac_coeffs.specs.Contexts as contexts;
 ghost use Rattle.dirac_coeffs.specs.Written.{is_zero_band};
-ghost use Rattle.dirac_analysis.specs.Analysis.{coded};
+ghost use Rattle.dirac_analysis.specs.Coded.{coded_by_one};
 
 use dirac_coeffs::{CodedBand, Indices};
-use dirac_quant::reduce;
+use dirac_quant::factor;
 use dirac_types::{BandTable, LARGEST_TABLE_SIDE, MOST_CODEBLOCKS, NoMemory, Wide};
 use std::alloc::Global;
 
+/// The number that codes a coefficient, by the factor of an index.
 #[inline(always)]
-fn reduce_value(value: i128, index: u8) -> i64
-    requires below_2_38 { unsigned_abs value < 2 ^ 38 }
-    requires index { IsIndex index }
-    ensures { result ≡ reduced value index }
+fn reduce_by(value: i128, factor: u64) -> i64
+    requires value { unsigned_abs value < 2 ^ 38 }
+    requires factor { 4 ≤ factor }
+    ensures { result ≡ with_sign_of value (4 * unsigned_abs value / factor) }
 {
-    reduce(value as i64, index)
+    let value = value as i64;
+    let reduced = (4 * value.unsigned_abs() / factor) as i64;
+    if value < 0 { -reduced } else { reduced }
+}
+
+/// Writes the numbers that code a part of the values at this index; those before it stay.
+pub(crate) fn reduce_part(values: &[i128], index: u8, start: usize, end: usize, line: &mut [i64])
+    requires line { length line.old ≡ length values.now }
+    requires end { end ≤ length values.now }
+    requires index { IsIndex index }
+    requires magnitudes_below_2_38 { All (λ v. unsigned_abs v < 2 ^ 38) values.now }
+    ensures written { (x : ℕ) → start ≤ x → x < end → slice_index_or line.new x (pos 0)
+        ≡ reduced (slice_index_or values.now x (pos 0)) index }
+    ensures before { (x : ℕ) → x < start → slice_index_or line.new x (pos 0) ≡ slice_index_or line.old x (pos 0) }
+{
+    let factor = factor(index);
+    for x in start..end {
+        line[x] = reduce_by(values[x], factor);
+    }
 }
 
 /// Writes the number that codes each value.
@@ -27,9 +46,7 @@ fn reduce_values(values: &[i128], index: u8, coded: &mut [i64])
     requires magnitudes_below_2_38 { All (λ v. unsigned_abs v < 2 ^ 38) values.now }
     ensures { coded.new ≡ map (λ v. reduced v index) values.now }
 {
-    for i in 0..values.len() {
-        coded[i] = reduce_value(values[i], index);
-    }
+    reduce_part(values, index, 0, values.len(), coded);
 }
 
 fn is_zero(value: i64) -> bool
@@ -38,7 +55,8 @@ fn is_zero(value: i64) -> bool
     value == 0
 }
 
-fn are_all_zeros(values: &[i64]) -> bool
+/// Whether all values are zeros.
+pub(crate) fn are_all_zeros(values: &[i64]) -> bool
     ensures { result ≡ is_zero_band values.now }
 {
     values.iter().all(|value| is_zero(*value))
@@ -46,7 +64,7 @@ fn are_all_zeros(values: &[i64]) -> bool
 
 /// A table of coefficients coded at this quantiser index, which each of its codeblocks has, so many across and down; a
 /// band of zeros has index 0.
-pub(crate) fn code_band(
+pub(crate) fn code_by_one(
     alloc: Global,
     table: &Wide,
     counts: (u32, u32),
@@ -57,7 +75,7 @@ pub(crate) fn code_band(
     requires across { table.now.width ≤ LARGEST_TABLE_SIDE }
     requires down { table.now.height ≤ LARGEST_TABLE_SIDE }
     requires magnitudes_below_2_38 { All (λ v. unsigned_abs v < 2 ^ 38) table.now.values }
-    ensures { IfOk result (λ b. b ≡ coded counts index table.now) }
+    ensures { IfOk result (λ b. b ≡ coded_by_one counts index table.now) }
 {
     let mut numbers = BandTable::try_new(alloc, table.width(), table.height(), 0)?;
     reduce_values(table.values(), index, numbers.values_mut());

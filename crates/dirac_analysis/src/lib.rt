@@ -3,7 +3,10 @@
 #![tactic(auto)]
 
 mod analysed;
+mod band;
+mod choosing;
 mod coded;
+mod finer;
 mod laws;
 mod levels;
 mod padding;
@@ -11,6 +14,7 @@ mod plane;
 mod quantising;
 
 pub use analysed::AnalysedPlane;
+pub use choosing::FLAT_BELOW;
 pub use laws::planes_are_coded;
 pub use plane::{analyse, analyse_plane};
 pub use quantising::quantise_plane;

@@ -38,15 +38,16 @@ pub fn analyse(
     analyse_levels(alloc, kind, table, transform.wavelet, depth)
 }
 
-/// The subbands of a plane of values, quantised at `index` (forward wavelet transform): the plane is padded and
-/// analysed as often as the transform's depth says. An intra picture's values are its samples, and LL is coded at index 0 less
-/// its predictions. An inter picture's are its samples less what is predicted for them, not clipped, and LL is coded as
-/// the other bands are.
+/// The subbands of a plane of values, quantised at `index`, but each flat codeblock at one that is lower by `finer`
+/// (forward wavelet transform): the plane is padded and analysed as often as the transform's depth says. An intra
+/// picture's values are its samples, and LL is coded at index 0 less its predictions. An inter picture's are its samples
+/// less what is predicted for them, not clipped, and LL is coded as the other bands are.
 pub fn analyse_plane(
     alloc: Global,
     kind: Kind,
     plane: &Plane,
     transform: &Transform,
+    finer: u8,
     index: u8,
 ) -> Result<PlaneBands, NoMemory>
     requires wavelet { IsWavelet transform.now.wavelet }
@@ -56,15 +57,16 @@ pub fn analyse_plane(
     requires across { plane.now.width ≤ LARGEST_SIDE }
     requires down { plane.now.height ≤ LARGEST_SIDE }
     requires magnitudes_bounded { AreDifferences plane.now.values }
-    ensures value { IfOk result (λ b. b ≡ plane_bands kind transform.now index plane.now) }
-    // Each band has the sizes of its level, and its coefficients stay below 2^38.
-    ensures fits { IfOk result (AreLevelBands transform.now.counts (lowest_size plane.now.width transform.now.depth)
-        (lowest_size plane.now.height transform.now.depth) transform.now.depth) }
+    ensures value { IfOk result (λ b. b ≡ plane_bands kind transform.now finer index plane.now) }
+    // Each band has the sizes of its level and indices that can be written, and its coefficients stay below 2^38.
+    ensures fits { IfOk result (AreLevelBands transform.now.counts finer
+        (lowest_size plane.now.width transform.now.depth) (lowest_size plane.now.height transform.now.depth)
+        transform.now.depth) }
     // At index 0 nothing is lost.
     ensures lossless { IfOk result (λ b. index ≡ 0 → residual transform.now kind b plane.now.width plane.now.height
         ≡ plane.now) }
 {
     prove!(plane.width() >= 1);
     let analysed = analyse(alloc, kind, plane, transform)?;
-    quantise_plane(alloc, kind, transform, &analysed, index)
+    quantise_plane(alloc, kind, transform, &analysed, finer, index)
 }

@@ -5,7 +5,7 @@ ghost use Rattle.dirac_analysis.specs.Analysis.{lowest_index as index_of_lowest,
 ghost use Rattle.dirac_analysis.specs.Fits.{AreQuantisable};
 
 use crate::analysed::AnalysedPlane;
-use crate::coded::code_band;
+use crate::band::code_band;
 use dirac_coeffs::CodedBand;
 use dirac_header::Transform;
 use dirac_picture::PlaneBands;
@@ -33,27 +33,30 @@ fn single(alloc: Global, band: CodedBand) -> Result<PlaneBands, NoMemory>
     Ok(bands)
 }
 
-/// The subbands of an analysed plane, quantised at `index`. An intra picture's LL is coded at index 0.
+/// The subbands of an analysed plane, quantised at `index`, but each flat codeblock at one that is lower by `finer`, and
+/// at least 0: all its coefficients have magnitudes below [`FLAT_BELOW`](crate::FLAT_BELOW). An intra picture's LL is
+/// coded at index 0.
 pub fn quantise_plane(
     alloc: Global,
     kind: Kind,
     transform: &Transform,
     plane: &AnalysedPlane,
+    finer: u8,
     index: u8,
 ) -> Result<PlaneBands, NoMemory>
     requires layout { IsLayout transform.now }
     requires index { IsIndex index }
     requires fits { AreQuantisable transform.now.depth plane.now }
-    ensures { IfOk result (λ b. b ≡ quantised kind transform.now index plane.now) }
+    ensures { IfOk result (λ b. b ≡ quantised kind transform.now finer index plane.now) }
 {
     let counts = transform.counts.at(0);
-    let lowest = code_band(alloc, plane.lowest(), counts, lowest_index(kind, index))?;
+    let lowest = code_band(alloc, plane.lowest(), counts, finer, lowest_index(kind, index))?;
     let mut bands = single(alloc, lowest)?;
     let higher = plane.higher();
     'bands: for n in 0..higher.len() {
         let level = (n / 3 + 1) as u8;
         let counts = transform.counts.at(level);
-        let band = code_band(alloc, &higher[n], counts, index)?;
+        let band = code_band(alloc, &higher[n], counts, finer, index)?;
         bands.push(band)?;
     }
     Ok(bands)

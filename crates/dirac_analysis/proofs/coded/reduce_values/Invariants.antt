@@ -1,6 +1,0 @@
-use Rattle.std.proofs.Common.{◌≡◌, ◌<◌, ℕ, pos, slice_index_or}
-use Rattle.dirac_quant.specs.Quantiser.{reduced}
-use Rattle.dirac_analysis.proofs.coded.reduce_values.Given as goal
-
-abbrev pub invariant-loop-i : goal.invariant-loop-i
-invariant-loop-i l = (k : ℕ) → k < l.i → slice_index_or l.coded k (pos 0) ≡ reduced (slice_index_or l.values k (pos 0)) l.index

@@ -1,0 +1,33 @@
+ghost use Rattle.std.specs.Prelude.{◌≡◌, ◌≤◌, IfOk};
+ghost use Rattle.dirac_types.specs.Limits.{IsIndex};
+ghost use Rattle.dirac_analysis.specs.Coded.{coded as coded_band};
+ghost use Rattle.dirac_analysis.specs.Fits.{IsQuantisable};
+
+use crate::coded::code_by_one;
+use crate::finer::code_finer;
+use dirac_coeffs::CodedBand;
+use dirac_types::{MOST_CODEBLOCKS, NoMemory, Wide};
+use std::alloc::Global;
+
+/// A table of coefficients coded at this quantiser index, its flat codeblocks at one that is lower by `finer`, but at
+/// least 0; so many codeblocks go across and down. In a band of zeros all indices are 0.
+pub fn code_band(
+    alloc: Global,
+    table: &Wide,
+    counts: (u32, u32),
+    finer: u8,
+    index: u8,
+) -> Result<CodedBand, NoMemory>
+    requires fits { IsQuantisable table.now }
+    requires across { (1 ≤ counts.0) × (counts.0 ≤ MOST_CODEBLOCKS) }
+    requires down { (1 ≤ counts.1) × (counts.1 ≤ MOST_CODEBLOCKS) }
+    requires index { IsIndex index }
+    ensures { IfOk result (λ b. b ≡ coded_band counts finer index table.now) }
+{
+    let _width = table.width();
+    if finer == 0 || index == 0 {
+        code_by_one(alloc, table, counts, index)
+    } else {
+        code_finer(alloc, table, counts, finer, index)
+    }
+}
