@@ -81,8 +81,8 @@ pub left_quantisable : (t : Settings) (refs : List Picture) (q : Planned) (p : P
 left_quantisable t refs q p m a is = record { y = is.y.fits; u = is.u.fits; v = is.v.fits }
 
 -- an analysed plane quantised has the bands of the definitions
-bands_same : (t : Settings) (kind : Kind) (plane : Table) (a : Analysis) → IsAnalysed t kind plane a → quantised kind (transform_of t) t.index a ≡ bands_of t kind plane
-bands_same t kind plane a is = ap (λ (x : Analysis). quantised kind (transform_of t) t.index x) is.same ∙ plane_quantised kind (transform_of t) t.index plane
+bands_same : (t : Settings) (kind : Kind) (plane : Table) (a : Analysis) → IsAnalysed t kind plane a → quantised kind (transform_of t) t.finer t.index a ≡ bands_of t kind plane
+bands_same t kind plane a is = ap (λ (x : Analysis). quantised kind (transform_of t) t.finer t.index x) is.same ∙ plane_quantised kind (transform_of t) t.finer t.index plane
 
 residual_same : (t : Settings) (refs : List Picture) (q : Planned) (p : Picture) (m : Option CodedMotion) (a : AnalysedPlanes) → IsLeft t refs q p m a → quantised_planes t (kind_of m) a ≡ residual_of t refs (header_of q) m p
 residual_same t refs q p m a is =

@@ -38,7 +38,7 @@ pub record AreQuantisablePlanes (depth : ℕ) (a : AnalysedPlanes) : Type 0 wher
 abbrev pub quantised_planes : Settings → Kind → AnalysedPlanes → CodedResidual
 quantised_planes t kind a = record {
   transform = transform_of t;
-  y = quantised kind (transform_of t) t.index a.y;
-  u = quantised kind (transform_of t) t.index a.u;
-  v = quantised kind (transform_of t) t.index a.v;
+  y = quantised kind (transform_of t) t.finer t.index a.y;
+  u = quantised kind (transform_of t) t.finer t.index a.u;
+  v = quantised kind (transform_of t) t.finer t.index a.v;
 }

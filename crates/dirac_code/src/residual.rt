@@ -202,10 +202,12 @@ fn quantise_one(
 ) -> Result<PlaneBands, NoMemory>
     requires codable { IsCodable settings.now }
     requires fits { AreQuantisable settings.now.depth plane.now }
-    ensures { IfOk result (λ b. b ≡ quantised kind (coding.transform_of settings.now) settings.now.index plane.now) }
+    ensures { IfOk result (λ b. b ≡ quantised kind (coding.transform_of settings.now) settings.now.finer settings.now.index
+        plane.now) }
 {
     let transform = transform_of(settings);
-    quantise_plane(alloc, kind, &transform, plane, settings.index as u8)
+    let finer = settings.finer as u8;
+    quantise_plane(alloc, kind, &transform, plane, finer, settings.index as u8)
 }
 
 /// The coded residual of analysed planes, quantised at the index of these settings.
@@ -235,7 +237,7 @@ fn quantise_component(
 ) -> Result<PlaneBands, NoMemory>
     requires codable { IsCodable settings.now }
     requires fits { AreQuantisablePlanes settings.now.depth planes.now }
-    ensures { IfOk result (λ b. b ≡ quantised kind (coding.transform_of settings.now) settings.now.index
+    ensures { IfOk result (λ b. b ≡ quantised kind (coding.transform_of settings.now) settings.now.finer settings.now.index
         (analysis_of planes.now component)) }
 {
     match component {
@@ -261,7 +263,7 @@ pub(crate) fn quantise_side_by_side<R: Threads + Sync>(
     let work = |component: Component| -> Result<PlaneBands, NoMemory>
         requires { IsCodable settings.now × AreQuantisablePlanes settings.now.depth planes.now }
         ensures { IfOk result (λ b. b
-            ≡ quantised kind (coding.transform_of settings.entry.now) settings.entry.now.index
+            ≡ quantised kind (coding.transform_of settings.entry.now) settings.entry.now.finer settings.entry.now.index
             (analysis_of planes.entry.now component)) }
     { quantise_component(alloc, settings, kind, planes, component) };
     let Planes { y, u, v } = side_by_side(rt, workers, &work)?;

@@ -71,15 +71,15 @@ bands_at_zero : (t : Settings) (plane : Table) (width height : ℕ) → IsCodabl
     → residual (transform_of t) Inter (bands_of t Inter plane) width height ≡ plane
 bands_at_zero t plane width height codes none ew eh whole =
     ap₂ (λ (w h : ℕ). residual (transform_of t) Inter (bands_of t Inter plane) w h) (sym ew) (sym eh)
-    ∙ ap (λ index. residual (transform_of t) Inter (plane_bands Inter (transform_of t) index plane) plane.width plane.height) none
-    ∙ planes_kept Inter (transform_of t) plane codes.wavelet whole
+    ∙ ap (λ index. residual (transform_of t) Inter (plane_bands Inter (transform_of t) t.finer index plane) plane.width plane.height) none
+    ∙ planes_kept Inter (transform_of t) t.finer plane codes.wavelet whole
 
 intra_at_zero : (t : Settings) (plane : Table) (width height : ℕ) → IsCodable t → t.index ≡ 0 → plane.width ≡ width → plane.height ≡ height → length plane.values ≡ plane.width * plane.height
     → residual (transform_of t) Intra (bands_of t Intra plane) width height ≡ plane
 intra_at_zero t plane width height codes none ew eh whole =
     ap₂ (λ (w h : ℕ). residual (transform_of t) Intra (bands_of t Intra plane) w h) (sym ew) (sym eh)
-    ∙ ap (λ index. residual (transform_of t) Intra (plane_bands Intra (transform_of t) index plane) plane.width plane.height) none
-    ∙ planes_kept Intra (transform_of t) plane codes.wavelet whole
+    ∙ ap (λ index. residual (transform_of t) Intra (plane_bands Intra (transform_of t) t.finer index plane) plane.width plane.height) none
+    ∙ planes_kept Intra (transform_of t) t.finer plane codes.wavelet whole
 
 zero_part : (r : CodedResidual) (o : Component) → is_zero_residual r ≡ true → are_zero_bands (bands_in r o) ≡ true
 zero_part r component.Y e = (and_parts (are_zero_bands r.y) (are_zero_bands r.u) (and_parts (are_zero_bands r.y && are_zero_bands r.u) (are_zero_bands r.v) e).0).0

@@ -108,11 +108,11 @@ left_fits t refs q p (Some m) o accepted listed source planned found (moves b in
           (second_found refs q planned found));
     }
 
-level_bands : (t : Settings) (kind : Kind) (width height : ℕ) (plane : Table) → IsCodable t → IsLeft width height plane → AreLevelBands (transform_of t).counts (lowest_size width t.depth) (lowest_size height t.depth) t.depth (bands_of t kind plane)
+level_bands : (t : Settings) (kind : Kind) (width height : ℕ) (plane : Table) → IsCodable t → IsLeft width height plane → AreLevelBands (transform_of t).counts t.finer (lowest_size width t.depth) (lowest_size height t.depth) t.depth (bands_of t kind plane)
 level_bands t kind width height plane codes is =
-    subst (λ w. AreLevelBands (transform_of t).counts (lowest_size w t.depth) (lowest_size height t.depth) t.depth (bands_of t kind plane)) is.across
-    (subst (λ h. AreLevelBands (transform_of t).counts (lowest_size plane.width t.depth) (lowest_size h t.depth) t.depth (bands_of t kind plane)) is.down
-    (planes_fit kind (transform_of t) t.index plane codes.wavelet codes.depth.1 codes.index is.small))
+    subst (λ w. AreLevelBands (transform_of t).counts t.finer (lowest_size w t.depth) (lowest_size height t.depth) t.depth (bands_of t kind plane)) is.across
+    (subst (λ h. AreLevelBands (transform_of t).counts t.finer (lowest_size plane.width t.depth) (lowest_size h t.depth) t.depth (bands_of t kind plane)) is.down
+    (planes_fit kind (transform_of t) t.finer t.index plane codes.wavelet codes.depth.1 codes.index is.small))
 
 pub residual_fits : (t : Settings) (refs : List Picture) (q : Planned) (p : Picture) (m : Option CodedMotion) → IsAccepted t → AllByRecursion (IsSource t) refs → IsSource t p → IsPlanned q → are_listed refs (header_of q) ≡ true
     → Moves t q m → IsWritten (sequence_of t) (residual_of t refs (header_of q) m p)
@@ -291,9 +291,9 @@ residual_small t refs q p m accepted listed source planned found is =
     let left : (o : Component) → IsLeft (width_of s o) (height_of s o) (left_of t refs (header_of q) m p o) = λ o. left_fits t refs q p m o accepted listed source planned found is in
     let bands : Component → List _ = λ o. bands_of t (kind_of m) (left_of t refs (header_of q) m p o) in
     record {
-      y = bands_small (transform_of t).counts (lowest_size t.width t.depth) (lowest_size (picture_height t) t.depth) t.depth (bands component.Y) (level_bands t (kind_of m) t.width (picture_height t) (left_of t refs (header_of q) m p component.Y) codes (left component.Y));
-      u = bands_small (transform_of t).counts (lowest_size (chroma_width s) t.depth) (lowest_size (chroma_height s) t.depth) t.depth (bands component.U) (level_bands t (kind_of m) (chroma_width s) (chroma_height s) (left_of t refs (header_of q) m p component.U) codes (left component.U));
-      v = bands_small (transform_of t).counts (lowest_size (chroma_width s) t.depth) (lowest_size (chroma_height s) t.depth) t.depth (bands component.V) (level_bands t (kind_of m) (chroma_width s) (chroma_height s) (left_of t refs (header_of q) m p component.V) codes (left component.V));
+      y = bands_small (transform_of t).counts t.finer (lowest_size t.width t.depth) (lowest_size (picture_height t) t.depth) t.depth (bands component.Y) (level_bands t (kind_of m) t.width (picture_height t) (left_of t refs (header_of q) m p component.Y) codes (left component.Y));
+      u = bands_small (transform_of t).counts t.finer (lowest_size (chroma_width s) t.depth) (lowest_size (chroma_height s) t.depth) t.depth (bands component.U) (level_bands t (kind_of m) (chroma_width s) (chroma_height s) (left_of t refs (header_of q) m p component.U) codes (left component.U));
+      v = bands_small (transform_of t).counts t.finer (lowest_size (chroma_width s) t.depth) (lowest_size (chroma_height s) t.depth) t.depth (bands component.V) (level_bands t (kind_of m) (chroma_width s) (chroma_height s) (left_of t refs (header_of q) m p component.V) codes (left component.V));
     }
 
 pub jobs_small : TablesAreChosen → JobsAreSmall

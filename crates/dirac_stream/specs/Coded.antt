@@ -40,9 +40,18 @@ counts_below t (suc level) =
     counts_below t level
     ++ (count_of t.codeblocks t.width t.depth level, count_of t.codeblocks (picture_height t) t.depth level) ∷ []
 
+-- the codeblock mode of these settings: 1 exactly where flat codeblocks are quantised finer
+abbrev pub mode_of : Settings → ℕ
+mode_of t = if t.finer == 0 then 0 else 1
+
 -- the transform parameters of these settings
 abbrev pub transform_of : Settings → Transform
-transform_of t = record { wavelet = t.wavelet; depth = t.depth; counts = counts_below t (t.depth + 1); mode = 0 }
+transform_of t = record {
+  wavelet = t.wavelet;
+  depth = t.depth;
+  counts = counts_below t (t.depth + 1);
+  mode = mode_of t;
+}
 
 -- an inter picture's motion by a block table, with block index and precision of the settings, without global motion,
 -- with default weights
@@ -82,7 +91,7 @@ left_of t refs head (Some m) p component =
 
 -- its quantised bands
 abbrev pub bands_of : Settings → Kind → Table → List CodedBand
-bands_of t kind plane = plane_bands kind (transform_of t) t.index plane
+bands_of t kind plane = plane_bands kind (transform_of t) t.finer t.index plane
 
 -- the coded residual of a source
 abbrev pub residual_of : Settings → List Picture → PictureHeader → Option CodedMotion → Picture → CodedResidual

@@ -3,6 +3,7 @@ use Rattle.std.specs.Prelude.{◌≡◌, ℕ, ◌≤◌, ◌<◌, ◌^◌, List,
 use Rattle.dirac_sequence.specs.Sizes.{chroma_height, chroma_width, picture_height}
 use Rattle.std.specs.List.{All}
 use Rattle.dirac_types.specs.Limits.{IsEncodedDepth, IsIndex, IsWavelet}
+use Rattle.dirac_types.specs.declared.limits.TheConstants.{LARGEST_INDEX}
 use Rattle.dirac_types.specs.declared.settings.Settings.{Settings}
 use Rattle.dirac_sequence.specs.declared.sequence.Sequence.{Sequence}
 use Rattle.dirac_sequence.specs.Written.{IsWritable}
@@ -23,6 +24,7 @@ pub record IsCodable (t : Settings) : Type 0 where
   pub depth : IsEncodedDepth t.depth
   pub index : IsIndex t.index
   pub codeblocks : 1 ≤ t.codeblocks
+  pub finer : t.finer ≤ LARGEST_INDEX
 
 -- a band that can be written: indices that its codeblocks can have, and 0 alone where it has zeros alone
 pub record IsWritableBand (layout : BandLayout) (b : CodedBand) : Type 0 where

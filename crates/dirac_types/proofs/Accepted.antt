@@ -19,7 +19,7 @@ pub record AreInRange (s : Settings) : Type 0 where
   pub depth : (1 ≤ s.depth) × (s.depth ≤ LARGEST_ENCODED_DEPTH)
   pub index : s.index ≤ LARGEST_INDEX
   pub codeblocks : (1 ≤ s.codeblocks) × (s.codeblocks ≤ 8)
-  pub finer : s.finer ≤ 0
+  pub finer : s.finer ≤ LARGEST_INDEX
   pub blocks : (2 ≤ s.blocks) × (s.blocks ≤ 4)
   pub precision : s.precision ≤ 3
   pub references : (1 ≤ s.references) × (s.references ≤ 2)

@@ -45,7 +45,7 @@ table s =
     ∷ setting name.Depth s.depth 1 LARGEST_ENCODED_DEPTH 1
     ∷ setting name.Index s.index 0 LARGEST_INDEX 1
     ∷ setting name.Codeblocks s.codeblocks 1 8 1
-    ∷ setting name.Finer s.finer 0 0 1
+    ∷ setting name.Finer s.finer 0 LARGEST_INDEX 1
     ∷ setting name.Blocks s.blocks 2 4 1
     ∷ setting name.Precision s.precision 0 3 1
     ∷ setting name.References s.references 1 2 1

@@ -62,7 +62,7 @@ pub fn table(s: &Settings) -> [Ranged; 25]
         setting(Name::Depth, s.depth, 1, LARGEST_ENCODED_DEPTH, 1),
         setting(Name::Index, s.index, 0, LARGEST_INDEX, 1),
         setting(Name::Codeblocks, s.codeblocks, 1, 8, 1),
-        setting(Name::Finer, s.finer, 0, 0, 1),
+        setting(Name::Finer, s.finer, 0, LARGEST_INDEX, 1),
         setting(Name::Blocks, s.blocks, 2, 4, 1),
         setting(Name::Precision, s.precision, 0, 3, 1),
         setting(Name::References, s.references, 1, 2, 1),

@@ -108,7 +108,7 @@ pub struct Settings {
     pub index: u32,
     /// The most codeblocks of a subband above the lowest, across and down.
     pub codeblocks: u32,
-    /// How much finer codeblocks of small coefficients are quantised. For now only 0 is accepted.
+    /// How much lower the quantiser index of codeblocks of small coefficients is; where it is 0 all have the band's.
     pub finer: u32,
     /// The index of the block parameters.
     pub blocks: u32,
