@@ -16,9 +16,9 @@ use Rattle.dirac_tool.specs.declared.options.OptionsOf.TheVariants as options_of
 abbrev pub names : List Name
 names =
     name.Base ∷ name.Chroma ∷ name.Width ∷ name.Height ∷ name.Rate ∷ name.Signal ∷ name.Fields ∷ name.Profile
-    ∷ name.Level ∷ name.Wavelet ∷ name.Depth ∷ name.Index ∷ name.Codeblocks ∷ name.Blocks ∷ name.Precision ∷ name.References
-    ∷ name.Gop ∷ name.Between ∷ name.Range ∷ name.Pyramid ∷ name.Bias ∷ name.Workers ∷ name.Pictures ∷ name.UnitBytes
-    ∷ []
+    ∷ name.Level ∷ name.Wavelet ∷ name.Depth ∷ name.Index ∷ name.Codeblocks ∷ name.Finer ∷ name.Blocks ∷ name.Precision
+    ∷ name.References ∷ name.Gop ∷ name.Between ∷ name.Range ∷ name.Pyramid ∷ name.Bias ∷ name.Workers ∷ name.Pictures
+    ∷ name.UnitBytes ∷ []
 
 -- what stands behind this front, where the word begins with it
 abbrev pub behind : List ℕ → List ℕ → Option (List ℕ)
@@ -113,7 +113,7 @@ changed words d = record {
   depth = value_or words name.Depth d.depth;
   index = value_or words name.Index d.index;
   codeblocks = value_or words name.Codeblocks d.codeblocks;
-  finer = d.finer;
+  finer = value_or words name.Finer d.finer;
   blocks = value_or words name.Blocks d.blocks;
   precision = value_or words name.Precision d.precision;
   references = value_or words name.References d.references;

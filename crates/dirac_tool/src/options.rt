@@ -6,7 +6,7 @@ ghost use Rattle.dirac_tool.specs.Options as options;
 use dirac_types::{Name, Settings};
 
 // The names of the settings, in the order of their table.
-const NAMES: [Name; 24] = [
+const NAMES: [Name; 25] = [
     Name::Base,
     Name::Chroma,
     Name::Width,
@@ -20,6 +20,7 @@ const NAMES: [Name; 24] = [
     Name::Depth,
     Name::Index,
     Name::Codeblocks,
+    Name::Finer,
     Name::Blocks,
     Name::Precision,
     Name::References,
@@ -231,7 +232,7 @@ pub fn settings_given(words: &[String]) -> Settings
         depth: value_or(words, Name::Depth, d.depth),
         index: value_or(words, Name::Index, d.index),
         codeblocks: value_or(words, Name::Codeblocks, d.codeblocks),
-        finer: d.finer,
+        finer: value_or(words, Name::Finer, d.finer),
         blocks: value_or(words, Name::Blocks, d.blocks),
         precision: value_or(words, Name::Precision, d.precision),
         references: value_or(words, Name::References, d.references),
