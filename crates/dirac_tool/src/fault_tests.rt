@@ -86,9 +86,10 @@ fn refuses_each_field_at_its_place(rt: HostRuntime) -> Result<(), Fail> {
         (set(37, &[0xAC]), faulty(1, 37, Cause::Depth), false),
         (set(37, &[0xC0]), faulty(1, 37, Cause::Depth), false),
         (set(37, &[0x9C]), faulty(1, 37, Cause::Codeblocks), false),
+        // codeblock mode 1, in which the bands are read on to the payload's end
         (
             set(37, &[0x99, 0x24, 0x90]),
-            faulty(1, 39, Cause::CodeblockMode),
+            faulty(1, 50, Cause::UnitShort),
             false,
         ),
         // subbands

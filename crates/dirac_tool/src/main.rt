@@ -29,6 +29,8 @@ mod list;
 mod make;
 #[cfg(test)]
 mod make_tests;
+#[cfg(test)]
+mod mode_tests;
 mod options;
 mod points;
 mod rate;
