@@ -1,15 +1,15 @@
 -- The indices of codeblocks: which are kept where one is changed, and what an offset tells of them.
-use Rattle.std.proofs.Common.{◌≡◌, ◌≢◌, ℕ, pos, ◌+◌, ◌-◌, ◌*◌, ◌+ℤ◌, ◌<◌, ◌≤◌, true, List, length, set, replicate, refl, sym, ap, ◌∙◌, arith, inl, inr, length-set, eq-eqb, ne_eqb}
+use Rattle.std.proofs.Common.{◌≡◌, ◌≢◌, ℕ, zero, suc, ℤ, pos, ◌+◌, ◌-◌, ◌*◌, ◌/◌, ◌%◌, ◌+ℤ◌, ◌<◌, ◌≤◌, true, List, length, set, replicate, refl, sym, ap, ◌∙◌, subst, arith, inl, inr, length-set, eq-eqb, ne_eqb, ext_get_or, mod-lt, div-lt_iff_lt-mul, div-add-mod'}
 use Rattle.std.specs.List.{All}
 use Rattle.std.proofs.lemmas.Bool.{cases_eq, cases_lt}
 use Rattle.std.proofs.lemmas.Int.{ints}
-use Rattle.std.proofs.lemmas.List.{get_or-replicate, get_or-set_same, get_or-set_other, get_or_past}
+use Rattle.std.proofs.lemmas.List.{get_or-replicate, get_or-set_same, get_or-set_other, get_or_past, length-replicate}
 use Rattle.std.proofs.lemmas.List.Elements.{All-set}
 use Rattle.std.proofs.lemmas.Nat.{mul-add-lt}
 use Rattle.dirac_types.specs.Limits.{IsIndex}
 use Rattle.dirac_coeffs.specs.declared.layout.BandLayout.{BandLayout}
 use Rattle.dirac_coeffs.specs.Carried.{IsIndexed}
-use Rattle.dirac_coeffs.specs.Decisions.{Mark}
+use Rattle.dirac_coeffs.specs.Decisions.{Mark, Marks}
 use Rattle.dirac_coeffs.specs.Indices.{place_of, index_at, index_before, all_equal}
 use Rattle.dirac_coeffs.specs.Layouts.{is_flagged}
 
@@ -93,6 +93,9 @@ equal_before n index c h =
 pub none_added : (a b : ℕ) → a ≡ b → pos a ≡ pos b +ℤ pos 0
 none_added a b e = omega (arith, ints)
 
+nothing_added : (a b : ℕ) (o : ℤ) → pos a ≡ pos b +ℤ o → o ≡ pos 0 → a ≡ b
+nothing_added a b o e none = omega (arith, ints)
+
 -- an index that is the one before it is told by the offset 0
 pub same_indexed : (layout : BandLayout) (index : ℕ) (is : List ℕ) (cy cx : ℕ) (mark : Mark) → mark.offset ≡ pos 0 → index_at is (place_of layout cy cx) ≡ index_before index is (place_of layout cy cx) → IsIndexed layout index is cy cx mark
 same_indexed layout index is cy cx mark none e =
@@ -109,6 +112,38 @@ equal_same layout index is cy cx e h l =
     let c = place_of layout cy cx in
     let inside : c < n = place_inside layout cy cx h l in
     rw e (get_or-replicate n c index 0 inside ∙ sym (equal_before n index c inside))
+
+former_is : (index : ℕ) (is : List ℕ) (c : ℕ) → index_before index is (suc c) ≡ index_at is c
+former_is index is c =
+    let back : suc c - 1 ≡ c = omega arith in
+    rw (ne_eqb (suc c) 0 (λ e. omega arith)) (ap (λ k. index_at is k) back)
+
+-- where each index is the one before it, all are the band's
+index_is : (index : ℕ) (is : List ℕ) (n c : ℕ) → ((d : ℕ) → d < n → index_at is d ≡ index_before index is d) → c < n → index_at is c ≡ index
+index_is index is n zero same h = same 0 h
+index_is index is n (suc c) same h = same (suc c) h ∙ former_is index is c ∙ index_is index is n c same (omega arith)
+
+pub all_are_equal : (layout : BandLayout) (index : ℕ) (is : List ℕ) → 0 < layout.across → length is ≡ layout.across * layout.down
+    → ((cy cx : ℕ) → cy < layout.down → cx < layout.across → index_at is (place_of layout cy cx) ≡ index_before index is (place_of layout cy cx)) → is ≡ all_equal layout index
+all_are_equal layout index is some len same =
+    let w = layout.across in
+    let n = w * layout.down in
+    let each : (d : ℕ) → d < n → index_at is d ≡ index_before index is d = λ d l.
+    let row : d / w < layout.down = (div-lt_iff_lt-mul {k = w} {x = d} {y = layout.down} some).1 (omega arith) in
+    let column : d % w < w = mod-lt d some in
+    let place : d / w * w + d % w ≡ d = div-add-mod' d w in
+    subst (λ i. index_at is i ≡ index_before index is i) place (same (d / w) (d % w) row column) in
+    ext_get_or 0 is (replicate n index) (len ∙ sym (length-replicate n index)) (λ k l.
+    let inside : k < n = omega arith in
+    index_is index is n k each inside ∙ sym (get_or-replicate n k index 0 inside))
+
+-- so it is in mode 0
+pub plain_equal : (layout : BandLayout) (index : ℕ) (is : List ℕ) (marks : Marks) → 0 < layout.across → length is ≡ layout.across * layout.down → layout.mode ≡ 0
+    → ((cy cx : ℕ) → cy < layout.down → cx < layout.across → IsIndexed layout index is cy cx (marks cy cx)) → is ≡ all_equal layout index
+plain_equal layout index is marks some len mode indexed =
+    all_are_equal layout index is some len (λ cy cx h l.
+    let x = indexed cy cx h l in
+    nothing_added (index_at is (place_of layout cy cx)) (index_before index is (place_of layout cy cx)) (marks cy cx).offset x.sum (x.plain mode))
 
 -- each index is a quantiser's, and so is the one before it
 pub index_few : (is : List ℕ) (c : ℕ) → All IsIndex is → index_at is c ≤ 99

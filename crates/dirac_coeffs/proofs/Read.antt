@@ -20,13 +20,13 @@ use Rattle.dirac_coeffs.specs.Carried.{AreLawful, AreSmall, CarriesBand, Carries
 use Rattle.dirac_coeffs.specs.Decisions.{Marks, band_decisions}
 use Rattle.dirac_coeffs.specs.Grammar.{band_table}
 use Rattle.dirac_coeffs.specs.Indices.{all_equal}
-use Rattle.dirac_coeffs.specs.Laws.{BandIsRead, LongIsRefused, NoIndexIsRefused, OnesAreRefused, OneBandIsCarried, NoBandBesideLong, NoBandBesideNoIndex, LongOrNoIndex, OnesCarryNothing}
+use Rattle.dirac_coeffs.specs.Laws.{BandIsRead, PlainIsEqual, LongIsRefused, NoIndexIsRefused, OnesAreRefused, OneBandIsCarried, NoBandBesideLong, NoBandBesideNoIndex, LongOrNoIndex, OnesCarryNothing}
 use Rattle.dirac_coeffs.specs.Layouts.{IsBandLayout}
 use Rattle.dirac_coeffs.proofs.Coding.{ones_apart, reads_carry}
 use Rattle.dirac_coeffs.proofs.Edges.{edge_last}
 use Rattle.dirac_coeffs.proofs.Forward.{Finished, bands_lead, bands_refused}
 use Rattle.dirac_coeffs.proofs.Going.{Begun, ComesOn, all_ended, all_shut, all_broken, comes_as_well, band_goes, stands_first, Tells, band_tells}
-use Rattle.dirac_coeffs.proofs.Indexed.{SameBefore}
+use Rattle.dirac_coeffs.proofs.Indexed.{SameBefore, plain_equal}
 use Rattle.dirac_coeffs.proofs.Needs.{bands_need, until_needs}
 use Rattle.dirac_coeffs.proofs.Places.{SameWithin, ZeroFrom}
 use Rattle.dirac_coeffs.proofs.Reached.{BandRead, BandBroken}
@@ -207,6 +207,11 @@ read_ones layout parent index block e =
 
 pub band_is_read : BandIsRead
 band_is_read layout parent index block xs is lawful few = (λ e. band_carried layout parent index block xs is lawful few e, λ a. band_found layout parent index block xs is a.0 lawful a.1)
+
+pub plain_is_equal : PlainIsEqual
+plain_is_equal layout parent index block xs is lawful few mode e =
+    let a = band_carried layout parent index block xs is lawful few e in
+    plain_equal layout index is a.0 (omega (arith, lawful.across)) a.1.lawful.count mode a.1.indexed
 
 pub long_is_refused : LongIsRefused
 long_is_refused layout parent index block lawful few = (break_carried layout parent index block NumberTooLong lawful few (λ e. absurd cc), break_found layout parent index block NumberTooLong lawful)

@@ -19,10 +19,10 @@ use Rattle.dirac_arith.proofs.Carrieds.{no_answer}
 use Rattle.dirac_coeffs.specs.Decisions.{band_decisions}
 use Rattle.dirac_coeffs.specs.Grammar.{band, coded_band, band_from, band_table, zero_band, IsCodedBand}
 use Rattle.dirac_coeffs.specs.Layouts.{IsBandLayout}
-use Rattle.dirac_coeffs.specs.Written.{marks_of, block_of, is_zero_band, with_block, with_band}
+use Rattle.dirac_coeffs.specs.Written.{AreIndicesOf, marks_of, block_of, is_zero_band, with_block, with_band}
 use Rattle.dirac_coeffs.proofs.BlockLengths.{block_short}
 use Rattle.dirac_coeffs.proofs.Read.{ones_read}
-use Rattle.dirac_coeffs.proofs.Writing.{written_read, equal_lawful, equal_of}
+use Rattle.dirac_coeffs.proofs.Writing.{written_read, equal_of}
 use Rattle.dirac_coeffs.proofs.ZeroTests.{all_zeros}
 
 six_parts : (a b c d e f : List Bool) → ((((a ++ b) ++ c) ++ d) ++ e) ++ f ≡ a ++ (b ++ (c ++ (d ++ (e ++ f))))
@@ -37,24 +37,24 @@ empty_ones (b ∷ bs) e = absurd (omega arith)
 block_some : (layout : BandLayout) (parent : List ℤ) (index : ℕ) (c : Content) (block : List ℕ) → band_read layout parent index block ≡ Ok c → length block ≢ 0
 block_some layout parent index c block read e = no_answer (band_read layout parent index block) c CodeWord read (ones_read layout parent index block (empty_ones block e))
 
--- a coded band is its index and its values
-coded_is : (layout : BandLayout) (b : CodedBand) → IsCodedBand layout b → (let same : CodedBand = record { index = b.index; table = band_table layout b.table.values } in b ≡ same)
+-- a coded band is its index, its indices and its values
+coded_is : (layout : BandLayout) (b : CodedBand) → IsCodedBand layout b → (let same : CodedBand = record { index = b.index; indices = b.indices; table = band_table layout b.table.values } in b ≡ same)
 coded_is layout b is =
-    ap₂ (λ (w h : ℕ). let r : CodedBand = record { index = b.index; table = record { width = w; height = h; values = b.table.values } } in r) is.width is.height
+    ap₂ (λ (w h : ℕ). let r : CodedBand = record { index = b.index; indices = b.indices; table = record { width = w; height = h; values = b.table.values } } in r) is.width is.height
 
-zero_is : (layout : BandLayout) (b : CodedBand) → IsCodedBand layout b → b.index ≡ 0 → is_zero_band b.table.values ≡ true → b ≡ zero_band layout
-zero_is layout b is index zeros =
+zero_is : (layout : BandLayout) (b : CodedBand) → IsCodedBand layout b → b.index ≡ 0 → b.indices ≡ all_equal layout 0 → is_zero_band b.table.values ≡ true → b ≡ zero_band layout
+zero_is layout b is index indices zeros =
     let values : b.table.values ≡ replicate (layout.width * layout.height) (pos 0) = all_zeros b.table.values zeros ∙ ap (λ n. replicate n (pos 0)) is.len in
     coded_is layout b is
-    ∙ ap (λ i. let r : CodedBand = record { index = i; table = band_table layout b.table.values } in r) index
-    ∙ ap (λ (xs : List ℤ). let r : CodedBand = record { index = 0; table = band_table layout xs } in r) values
+    ∙ ap₂ (λ (i : ℕ) (is : List ℕ). let r : CodedBand = record { index = i; indices = is; table = band_table layout b.table.values } in r) index indices
+    ∙ ap (λ (xs : List ℤ). let r : CodedBand = record { index = 0; indices = all_equal layout 0; table = band_table layout xs } in r) values
 
 -- the index and the block
 coded_spelled : (layout : BandLayout) (parent : List ℤ) (b : CodedBand) (block : List ℕ) (k : ℕ) (before : List Bool) → IsCodedBand layout b
-    → length before ≡ k + length (uint b.index) → AllByRecursion (λ c. c < 2 ^ 8) block → (is : List ℕ) → band_read layout parent b.index block ≡ Ok (content b.table.values is)
+    → length before ≡ k + length (uint b.index) → AllByRecursion (λ c. c < 2 ^ 8) block → band_read layout parent b.index block ≡ Ok (content b.table.values b.indices)
     → Spells (coded_band layout parent (length block)) b k (uint b.index ++ (gap before ++ bits_of block))
 unfolding coded_band
-coded_spelled layout parent b block k before is len bytes js read =
+coded_spelled layout parent b block k before is len bytes read =
     let at = k / 8 in
     let k1 = k + length (uint b.index) in
     let k2 = k1 + length (gap before) in
@@ -84,15 +84,15 @@ zeros_spelled layout parent b bits e =
     }
 
 -- a band with a block
-block_spelled : (layout : BandLayout) (parent : List ℤ) (b : CodedBand) (bits : List Bool) → IsBandLayout layout → IsCodedBand layout b → length (block_of layout parent b.index b.table.values (all_equal layout b.index)) + 1 < 2 ^ 39
-    → SpelledBehind (band layout parent) b bits (with_block b.index (block_of layout parent b.index b.table.values (all_equal layout b.index)) (up_to_byte bits))
+block_spelled : (layout : BandLayout) (parent : List ℤ) (b : CodedBand) (bits : List Bool) → IsBandLayout layout → IsCodedBand layout b → AreIndicesOf layout b.index b.table.values b.indices → length (block_of layout parent b.index b.table.values b.indices) + 1 < 2 ^ 39
+    → SpelledBehind (band layout parent) b bits (with_block b.index (block_of layout parent b.index b.table.values b.indices) (up_to_byte bits))
 unfolding band
-block_spelled layout parent b bits spot_is is short =
+block_spelled layout parent b bits spot_is is of short =
     let xs = b.table.values in
-    let js = all_equal layout b.index in
+    let js = b.indices in
     let block = block_of layout parent b.index xs js in
     let len = length block in
-    let read : band_read layout parent b.index block ≡ Ok (content xs js) = written_read layout parent b.index xs js spot_is (equal_lawful layout b.index xs is.len is.small is.index) (equal_of layout b.index xs) in
+    let read : band_read layout parent b.index block ≡ Ok (content xs js) = written_read layout parent b.index xs js spot_is (record { len = is.len; small = is.small; count = is.count; own = is.index; each = is.each }) of in
     let before = (up_to_byte bits ++ uint len) ++ uint b.index in
     let k = length bits in
     let k1 = k + length (gap bits) in
@@ -100,7 +100,7 @@ block_spelled layout parent b bits spot_is is short =
     let behind : length before ≡ k2 + length (uint b.index) =
     omega (arith, length-append {A = Bool} (up_to_byte bits ++ uint len) (uint b.index), length-append {A = Bool} (up_to_byte bits) (uint len), length-append {A = Bool} bits (gap bits)) in
     let rest = uint b.index ++ (gap before ++ bits_of block) in
-    let coded = coded_spelled layout parent b block k2 before is behind (flush_bytes (band_decisions layout parent xs (marks_of layout b.index xs js))) js read in
+    let coded = coded_spelled layout parent b block k2 before is behind (flush_bytes (band_decisions layout parent xs (marks_of layout b.index xs js))) read in
     let some : (len == 0) ≡ false = ne_eqb len 0 (block_some layout parent b.index (content xs js) block read) in
     let chosen : Spells (if len == 0 then done (zero_band layout) else coded_band layout parent len) b k2 rest =
     subst (λ t. Spells (if t then done (zero_band layout) else coded_band layout parent len) b k2 rest) (sym some) coded in
@@ -112,9 +112,18 @@ block_spelled layout parent b bits spot_is is short =
 
 -- a band that is written is spelled: its block is short
 pub band_spells : (layout : BandLayout) (parent : List ℤ) (b : CodedBand) (bits : List Bool) → IsBandLayout layout → IsCodedBand layout b
-    → (is_zero_band b.table.values ≡ true → b.index ≡ 0) → SpelledBehind (band layout parent) b bits (with_band layout parent b bits)
-band_spells layout parent b bits spot_is is index =
+    → AreIndicesOf layout b.index b.table.values b.indices → (is_zero_band b.table.values ≡ true → b.index ≡ 0) → (is_zero_band b.table.values ≡ true → b.indices ≡ all_equal layout 0)
+    → SpelledBehind (band layout parent) b bits (with_band layout parent b bits)
+band_spells layout parent b bits spot_is is of index indices =
     elim (cases_Bool (is_zero_band b.table.values)) [
-      | inl zeros ↦ rw zeros (zeros_spelled layout parent b bits (zero_is layout b is (index zeros) zeros))
-      | inr others ↦ rw others (block_spelled layout parent b bits spot_is is (block_short layout parent b.index b.table.values (all_equal layout b.index) spot_is))
+      | inl zeros ↦ rw zeros (zeros_spelled layout parent b bits (zero_is layout b is (index zeros) (indices zeros) zeros))
+      | inr others ↦ rw others (block_spelled layout parent b bits spot_is is of (block_short layout parent b.index b.table.values b.indices spot_is))
     ]
+
+-- in mode 0 that needs nothing of the indices
+pub plain_of : (layout : BandLayout) (b : CodedBand) → IsCodedBand layout b → layout.mode ≡ 0 → AreIndicesOf layout b.index b.table.values b.indices
+plain_of layout b is mode =
+    subst (λ (l : List ℕ). AreIndicesOf layout b.index b.table.values l) (sym (is.plain mode)) (equal_of layout b.index b.table.values)
+
+pub plain_zeros : (layout : BandLayout) (b : CodedBand) → IsCodedBand layout b → layout.mode ≡ 0 → (is_zero_band b.table.values ≡ true → b.index ≡ 0) → is_zero_band b.table.values ≡ true → b.indices ≡ all_equal layout 0
+plain_zeros layout b is mode index zeros = is.plain mode ∙ ap (λ i. all_equal layout i) (index zeros)

@@ -1,6 +1,7 @@
 -- What a block reads to, decision by decision: codeblocks by rows, in each its zero flag, in mode 1 its offset, and its
 -- values by rows.
-use Rattle.std.specs.Prelude.{ℕ, zero, suc, ℤ, pos, ◌+◌, ◌*◌, ◌==◌, if◌then◌else◌, Bool, true, false, List, replicate, slice_set, Result, Ok, Err}
+use Rattle.std.specs.Prelude.{ℕ, zero, suc, ℤ, pos, ◌+◌, ◌*◌, ◌==◌, if◌then◌else◌, Bool, true, false, List, replicate}
+use Rattle.std.specs.Prelude.{slice_set, Result, Ok, Err}
 use Rattle.dirac_arith.specs.declared.contexts.TheConstants.{ZERO_FLAG}
 use Rattle.dirac_types.specs.declared.faults.Cause.{Cause}
 use Rattle.dirac_types.specs.declared.faults.Cause.TheVariants.{CodeWord}

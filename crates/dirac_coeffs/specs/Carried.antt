@@ -1,5 +1,6 @@
 -- What a block carries: a band, or a number at which it breaks off.
-use Rattle.std.specs.Prelude.{◌≡◌, ℕ, ℤ, pos, ◌+◌, ◌-◌, ◌*◌, ◌+ℤ◌, ◌^◌, ◌<◌, Bool, true, false, List, ◌++◌, length, All, unsigned_abs}
+use Rattle.std.specs.Prelude.{◌≡◌, ℕ, ℤ, pos, ◌+◌, ◌-◌, ◌*◌, ◌+ℤ◌, ◌^◌, ◌<◌, Bool, true, false, List, ◌++◌, length, All}
+use Rattle.std.specs.Prelude.{unsigned_abs}
 use Rattle.dirac_types.specs.declared.limits.TheConstants.{MOST_DIGITS}
 use Rattle.dirac_types.specs.declared.faults.Cause.{Cause}
 use Rattle.dirac_types.specs.declared.faults.Cause.TheVariants.{NumberTooLong, QuantIndex}
@@ -11,7 +12,8 @@ use Rattle.dirac_bands.specs.Geometry.{edge_of}
 use Rattle.dirac_coeffs.specs.declared.indices.TheConstants.{OFFSET_FOLLOW, OFFSET_DIGITS, OFFSET_SIGN}
 use Rattle.dirac_coeffs.specs.declared.layout.BandLayout.{BandLayout}
 use Rattle.dirac_coeffs.specs.Contexts.{value_at, bits_context}
-use Rattle.dirac_coeffs.specs.Decisions.{Frame, Mark, Marks, frame_of, follow_here, row_part, rows_part, flagged_part, blocks_part, bands_part, band_decisions}
+use Rattle.dirac_coeffs.specs.Decisions.{Frame, Mark, Marks, frame_of, follow_here, row_part, rows_part, flagged_part}
+use Rattle.dirac_coeffs.specs.Decisions.{blocks_part, bands_part, band_decisions}
 use Rattle.dirac_coeffs.specs.Indices.{place_of, index_at, index_before, is_index, offset_part}
 use Rattle.dirac_coeffs.specs.Layouts.{span_of, is_flagged}
 
@@ -32,8 +34,8 @@ IsZeroBlock layout xs cy cx =
 abbrev pub SkippedIsZero : BandLayout → List ℤ → ℕ → ℕ → Mark → Type 0
 SkippedIsZero layout xs cy cx mark = is_flagged layout ≡ true → mark.skipped ≡ true → IsZeroBlock layout xs cy cx
 
--- the index of codeblock cx of row cy is that of the one before it and the offset, which is 0 where the codeblock is skipped,
--- and in mode 0
+-- the index of codeblock cx of row cy is that of the one before it and the offset, which is 0 where the codeblock is
+-- skipped, and in mode 0
 pub record IsIndexed (layout : BandLayout) (index : ℕ) (indices : List ℕ) (cy cx : ℕ) (mark : Mark) : Type 0 where
   pub sum : pos (index_at indices (place_of layout cy cx))
       ≡ pos (index_before index indices (place_of layout cy cx)) +ℤ mark.offset

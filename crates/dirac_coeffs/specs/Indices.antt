@@ -1,6 +1,8 @@
--- The quantiser indices of a subband's codeblocks, by rows. In codeblock mode 0 all are the band's; in mode 1 a codeblock
--- that isn't skipped, one without values too, has an offset, which is added to the index of the codeblock before it.
-use Rattle.std.specs.Prelude.{ℕ, zero, suc, ℤ, pos, ◌+◌, ◌-◌, ◌*◌, ◌+ℤ◌, ◌==◌, int_le, if◌then◌else◌, ◌&&◌, Bool, List, [], replicate, slice_index_or, slice_set, unsigned_abs, Result, Ok, Err}
+-- The quantiser indices of a subband's codeblocks, by rows. In codeblock mode 0 all are the band's; in mode 1 a
+-- codeblock that isn't skipped, one without values too, has an offset, which is added to the index of the codeblock
+-- before it.
+use Rattle.std.specs.Prelude.{ℕ, zero, suc, ℤ, pos, ◌+◌, ◌-◌, ◌*◌, ◌+ℤ◌, ◌==◌, int_le, if◌then◌else◌, ◌&&◌, Bool, List}
+use Rattle.std.specs.Prelude.{[], replicate, slice_index_or, slice_set, unsigned_abs, Result, Ok, Err}
 use Rattle.dirac_types.specs.declared.limits.TheConstants.{LARGEST_INDEX}
 use Rattle.dirac_types.specs.declared.faults.Cause.{Cause}
 use Rattle.dirac_types.specs.declared.faults.Cause.TheVariants.{QuantIndex}

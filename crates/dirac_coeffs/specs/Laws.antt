@@ -7,6 +7,7 @@ use Rattle.dirac_coeffs.specs.declared.layout.BandLayout.{BandLayout}
 use Rattle.dirac_coeffs.specs.BandRead.{band_read, content}
 use Rattle.dirac_coeffs.specs.Carried.{CarriesBand, CarriesLong, CarriesNoIndex}
 use Rattle.dirac_coeffs.specs.Decisions.{Marks}
+use Rattle.dirac_coeffs.specs.Indices.{all_equal}
 use Rattle.dirac_coeffs.specs.Layouts.{IsBandLayout}
 use Rattle.dirac_coeffs.specs.Written.{block_of}
 
@@ -23,7 +24,8 @@ OneBandIsCarried =
 -- and none beside a number that is too long
 abbrev pub NoBandBesideLong : Type 0
 NoBandBesideLong =
-    (layout : BandLayout) (parent : List ℤ) (index : ℕ) (block : List ℕ) (xs : List ℤ) (is : List ℕ) (ms : Marks) →
+    (layout : BandLayout) (parent : List ℤ) (index : ℕ) (block : List ℕ) (xs : List ℤ) (is : List ℕ)
+    (ms : Marks) →
     IsBandLayout layout →
     CarriesBand layout parent index block xs is ms →
     CarriesLong layout parent index block →
@@ -32,7 +34,8 @@ NoBandBesideLong =
 -- nor beside an offset that leads to no index
 abbrev pub NoBandBesideNoIndex : Type 0
 NoBandBesideNoIndex =
-    (layout : BandLayout) (parent : List ℤ) (index : ℕ) (block : List ℕ) (xs : List ℤ) (is : List ℕ) (ms : Marks) →
+    (layout : BandLayout) (parent : List ℤ) (index : ℕ) (block : List ℕ) (xs : List ℤ) (is : List ℕ)
+    (ms : Marks) →
     IsBandLayout layout →
     CarriesBand layout parent index block xs is ms →
     CarriesNoIndex layout parent index block →
@@ -65,6 +68,16 @@ BandIsRead =
     IsIndex index →
     (band_read layout parent index block ≡ Ok (content xs is))
     ↔ ((ms : Marks) × CarriesBand layout parent index block xs is ms)
+
+-- in mode 0 each codeblock of that has the band's index
+abbrev pub PlainIsEqual : Type 0
+PlainIsEqual =
+    (layout : BandLayout) (parent : List ℤ) (index : ℕ) (block : List ℕ) (xs : List ℤ) (is : List ℕ) →
+    IsBandLayout layout →
+    IsIndex index →
+    layout.mode ≡ 0 →
+    band_read layout parent index block ≡ Ok (content xs is) →
+    is ≡ all_equal layout index
 
 -- it is refused for a number that is too long exactly where it carries the decisions up to one
 abbrev pub LongIsRefused : Type 0

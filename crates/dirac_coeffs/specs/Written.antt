@@ -1,5 +1,6 @@
 -- How a subband is written: the marks of its codeblocks, its block, and its bits.
-use Rattle.std.specs.Prelude.{◌≡◌, ℕ, zero, suc, ℤ, pos, ◌+◌, ◌<◌, ◌-ℤ◌, ◌&&◌, Bool, true, List, ◌++◌, length, if◌then◌else◌}
+use Rattle.std.specs.Prelude.{◌≡◌, ℕ, zero, suc, ℤ, pos, ◌+◌, ◌<◌, ◌-ℤ◌, ◌&&◌, Bool, true, List, ◌++◌, length}
+use Rattle.std.specs.Prelude.{if◌then◌else◌}
 use Rattle.std.specs.List.{list_all}
 use Rattle.dirac_types.specs.Bits.{bits_of}
 use Rattle.dirac_types.specs.Numbers.{uint}
@@ -11,7 +12,7 @@ use Rattle.dirac_coeffs.specs.declared.layout.BandLayout.{BandLayout}
 use Rattle.dirac_coeffs.specs.declared.layout.CodedBand.{CodedBand}
 use Rattle.dirac_coeffs.specs.Contexts.{value_at, is_zero}
 use Rattle.dirac_coeffs.specs.Decisions.{Marks, band_decisions}
-use Rattle.dirac_coeffs.specs.Indices.{place_of, index_at, index_before, all_equal}
+use Rattle.dirac_coeffs.specs.Indices.{place_of, index_at, index_before}
 use Rattle.dirac_coeffs.specs.Layouts.{span_of, is_flagged}
 
 -- whether all numbers below n pass
@@ -58,8 +59,8 @@ is_zero_band xs = list_all is_zero xs
 abbrev pub with_block : ℕ → List ℕ → List Bool → List Bool
 with_block index block bits = up_to_byte ((bits ++ uint (length block)) ++ uint index) ++ bits_of block
 
--- the bits with a band of mode 0 behind them; a band of zeros has length 0
+-- the bits with a band behind them; a band of zeros has length 0
 abbrev pub with_band : BandLayout → List ℤ → CodedBand → List Bool → List Bool
 with_band layout parent b bits =
     if is_zero_band b.table.values then up_to_byte bits ++ uint 0
-    else with_block b.index (block_of layout parent b.index b.table.values (all_equal layout b.index)) (up_to_byte bits)
+    else with_block b.index (block_of layout parent b.index b.table.values b.indices) (up_to_byte bits)

@@ -6,6 +6,7 @@ ghost use Rattle.dirac_coeffs.specs.Grammar.{band, coded_band, values_of_parent,
 ghost use Rattle.dirac_coeffs.specs.Layouts.{IsBandLayout};
 
 use crate::block::read_block;
+use crate::indices::equal_indices;
 use crate::layout::{BandLayout, CodedBand};
 use dirac_bits::BitReader;
 use dirac_types::{BandTable, Cause, LARGEST_INDEX, Refusal, Stop};
@@ -50,13 +51,13 @@ fn read_coded(
     let read = read_block(alloc, block, at, layout, parent, index as u8)?;
     Ok(CodedBand {
         index: index as u8,
+        indices: read.indices,
         table: read.table,
     })
 }
 
 /// Reads a subband (subband header and data, Dirac specification): passes to the next byte, and takes the length
 /// of its block, the quantiser index and the block. What an arithmetic block doesn't hold is refused at its first byte.
-/// Its codeblocks have the band's index: of mode 1 `read_block` tells that of each.
 #[tactic(auto, unfolding(crate::specs::Grammar::band))]
 pub fn read_band(
     alloc: Global,
@@ -65,7 +66,6 @@ pub fn read_band(
     parent: Option<&BandTable>,
 ) -> Result<CodedBand, Stop>
     requires layout { IsBandLayout layout }
-    requires plain { layout.mode ≡ 0 }
     requires parent { ForSome parent (IsParentOf layout) }
     ensures value { ReadsOrStops result r.new (read (band layout (values_of_parent parent.entry)) r.old) }
     ensures place_inside { IfErr result (IsEarly (length r.old.bytes)) }
@@ -75,8 +75,13 @@ pub fn read_band(
     r.align();
     let len = r.uint()?;
     if len == 0 {
+        let indices = equal_indices(alloc, layout, 0)?;
         let table = BandTable::try_new(alloc, layout.width, layout.height, 0)?;
-        return Ok(CodedBand { index: 0, table });
+        return Ok(CodedBand {
+            index: 0,
+            indices,
+            table,
+        });
     }
     read_coded(alloc, r, len, layout, parent_values(parent))
 }

@@ -1,17 +1,14 @@
-ghost use Rattle.std.specs.Prelude.{◌≡◌, ◌*◌, length, true, OnOk};
+ghost use Rattle.std.specs.Prelude.{◌≡◌, true, OnOk};
 ghost use Rattle.std.specs.Option.{ForSome};
 ghost use Rattle.dirac_bits.specs.Writing.{IsWhole};
 ghost use Rattle.dirac_bits.specs.Spelling.{SpelledBehind};
-ghost use Rattle.dirac_coeffs.specs.Carried.{AreSmall};
 ghost use Rattle.dirac_coeffs.specs.Grammar.{band as band_grammar, values_of_parent, IsParentOf, IsCodedBand};
 ghost use Rattle.dirac_coeffs.specs.Indices.{all_equal};
 ghost use Rattle.dirac_coeffs.specs.Layouts.{IsBandLayout};
-ghost use Rattle.dirac_types.specs.Limits.{IsIndex};
-ghost use Rattle.dirac_coeffs.specs.Written.{block_of, is_zero_band, with_block, with_band};
+ghost use Rattle.dirac_coeffs.specs.Written.{AreIndicesOf, block_of, is_zero_band, with_block, with_band};
 
 use crate::band::parent_values;
 use crate::block_writer::write_block;
-use crate::indices::equal_indices;
 use crate::layout::{BandLayout, CodedBand};
 use crate::zeros::are_all_zeros;
 use dirac_bits::BitWriter;
@@ -25,27 +22,31 @@ fn write_coded(
     w: &mut BitWriter,
     layout: BandLayout,
     parent: &[i64],
-    index: u8,
-    values: &[i64],
+    band: &CodedBand,
 ) -> Result<(), NoMemory>
     requires layout { IsBandLayout layout }
-    requires plain { layout.mode ≡ 0 }
-    requires len { length values.now ≡ layout.width * layout.height }
-    requires magnitudes_bounded { AreSmall values.now }
-    requires index { IsIndex index }
-    ensures exact { OnOk result (w.new ≡ with_block index (block_of layout parent.now index values.now
-        (all_equal layout index)) w.old) }
+    requires band { IsCodedBand layout band.now }
+    requires indices { AreIndicesOf layout band.now.index band.now.table.values band.now.indices }
+    ensures exact { OnOk result (w.new ≡ with_block band.now.index (block_of layout parent.now band.now.index
+        band.now.table.values band.now.indices) w.old) }
 {
-    let indices = equal_indices(alloc, layout, index)?;
-    let block = write_block(alloc, values, &indices, layout, parent, index)?;
+    let index = band.index;
+    let block = write_block(
+        alloc,
+        band.table.values(),
+        &band.indices,
+        layout,
+        parent,
+        index,
+    )?;
     w.uint(block.len() as u64)?;
     w.uint(u64::from(index))?;
     w.align()?;
     w.block(block.as_slice())
 }
 
-/// Writes a subband (subband header and data, Dirac specification): bits 0 up to the next byte, the length of its block,
-/// the quantiser index and the block. A band of zeros has length 0. After want of memory a part may stand.
+/// Writes a subband (subband header and data, Dirac specification): bits 0 up to the next byte, the length of its
+/// block, the quantiser index and the block. A band of zeros has length 0. After want of memory a part may stand.
 pub fn write_band(
     alloc: Global,
     w: &mut BitWriter,
@@ -54,18 +55,18 @@ pub fn write_band(
     band: &CodedBand,
 ) -> Result<(), NoMemory>
     requires layout { IsBandLayout layout }
-    requires plain { layout.mode ≡ 0 }
     requires parent { ForSome parent (IsParentOf layout) }
     requires band { IsCodedBand layout band.now }
+    requires indices { AreIndicesOf layout band.now.index band.now.table.values band.now.indices }
     requires zeros { is_zero_band band.now.table.values ≡ true → band.now.index ≡ 0 }
+    requires zero_indices { is_zero_band band.now.table.values ≡ true → band.now.indices ≡ all_equal layout 0 }
     ensures exact { OnOk result (w.new ≡ with_band layout (values_of_parent parent.entry) band.now w.old) }
     ensures spelled { OnOk result (SpelledBehind (band_grammar layout (values_of_parent parent.entry)) band.now w.old
         w.new) }
 {
     w.align()?;
-    let values = band.table.values();
-    if are_all_zeros(values) {
+    if are_all_zeros(band.table.values()) {
         return w.uint(0);
     }
-    write_coded(alloc, w, layout, parent_values(parent), band.index, values)
+    write_coded(alloc, w, layout, parent_values(parent), band)
 }

@@ -2,6 +2,7 @@ ghost use Rattle.std.specs.Prelude.{◌≡◌, IfOk};
 ghost use Rattle.dirac_coeffs.specs.Answers.{GivesBlock};
 ghost use Rattle.dirac_coeffs.specs.BandRead.{band_read};
 ghost use Rattle.dirac_coeffs.specs.Carried.{AreLawful, CarriesLong, CarriesNoIndex};
+ghost use Rattle.dirac_coeffs.specs.Indices.{all_equal};
 ghost use Rattle.dirac_coeffs.specs.Layouts.{IsBandLayout};
 ghost use Rattle.dirac_types.specs.Limits.{IsIndex};
 
@@ -27,6 +28,7 @@ pub fn read_block(
     requires index { IsIndex index }
     ensures value { GivesBlock layout at result (band_read layout parent.now index block.now) }
     ensures lawful { IfOk result (λ b. AreLawful layout index b.table.values b.indices) }
+    ensures plain { IfOk result (λ b. layout.mode ≡ 0 → b.indices ≡ all_equal layout index) }
     ensures long { result ≡ Err (Stop.Refused (record { at = at; cause = Cause.NumberTooLong }))
         → CarriesLong layout parent.now index block.now }
     ensures no_index { result ≡ Err (Stop.Refused (record { at = at; cause = Cause.QuantIndex }))

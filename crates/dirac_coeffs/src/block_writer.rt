@@ -11,9 +11,9 @@ use dirac_arith::Encoder;
 use dirac_types::NoMemory;
 use std::alloc::Global;
 
-/// The arithmetic block of a subband's coefficients, whose zero flags are true for codeblocks of zeros, and in codeblock
-/// mode 1 of the quantiser indices of its codeblocks, where the band's is `index`. `parent` holds the values of the
-/// parent band by rows, and is empty where there is none.
+/// The arithmetic block of a subband's coefficients, whose zero flags are true for codeblocks of zeros, and in
+/// codeblock mode 1 of the quantiser indices of its codeblocks, where the band's is `index`. `parent` holds the values
+/// of the parent band by rows, and is empty where there is none.
 pub fn write_block(
     alloc: Global,
     values: &[i64],

@@ -1,5 +1,6 @@
 //! What holds of all subbands and blocks, each as the contract of a function that does nothing.
-ghost use Rattle.dirac_coeffs.specs.Laws.{OneBandIsCarried, NoBandBesideLong, NoBandBesideNoIndex, LongOrNoIndex, OnesCarryNothing, BandIsRead, LongIsRefused, NoIndexIsRefused, OnesAreRefused, BlocksAreShort};
+ghost use Rattle.dirac_coeffs.specs.Laws.{OneBandIsCarried, NoBandBesideLong, NoBandBesideNoIndex, LongOrNoIndex, OnesCarryNothing};
+ghost use Rattle.dirac_coeffs.specs.Laws.{BandIsRead, PlainIsEqual, LongIsRefused, NoIndexIsRefused, OnesAreRefused, BlocksAreShort};
 
 /// A block carries the decisions of one band at most, and none beside those of a number that is too long, or of an
 /// offset that leads to no index; it doesn't carry both of these. One that begins with sixteen ones carries none.
@@ -11,9 +12,11 @@ pub fn one_band_is_carried()
     ensures or_ones { OnesCarryNothing }
 {}
 
-/// What a block reads to is the band whose decisions it carries.
+/// What a block reads to is the band whose decisions it carries. In codeblock mode 0 all its codeblocks have the band's
+/// index.
 pub fn a_block_reads_to_its_band()
     ensures carried { BandIsRead }
+    ensures plain { PlainIsEqual }
     ensures long { LongIsRefused }
     ensures no_index { NoIndexIsRefused }
     ensures ones { OnesAreRefused }

@@ -21,10 +21,12 @@ pub struct BandBlock {
     pub table: BandTable,
 }
 
-/// A subband of codeblock mode 0 as it is coded: its quantiser index and its quantised coefficients. The index is 0
-/// where the block's length is 0.
+/// A subband as it is coded: its quantiser index, that of each codeblock by rows, and the quantised coefficients. In
+/// codeblock mode 0 each codeblock has the band's index; in mode 1 a skipped one has that of the codeblock before it,
+/// at first the band's. Where the block's length is 0 all three are zeros.
 #[derive(Debug, Drop)]
 pub struct CodedBand {
     pub index: u8,
+    pub indices: Indices,
     pub table: BandTable,
 }

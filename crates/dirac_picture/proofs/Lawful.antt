@@ -8,10 +8,11 @@ use Rattle.dirac_bits.specs.Cursor.{Cursor}
 use Rattle.dirac_bits.specs.Syntax.{read, done, field, between, ◌>>=◌}
 use Rattle.dirac_bands.specs.Geometry.{band_length}
 use Rattle.dirac_header.specs.declared.header.PictureHeader.{PictureHeader}
+use Rattle.dirac_header.specs.declared.transform.Partition.{Partition}
 use Rattle.dirac_header.specs.declared.transform.Transform.{Transform}
 use Rattle.dirac_header.specs.Codes.{references_of, is_reference}
 use Rattle.dirac_header.specs.Header.{header, reference, retirement}
-use Rattle.dirac_header.specs.Transform.{transform, codeblocks, partition, counts_behind, level_counts}
+use Rattle.dirac_header.specs.Transform.{transform, codeblocks, partition, undivided, counts_behind, level_counts}
 use Rattle.dirac_picture.specs.Bands.{counts_at, counts_among}
 use Rattle.dirac_picture.specs.Fits.{IsCount, IsLayout, IsTransform, NamesReferences}
 use Rattle.dirac_picture.proofs.Every.{Every, every_read, every_then, every_any, every_field}
@@ -59,13 +60,21 @@ every_levels width height depth before (suc more) all =
 no_levels : (width height depth : ℕ) → AreLevels width height depth []
 no_levels width height depth level pair is = absurd (omega (arith, slice_get_within {A = ℕ × ℕ} [] level pair is))
 
-every_parted : (width height depth : ℕ) → Every (AreLevels width height depth) (partition width height depth)
+-- those of a partition
+abbrev pub HasLevels : ℕ → ℕ → ℕ → Partition → Type 0
+HasLevels width height depth p = AreLevels width height depth p.counts
+
+-- these counts, and this mode
+abbrev parted : List (ℕ × ℕ) → ℕ → Partition
+parted counts mode = record { counts = counts; mode = mode }
+
+every_parted : (width height depth : ℕ) → Every (HasLevels width height depth) (partition width height depth)
 unfolding partition
 every_parted width height depth =
-    every_then (AreLevels width height depth) (AreLevels width height depth) (counts_behind width height depth [] (depth + 1))
-    (λ counts. field CodeblockMode (between 0 0) >>= λ mode. done counts) (every_levels width height depth [] (depth + 1) (no_levels width height depth))
+    every_then (AreLevels width height depth) (HasLevels width height depth) (counts_behind width height depth [] (depth + 1))
+    (λ counts. field CodeblockMode (between 0 1) >>= λ mode. done (parted counts mode)) (every_levels width height depth [] (depth + 1) (no_levels width height depth))
     (λ counts all.
-    every_then (λ n. (0 ≤ n) × (n ≤ 0)) (AreLevels width height depth) (field CodeblockMode (between 0 0)) (λ mode. done counts) (every_field CodeblockMode 0 0) (λ mode _. all))
+    every_then (λ n. (0 ≤ n) × (n ≤ 1)) (HasLevels width height depth) (field CodeblockMode (between 0 1)) (λ mode. done (parted counts mode)) (every_field CodeblockMode 0 1) (λ mode _. all))
 
 below_one_more : (n m : ℕ) → n < m + 1 → n ≤ m
 below_one_more n m h = omega arith
@@ -81,29 +90,33 @@ ones_levels width height depth wide high deep level pair is =
     let down : 1 ≤ band_length height depth level = band_some height depth level high deep low in
     subst (λ (p : ℕ × ℕ). IsLevel width height depth level p) ones ((lit≤ tt, across), (lit≤ tt, down))
 
-every_codeblocks : (width height depth : ℕ) → 1 ≤ width → 1 ≤ height → 1 ≤ depth → Every (AreLevels width height depth) (codeblocks width height depth)
+every_codeblocks : (width height depth : ℕ) → 1 ≤ width → 1 ≤ height → 1 ≤ depth → Every (HasLevels width height depth) (codeblocks width height depth)
 unfolding codeblocks
 every_codeblocks width height depth wide high deep = λ parted.
-    elim parted as (λ b. Every (AreLevels width height depth) (if b then partition width height depth else done (replicate (depth + 1) (1, 1)))) [
+    elim parted as (λ b. Every (HasLevels width height depth) (if b then partition width height depth else done (undivided depth))) [
       | true ↦ every_parted width height depth
       | false ↦ ones_levels width height depth wide high deep
     ]
+
+-- the transform parameters of these fields
+abbrev parameters : ℕ → ℕ → Partition → Transform
+parameters wavelet depth blocks = record { wavelet = wavelet; depth = depth; counts = blocks.counts; mode = blocks.mode }
 
 every_transform : (width height : ℕ) → 1 ≤ width → 1 ≤ height → Every (λ t. AreLevels width height t.depth t.counts) (transform width height)
 unfolding transform
 every_transform width height wide high =
     let P : Transform → Type 0 = λ t. AreLevels width height t.depth t.counts in
     every_then (λ n. (0 ≤ n) × (n ≤ 6)) P (field Wavelet (between 0 6))
-    (λ wavelet. field Depth (between 1 5) >>= λ depth. codeblocks width height depth >>= λ counts. done (record { wavelet = wavelet; depth = depth; counts = counts }))
+    (λ wavelet. field Depth (between 1 5) >>= λ depth. codeblocks width height depth >>= λ blocks. done (parameters wavelet depth blocks))
     (every_field Wavelet 0 6)
     (λ wavelet _.
     every_then (λ n. (1 ≤ n) × (n ≤ 5)) P (field Depth (between 1 5))
-    (λ depth. codeblocks width height depth >>= λ counts. done (record { wavelet = wavelet; depth = depth; counts = counts }))
+    (λ depth. codeblocks width height depth >>= λ blocks. done (parameters wavelet depth blocks))
     (every_field Depth 1 5)
     (λ depth some.
-    every_then (AreLevels width height depth) P (codeblocks width height depth)
-    (λ counts. done (record { wavelet = wavelet; depth = depth; counts = counts }))
-    (every_codeblocks width height depth wide high some.0) (λ counts all. all)))
+    every_then (HasLevels width height depth) P (codeblocks width height depth)
+    (λ blocks. done (parameters wavelet depth blocks))
+    (every_codeblocks width height depth wide high some.0) (λ blocks all. all)))
 
 -- each level has its counts
 level_at : (width height : ℕ) (t : Transform) → AreLevels width height t.depth t.counts → length t.counts ≡ t.depth + 1 → (level : ℕ) → level ≤ t.depth
@@ -114,8 +127,8 @@ level_at width height t all len level low =
 
 -- transform parameters that are read
 pub transform_lawful : (width height : ℕ) (c d : Cursor) (t : Transform) → 1 ≤ width → 1 ≤ height → t.wavelet ≤ 6 → (1 ≤ t.depth) × (t.depth ≤ 5)
-    → length t.counts ≡ t.depth + 1 → read (transform width height) c ≡ Ok (t, d) → IsTransform width height t
-transform_lawful width height c d t wide high wavelet depth len is =
+    → length t.counts ≡ t.depth + 1 → t.mode ≤ 1 → read (transform width height) c ≡ Ok (t, d) → IsTransform width height t
+transform_lawful width height c d t wide high wavelet depth len mode is =
     let P : Transform → Type 0 = λ t. AreLevels width height t.depth t.counts in
     let all : AreLevels width height t.depth t.counts = every_read P (transform width height) c d t (every_transform width height wide high) is in
     record {
@@ -124,6 +137,7 @@ transform_lawful width height c d t wide high wavelet depth len is =
       levels = len;
       across = λ level low. (level_at width height t all len level low).0;
       down = λ level low. (level_at width height t all len level low).1;
+      mode = mode;
     }
 
 -- they lay bands out
@@ -133,6 +147,7 @@ layout_lawful width height t wide high lawful = record {
   levels = lawful.levels;
   across = λ level low. ((lawful.across level low).0, omega (arith, (lawful.across level low).1, band_few width t.depth level wide lawful.depth.1));
   down = λ level low. ((lawful.down level low).0, omega (arith, (lawful.down level low).1, band_few height t.depth level high lawful.depth.1));
+  mode = lawful.mode;
 }
 
 every_reference : (there : Bool) (number : ℕ) → Every (λ r. is_some r ≡ there) (reference there number)

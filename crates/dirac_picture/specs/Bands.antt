@@ -1,5 +1,7 @@
--- The subbands of a plane, in the order in which they are coded: LL, then HL, LH and HH of level 1, of level 2 and so on.
-use Rattle.std.specs.Prelude.{◌≡◌, ◌≤◌, ℕ, ℤ, ◌+◌, ◌-◌, ◌*◌, ◌%◌, ◌==◌, nat_le, if◌then◌else◌, List, [], length, slice_get, Option, None, Some}
+-- The subbands of a plane, in the order in which they are coded: LL, then HL, LH and HH of level 1, of level 2 and so
+-- on.
+use Rattle.std.specs.Prelude.{◌≡◌, ◌≤◌, ℕ, ℤ, ◌+◌, ◌-◌, ◌*◌, ◌%◌, ◌==◌, nat_le, if◌then◌else◌, List, [], length}
+use Rattle.std.specs.Prelude.{slice_get, Option, None, Some}
 use Rattle.dirac_types.specs.declared.formats.Band.{Band}
 use Rattle.dirac_types.specs.declared.formats.Band.TheVariants.{LL, HL, LH, HH}
 use Rattle.dirac_types.specs.Table.{Table}
@@ -25,7 +27,7 @@ counts_among (Some counts) = counts
 abbrev pub counts_at : List (ℕ × ℕ) → ℕ → ℕ × ℕ
 counts_at counts level = counts_among (slice_get counts level)
 
--- what band n of a plane of this size is, in codeblock mode 0; the counts of its level serve all three planes
+-- what band n of a plane of this size is; the counts of its level, and the codeblock mode, serve all three planes
 unfoldable pub layout_of : Transform → ℕ → ℕ → ℕ → BandLayout
 layout_of t width height n = record {
   band = orientation_of n;
@@ -33,7 +35,7 @@ layout_of t width height n = record {
   height = band_length height t.depth (level_of n);
   across = (counts_at t.counts (level_of n)).0;
   down = (counts_at t.counts (level_of n)).1;
-  mode = 0;
+  mode = t.mode;
 }
 
 -- the values of a band, where there is one

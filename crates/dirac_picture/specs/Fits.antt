@@ -1,5 +1,6 @@
 -- What every coded picture of a sequence has.
-use Rattle.std.specs.Prelude.{◌≡◌, ℕ, ◌+◌, ◌≤◌, true, false, IsTrue, List, length, nat_le, slice_get, unsigned_abs, Option, None, Some, is_some}
+use Rattle.std.specs.Prelude.{◌≡◌, ℕ, ◌+◌, ◌≤◌, true, false, IsTrue, List, length, nat_le, slice_get, unsigned_abs}
+use Rattle.std.specs.Prelude.{Option, None, Some, is_some}
 use Rattle.dirac_types.specs.declared.limits.TheConstants.{LARGEST_SIDE, MOST_CODEBLOCKS}
 use Rattle.dirac_types.specs.Limits.{IsDepth, IsWavelet}
 use Rattle.dirac_types.specs.declared.formats.Chroma.{Chroma}
@@ -24,20 +25,23 @@ use Rattle.dirac_picture.specs.Grammar.{is_intra, superblocks_over}
 abbrev pub IsCount : ℕ → ℕ → Type 0
 IsCount count most = (1 ≤ count) × (count ≤ most)
 
--- transform parameters of a picture of this size: at each level at most as many codeblocks as luma's bands have columns and rows
+-- transform parameters of a picture of this size: at each level at most as many codeblocks as luma's bands have columns
+-- and rows, and codeblock mode 0 or 1
 pub record IsTransform (width height : ℕ) (t : Transform) : Type 0 where
   pub wavelet : IsWavelet t.wavelet
   pub depth : IsDepth t.depth
   pub levels : length t.counts ≡ t.depth + 1
   pub across : (level : ℕ) → level ≤ t.depth → IsCount (counts_at t.counts level).0 (band_length width t.depth level)
   pub down : (level : ℕ) → level ≤ t.depth → IsCount (counts_at t.counts level).1 (band_length height t.depth level)
+  pub mode : t.mode ≤ 1
 
--- a layout of bands: its levels, and at each from 1 to 8,192 codeblocks across and down
+-- a layout of bands: its levels, at each from 1 to 8,192 codeblocks across and down, and codeblock mode 0 or 1
 pub record IsLayout (t : Transform) : Type 0 where
   pub depth : IsDepth t.depth
   pub levels : length t.counts ≡ t.depth + 1
   pub across : (level : ℕ) → level ≤ t.depth → IsCount (counts_at t.counts level).0 MOST_CODEBLOCKS
   pub down : (level : ℕ) → level ≤ t.depth → IsCount (counts_at t.counts level).1 MOST_CODEBLOCKS
+  pub mode : t.mode ≤ 1
 
 -- a plane's size
 pub record IsPlaneSize (width height : ℕ) : Type 0 where

@@ -31,7 +31,7 @@ pub fn layout(transform: &Transform, width: u32, height: u32, n: u32) -> BandLay
     requires there { n ≤ 3 * transform.now.depth }
     ensures value { result ≡ bands.layout_of transform.now width height n }
     ensures lawful { IsBandLayout result }
-    ensures plain { result.mode ≡ 0 }
+    ensures mode { result.mode ≡ transform.now.mode }
 {
     let depth = transform.depth;
     let level = ((n + 2) / 3) as u8;
@@ -42,6 +42,6 @@ pub fn layout(transform: &Transform, width: u32, height: u32, n: u32) -> BandLay
         height: band_size(padded(height, depth), depth, level),
         across,
         down,
-        mode: 0,
+        mode: transform.mode,
     }
 }

@@ -5,7 +5,7 @@ use Rattle.dirac_types.specs.declared.faults.Stop.{Stop}
 use Rattle.dirac_types.specs.declared.faults.Stop.TheVariants as stop
 use Rattle.dirac_coeffs.specs.declared.layout.BandBlock.{BandBlock}
 use Rattle.dirac_coeffs.specs.BandRead.{band_progress, content, band_read}
-use Rattle.dirac_coeffs.proofs.Read.{steps_answer, band_carried, break_carried, written_over, table_written}
+use Rattle.dirac_coeffs.proofs.Read.{steps_answer, band_carried, break_carried, plain_is_equal, written_over, table_written}
 use Rattle.dirac_coeffs.proofs.block.read_block.Goals as goal
 
 -- the cause of a refusal
@@ -33,6 +33,12 @@ returns-in-Ok-clause-lawful c =
     let t = c.in_ok-table.table in
     let ws = c.read_all.new.values in
     (band_carried c.args.layout c.args.parent.now c.args.index c.args.block.now (take (length t.values) (ws ++ drop (length ws) t.values)) c.read_all.new.indices c.requires.layout c.requires.index (returns-in-Ok-clause-value c).1).1.lawful
+
+pub returns-in-Ok-clause-plain : goal.returns-in-Ok-clause-plain
+returns-in-Ok-clause-plain c = λ mode.
+    let t = c.in_ok-table.table in
+    let ws = c.read_all.new.values in
+    plain_is_equal c.args.layout c.args.parent.now c.args.index c.args.block.now (take (length t.values) (ws ++ drop (length ws) t.values)) c.read_all.new.indices c.requires.layout c.requires.index mode (returns-in-Ok-clause-value c).1
 
 pub returns-in-Err-clause-value : goal.returns-in-Err-clause-value
 returns-in-Err-clause-value c =

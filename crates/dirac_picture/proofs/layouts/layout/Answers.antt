@@ -16,5 +16,5 @@ returns-clause-lawful c =
       height = (rw (c.band_size-2.ensures.value, c.padded-2.ensures.value) (band_some c.args.height t.depth level c.requires.size.down.0 c.requires.layout.depth.0 low), omega arith);
       across = across;
       down = down;
-      mode = omega arith;
+      mode = c.requires.layout.mode;
     }

@@ -10,7 +10,7 @@ read_planes-requires-clause-transform c =
     let s = c.args.sequence.now in
     let size = picture_size s c.requires.sequence in
     transform_lawful s.width (picture_height s) c.args.r.now c.read_transform.new.r c.in_ok-transform.transform size.0 size.2
-    c.in_ok-transform.ensures.wavelet c.in_ok-transform.ensures.depth c.in_ok-transform.ensures.levels (rw c.picture_height.ensures at c.in_ok-transform.ensures.value)
+    c.in_ok-transform.ensures.wavelet c.in_ok-transform.ensures.depth c.in_ok-transform.ensures.levels c.in_ok-transform.ensures.mode (rw c.picture_height.ensures at c.in_ok-transform.ensures.value)
 
 pub read_planes-requires-clause-layout : goal.read_planes-requires-clause-layout
 read_planes-requires-clause-layout c =
@@ -19,5 +19,5 @@ read_planes-requires-clause-layout c =
     let high : picture_height s ≤ 4096 = omega (arith, size.3) in
     let lawful : IsTransform s.width (picture_height s) c.in_ok-transform.transform =
     transform_lawful s.width (picture_height s) c.args.r.now c.read_transform.new.r c.in_ok-transform.transform size.0 size.2
-    c.in_ok-transform.ensures.wavelet c.in_ok-transform.ensures.depth c.in_ok-transform.ensures.levels (rw c.picture_height.ensures at c.in_ok-transform.ensures.value) in
+    c.in_ok-transform.ensures.wavelet c.in_ok-transform.ensures.depth c.in_ok-transform.ensures.levels c.in_ok-transform.ensures.mode (rw c.picture_height.ensures at c.in_ok-transform.ensures.value) in
     layout_lawful s.width (picture_height s) c.in_ok-transform.transform size.1 high lawful
