@@ -9,6 +9,7 @@ pub mod Filled
 mod Fills
 mod ForwardLoops
 mod Forwards
+mod Fronts
 mod Going
 mod InContexts
 mod Narrowing

@@ -1,5 +1,6 @@
-ghost use Rattle.std.specs.Prelude.{◌≡◌, ◌+◌, ◌^◌, ◌<◌, [], ◌∷◌, length, OnOk};
+ghost use Rattle.std.specs.Prelude.{◌≡◌, ◌+◌, ◌^◌, ◌<◌, [], ◌∷◌, length, OnErr, OnOk};
 ghost use Rattle.dirac_arith.specs.Written.{flush};
+ghost use Rattle.dirac_bits.specs.Fronts.{HoldsFront};
 ghost use Rattle.dirac_bits.specs.Writing.{IsWhole};
 ghost use Rattle.dirac_bits.specs.Spelling.{SpelledBehind};
 ghost use Rattle.dirac_blocks.specs.Decisions.{block_decisions, least_numbers, second_lists, split_rows, unit_decisions};
@@ -21,6 +22,7 @@ const BLOCK_LIMIT: u64 = (1 << 39) - 1;
 /// Writes a block behind its length.
 fn write_block(w: &mut BitWriter, block: &[u8]) -> Result<(), NoMemory>
     ensures exact { OnOk result (w.new ≡ with_block block.now w.old) }
+    ensures front { OnErr result (HoldsFront w.old w.new (with_block block.now w.old)) }
     ensures short { OnOk result (length block.now + 1 < 2 ^ 39) }
 {
     let len = block.len() as u64;
@@ -36,6 +38,8 @@ fn write_block(w: &mut BitWriter, block: &[u8]) -> Result<(), NoMemory>
 fn write_splits(alloc: Global, w: &mut BitWriter, table: &BlockData) -> Result<(), NoMemory>
     ensures exact { OnOk result (w.new ≡ with_block (flush (split_rows table.now.across (least_numbers table.now)
         table.now.down)) w.old) }
+    ensures front { OnErr result (HoldsFront w.old w.new (with_block (flush (split_rows table.now.across
+        (least_numbers table.now) table.now.down)) w.old)) }
     ensures short { OnOk result (length (flush (split_rows table.now.across (least_numbers table.now) table.now.down)) +
         1 < 2 ^ 39) }
 {
@@ -51,6 +55,8 @@ fn write_part(
     part: ListKind,
 ) -> Result<(), NoMemory>
     ensures exact { OnOk result (w.new ≡ with_block (flush (unit_decisions table.now (part_at part table.now))) w.old) }
+    ensures front { OnErr result (HoldsFront w.old w.new
+        (with_block (flush (unit_decisions table.now (part_at part table.now))) w.old)) }
     ensures short { OnOk result (length (flush (unit_decisions table.now (part_at part table.now))) + 1 < 2 ^ 39) }
 {
     let block = part_block(alloc, table, part)?;
@@ -67,6 +73,9 @@ fn write_vectors(
     ensures exact { OnOk result (w.new ≡ with_lists (unit_decisions table.now
         (part_at (ListKind.Across reference) table.now) ∷ unit_decisions table.now
         (part_at (ListKind.Down reference) table.now) ∷ []) w.old) }
+    ensures front { OnErr result (HoldsFront w.old w.new (with_lists (unit_decisions table.now
+        (part_at (ListKind.Across reference) table.now) ∷ unit_decisions table.now
+        (part_at (ListKind.Down reference) table.now) ∷ []) w.old)) }
     ensures short { OnOk result (AreShort (unit_decisions table.now (part_at (ListKind.Across reference) table.now)
         ∷ unit_decisions table.now (part_at (ListKind.Down reference) table.now) ∷ [])) }
 {
@@ -77,6 +86,7 @@ fn write_vectors(
 /// Writes the blocks of the second reference, where there is one.
 fn write_second(alloc: Global, w: &mut BitWriter, table: &BlockData) -> Result<(), NoMemory>
     ensures exact { OnOk result (w.new ≡ with_lists (second_lists table.now) w.old) }
+    ensures front { OnErr result (HoldsFront w.old w.new (with_lists (second_lists table.now) w.old)) }
     ensures short { OnOk result (AreShort (second_lists table.now)) }
     ensures lawful { IsBlockTable table.now }
 {
@@ -92,6 +102,10 @@ fn write_dcs(alloc: Global, w: &mut BitWriter, table: &BlockData) -> Result<(), 
         (part_at (ListKind.Dc Component.Y) table.now) ∷ unit_decisions table.now
         (part_at (ListKind.Dc Component.U) table.now) ∷ unit_decisions table.now
         (part_at (ListKind.Dc Component.V) table.now) ∷ []) w.old) }
+    ensures front { OnErr result (HoldsFront w.old w.new (with_lists (unit_decisions table.now
+        (part_at (ListKind.Dc Component.Y) table.now) ∷ unit_decisions table.now
+        (part_at (ListKind.Dc Component.U) table.now) ∷ unit_decisions table.now
+        (part_at (ListKind.Dc Component.V) table.now) ∷ []) w.old)) }
     ensures short { OnOk result (AreShort (unit_decisions table.now (part_at (ListKind.Dc Component.Y) table.now)
         ∷ unit_decisions table.now (part_at (ListKind.Dc Component.U) table.now)
         ∷ unit_decisions table.now (part_at (ListKind.Dc Component.V) table.now) ∷ [])) }
@@ -102,11 +116,14 @@ fn write_dcs(alloc: Global, w: &mut BitWriter, table: &BlockData) -> Result<(), 
 }
 
 /// Writes a block table (block data, Dirac specification): for each of its lists a length and an arithmetic block.
-/// It is read as the same table. After want of memory a part may stand.
+/// It is read as the same table. After want of memory what stood before still stands, with a front of these bits
+/// behind it.
 #[tactic(auto, using(crate::proofs::Appended::lists_append))]
 pub fn write_blocks(alloc: Global, w: &mut BitWriter, blocks: &BlockData) -> Result<(), NoMemory>
     requires { IsWhole w.old }
     ensures exact { OnOk result (w.new ≡ with_lists (block_decisions blocks.now (least_numbers blocks.now)) w.old) }
+    ensures front { OnErr result (HoldsFront w.old w.new
+        (with_lists (block_decisions blocks.now (least_numbers blocks.now)) w.old)) }
     ensures spelled { OnOk result (SpelledBehind (blocks_grammar blocks.now.across blocks.now.down blocks.now.refs)
         blocks.now w.old w.new) }
 {

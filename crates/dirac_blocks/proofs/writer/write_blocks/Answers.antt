@@ -1,3 +1,7 @@
+use Rattle.std.proofs.Common.{◌++◌}
+use Rattle.dirac_bits.proofs.Fronts.{on_err, err_so}
+use Rattle.dirac_blocks.specs.Decisions.{second_lists}
+use Rattle.dirac_blocks.proofs.Fronts.{splits_of, modes_of, firsts_of, dcs_of, next_lists, first_lists, other_lists}
 use Rattle.dirac_blocks.proofs.Spelled.{written_spelled}
 use Rattle.dirac_blocks.proofs.writer.write_blocks.Goals as goal
 
@@ -10,3 +14,42 @@ returns-clause-spelled c =
     (c.in_ok-write_vectors.ensures.exact, c.in_ok-write_vectors.ensures.short)
     c.in_ok-write_second.ensures.exact c.in_ok-write_second.ensures.short
     c.write_dcs.ensures.exact c.write_dcs.ensures.short
+
+pub returns-in_err-write_splits-clause-front : goal.returns-in_err-write_splits-clause-front
+returns-in_err-write_splits-clause-front c =
+    let t = c.args.blocks.now in
+    let behind = modes_of t ++ (firsts_of t ++ (second_lists t ++ dcs_of t)) in
+    on_err _ (first_lists (splits_of t) behind c.in_err-write_splits.ensures.front)
+
+pub returns-in_err-write_part-clause-front : goal.returns-in_err-write_part-clause-front
+returns-in_err-write_part-clause-front c =
+    let t = c.args.blocks.now in
+    let behind = firsts_of t ++ (second_lists t ++ dcs_of t) in
+    let holds = first_lists (modes_of t) behind c.in_err-write_part.ensures.front in
+    on_err _ (other_lists (splits_of t) (modes_of t ++ behind) c.in_ok-write_splits.ensures.exact holds)
+
+pub returns-in_err-write_vectors-clause-front : goal.returns-in_err-write_vectors-clause-front
+returns-in_err-write_vectors-clause-front c =
+    let t = c.args.blocks.now in
+    let behind = second_lists t ++ dcs_of t in
+    let two = next_lists c.args.w.now (splits_of t) (modes_of t) c.in_ok-write_splits.ensures.exact c.in_ok-write_part.ensures.exact in
+    let holds = first_lists (firsts_of t) behind c.in_err-write_vectors.ensures.front in
+    on_err _ (other_lists (splits_of t ++ modes_of t) (firsts_of t ++ behind) two holds)
+
+pub returns-in_err-write_second-clause-front : goal.returns-in_err-write_second-clause-front
+returns-in_err-write_second-clause-front c =
+    let t = c.args.blocks.now in
+    let two = next_lists c.args.w.now (splits_of t) (modes_of t) c.in_ok-write_splits.ensures.exact c.in_ok-write_part.ensures.exact in
+    let three = next_lists c.args.w.now (splits_of t ++ modes_of t) (firsts_of t) two c.in_ok-write_vectors.ensures.exact in
+    let holds = first_lists (second_lists t) (dcs_of t) c.in_err-write_second.ensures.front in
+    on_err _ (other_lists (splits_of t ++ modes_of t ++ firsts_of t) (second_lists t ++ dcs_of t) three holds)
+
+pub returns-clause-front : goal.returns-clause-front
+returns-clause-front c =
+    let t = c.args.blocks.now in
+    let two = next_lists c.args.w.now (splits_of t) (modes_of t) c.in_ok-write_splits.ensures.exact c.in_ok-write_part.ensures.exact in
+    let three = next_lists c.args.w.now (splits_of t ++ modes_of t) (firsts_of t) two c.in_ok-write_vectors.ensures.exact in
+    let behind = second_lists t in
+    err_so _
+    (λ holds. other_lists (splits_of t ++ modes_of t ++ firsts_of t) (behind ++ dcs_of t) three (other_lists behind (dcs_of t) c.in_ok-write_second.ensures.exact holds))
+    c.write_dcs.ensures.front

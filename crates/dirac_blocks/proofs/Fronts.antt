@@ -1,0 +1,68 @@
+-- Where the writing of lists breaks off.
+use Rattle.std.proofs.Common.{◌≡◌, ℕ, Bool, List, [], ◌∷◌, ◌++◌, length, refl, sym, ap, subst, ◌∙◌}
+use Rattle.dirac_types.specs.Bits.{bits_of}
+use Rattle.dirac_types.specs.Numbers.{uint}
+use Rattle.dirac_types.specs.declared.formats.Component.TheVariants as components
+use Rattle.dirac_arith.specs.Interval.{Decision}
+use Rattle.dirac_arith.specs.Written.{flush}
+use Rattle.dirac_bits.specs.Fronts.{HoldsFront}
+use Rattle.dirac_bits.specs.Writing.{gap}
+use Rattle.dirac_bits.proofs.Fronts.{nothing_stands, all_stand, more_stand, still_stand, through_stand}
+use Rattle.dirac_blocks.specs.declared.parts.ListKind.TheVariants as parts
+use Rattle.dirac_blocks.specs.declared.parts.Reference.TheVariants as references
+use Rattle.dirac_blocks.specs.Decisions.{least_numbers, split_rows, unit_decisions}
+use Rattle.dirac_blocks.specs.Parts.{part_at}
+use Rattle.dirac_blocks.specs.Tables.{BlockTable}
+use Rattle.dirac_blocks.specs.Written.{with_block, with_lists}
+use Rattle.dirac_blocks.proofs.Appended.{lists_append}
+
+-- a block was to be written behind that
+block_more : {old new all : List Bool} (block : List ℕ) → HoldsFront old new all → HoldsFront old new (with_block block all)
+block_more {old} {new} {all} block holds =
+    more_stand (bits_of block) (more_stand (gap (all ++ uint (length block))) (more_stand (uint (length block)) holds))
+
+-- nothing of a block was written
+pub no_block : {old new : List Bool} (block : List ℕ) → new ≡ old → HoldsFront old new (with_block block old)
+no_block {old} {new} block same = block_more block (nothing_stands same)
+
+-- lists were to be written behind that
+pub lists_more : (lists : List (List Decision)) {old new all : List Bool} → HoldsFront old new all → HoldsFront old new (with_lists lists all)
+lists_more [] holds = holds
+lists_more (ds ∷ lists) holds = lists_more lists (block_more (flush ds) holds)
+
+-- it broke off within the first lists
+pub first_lists : {old new : List Bool} (first rest : List (List Decision)) → HoldsFront old new (with_lists first old) → HoldsFront old new (with_lists (first ++ rest) old)
+first_lists {old} {new} first rest holds =
+    let longer : HoldsFront old new (with_lists rest (with_lists first old)) = lists_more rest holds in
+    subst (λ (l : List Bool). HoldsFront old new l) (sym (lists_append first rest old)) longer
+
+-- it broke off behind them
+pub other_lists : {old mid new : List Bool} (first rest : List (List Decision)) → mid ≡ with_lists first old → HoldsFront mid new (with_lists rest mid)
+    → HoldsFront old new (with_lists (first ++ rest) old)
+other_lists {old} {mid} {new} first rest written holds =
+    let whole : HoldsFront old (with_lists first old) (with_lists first old) = all_stand (lists_more first (nothing_stands {new = old} refl)) in
+    let before : HoldsFront old mid (with_lists first old) = still_stand whole written in
+    let later : HoldsFront old new (with_lists rest mid) = through_stand before holds in
+    subst (λ (l : List Bool). HoldsFront old new l) (ap (with_lists rest) written ∙ sym (lists_append first rest old)) later
+
+-- ---- the lists of a table, stage by stage
+
+abbrev pub splits_of : BlockTable → List (List Decision)
+splits_of t = split_rows t.across (least_numbers t) t.down ∷ []
+
+abbrev pub modes_of : BlockTable → List (List Decision)
+modes_of t = unit_decisions t (part_at parts.Modes t) ∷ []
+
+abbrev pub firsts_of : BlockTable → List (List Decision)
+firsts_of t = unit_decisions t (part_at (parts.Across references.First) t) ∷ unit_decisions t (part_at (parts.Down references.First) t) ∷ []
+
+abbrev pub dcs_of : BlockTable → List (List Decision)
+dcs_of t =
+    unit_decisions t (part_at (parts.Dc components.Y) t)
+    ∷ unit_decisions t (part_at (parts.Dc components.U) t)
+    ∷ unit_decisions t (part_at (parts.Dc components.V) t)
+    ∷ []
+
+-- one more stage was written
+pub next_lists : {mid new : List Bool} (old : List Bool) (before next : List (List Decision)) → mid ≡ with_lists before old → new ≡ with_lists next mid → new ≡ with_lists (before ++ next) old
+next_lists {mid} {new} old before next first second = second ∙ ap (with_lists next) first ∙ sym (lists_append before next old)
