@@ -1,4 +1,5 @@
 pub mod Codes
+pub mod Counts
 pub mod Header
 pub mod Prediction
 pub mod Transform
