@@ -1,19 +1,19 @@
 -- Rows of two tables beside each other, and the plane that they make.
-use Rattle.std.proofs.Common.{◌≡◌, ◌≢◌, ℕ, ℤ, pos, ◌+◌, ◌-◌, ◌*◌, ◌/◌, ◌%◌, ◌<◌, ◌≤◌, ◌==◌, if◌then◌else◌, nat_lt, unsigned_abs, List, length, map, take, drop, get_or, set, arith, refl, inl, inr, ap, sym, ◌∙◌, eq-eqb}
+use Rattle.std.proofs.Common.{◌≡◌, ℕ, ℤ, pos, ◌+◌, ◌-◌, ◌*◌, ◌/◌, ◌%◌, ◌<◌, ◌≤◌, ◌==◌, if◌then◌else◌, unsigned_abs, List, length, drop, get_or, set, arith, refl, inl, inr, ap, sym, ◌∙◌, eq-eqb}
 use Rattle.std.specs.List.{All}
 use Rattle.std.proofs.lemmas.Bool.{cases_eq, cases_lt, ne_eqb, lt-ltb, le-ltb}
 use Rattle.std.proofs.lemmas.List.{get_or-set_same, get_or-set_other, get_or-map}
 use Rattle.std.proofs.lemmas.List.Elements.{All-take, All-drop, All-map}
 use Rattle.dirac_types.specs.declared.formats.Kind.{Kind}
-use Rattle.dirac_types.specs.Table.{Table, filled, row_of, table_at, table_of}
+use Rattle.dirac_types.specs.Table.{Table, row_of, table_at}
 use Rattle.dirac_types.proofs.Bounds.{told_bound, values_bound}
-use Rattle.dirac_types.proofs.Rows.{RowsFilled, filled_at, row_at, rows_all}
+use Rattle.dirac_types.proofs.Rows.{filled_at, row_at, rows_all}
 use Rattle.dirac_quant.specs.Quantiser.{factor_of, offset_of, restored, scaled}
 use Rattle.dirac_bands.specs.Interleaving.{joined, joined_at}
 use Rattle.dirac_coeffs.specs.declared.layout.CodedBand.{CodedBand}
 use Rattle.dirac_lift.specs.Halves.{from_halves, place_of}
 use Rattle.dirac_residual.specs.Halves.{IsNarrowBand, beside, beside_at}
-use Rattle.dirac_residual.specs.Residual.{restored_band}
+use Rattle.dirac_residual.specs.Codeblocks.{restored_by_one}
 use Rattle.dirac_residual.proofs.JoinedRows.{restored_row}
 use Rattle.dirac_residual.proofs.ZeroBands.{length-filled}
 
@@ -56,13 +56,13 @@ beside_bound most a b ha hb =
     ])
 
 -- what a coded number of a row stands for
-pub restored_value : (kind : Kind) (b : CodedBand) (n y factor offset : ℕ) (coded : List ℤ) → coded ≡ row_of b.table y → factor ≡ factor_of b.index → offset ≡ offset_of b.index kind → n < b.table.width → n < length coded → scaled (get_or coded n (pos 0)) factor offset ≡ table_at (restored_band kind b) n y
+pub restored_value : (kind : Kind) (b : CodedBand) (n y factor offset : ℕ) (coded : List ℤ) → coded ≡ row_of b.table y → factor ≡ factor_of b.index → offset ≡ offset_of b.index kind → n < b.table.width → n < length coded → scaled (get_or coded n (pos 0)) factor offset ≡ table_at (restored_by_one kind b) n y
 restored_value kind b n y factor offset coded e ef eo l inside =
     ap (λ f. scaled (get_or coded n (pos 0)) f offset) ef
     ∙ ap (λ o. scaled (get_or coded n (pos 0)) (factor_of b.index) o) eo
     ∙ sym (get_or-map (λ v. restored v b.index kind) coded n (pos 0) (pos 0) inside)
     ∙ ap (λ zs. get_or zs n (pos 0)) (restored_row kind b y coded e)
-    ∙ row_at (restored_band kind b) n y l
+    ∙ row_at (restored_by_one kind b) n y l
 
 -- what holds of all values holds of a row's
 pub row_all : (P : ℤ → Type 0) (t : Table) (y : ℕ) (row : List ℤ) → row ≡ row_of t y → All P t.values → All P row
@@ -101,6 +101,6 @@ from_beside ll hl lh hh w h es os ee eo ew eh sw sh some =
     })
 
 -- the coefficients of a narrow band
-pub narrow_values : (kind : Kind) (b : CodedBand) → IsNarrowBand kind b → All (λ v. unsigned_abs v ≤ 4095) (restored_band kind b).values
+pub narrow_values : (kind : Kind) (b : CodedBand) → IsNarrowBand kind b → All (λ v. unsigned_abs v ≤ 4095) (restored_by_one kind b).values
 narrow_values kind b narrow =
     All-map (λ v. unsigned_abs v ≤ 4095) (λ v. restored v b.index kind) b.table.values narrow.small

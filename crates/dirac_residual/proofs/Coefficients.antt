@@ -11,7 +11,7 @@ use Rattle.dirac_types.specs.declared.formats.Kind.TheVariants.{Intra, Inter}
 use Rattle.dirac_quant.specs.Quantiser.{factor_of, general_offset, offset_of, with_sign_of, restored_magnitude, restored}
 use Rattle.dirac_coeffs.specs.declared.layout.CodedBand.{CodedBand}
 use Rattle.dirac_residual.specs.Fits.{IsBesides}
-use Rattle.dirac_residual.specs.Residual.{restored_band}
+use Rattle.dirac_residual.specs.Codeblocks.{restored_by_one}
 
 factor_small : (index : ℕ) → index ≤ 99 → factor_of index < 2 ^ 27
 factor_small index most =
@@ -65,7 +65,7 @@ restored_small v index kind small most =
     signed_small v (restored_magnitude (unsigned_abs v) index kind) (2 ^ 64) (magnitude_small (unsigned_abs v) index kind small most)
 
 -- the coefficients of a band beside an LL band
-pub restored_at_most : (b : ℕ) (kind : Kind) (low : Table) (band : CodedBand) → 2 ^ 64 ≤ b → IsBesides low band → All (λ v. unsigned_abs v ≤ b) (restored_band kind band).values
+pub restored_at_most : (b : ℕ) (kind : Kind) (low : Table) (band : CodedBand) → 2 ^ 64 ≤ b → IsBesides low band → All (λ v. unsigned_abs v ≤ b) (restored_by_one kind band).values
 restored_at_most b kind low band least fits =
     All-map (λ v. unsigned_abs v ≤ b) (λ v. restored v band.index kind) band.table.values
     (λ k d l. omega (arith, least, restored_small (get_or band.table.values k d) band.index kind (fits.small k d l) fits.index))

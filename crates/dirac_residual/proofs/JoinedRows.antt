@@ -9,7 +9,7 @@ use Rattle.dirac_quant.specs.Quantiser.{restored}
 use Rattle.dirac_bands.specs.Interleaving.{interleaved}
 use Rattle.dirac_bands.proofs.Interleaves.{at_even, at_odd, interleaved_all}
 use Rattle.dirac_coeffs.specs.declared.layout.CodedBand.{CodedBand}
-use Rattle.dirac_residual.specs.Residual.{restored_band}
+use Rattle.dirac_residual.specs.Codeblocks.{restored_by_one}
 
 -- one more value is written to every place of a step
 pub one_more : (f : ℤ → ℤ) (xs line : List ℤ) (step first n : ℕ) (v : ℤ) → ((k : ℕ) → k < n → get_or line (k * step + first) (pos 0) ≡ f (get_or xs k (pos 0))) → first < step → n * step + first < length line → v ≡ f (get_or xs n (pos 0)) → (k : ℕ) → k < n + 1 → get_or (set line (n * step + first) v) (k * step + first) (pos 0) ≡ f (get_or xs k (pos 0))
@@ -64,7 +64,7 @@ both_in_turn_after f g xs ys before line len same left right stay =
     right stay
 
 -- a row of what a coded band stands for
-pub restored_row : (kind : Kind) (b : CodedBand) (y : ℕ) (coded : List ℤ) → coded ≡ row_of b.table y → map (λ v. restored v b.index kind) coded ≡ row_of (restored_band kind b) y
+pub restored_row : (kind : Kind) (b : CodedBand) (y : ℕ) (coded : List ℤ) → coded ≡ row_of b.table y → map (λ v. restored v b.index kind) coded ≡ row_of (restored_by_one kind b) y
 restored_row kind b y coded e =
     ap (map (λ v. restored v b.index kind)) e
     ∙ sym (take-map (λ v. restored v b.index kind) (y * b.table.width + b.table.width - y * b.table.width) (drop (y * b.table.width) b.table.values))

@@ -1,9 +1,10 @@
 pub mod BesideRows
 pub mod Bounds
+pub mod ByCodeblock
 pub mod Coefficients
 pub mod JoinedRows
 pub mod LevelBounds
-pub mod Levels
+pub mod LevelLemmas
 pub mod Maps
 pub mod Sizes
 pub mod ZeroBands

@@ -1,3 +1,4 @@
+pub mod Codeblocks
 pub mod Fits
 pub mod Halves
 pub mod Held

@@ -5,27 +5,22 @@ use Rattle.dirac_types.specs.declared.formats.Kind.{Kind}
 use Rattle.dirac_types.specs.declared.formats.Kind.TheVariants.{Intra, Inter}
 pub use Rattle.dirac_types.specs.Samples.{clip}
 use Rattle.dirac_types.specs.Table.{Table, table_at, table_of}
-use Rattle.dirac_quant.specs.Quantiser.{restored}
 use Rattle.dirac_bands.specs.DcSum.{dc_sum}
+use Rattle.dirac_bands.specs.Geometry.{level_of}
+use Rattle.dirac_header.specs.Counts.{counts_at}
+use Rattle.dirac_header.specs.declared.transform.Transform.{Transform}
 use Rattle.dirac_coeffs.specs.declared.layout.CodedBand.{CodedBand}
 use Rattle.dirac_lift.specs.Level.{level}
+pub use Rattle.dirac_residual.specs.Codeblocks.{restored_band}
 
--- the coefficients that a coded band stands for
-abbrev pub restored_band : Kind → CodedBand → Table
-restored_band kind band = record {
-  width = band.table.width;
-  height = band.table.height;
-  values = map (λ v. restored v band.index kind) band.table.values;
-}
-
--- those of a band that may be missing
-abbrev pub restored_among : Kind → Option CodedBand → Table
-restored_among kind None = record { width = 0; height = 0; values = [] }
-restored_among kind (Some band) = restored_band kind band
+-- the coefficients of a band that may be missing
+abbrev pub restored_among : Kind → ℕ × ℕ → Option CodedBand → Table
+restored_among kind counts None = record { width = 0; height = 0; values = [] }
+restored_among kind counts (Some band) = restored_band kind counts band
 
 -- those of band n of a plane: LL is band 0, HL, LH and HH of level n + 1 are bands 3n + 1, 3n + 2 and 3n + 3
-abbrev pub restored_at : Kind → List CodedBand → ℕ → Table
-restored_at kind bands n = restored_among kind (slice_get bands n)
+abbrev pub restored_at : Transform → Kind → List CodedBand → ℕ → Table
+restored_at t kind bands n = restored_among kind (counts_at t.counts (level_of n)) (slice_get bands n)
 
 -- the LL band of level 0: an intra picture codes its differences from its predictions
 abbrev pub summed : Kind → Table → Table
@@ -33,19 +28,19 @@ summed Intra t = dc_sum t
 summed Inter t = t
 
 -- the LL band after the synthesis of the first levels
-unfoldable pub after_levels : ℕ → Kind → List CodedBand → ℕ → Table
-after_levels wavelet kind bands zero = summed kind (restored_at kind bands 0)
-after_levels wavelet kind bands (suc n) =
-    level wavelet (after_levels wavelet kind bands n) (restored_at kind bands (3 * n + 1))
-    (restored_at kind bands (3 * n + 2)) (restored_at kind bands (3 * n + 3))
+unfoldable pub after_levels : Transform → Kind → List CodedBand → ℕ → Table
+after_levels t kind bands zero = summed kind (restored_at t kind bands 0)
+after_levels t kind bands (suc n) =
+    level t.wavelet (after_levels t kind bands n) (restored_at t kind bands (3 * n + 1))
+    (restored_at t kind bands (3 * n + 2)) (restored_at t kind bands (3 * n + 3))
 
 -- the first columns and rows of a table
 abbrev pub cut : ℕ → ℕ → Table → Table
 cut width height t = table_of width height (table_at t)
 
 -- the residual of a plane of this size, from its bands
-abbrev pub residual : ℕ → ℕ → Kind → List CodedBand → ℕ → ℕ → Table
-residual wavelet depth kind bands width height = cut width height (after_levels wavelet kind bands depth)
+abbrev pub residual : Transform → Kind → List CodedBand → ℕ → ℕ → Table
+residual t kind bands width height = cut width height (after_levels t kind bands t.depth)
 
 -- the plane of these values, clipped
 abbrev pub clipped : Table → Table

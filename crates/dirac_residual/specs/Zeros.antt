@@ -3,6 +3,7 @@ use Rattle.std.specs.Prelude.{◌≡◌, ℕ, pos, ◌*◌, Bool, true, List, re
 use Rattle.std.specs.List.{list_all}
 use Rattle.dirac_types.specs.declared.formats.Kind.TheVariants.{Inter}
 use Rattle.dirac_types.specs.Table.{Table}
+use Rattle.dirac_header.specs.declared.transform.Transform.{Transform}
 use Rattle.dirac_coeffs.specs.declared.layout.CodedBand.{CodedBand}
 use Rattle.dirac_coeffs.specs.Written.{is_zero_band}
 use Rattle.dirac_residual.specs.Residual.{residual}
@@ -15,8 +16,8 @@ zeros width height = record { width = width; height = height; values = replicate
 abbrev pub are_zero_bands : List CodedBand → Bool
 are_zero_bands bands = list_all (λ (b : CodedBand). is_zero_band b.table.values) bands
 
--- such bands stand for a residual of zeros, at whatever index: an inter picture may write none
+-- such bands stand for a residual of zeros, at whatever indices: an inter picture may write none
 abbrev pub ZerosStandForZeros : Type 0
 ZerosStandForZeros =
-    (wavelet depth : ℕ) (bands : List CodedBand) (width height : ℕ) → are_zero_bands bands ≡ true
-    → residual wavelet depth Inter bands width height ≡ zeros width height
+    (t : Transform) (bands : List CodedBand) (width height : ℕ) → are_zero_bands bands ≡ true
+    → residual t Inter bands width height ≡ zeros width height

@@ -4,7 +4,7 @@ ghost use Rattle.dirac_types.specs.Limits.{IsIndex};
 ghost use Rattle.dirac_quant.specs.Quantiser.{restored};
 ghost use Rattle.dirac_bands.specs.Interleaving.{interleaved, joined};
 ghost use Rattle.dirac_residual.specs.Fits.{IsBesides};
-ghost use Rattle.dirac_residual.specs.Residual.{restored_band};
+ghost use Rattle.dirac_residual.specs.Codeblocks.{restored_by_one};
 
 use crate::restore::restore_into;
 use dirac_coeffs::CodedBand;
@@ -59,8 +59,8 @@ fn odd_row(
     restore_into(right, right_index, kind, 2, 1, line);
 }
 
-/// The plane that an LL band and what the three coded bands of its level stand for interleave to: each coefficient is
-/// restored at its place, with no table of the band between.
+/// The plane that an LL band and what the three coded bands of its level stand for interleave to, where the codeblocks
+/// of each have its index: each coefficient is restored at its place, with no table of the band between.
 pub fn join_restored(
     alloc: Global,
     low: &Wide,
@@ -74,8 +74,8 @@ pub fn join_restored(
     requires hl { IsBesides low.now hl.now }
     requires lh { IsBesides low.now lh.now }
     requires hh { IsBesides low.now hh.now }
-    ensures { IfOk result (λ t. t ≡ joined low.now (restored_band kind hl.now) (restored_band kind lh.now)
-        (restored_band kind hh.now)) }
+    ensures { IfOk result (λ t. t ≡ joined low.now (restored_by_one kind hl.now) (restored_by_one kind lh.now)
+        (restored_by_one kind hh.now)) }
 {
     let width = low.width();
     let height = low.height();

@@ -3,15 +3,18 @@
 //! From the quantised subbands of a plane to its residual, and from that and what is predicted to its samples.
 
 mod clip;
+mod codeblocks;
 mod cut;
 mod held;
 mod join;
 mod laws;
+mod levels;
 mod narrow;
 mod plane;
 mod restore;
+mod scale;
 
 pub use clip::{clipped, clipped_sum};
 pub use held::Residual;
-pub use laws::zero_bands_stand_for_zeros;
+pub use laws::{each_place_has_a_codeblock, one_index_restores_all, zero_bands_stand_for_zeros};
 pub use plane::plane_residual;

@@ -1,37 +1,20 @@
-//! A level whose coefficients are at most 4,095, in 32 bits from the coded numbers on.
+//! A level whose coefficients are at most 4,095, in 32 bits from the coded numbers on. The codeblocks of each band have
+//! its index.
 ghost use Rattle.std.specs.Prelude.{◌≡◌, ℕ, pos, true, ◌+◌, ◌*◌, ◌^◌, ◌<◌, ◌≤◌, length, slice_index_or, slice_set, unsigned_abs, IfOk};
 ghost use Rattle.std.specs.List.{All};
 ghost use Rattle.dirac_types.specs.Limits.{IsIndex, IsWavelet};
-ghost use Rattle.dirac_quant.specs.Quantiser.{factor_of, offset_of, scaled};
+ghost use Rattle.dirac_quant.specs.Quantiser.{scaled};
 ghost use Rattle.dirac_lift.specs.Level.{level};
 ghost use Rattle.dirac_residual.specs.Fits.{IsBesides};
 ghost use Rattle.dirac_residual.specs.Halves.{IsNarrowBand, IsRestorable, beside};
-ghost use Rattle.dirac_residual.specs.Residual.{restored_band};
+ghost use Rattle.dirac_residual.specs.Codeblocks.{restored_by_one};
 
+use crate::scale::{Scale, scale_of};
 use dirac_coeffs::CodedBand;
 use dirac_lift::synth_halves_level;
-use dirac_quant::{factor, narrow_limit, offset, restore_narrow};
+use dirac_quant::{narrow_limit, restore_narrow};
 use dirac_types::{Kind, LARGEST_NARROW, LARGEST_SIDE, Narrow, NoMemory};
 use std::alloc::Global;
-
-/// What a coded number is restored by: a quantiser's factor and its offset.
-#[derive(Clone, Copy)]
-struct Scale {
-    factor: u32,
-    offset: u32,
-}
-
-fn scale_of(band: &CodedBand, kind: Kind) -> Scale
-    requires { IsIndex band.now.index }
-    ensures factor { result.factor ≡ factor_of band.now.index }
-    ensures offset { result.offset ≡ offset_of band.now.index kind }
-    ensures below { result.offset < 2 ^ 27 }
-{
-    Scale {
-        factor: factor(band.index) as u32,
-        offset: offset(band.index, kind) as u32,
-    }
-}
 
 /// Whether all values are at most 4,095 in magnitude.
 pub fn is_narrow(values: &[i32]) -> bool
@@ -103,10 +86,10 @@ fn even_rows(alloc: Global, low: &Narrow, hl: &CodedBand, kind: Kind) -> Result<
     requires down { low.now.height ≤ LARGEST_SIDE }
     requires hl { IsBesides low.now hl.now }
     requires narrow { IsNarrowBand kind hl.now }
-    ensures { IfOk result (λ t. t ≡ beside low.now (restored_band kind hl.now)) }
+    ensures { IfOk result (λ t. t ≡ beside low.now (restored_by_one kind hl.now)) }
 {
     let width = low.width();
-    let scale = scale_of(hl, kind);
+    let scale = scale_of(hl.index, kind);
     let mut rows = Narrow::try_new(alloc, 2 * width, low.height(), 0)?;
     for y in 0..low.height() {
         let right = hl.table.row(y);
@@ -125,11 +108,11 @@ fn odd_rows(alloc: Global, lh: &CodedBand, hh: &CodedBand, kind: Kind) -> Result
     requires index { IsIndex lh.now.index }
     requires left { IsNarrowBand kind lh.now }
     requires right { IsNarrowBand kind hh.now }
-    ensures { IfOk result (λ t. t ≡ beside (restored_band kind lh.now) (restored_band kind hh.now)) }
+    ensures { IfOk result (λ t. t ≡ beside (restored_by_one kind lh.now) (restored_by_one kind hh.now)) }
 {
     let width = lh.table.width();
-    let left_scale = scale_of(lh, kind);
-    let right_scale = scale_of(hh, kind);
+    let left_scale = scale_of(lh.index, kind);
+    let right_scale = scale_of(hh.index, kind);
     let mut rows = Narrow::try_new(alloc, 2 * width, lh.table.height(), 0)?;
     for y in 0..lh.table.height() {
         let left = lh.table.row(y);
@@ -157,8 +140,8 @@ pub fn narrow_level(
     requires besides { IsBesides low.now hl.now × IsBesides low.now lh.now × IsBesides low.now hh.now }
     requires narrow { IsNarrowBand kind hl.now × IsNarrowBand kind lh.now × IsNarrowBand kind hh.now }
     requires at_most_4095 { All (λ v. unsigned_abs v ≤ LARGEST_NARROW) low.now.values }
-    ensures value { IfOk result (λ t. t ≡ level wavelet low.now (restored_band kind hl.now) (restored_band kind lh.now)
-        (restored_band kind hh.now)) }
+    ensures value { IfOk result (λ t. t ≡ level wavelet low.now (restored_by_one kind hl.now)
+        (restored_by_one kind lh.now) (restored_by_one kind hh.now)) }
     ensures growth { IfOk result (λ t. (b : ℕ) → 2 ^ 64 ≤ b → All (λ v. unsigned_abs v ≤ b) low.now.values
         → All (λ v. unsigned_abs v ≤ 72 * b + 40) t.values) }
 {

@@ -4,13 +4,13 @@ use Rattle.dirac_types.proofs.Rows.{rows_more, rows_all}
 use Rattle.dirac_quant.specs.Quantiser.{restored}
 use Rattle.dirac_bands.specs.Interleaving.{joined_at}
 use Rattle.dirac_bands.proofs.Interleaves.{even_row, odd_row}
-use Rattle.dirac_residual.specs.Residual.{restored_band}
+use Rattle.dirac_residual.specs.Codeblocks.{restored_by_one}
 use Rattle.dirac_residual.proofs.JoinedRows.{restored_row}
 use Rattle.dirac_residual.proofs.join.join_restored.Goals as goal
 
 pub loop-y-preserved : goal.loop-y-preserved
 loop-y-preserved c =
-    let f = joined_at c.args.low.now (restored_band c.args.kind c.args.hl.now) (restored_band c.args.kind c.args.lh.now) (restored_band c.args.kind c.args.hh.now) in
+    let f = joined_at c.args.low.now (restored_by_one c.args.kind c.args.hl.now) (restored_by_one c.args.kind c.args.lh.now) (restored_by_one c.args.kind c.args.hh.now) in
     record {
       across = c.loop-y.invariant.across;
       down = c.loop-y.invariant.down;

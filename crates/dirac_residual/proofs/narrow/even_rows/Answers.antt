@@ -2,7 +2,7 @@ use Rattle.std.proofs.Common.{◌+◌, ◌^◌, ◌<◌, pos, get_or, unsigned_a
 use Rattle.dirac_types.proofs.Rows.{row_at, rows_more, rows_all}
 use Rattle.dirac_quant.specs.Quantiser.{factor_of, offset_of}
 use Rattle.dirac_residual.specs.Halves.{IsRestorable, beside_at}
-use Rattle.dirac_residual.specs.Residual.{restored_band}
+use Rattle.dirac_residual.specs.Codeblocks.{restored_by_one}
 use Rattle.dirac_residual.proofs.BesideRows.{beside_row, restored_value, row_all}
 use Rattle.dirac_residual.proofs.narrow.even_rows.Goals as goal
 
@@ -17,13 +17,13 @@ restore_from-requires-clause-restorable c =
 
 pub loop-y-preserved : goal.loop-y-preserved
 loop-y-preserved c =
-    let f = beside_at c.args.low.now (restored_band c.args.kind c.args.hl.now) in
+    let f = beside_at c.args.low.now (restored_by_one c.args.kind c.args.hl.now) in
     record {
       across = c.loop-y.invariant.across;
       down = c.loop-y.invariant.down;
       rows =
           rows_more f _ _ _ c.loop-y.y (c.loop-y.y + 1) _ c.loop-y.invariant.rows (omega arith) refl (omega arith)
-          (λ x l. beside_row c.args.low.now (restored_band c.args.kind c.args.hl.now) x c.loop-y.y _
+          (λ x l. beside_row c.args.low.now (restored_by_one c.args.kind c.args.hl.now) x c.loop-y.y _
           (λ n k.
           c.restore_from.ensures.before n (omega (arith, k))
           ∙ c.copy_to_front.ensures n (omega (arith, k))
@@ -39,5 +39,5 @@ loop-y-preserved c =
 
 pub returns : goal.returns
 returns c =
-    rows_all (beside_at c.args.low.now (restored_band c.args.kind c.args.hl.now)) c.loop-y.rows _ _ c.loop-y.y
+    rows_all (beside_at c.args.low.now (restored_by_one c.args.kind c.args.hl.now)) c.loop-y.rows _ _ c.loop-y.y
     c.loop-y.invariant.across c.loop-y.invariant.down (omega arith) (omega arith) c.loop-y.invariant.rows

@@ -2,7 +2,7 @@ use Rattle.std.proofs.Common.{◌≡◌, ◌+◌, ◌^◌, ◌<◌, pos, get_or,
 use Rattle.dirac_types.proofs.Rows.{rows_more, rows_all}
 use Rattle.dirac_quant.specs.Quantiser.{factor_of, offset_of}
 use Rattle.dirac_residual.specs.Halves.{IsRestorable, beside_at}
-use Rattle.dirac_residual.specs.Residual.{restored_band}
+use Rattle.dirac_residual.specs.Codeblocks.{restored_by_one}
 use Rattle.dirac_residual.proofs.BesideRows.{beside_row, restored_value, row_all}
 use Rattle.dirac_residual.proofs.narrow.odd_rows.Goals as goal
 
@@ -26,13 +26,13 @@ restore_from-requires-in-loop-y-clause-restorable c =
 
 pub loop-y-preserved : goal.loop-y-preserved
 loop-y-preserved c =
-    let f = beside_at (restored_band c.args.kind c.args.lh.now) (restored_band c.args.kind c.args.hh.now) in
+    let f = beside_at (restored_by_one c.args.kind c.args.lh.now) (restored_by_one c.args.kind c.args.hh.now) in
     record {
       across = c.loop-y.invariant.across;
       down = c.loop-y.invariant.down;
       rows =
           rows_more f _ _ _ c.loop-y.y (c.loop-y.y + 1) _ c.loop-y.invariant.rows (omega arith) refl (omega arith)
-          (λ x l. beside_row (restored_band c.args.kind c.args.lh.now) (restored_band c.args.kind c.args.hh.now) x c.loop-y.y _
+          (λ x l. beside_row (restored_by_one c.args.kind c.args.lh.now) (restored_by_one c.args.kind c.args.hh.now) x c.loop-y.y _
           (λ n k.
           let place : n ≡ 0 + n = omega arith in
           c.restore_from-in-loop-y.ensures.before n (omega (arith, k))
@@ -50,5 +50,5 @@ loop-y-preserved c =
 
 pub returns : goal.returns
 returns c =
-    rows_all (beside_at (restored_band c.args.kind c.args.lh.now) (restored_band c.args.kind c.args.hh.now)) c.loop-y.rows _ _ c.loop-y.y
+    rows_all (beside_at (restored_by_one c.args.kind c.args.lh.now) (restored_by_one c.args.kind c.args.hh.now)) c.loop-y.rows _ _ c.loop-y.y
     c.loop-y.invariant.across c.loop-y.invariant.down (omega arith) (omega arith) c.loop-y.invariant.rows

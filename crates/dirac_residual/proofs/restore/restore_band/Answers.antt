@@ -1,8 +1,16 @@
-use Rattle.std.proofs.Common.{arith, ap, length, drop}
-use Rattle.std.proofs.lemmas.List.{take_at}
+use Rattle.std.proofs.Common.{sym, ◌∙◌}
+use Rattle.dirac_residual.proofs.ByCodeblock.{band_small}
+use Rattle.dirac_residual.proofs.Maps.{ok_weaker}
 use Rattle.dirac_residual.proofs.restore.restore_band.Goals as goal
 
-pub returns-clause-bound : goal.returns-clause-bound
-returns-clause-bound c =
-    rw (take_at c.restore_values.new.values (drop (length c.restore_values.new.values) c.in_ok-plane.plane.values) (length c.in_ok-plane.plane.values) (omega (arith, c.restore_values.auto.values, ap length c.values_mut.ensures.value)))
-    c.restore_values.ensures.bound
+pub returns-then-has_one_index-clause-bound : goal.returns-then-has_one_index-clause-bound
+returns-then-has_one_index-clause-bound c =
+    ok_weaker c.restore_by_one.result
+    (λ t e. band_small c.args.kind c.args.counts c.args.band.now t (e ∙ sym (c.has_one_index.ensures c.if-has_one_index.true c.args.kind)) c.requires.indices c.requires.magnitudes_below_2_39)
+    c.restore_by_one.ensures
+
+pub returns-else-has_one_index-clause-bound : goal.returns-else-has_one_index-clause-bound
+returns-else-has_one_index-clause-bound c =
+    ok_weaker c.restore_codeblocks.result
+    (λ t e. band_small c.args.kind c.args.counts c.args.band.now t e c.requires.indices c.requires.magnitudes_below_2_39)
+    c.restore_codeblocks.ensures

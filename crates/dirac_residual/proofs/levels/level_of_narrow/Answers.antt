@@ -1,4 +1,4 @@
-use Rattle.dirac_residual.proofs.plane.level_of_narrow.Goals as goal
+use Rattle.dirac_residual.proofs.levels.level_of_narrow.Goals as goal
 
 pub wide_level-requires-clause-magnitudes_at_most_2_103 : goal.wide_level-requires-clause-magnitudes_at_most_2_103
 wide_level-requires-clause-magnitudes_at_most_2_103 c = rw c.in_ok-wide.ensures c.requires.magnitudes_at_most_2_103

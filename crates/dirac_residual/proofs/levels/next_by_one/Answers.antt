@@ -2,7 +2,7 @@ use Rattle.std.proofs.Common.{◌≡◌, ℕ, ◌+◌, ◌*◌, ◌^◌, ◌≤�
 use Rattle.std.specs.List.{All}
 use Rattle.dirac_types.specs.Table.{Table}
 use Rattle.dirac_residual.specs.Held.{held_table}
-use Rattle.dirac_residual.proofs.plane.next_level.Goals as goal
+use Rattle.dirac_residual.proofs.levels.next_by_one.Goals as goal
 
 pub returns-in-Narrow-clause-growth : goal.returns-in-Narrow-clause-growth
 returns-in-Narrow-clause-growth c =

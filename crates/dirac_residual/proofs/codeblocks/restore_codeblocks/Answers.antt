@@ -1,0 +1,25 @@
+use Rattle.std.proofs.Common.{◌+◌, arith, refl}
+use Rattle.dirac_types.specs.Table.{table_at}
+use Rattle.dirac_types.proofs.Rows.{rows_more, rows_all}
+use Rattle.dirac_quant.specs.Quantiser.{restored}
+use Rattle.dirac_residual.specs.Codeblocks.{index_in}
+use Rattle.dirac_residual.proofs.ByCodeblock.{by_place}
+use Rattle.dirac_residual.proofs.codeblocks.restore_codeblocks.Goals as goal
+
+pub loop-y-preserved : goal.loop-y-preserved
+loop-y-preserved c =
+    let b = c.args.band.now in
+    record {
+      across = c.loop-y.invariant.across;
+      down = c.loop-y.invariant.down;
+      rows =
+          rows_more (λ x y. restored (table_at b.table x y) (index_in c.args.counts b x y) c.args.kind) _ _ _ c.loop-y.y (c.loop-y.y + 1) _ c.loop-y.invariant.rows (omega arith) refl (omega arith)
+          (λ x l. by_place c.args.kind c.args.counts b x c.loop-y.y c.first_codeblock-first.result c.height-height.result c.row-coded.result.now _ c.row-coded.ensures.value c.row-coded.ensures.len c.height-height.ensures.value
+          c.first_codeblock-first.ensures.value (omega (arith, l, c.loop-y.invariant.across)) c.restore_row.ensures);
+    }
+
+pub returns : goal.returns
+returns c =
+    let b = c.args.band.now in
+    rows_all (λ x y. restored (table_at b.table x y) (index_in c.args.counts b x y) c.args.kind) c.loop-y.plane b.table.width b.table.height c.loop-y.y
+    c.loop-y.invariant.across c.loop-y.invariant.down (omega arith) (omega arith) c.loop-y.invariant.rows
