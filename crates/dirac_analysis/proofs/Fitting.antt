@@ -15,8 +15,10 @@ use Rattle.dirac_types.proofs.Bounds.{all_weaker, told_bound, values_bound}
 use Rattle.dirac_quant.specs.Quantiser.{factor_of, reduced, with_sign_of}
 use Rattle.dirac_bands.specs.DcSum.{IsDcSum}
 use Rattle.dirac_bands.specs.Interleaving.{band_of}
-use Rattle.dirac_bands.specs.Geometry.{padded_size}
+use Rattle.dirac_bands.specs.Geometry.{level_of, padded_size}
 use Rattle.dirac_bands.proofs.Predictions.{DifferencesFrom, differences_bound}
+use Rattle.dirac_header.specs.Counts.{counts_at}
+use Rattle.dirac_header.specs.declared.transform.Transform.{Transform}
 use Rattle.dirac_coeffs.specs.declared.layout.CodedBand.{CodedBand}
 use Rattle.dirac_coeffs.specs.Written.{is_zero_band}
 use Rattle.dirac_lift.specs.Level.{analysed}
@@ -90,26 +92,29 @@ band_quantisable b right below t band few across down is all =
 -- ---- a list of bands
 
 -- what is asked of band n
-Asked : ℕ → ℕ → ℕ → CodedBand → Type 0
-Asked across down n b = IsLevelBand (across * 2 ^ ((n - 1) / 3)) (down * 2 ^ ((n - 1) / 3)) b
+Asked : List (ℕ × ℕ) → ℕ → ℕ → ℕ → CodedBand → Type 0
+Asked counts across down n b = IsLevelBand (counts_at counts (level_of n)) (across * 2 ^ ((n - 1) / 3)) (down * 2 ^ ((n - 1) / 3)) b
 
-asked_here : (across down level n : ℕ) (b : CodedBand) (w h : ℕ) → (n - 1) / 3 ≡ level → w ≡ across * 2 ^ level → h ≡ down * 2 ^ level → IsLevelBand w h b → Asked across down n b
+asked_here : (counts : List (ℕ × ℕ)) (across down doublings level n : ℕ) (b : CodedBand) (w h : ℕ) → (n - 1) / 3 ≡ doublings → level_of n ≡ level → w ≡ across * 2 ^ doublings → h ≡ down * 2 ^ doublings → IsLevelBand (counts_at counts level) w h b → Asked counts across down n b
 unfolding Asked
-asked_here across down level n b w h at ew eh fits =
-    rw (at, ← ew, ← eh) fits
+asked_here counts across down doublings level n b w h twice at ew eh fits =
+    subst (λ k. IsLevelBand (counts_at counts k) (across * 2 ^ ((n - 1) / 3)) (down * 2 ^ ((n - 1) / 3)) b) (sym at)
+    (subst (λ k. IsLevelBand (counts_at counts level) (across * 2 ^ k) (down * 2 ^ k) b) (sym twice)
+    (subst (λ k. IsLevelBand (counts_at counts level) k (down * 2 ^ doublings) b) ew (subst (λ k. IsLevelBand (counts_at counts level) w k b) eh fits)))
 
 found_single : (b x : CodedBand) (n : ℕ) → slice_get (b ∷ []) n ≡ Some x → (n ≡ 0) × (b ≡ x)
 found_single b x zero is = (refl, cc)
 found_single b x (suc n) is = absurd (omega (arith, slice_get_within {A = CodedBand} [] n x is))
 
-one_coded : (across down : ℕ) (b : CodedBand) (w h : ℕ) → w ≡ across * 2 ^ 0 → h ≡ down * 2 ^ 0 → IsLevelBand w h b → AreLevelBands across down 0 (b ∷ [])
+one_coded : (counts : List (ℕ × ℕ)) (across down : ℕ) (b : CodedBand) (w h : ℕ) → w ≡ across * 2 ^ 0 → h ≡ down * 2 ^ 0 → IsLevelBand (counts_at counts 0) w h b → AreLevelBands counts across down 0 (b ∷ [])
 unfolding Asked
-one_coded across down b w h ew eh fits = record {
+one_coded counts across down b w h ew eh fits = record {
   count = refl;
   each = λ n x there.
       let found = found_single b x n there in
-      let level : (n - 1) / 3 ≡ 0 = omega (arith, found.0) in
-      subst (Asked across down n) found.1 (asked_here across down 0 n b w h level ew eh fits);
+      let twice : (n - 1) / 3 ≡ 0 = omega (arith, found.0) in
+      let level : level_of n ≡ 0 = omega (arith, found.0) in
+      subst (Asked counts across down n) found.1 (asked_here counts across down 0 0 n b w h twice level ew eh fits);
 }
 
 -- one of three, behind others
@@ -127,10 +132,11 @@ found_three [] h l d x (suc (suc (suc n))) P is past ph pl pd = absurd (omega (a
 found_three (y ∷ xs) h l d x zero P is past ph pl pd = absurd (omega arith)
 found_three (y ∷ xs) h l d x (suc n) P is past ph pl pd = found_three xs h l d x n P is (omega arith) ph pl pd
 
-more_coded : (across down depth : ℕ) (xs : List CodedBand) (h l d : CodedBand) (w v : ℕ) → w ≡ across * 2 ^ depth → v ≡ down * 2 ^ depth
-    → AreLevelBands across down depth xs → IsLevelBand w v h → IsLevelBand w v l → IsLevelBand w v d → AreLevelBands across down (suc depth) (xs ++ h ∷ l ∷ d ∷ [])
+more_coded : (counts : List (ℕ × ℕ)) (across down depth : ℕ) (xs : List CodedBand) (h l d : CodedBand) (w v : ℕ) → w ≡ across * 2 ^ depth → v ≡ down * 2 ^ depth
+    → AreLevelBands counts across down depth xs → IsLevelBand (counts_at counts (suc depth)) w v h → IsLevelBand (counts_at counts (suc depth)) w v l → IsLevelBand (counts_at counts (suc depth)) w v d
+    → AreLevelBands counts across down (suc depth) (xs ++ h ∷ l ∷ d ∷ [])
 unfolding Asked
-more_coded across down depth xs h l d w v ew eh fits fh fl fd =
+more_coded counts across down depth xs h l d w v ew eh fits fh fl fd =
     let three : List CodedBand = h ∷ l ∷ d ∷ [] in
     record {
       count = omega (arith, length-append xs three, fits.count);
@@ -138,9 +144,10 @@ more_coded across down depth xs h l d w v ew eh fits fh fl fd =
         | inl before ↦ fits.each n x (sym (front_get xs three n before) ∙ there)
         | inr behind ↦
             let within : n < length (xs ++ three) = slice_get_within (xs ++ three) n x there in
-            let level : (n - 1) / 3 ≡ depth = omega (arith, fits.count, within, behind, length-append xs three) in
-            let here : (b : CodedBand) → IsLevelBand w v b → Asked across down n b = λ b. asked_here across down depth n b w v level ew eh in
-            found_three xs h l d x n (Asked across down n) there behind (here h fh) (here l fl) (here d fd)
+            let twice : (n - 1) / 3 ≡ depth = omega (arith, fits.count, within, behind, length-append xs three) in
+            let level : level_of n ≡ suc depth = omega (arith, fits.count, within, behind, length-append xs three) in
+            let here : (b : CodedBand) → IsLevelBand (counts_at counts (suc depth)) w v b → Asked counts across down n b = λ b. asked_here counts across down depth (suc depth) n b w v twice level ew eh in
+            found_three xs h l d x n (Asked counts across down n) there behind (here h fh) (here l fl) (here d fd)
       ];
     }
 
@@ -178,8 +185,9 @@ index_most true index few = omega arith
 index_most false index few = few
 
 -- a table that is coded
-coded_fits : (index : ℕ) (t : Table) → index ≤ 99 → length t.values ≡ t.width * t.height → All (λ v. unsigned_abs v < 2 ^ 38) t.values → IsLevelBand t.width t.height (coded index t)
-coded_fits index t few len small = record {
+coded_fits : (counts : ℕ × ℕ) (index : ℕ) (t : Table) → index ≤ 99 → length t.values ≡ t.width * t.height → All (λ v. unsigned_abs v < 2 ^ 38) t.values → IsLevelBand counts t.width t.height (coded counts index t)
+coded_fits counts index t few len small = record {
+  indices = refl;
   index = index_most (is_zero_band (reduced_values index t)) index few;
   across = refl;
   down = refl;
@@ -203,11 +211,11 @@ differences_small b t len all =
           differences_bound b t.width t.values (differences t).values 0 all_from (omega (arith, some)) all
     ]
 
-lowest_coded : (kind : Kind) (index : ℕ) (t : Table) → index ≤ 99 → length t.values ≡ t.width * t.height → All (λ v. unsigned_abs v ≤ 2 ^ 36) t.values → IsLevelBand t.width t.height (coded_lowest kind index t)
-lowest_coded Intra index t few len small =
-    coded_fits 0 (differences t) (omega arith) (sym (differences_sum t len).len ∙ len)
+lowest_coded : (kind : Kind) (counts : ℕ × ℕ) (index : ℕ) (t : Table) → index ≤ 99 → length t.values ≡ t.width * t.height → All (λ v. unsigned_abs v ≤ 2 ^ 36) t.values → IsLevelBand counts t.width t.height (coded_lowest kind counts index t)
+lowest_coded Intra counts index t few len small =
+    coded_fits counts 0 (differences t) (omega arith) (sym (differences_sum t len).len ∙ len)
     (all_under (2 * 2 ^ 36) (2 ^ 38) (differences t).values (omega arith) (differences_small (2 ^ 36) t len small))
-lowest_coded Inter index t few len small = coded_fits index t few len (all_under (2 ^ 36) (2 ^ 38) t.values (omega arith) small)
+lowest_coded Inter counts index t few len small = coded_fits counts index t few len (all_under (2 ^ 36) (2 ^ 38) t.values (omega arith) small)
 
 -- ---- the bands as they are defined
 
@@ -227,24 +235,27 @@ low_ready wavelet depth n t low l next few is_low across down is all =
     rw is_low (omega arith, (omega arith, (low_divisible wavelet n t whole, small)))
 
 -- a band of HL, LH or HH
-high_coded : (wavelet index depth right below : ℕ) (t : Table) → wavelet ≤ 6 → index ≤ 99 → IsDivisible (suc depth) t → All (λ v. unsigned_abs v ≤ 2 ^ 29) t.values → IsLevelBand (t.width / 2) (t.height / 2) (coded index (band_of (analysed wavelet t) right below))
-high_coded wavelet index depth right below t l few is small =
+high_coded : (counts : ℕ × ℕ) (wavelet index depth right below : ℕ) (t : Table) → wavelet ≤ 6 → index ≤ 99 → IsDivisible (suc depth) t → All (λ v. unsigned_abs v ≤ 2 ^ 29) t.values → IsLevelBand counts (t.width / 2) (t.height / 2) (coded counts index (band_of (analysed wavelet t) right below))
+high_coded counts wavelet index depth right below t l few is small =
     let grows : All (λ v. unsigned_abs v ≤ 128 * 2 ^ 29 + 32) (analysed wavelet t).values = level_grows wavelet (2 ^ 29) depth t l is small in
-    coded_fits index (band_of (analysed wavelet t) right below) few (length-filled (t.width / 2) (t.height / 2) (λ x y. table_at (analysed wavelet t) (2 * x + right) (2 * y + below)))
+    coded_fits counts index (band_of (analysed wavelet t) right below) few (length-filled (t.width / 2) (t.height / 2) (λ x y. table_at (analysed wavelet t) (2 * x + right) (2 * y + below)))
     (band_under (128 * 2 ^ 29 + 32) right below (analysed wavelet t) (band_of (analysed wavelet t) right below) (omega arith) refl grows)
 
-bands_coded : (kind : Kind) (wavelet index n depth : ℕ) (t : Table) → wavelet ≤ 6 → index ≤ 99 → n + depth ≤ 4 → (is : IsDivisible depth t) → All (λ v. unsigned_abs v ≤ grown n) t.values → AreLevelBands is.across is.down depth (coded_bands kind wavelet index t depth)
+bands_coded : (kind : Kind) (transform : Transform) (index n depth : ℕ) (t : Table) → transform.wavelet ≤ 6 → index ≤ 99 → n + depth ≤ 4 → (is : IsDivisible depth t) → All (λ v. unsigned_abs v ≤ grown n) t.values → AreLevelBands transform.counts is.across is.down depth (coded_bands kind transform index t depth)
 unfolding coded_bands
-bands_coded kind wavelet index n zero t l few levels is all =
-    one_coded is.across is.down (coded_lowest kind index t) t.width t.height is.width is.height (lowest_coded kind index t few is.len (small_lowest n t.values (omega arith) all))
-bands_coded kind wavelet index n (suc depth) t l few levels is all =
+bands_coded kind transform index n zero t l few levels is all =
+    let counts : ℕ × ℕ = counts_at transform.counts 0 in
+    one_coded transform.counts is.across is.down (coded_lowest kind counts index t) t.width t.height is.width is.height (lowest_coded kind counts index t few is.len (small_lowest n t.values (omega arith) all))
+bands_coded kind transform index n (suc depth) t l few levels is all =
+    let wavelet : ℕ = transform.wavelet in
+    let counts : ℕ × ℕ = counts_at transform.counts (suc depth) in
     let mid : Table = analysed wavelet t in
     let low : IsDivisible depth (band_of mid 0 0) = low_divisible wavelet depth t is in
     let small : All (λ v. unsigned_abs v ≤ 2 ^ 29) t.values = small_above n t.values (omega arith) all in
-    more_coded is.across is.down depth (coded_bands kind wavelet index (band_of mid 0 0) depth) (coded index (band_of mid 1 0)) (coded index (band_of mid 0 1)) (coded index (band_of mid 1 1)) (t.width / 2) (t.height / 2)
-    low.width low.height (bands_coded kind wavelet index (suc n) depth (band_of mid 0 0) l few (omega arith) low (low_small wavelet n depth t l is all))
-    (high_coded wavelet index depth 1 0 t l few is small) (high_coded wavelet index depth 0 1 t l few is small) (high_coded wavelet index depth 1 1 t l few is small)
+    more_coded transform.counts is.across is.down depth (coded_bands kind transform index (band_of mid 0 0) depth) (coded counts index (band_of mid 1 0)) (coded counts index (band_of mid 0 1)) (coded counts index (band_of mid 1 1)) (t.width / 2) (t.height / 2)
+    low.width low.height (bands_coded kind transform index (suc n) depth (band_of mid 0 0) l few (omega arith) low (low_small wavelet n depth t l is all))
+    (high_coded counts wavelet index depth 1 0 t l few is small) (high_coded counts wavelet index depth 0 1 t l few is small) (high_coded counts wavelet index depth 1 1 t l few is small)
 
 pub planes_fit : PlanesFit
-planes_fit kind wavelet depth index t l levels few samples =
-    bands_coded kind wavelet index 0 depth (padded depth t) l few (omega arith) (padded_divisible depth t) (padded_small 0 depth t samples)
+planes_fit kind transform index t l levels few samples =
+    bands_coded kind transform index 0 transform.depth (padded transform.depth t) l few (omega arith) (padded_divisible transform.depth t) (padded_small 0 transform.depth t samples)

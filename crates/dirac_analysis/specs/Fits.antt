@@ -1,11 +1,14 @@
 -- What the subbands of an analysed plane are, whatever their values.
-use Rattle.std.specs.Prelude.{◌≡◌, ℕ, ℤ, zero, suc, ◌+◌, ◌-◌, ◌*◌, ◌/◌, ◌^◌, ◌<◌, ◌≤◌, List, length, true, Some, slice_get, unsigned_abs}
+use Rattle.std.specs.Prelude.{◌≡◌, ℕ, ℤ, zero, suc, ◌+◌, ◌-◌, ◌*◌, ◌/◌, ◌^◌, ◌<◌, ◌≤◌, List, length, replicate}
+use Rattle.std.specs.Prelude.{true, Some, slice_get, unsigned_abs}
 use Rattle.std.specs.List.{All}
 use Rattle.dirac_types.specs.Limits.{IsIndex}
 use Rattle.dirac_types.specs.declared.limits.TheConstants.{LARGEST_TABLE_SIDE}
 use Rattle.dirac_types.specs.Table.{Table}
 use Rattle.dirac_types.specs.Samples.{clip}
+use Rattle.dirac_bands.specs.Geometry.{level_of}
 pub use Rattle.dirac_bands.specs.Geometry.{lowest_size}
+use Rattle.dirac_header.specs.Counts.{counts_at}
 use Rattle.dirac_coeffs.specs.declared.layout.CodedBand.{CodedBand}
 use Rattle.dirac_coeffs.specs.Written.{is_zero_band}
 use Rattle.dirac_analysis.specs.Analysis.{Analysis}
@@ -31,9 +34,10 @@ pub record IsDivisible (depth : ℕ) (t : Table) : Type 0 where
   pub height : t.height ≡ down * 2 ^ depth
   pub len : length t.values ≡ t.width * t.height
 
--- a coded band of these sizes
-pub record IsLevelBand (width height : ℕ) (b : CodedBand) : Type 0 where
+-- a coded band of these sizes, whose codeblocks, so many across and down, have its index
+pub record IsLevelBand (counts : ℕ × ℕ) (width height : ℕ) (b : CodedBand) : Type 0 where
   pub index : IsIndex b.index
+  pub indices : b.indices ≡ replicate (counts.0 * counts.1) b.index
   pub across : b.table.width ≡ width
   pub down : b.table.height ≡ height
   pub len : length b.table.values ≡ width * height
@@ -41,10 +45,10 @@ pub record IsLevelBand (width height : ℕ) (b : CodedBand) : Type 0 where
   pub zeros : is_zero_band b.table.values ≡ true → b.index ≡ 0
 
 -- the bands of an analysis whose LL band has these sizes: those of a level are twice those of the level below
-pub record AreLevelBands (across down depth : ℕ) (bands : List CodedBand) : Type 0 where
+pub record AreLevelBands (counts : List (ℕ × ℕ)) (across down depth : ℕ) (bands : List CodedBand) : Type 0 where
   pub count : length bands ≡ 3 * depth + 1
   pub each : (n : ℕ) (b : CodedBand) → slice_get bands n ≡ Some b
-      → IsLevelBand (across * 2 ^ ((n - 1) / 3)) (down * 2 ^ ((n - 1) / 3)) b
+      → IsLevelBand (counts_at counts (level_of n)) (across * 2 ^ ((n - 1) / 3)) (down * 2 ^ ((n - 1) / 3)) b
 
 -- a table whose values can be quantised
 pub record IsQuantisable (t : Table) : Type 0 where
@@ -52,7 +56,8 @@ pub record IsQuantisable (t : Table) : Type 0 where
   pub down : t.height ≤ LARGEST_TABLE_SIDE
   pub small : All (λ v. unsigned_abs v < 2 ^ 38) t.values
 
--- an analysed plane of such tables
-pub record AreQuantisable (a : Analysis) : Type 0 where
+-- an analysed plane of such tables, of so many levels
+pub record AreQuantisable (depth : ℕ) (a : Analysis) : Type 0 where
+  pub count : length a.higher ≡ 3 * depth
   pub lowest : IsQuantisable a.lowest
   pub higher : (n : ℕ) (t : Table) → slice_get a.higher n ≡ Some t → IsQuantisable t

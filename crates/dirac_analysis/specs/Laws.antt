@@ -4,6 +4,7 @@ use Rattle.dirac_types.specs.Limits.{IsIndex, IsWavelet}
 use Rattle.dirac_types.specs.declared.formats.Kind.{Kind}
 use Rattle.dirac_types.specs.Table.{Table}
 use Rattle.dirac_bands.specs.Geometry.{lowest_size}
+use Rattle.dirac_header.specs.declared.transform.Transform.{Transform}
 use Rattle.dirac_residual.specs.Residual.{residual}
 use Rattle.dirac_analysis.specs.Analysis.{plane_bands}
 use Rattle.dirac_analysis.specs.Fits.{AreDifferences, AreLevelBands}
@@ -12,13 +13,14 @@ use Rattle.dirac_analysis.specs.Fits.{AreDifferences, AreLevelBands}
 -- stay below 2^38
 abbrev pub PlanesFit : Type 0
 PlanesFit =
-    (kind : Kind) (wavelet depth index : ℕ) (t : Table) → IsWavelet wavelet → depth ≤ 4 → IsIndex index
-    → AreDifferences t.values
-    → AreLevelBands (lowest_size t.width depth) (lowest_size t.height depth) depth
-    (plane_bands kind wavelet depth index t)
+    (kind : Kind) (transform : Transform) (index : ℕ) (t : Table) → IsWavelet transform.wavelet → transform.depth ≤ 4
+    → IsIndex index → AreDifferences t.values
+    → AreLevelBands transform.counts (lowest_size t.width transform.depth) (lowest_size t.height transform.depth)
+    transform.depth (plane_bands kind transform index t)
 
 -- at index 0 nothing is lost
 abbrev pub PlanesAreKept : Type 0
 PlanesAreKept =
-    (kind : Kind) (wavelet depth : ℕ) (t : Table) → IsWavelet wavelet → length t.values ≡ t.width * t.height
-    → residual wavelet depth kind (plane_bands kind wavelet depth 0 t) t.width t.height ≡ t
+    (kind : Kind) (transform : Transform) (t : Table) → IsWavelet transform.wavelet
+    → length t.values ≡ t.width * t.height
+    → residual transform kind (plane_bands kind transform 0 t) t.width t.height ≡ t

@@ -6,9 +6,9 @@ ghost use Rattle.dirac_coeffs.specs.Contexts as contexts;
 ghost use Rattle.dirac_coeffs.specs.Written.{is_zero_band};
 ghost use Rattle.dirac_analysis.specs.Analysis.{coded};
 
-use dirac_coeffs::CodedBand;
+use dirac_coeffs::{CodedBand, Indices};
 use dirac_quant::reduce;
-use dirac_types::{BandTable, LARGEST_TABLE_SIDE, NoMemory, Wide};
+use dirac_types::{BandTable, LARGEST_TABLE_SIDE, MOST_CODEBLOCKS, NoMemory, Wide};
 use std::alloc::Global;
 
 #[inline(always)]
@@ -44,13 +44,20 @@ fn are_all_zeros(values: &[i64]) -> bool
     values.iter().all(|value| is_zero(*value))
 }
 
-/// A table of coefficients coded at this quantiser index; a band of zeros has index 0.
-pub(crate) fn code_band(alloc: Global, table: &Wide, index: u8) -> Result<CodedBand, NoMemory>
+/// A table of coefficients coded at this quantiser index, which each of its codeblocks has, so many across and down; a
+/// band of zeros has index 0.
+pub(crate) fn code_band(
+    alloc: Global,
+    table: &Wide,
+    counts: (u32, u32),
+    index: u8,
+) -> Result<CodedBand, NoMemory>
+    requires counts { (counts.0 ≤ MOST_CODEBLOCKS) × (counts.1 ≤ MOST_CODEBLOCKS) }
     requires index { IsIndex index }
     requires across { table.now.width ≤ LARGEST_TABLE_SIDE }
     requires down { table.now.height ≤ LARGEST_TABLE_SIDE }
     requires magnitudes_below_2_38 { All (λ v. unsigned_abs v < 2 ^ 38) table.now.values }
-    ensures { IfOk result (λ b. b ≡ coded index table.now) }
+    ensures { IfOk result (λ b. b ≡ coded counts index table.now) }
 {
     let mut numbers = BandTable::try_new(alloc, table.width(), table.height(), 0)?;
     reduce_values(table.values(), index, numbers.values_mut());
@@ -59,8 +66,11 @@ pub(crate) fn code_band(alloc: Global, table: &Wide, index: u8) -> Result<CodedB
     } else {
         index
     };
+    let (across, down) = counts;
+    let indices = Indices::try_new(alloc, across * down, index)?;
     Ok(CodedBand {
         index,
+        indices,
         table: numbers,
     })
 }

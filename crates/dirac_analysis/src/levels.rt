@@ -71,7 +71,7 @@ pub(crate) fn analyse_levels(
     requires whole { IsDivisible depth plane }
     requires magnitudes_bounded { All (λ v. unsigned_abs v ≤ grown (4 - depth)) plane.values }
     ensures value { IfOk result (λ a. a ≡ analysis_of kind wavelet plane depth) }
-    ensures fits { IfOk result AreQuantisable }
+    ensures fits { IfOk result (AreQuantisable depth) }
 {
     if depth == 0 {
         let lowest = lowest_band(kind, plane);

@@ -1,11 +1,13 @@
 ghost use Rattle.std.specs.Prelude.{◌≡◌, [], ◌∷◌, IfOk};
 ghost use Rattle.dirac_types.specs.Limits.{IsIndex};
+ghost use Rattle.dirac_picture.specs.Fits.{IsLayout};
 ghost use Rattle.dirac_analysis.specs.Analysis.{lowest_index as index_of_lowest, quantised};
 ghost use Rattle.dirac_analysis.specs.Fits.{AreQuantisable};
 
 use crate::analysed::AnalysedPlane;
 use crate::coded::code_band;
 use dirac_coeffs::CodedBand;
+use dirac_header::Transform;
 use dirac_picture::PlaneBands;
 use dirac_types::{Kind, NoMemory};
 use std::alloc::Global;
@@ -35,18 +37,23 @@ fn single(alloc: Global, band: CodedBand) -> Result<PlaneBands, NoMemory>
 pub fn quantise_plane(
     alloc: Global,
     kind: Kind,
+    transform: &Transform,
     plane: &AnalysedPlane,
     index: u8,
 ) -> Result<PlaneBands, NoMemory>
+    requires layout { IsLayout transform.now }
     requires index { IsIndex index }
-    requires fits { AreQuantisable plane.now }
-    ensures { IfOk result (λ b. b ≡ quantised kind index plane.now) }
+    requires fits { AreQuantisable transform.now.depth plane.now }
+    ensures { IfOk result (λ b. b ≡ quantised kind transform.now index plane.now) }
 {
-    let lowest = code_band(alloc, plane.lowest(), lowest_index(kind, index))?;
+    let counts = transform.counts.at(0);
+    let lowest = code_band(alloc, plane.lowest(), counts, lowest_index(kind, index))?;
     let mut bands = single(alloc, lowest)?;
     let higher = plane.higher();
     'bands: for n in 0..higher.len() {
-        let band = code_band(alloc, &higher[n], index)?;
+        let level = (n / 3 + 1) as u8;
+        let counts = transform.counts.at(level);
+        let band = code_band(alloc, &higher[n], counts, index)?;
         bands.push(band)?;
     }
     Ok(bands)

@@ -12,7 +12,7 @@ returns-then-depth-eq0-clause-value t c =
     rw c.if-depth-eq0.true (analysed_none c.args.kind c.args.wavelet c.new.result c.lowest_band-lowest.result c.args.plane c.new.ensures c.lowest_band-lowest.ensures.value)
 
 pub returns-then-depth-eq0-clause-fits : goal.returns-then-depth-eq0-clause-fits
-returns-then-depth-eq0-clause-fits t c = none_quantisable c.new.result c.lowest_band-lowest.result c.new.ensures c.lowest_band-lowest.ensures.fits
+returns-then-depth-eq0-clause-fits t c = rw c.if-depth-eq0.true (none_quantisable c.new.result c.lowest_band-lowest.result c.new.ensures c.lowest_band-lowest.ensures.fits)
 
 pub split_level-requires-clause-across : goal.split_level-requires-clause-across
 split_level-requires-clause-across t c = ((sizes_even c.args.depth (c.args.depth - 1) c.args.plane (omega (arith, c.if-depth-eq0.false)) c.requires.whole).0, c.requires.across)
@@ -38,4 +38,4 @@ returns-clause-value t c =
 pub returns-clause-fits : goal.returns-clause-fits
 returns-clause-fits t c =
     let l = c.in_ok-ll.field-0 in
-    more_quantisable c.in_ok-lower.lower c.in_ok-all.all l.hl l.lh l.hh c.in_ok-all.ensures c.in_ok-lower.ensures.fits c.in_ok-ll.ensures.fits.0 c.in_ok-ll.ensures.fits.1 c.in_ok-ll.ensures.fits.2
+    more_quantisable c.args.depth (c.args.depth - 1) c.in_ok-lower.lower c.in_ok-all.all l.hl l.lh l.hh (omega (arith, c.if-depth-eq0.false)) c.in_ok-all.ensures c.in_ok-lower.ensures.fits c.in_ok-ll.ensures.fits.0 c.in_ok-ll.ensures.fits.1 c.in_ok-ll.ensures.fits.2

@@ -7,12 +7,14 @@ use Rattle.dirac_analysis.proofs.OneLevel.{padded_divisible}
 use Rattle.dirac_analysis.proofs.plane.analyse.Goals as goal
 
 pub analyse_levels-requires-clause-whole : goal.analyse_levels-requires-clause-whole
-analyse_levels-requires-clause-whole c = rw c.in_ok-table.ensures (padded_divisible c.args.depth c.args.plane.now)
+analyse_levels-requires-clause-whole c = rw c.in_ok-table.ensures (padded_divisible c.args.transform.now.depth c.args.plane.now)
 
 pub analyse_levels-requires-clause-magnitudes_bounded : goal.analyse_levels-requires-clause-magnitudes_bounded
-analyse_levels-requires-clause-magnitudes_bounded c = rw c.in_ok-table.ensures (padded_small (4 - c.args.depth) c.args.depth c.args.plane.now c.requires.magnitudes_bounded)
+analyse_levels-requires-clause-magnitudes_bounded c =
+    let depth = c.args.transform.now.depth in
+    rw c.in_ok-table.ensures (padded_small (4 - depth) depth c.args.plane.now c.requires.magnitudes_bounded)
 
 pub returns-clause-value : goal.returns-clause-value
 returns-clause-value c =
-    let a = c.args in
-    ok_weaker c.analyse_levels.result (λ x is. is ∙ ap (λ (t : Table). analysis_of a.kind a.wavelet t a.depth) c.in_ok-table.ensures) c.analyse_levels.ensures.value
+    let t = c.args.transform.now in
+    ok_weaker c.analyse_levels.result (λ x is. is ∙ ap (λ (p : Table). analysis_of c.args.kind t.wavelet p t.depth) c.in_ok-table.ensures) c.analyse_levels.ensures.value

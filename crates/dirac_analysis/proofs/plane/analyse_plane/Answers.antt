@@ -9,15 +9,16 @@ use Rattle.dirac_analysis.proofs.plane.analyse_plane.Goals as goal
 pub returns-clause-value : goal.returns-clause-value
 returns-clause-value c =
     let a = c.args in
+    let t = c.args.transform.now in
     ok_weaker c.quantise_plane.result
-    (λ b is. is ∙ ap (λ (x : Analysis). quantised a.kind a.index x) c.in_ok-analysed.ensures.value ∙ plane_quantised a.kind a.wavelet a.depth a.index a.plane.now)
+    (λ b is. is ∙ ap (λ (x : Analysis). quantised a.kind t a.index x) c.in_ok-analysed.ensures.value ∙ plane_quantised a.kind t a.index a.plane.now)
     c.quantise_plane.ensures
 
 pub returns-clause-fits : goal.returns-clause-fits
 returns-clause-fits c =
     let a = c.args in
     ok_weaker c.quantise_plane.result
-    (λ b value. rw value (planes_fit a.kind a.wavelet a.depth a.index a.plane.now c.requires.wavelet c.requires.depth.1 c.requires.index c.requires.magnitudes_bounded))
+    (λ b value. rw value (planes_fit a.kind a.transform.now a.index a.plane.now c.requires.wavelet c.requires.depth.1 c.requires.index c.requires.magnitudes_bounded))
     (returns-clause-value c)
 
 pub returns-clause-lossless : goal.returns-clause-lossless
@@ -25,6 +26,6 @@ returns-clause-lossless c =
     let a = c.args in
     ok_weaker c.quantise_plane.result
     (λ b is none.
-    let value : b ≡ plane_bands a.kind a.wavelet a.depth 0 a.plane.now = is ∙ ap (λ (i : ℕ). plane_bands a.kind a.wavelet a.depth i a.plane.now) none in
-    rw value (planes_kept a.kind a.wavelet a.depth a.plane.now c.requires.wavelet c.width.ensures.whole))
+    let value : b ≡ plane_bands a.kind a.transform.now 0 a.plane.now = is ∙ ap (λ (i : ℕ). plane_bands a.kind a.transform.now i a.plane.now) none in
+    rw value (planes_kept a.kind a.transform.now a.plane.now c.requires.wavelet c.width.ensures.whole))
     (returns-clause-value c)

@@ -1,7 +1,8 @@
-use Rattle.std.proofs.Common.{◌≡◌, ◌∷◌, map, take}
-use Rattle.dirac_types.specs.Table.{Table}
-use Rattle.dirac_analysis.specs.Analysis.{coded, lowest_index}
+use Rattle.std.proofs.Common.{◌≡◌, ◌∷◌, take}
+use Rattle.dirac_header.specs.Counts.{counts_at}
+use Rattle.dirac_analysis.specs.Analysis.{coded, coded_from, lowest_index}
 use Rattle.dirac_analysis.proofs.quantising.quantise_plane.Given as goal
 
 abbrev pub invariant-bands : goal.invariant-bands
-invariant-bands l = l.bands ≡ coded (lowest_index l.fn.kind l.index) l.plane.lowest ∷ map (λ (t : Table). coded l.index t) (take l.n l.higher)
+invariant-bands l =
+    l.bands ≡ coded (counts_at l.transform.counts 0) (lowest_index l.fn.kind l.index) l.plane.lowest ∷ coded_from l.transform.counts l.index 1 (take l.n l.higher)
