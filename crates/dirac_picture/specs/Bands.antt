@@ -6,6 +6,7 @@ use Rattle.dirac_types.specs.declared.formats.Band.{Band}
 use Rattle.dirac_types.specs.declared.formats.Band.TheVariants.{LL, HL, LH, HH}
 use Rattle.dirac_types.specs.Table.{Table}
 use Rattle.dirac_bands.specs.Geometry.{level_of, band_length}
+pub use Rattle.dirac_header.specs.Counts.{counts_among, counts_at}
 use Rattle.dirac_header.specs.declared.transform.Transform.{Transform}
 use Rattle.dirac_coeffs.specs.declared.layout.BandLayout.{BandLayout}
 use Rattle.dirac_coeffs.specs.declared.layout.CodedBand.{CodedBand}
@@ -17,15 +18,6 @@ band_count depth = 3 * depth + 1
 -- the orientation of band n
 abbrev pub orientation_of : ℕ → Band
 orientation_of n = if n == 0 then LL else if n % 3 == 1 then HL else if n % 3 == 2 then LH else HH
-
--- counts of codeblocks, across and down: those told, else one
-abbrev pub counts_among : Option (ℕ × ℕ) → ℕ × ℕ
-counts_among None = (1, 1)
-counts_among (Some counts) = counts
-
--- the counts of a level
-abbrev pub counts_at : List (ℕ × ℕ) → ℕ → ℕ × ℕ
-counts_at counts level = counts_among (slice_get counts level)
 
 -- what band n of a plane of this size is; the counts of its level, and the codeblock mode, serve all three planes
 unfoldable pub layout_of : Transform → ℕ → ℕ → ℕ → BandLayout
