@@ -47,8 +47,7 @@ bands_of r component.V = r.v
 abbrev pub residual_among : Sequence → Kind → Component → Option CodedResidual → Table
 residual_among s kind component None = zeros (width_of s component) (height_of s component)
 residual_among s kind component (Some r) =
-    residual r.transform.wavelet r.transform.depth kind (bands_of r component) (width_of s component)
-    (height_of s component)
+    residual r.transform kind (bands_of r component) (width_of s component) (height_of s component)
 
 -- the listed picture that a header names
 abbrev pub named : List Picture → Option ℕ → Option Picture

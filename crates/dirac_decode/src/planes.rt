@@ -66,11 +66,9 @@ fn coded_residual(
     ensures value { IfOk result (λ t. t ≡ content.residual_among sequence.now kind component (Some residual.now)) }
     ensures bound { IfOk result (λ t. All (λ v. unsigned_abs v ≤ 2 ^ 108) t.values) }
 {
-    let transform = &residual.transform;
     plane_residual(
         alloc,
-        transform.wavelet,
-        transform.depth,
+        &residual.transform,
         kind,
         bands_of(residual, component).bands(),
         width_of(sequence, component),
