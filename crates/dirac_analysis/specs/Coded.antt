@@ -1,6 +1,7 @@
--- How the codeblocks of a subband are quantised: a flat one, whose coefficients are all small, by a lower index than the
--- band's. So many codeblocks go across and down, and they are counted by rows.
-use Rattle.std.specs.Prelude.{ℕ, ℤ, zero, suc, ◌+◌, ◌-◌, ◌*◌, ◌/◌, ◌%◌, ◌==◌, nat_lt, unsigned_abs, if◌then◌else◌, Bool, not, ◌&&◌, List, map, replicate}
+-- How the codeblocks of a subband are quantised: a flat one, whose coefficients are all small, by a lower index than
+-- the band's. So many codeblocks go across and down, and they are counted by rows.
+use Rattle.std.specs.Prelude.{ℕ, ℤ, zero, suc, ◌+◌, ◌-◌, ◌*◌, ◌/◌, ◌%◌, ◌==◌, nat_lt, unsigned_abs, if◌then◌else◌}
+use Rattle.std.specs.Prelude.{Bool, not, ◌&&◌, List, map, replicate}
 use Rattle.std.specs.List.{range_with_len}
 use Rattle.dirac_types.specs.Table.{Table, table_at, table_of}
 use Rattle.dirac_quant.specs.Quantiser.{reduced}
@@ -9,8 +10,8 @@ use Rattle.dirac_coeffs.specs.declared.layout.CodedBand.{CodedBand}
 use Rattle.dirac_coeffs.specs.Contexts.{is_zero}
 use Rattle.dirac_coeffs.specs.Layouts.{span_of}
 use Rattle.dirac_coeffs.specs.Written.{all_below, is_zero_band}
-use Rattle.dirac_analysis.specs.declared.choosing.TheConstants.{FLAT_BELOW}
 use Rattle.dirac_residual.specs.Codeblocks.{codeblock_of}
+use Rattle.dirac_analysis.specs.declared.choosing.TheConstants.{FLAT_BELOW}
 
 -- whether the values of codeblock cx of row cy all pass a test, as they do where it has none
 abbrev pub each_passes : (ℤ → Bool) → ℕ × ℕ → Table → ℕ → ℕ → Bool

@@ -36,14 +36,14 @@ pub record IsDivisible (depth : ℕ) (t : Table) : Type 0 where
   pub len : length t.values ≡ t.width * t.height
 
 -- a band of these sizes and counts of codeblocks
-pub record IsLaidOut (counts : ℕ × ℕ) (width height : ℕ) (layout : BandLayout) : Type 0 where
-  pub width : layout.width ≡ width
-  pub height : layout.height ≡ height
+pub record IsLaidOut (counts : ℕ × ℕ) (w h : ℕ) (layout : BandLayout) : Type 0 where
+  pub width : layout.width ≡ w
+  pub height : layout.height ≡ h
   pub across : layout.across ≡ counts.0
   pub down : layout.down ≡ counts.1
 
--- a coded band of these sizes, of so many codeblocks across and down: an index for each, in codeblock mode 0 the band's,
--- where a skipped one has that of the one before it; a band of zeros has index 0 throughout
+-- a coded band of these sizes, with an index for each of so many codeblocks across and down: a skipped one has that of
+-- the one before it, and where none is quantised finer, all have the band's; a band of zeros has index 0 throughout
 pub record IsLevelBand (counts : ℕ × ℕ) (finer width height : ℕ) (b : CodedBand) : Type 0 where
   pub index : IsIndex b.index
   pub count : length b.indices ≡ counts.0 * counts.1

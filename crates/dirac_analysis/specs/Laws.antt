@@ -9,14 +9,14 @@ use Rattle.dirac_residual.specs.Residual.{residual}
 use Rattle.dirac_analysis.specs.Analysis.{plane_bands}
 use Rattle.dirac_analysis.specs.Fits.{AreDifferences, AreLevelBands}
 
--- the bands of a plane of samples, or of differences of samples, have the sizes of their levels, and their coefficients
--- stay below 2^38
+-- the bands of a plane of samples, or of differences of samples, have the sizes of their levels and indices that can be
+-- written, and their coefficients stay below 2^38
 abbrev pub PlanesFit : Type 0
 PlanesFit =
-    (kind : Kind) (transform : Transform) (finer index : ℕ) (t : Table) → IsWavelet transform.wavelet → transform.depth ≤ 4
-    → IsIndex index → AreDifferences t.values
-    → AreLevelBands transform.counts finer (lowest_size t.width transform.depth) (lowest_size t.height transform.depth)
-    transform.depth (plane_bands kind transform finer index t)
+    (kind : Kind) (transform : Transform) (finer index : ℕ) (t : Table) → IsWavelet transform.wavelet
+    → transform.depth ≤ 4 → IsIndex index → AreDifferences t.values
+    → AreLevelBands transform.counts finer (lowest_size t.width transform.depth)
+    (lowest_size t.height transform.depth) transform.depth (plane_bands kind transform finer index t)
 
 -- at index 0 nothing is lost
 abbrev pub PlanesAreKept : Type 0

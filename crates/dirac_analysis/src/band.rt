@@ -25,9 +25,11 @@ pub fn code_band(
     ensures { IfOk result (λ b. b ≡ coded_band counts finer index table.now) }
 {
     let _width = table.width();
-    if finer == 0 || index == 0 {
-        code_by_one(alloc, table, counts, index)
-    } else {
-        code_finer(alloc, table, counts, finer, index)
+    if finer == 0 {
+        return code_by_one(alloc, table, counts, index);
     }
+    if index == 0 {
+        return code_by_one(alloc, table, counts, 0);
+    }
+    code_finer(alloc, table, counts, finer, index)
 }

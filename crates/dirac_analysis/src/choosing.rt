@@ -1,6 +1,6 @@
 //! Which index each codeblock of a subband is quantised with, and which one it is coded with.
-ghost use Rattle.std.specs.Prelude.{◌≡◌, ℕ, pos, ◌+◌, ◌-◌, ◌*◌, ◌/◌, ◌%◌, ◌^◌, ◌<◌, ◌≤◌, if◌then◌else◌, length, map, nat_lt};
-ghost use Rattle.std.specs.Prelude.{slice_index_or, unsigned_abs, IfOk};
+ghost use Rattle.std.specs.Prelude.{◌≡◌, ℕ, pos, ◌+◌, ◌-◌, ◌*◌, ◌/◌, ◌%◌, ◌^◌, ◌<◌, ◌≤◌, if◌then◌else◌, length};
+ghost use Rattle.std.specs.Prelude.{map, nat_lt, slice_index_or, unsigned_abs, IfOk};
 ghost use Rattle.std.specs.List.{All, range_with_len};
 ghost use Rattle.dirac_types.specs.Limits.{IsIndex};
 ghost use Rattle.dirac_types.specs.Table.{table_at};
@@ -33,8 +33,8 @@ impl Choice {
     }
 }
 
-/// The indices of the codeblocks of a band: those that they are quantised with, and those that are coded, where a skipped
-/// codeblock has that of the one before it.
+/// The indices of the codeblocks of a band: those that they are quantised with, and those that are coded, where a
+/// skipped codeblock has that of the one before it.
 #[derive(Drop)]
 pub struct Choices {
     pub chosen: Indices,

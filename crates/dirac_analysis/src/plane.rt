@@ -40,8 +40,8 @@ pub fn analyse(
 
 /// The subbands of a plane of values, quantised at `index`, but each flat codeblock at one that is lower by `finer`
 /// (forward wavelet transform): the plane is padded and analysed as often as the transform's depth says. An intra
-/// picture's values are its samples, and LL is coded at index 0 less its predictions. An inter picture's are its samples
-/// less what is predicted for them, not clipped, and LL is coded as the other bands are.
+/// picture's values are its samples, and LL is coded at index 0 less its predictions. An inter picture's are its
+/// samples less what is predicted for them, not clipped, and LL is coded as the other bands are.
 pub fn analyse_plane(
     alloc: Global,
     kind: Kind,

@@ -1,11 +1,10 @@
 -- Bands that fit a transform are those that a plane is rebuilt from.
-use Rattle.std.proofs.Common.{ℕ, ◌<◌, ◌≤◌, List, length, arith}
+use Rattle.std.proofs.Common.{ℕ, ◌+◌, ◌/◌, ◌≤◌, List, arith}
 use Rattle.std.proofs.lemmas.Option.{slice_get_within}
-use Rattle.dirac_bands.specs.Geometry.{level_of}
 use Rattle.dirac_sequence.specs.Lawful.{IsSequence}
+use Rattle.dirac_sequence.proofs.Heights.{picture_size}
 use Rattle.dirac_sequence.specs.Sizes.{picture_height}
 use Rattle.dirac_sequence.specs.declared.sequence.Sequence.{Sequence}
-use Rattle.dirac_sequence.proofs.Heights.{picture_size}
 use Rattle.dirac_types.specs.declared.formats.Component.{Component}
 use Rattle.dirac_types.specs.declared.formats.Component.TheVariants as component
 use Rattle.dirac_picture.specs.declared.coded.CodedResidual.{CodedResidual}
@@ -23,11 +22,10 @@ bands_of_plane t width height bands layout fits = record {
   count = fits.count;
   each = λ n b there.
       let one = fits.each n b there in
-      let within : n < length bands = slice_get_within bands n b there in
-      let low : level_of n ≤ t.depth = omega (arith, within, fits.count) in
+      let level : (n + 2) / 3 ≤ t.depth = omega (arith, fits.count, slice_get_within bands n b there) in
       record {
         index = one.index;
-        indices = record { across = layout.across (level_of n) low; down = layout.down (level_of n) low; count = one.count; each = one.each };
+        indices = record { across = layout.across ((n + 2) / 3) level; down = layout.down ((n + 2) / 3) level; count = one.count; each = one.each };
         across = one.width;
         down = one.height;
         small = one.small;
@@ -36,12 +34,14 @@ bands_of_plane t width height bands layout fits = record {
 
 -- those of each plane of a picture's residual
 pub bands_of_part : (s : Sequence) (r : CodedResidual) (p : Component) → IsSequence s → picture.IsResidual s r → plane.AreBandsOf r.transform (width_of s p) (height_of s p) (bands_of r p)
-bands_of_part s r p lawful fits = of_part p
+bands_of_part s r p lawful fits = bands p
   where
     layout : picture.IsLayout r.transform
-    layout = let size = picture_size s lawful in layout_lawful s.width (picture_height s) r.transform size.1 (omega (arith, size.3)) fits.transform
+    layout =
+        let size = picture_size s lawful in
+        layout_lawful s.width (picture_height s) r.transform size.1 (omega (arith, size.3)) fits.transform
 
-    of_part : (p : Component) → plane.AreBandsOf r.transform (width_of s p) (height_of s p) (bands_of r p)
-    of_part component.Y = bands_of_plane r.transform s.width (picture_height s) r.y layout fits.y
-    of_part component.U = bands_of_plane r.transform (width_of s component.U) (height_of s component.U) r.u layout fits.u
-    of_part component.V = bands_of_plane r.transform (width_of s component.V) (height_of s component.V) r.v layout fits.v
+    bands : (o : Component) → plane.AreBandsOf r.transform (width_of s o) (height_of s o) (bands_of r o)
+    bands component.Y = bands_of_plane r.transform s.width (picture_height s) r.y layout fits.y
+    bands component.U = bands_of_plane r.transform (width_of s component.U) (height_of s component.U) r.u layout fits.u
+    bands component.V = bands_of_plane r.transform (width_of s component.V) (height_of s component.V) r.v layout fits.v
