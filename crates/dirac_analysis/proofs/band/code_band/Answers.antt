@@ -14,4 +14,4 @@ pub returns-then-index-eq0 : goal.returns-then-index-eq0
 returns-then-index-eq0 c =
     let counts = c.args.counts in
     let t = c.args.table.now in
-    ok_weaker c.code_by_one.result (λ b is. is ∙ sym (coded_zero counts c.args.finer t c.width-width.ensures.whole) ∙ ap (λ index. coded counts c.args.finer index t) (sym c.if-index-eq0.true)) c.code_by_one.ensures
+    ok_weaker c.code_by_one-then-index-eq0.result (λ b is. is ∙ sym (coded_zero counts c.args.finer t c.width-width.ensures.whole) ∙ ap (λ index. coded counts c.args.finer index t) (sym c.if-index-eq0.true)) c.code_by_one-then-index-eq0.ensures
