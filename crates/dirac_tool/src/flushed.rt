@@ -50,6 +50,9 @@ pub fn run_on<R: Threads + Sync, I: Read, O: Write, N: Sink>(
     // What is refused is refused before anything is written.
     ensures cut_untouched { (from : ℕ) (to : Option ℕ) → command_read words.now ≡ Ok (Command.Cut from to)
         → IfUnwrittenBy result (Keeps (O.contents output.old.writer) (O.contents output.new.writer)) }
+    ensures join_side { command_read words.now ≡ Ok Command.Join → side.new ≡ side.old }
+    ensures join_untouched { command_read words.now ≡ Ok Command.Join
+        → IfUnwrittenBy result (Keeps (O.contents output.old.writer) (O.contents output.new.writer)) }
 
     // A fault of the outside comes only where its count rose in this call.
     ensures read { result ≡ Ended.ReadFault → Rose (clipped input.old.faults) (clipped input.new.faults) }
@@ -94,6 +97,20 @@ pub fn run_beside<R: Threads + Sync, I: Read, O: Write, W: Write>(
     ensures unread { (bad : BadSetting) → result ≡ Ended.BadSettings bad → (input.new ≡ input.old)
         × Keeps (O.contents output.old.writer) (O.contents output.new.writer)
         × Keeps (W.contents side.old.writer) (W.contents side.new.writer) }
+
+    ensures list_side { command_read words.now ≡ Ok Command.List
+        → Keeps (W.contents side.old.writer) (W.contents side.new.writer) }
+    ensures make_untouched { (t : Settings) (count : ℕ) → command_read words.now ≡ Ok (Command.Make t count)
+        → (input.new ≡ input.old) × Keeps (W.contents side.old.writer) (W.contents side.new.writer) }
+    ensures cut_side { (from : ℕ) (to : Option ℕ) → command_read words.now ≡ Ok (Command.Cut from to)
+        → Keeps (W.contents side.old.writer) (W.contents side.new.writer) }
+    ensures cut_untouched { (from : ℕ) (to : Option ℕ) → command_read words.now ≡ Ok (Command.Cut from to)
+        → IfUnwrittenBy result (Keeps (O.contents output.old.writer) (O.contents output.new.writer)) }
+    ensures join_side { command_read words.now ≡ Ok Command.Join
+        → Keeps (W.contents side.old.writer) (W.contents side.new.writer) }
+    ensures join_untouched { command_read words.now ≡ Ok Command.Join
+        → IfUnwrittenBy result (Keeps (O.contents output.old.writer) (O.contents output.new.writer)) }
+
     ensures read { result ≡ Ended.ReadFault → Rose (clipped input.old.faults) (clipped input.new.faults) }
     ensures write { result ≡ Ended.WriteFault → Rose (clipped output.old.faults) (clipped output.new.faults) }
     ensures side { result ≡ Ended.SideFault → Rose (clipped side.old.faults) (clipped side.new.faults) }
