@@ -55,7 +55,7 @@ superblock_decided d sx sy split units old new few e u p = record {
 }
 
 -- what a put of what was decided leaves
-pub put_decided : (d : Deciding) (sx sy : ℕ) (b : BestSplit) (units : List Block) (old new : BlockTable) → IsBestSplit d sy sx b → units ≡ b.units.items → IsPut old sx sy b.split units new → SuperblockDecided d sx sy old new
+pub put_decided : (d : Deciding) (sx sy : ℕ) (b : BestSplit) (units : List Block) (old new : BlockTable) → IsBestSplit d sx sy b → units ≡ b.units.items → IsPut old sx sy b.split units new → SuperblockDecided d sx sy old new
 put_decided d sx sy b units old new is e p =
     superblock_decided d sx sy b.split units old new is.at_most_2 is.best (subst (λ (us : List Block). UnitsChosen d sx sy b.split (4 ^ b.split) us) (sym e) is.units) p
 

@@ -6,13 +6,13 @@ use Rattle.dirac_decide.specs.Rooms.{IsRoom}
 use Rattle.dirac_decide.specs.Splits.{UnitsChosen, best_split}
 use Rattle.dirac_decide.specs.declared.superblock.BestSplit.{BestSplit}
 
--- this is the best split of superblock sx of row sy, and its units have their blocks of least cost
-pub record IsBestSplit (d : Deciding) (sy sx : ℕ) (b : BestSplit) : Type 0 where
+-- this is the best split of superblock sx of row sy, and the units of this split have their blocks of least cost
+pub record IsBestSplit (d : Deciding) (sx sy : ℕ) (b : BestSplit) : Type 0 where
   pub at_most_2 : b.split ≤ 2
   pub best : best_split d sx sy ≡ b.split
   pub units : UnitsChosen d sx sy b.split (4 ^ b.split) b.units.items
   pub room : IsRoom d b.split b.units.items
 
--- these are those of all superblocks of row sy
+-- these are the best splits of all superblocks of row sy, with the blocks of their units
 abbrev pub IsBestRow : Deciding → ℕ → List BestSplit → Type 0
-IsBestRow d sy row = AnswerRows (IsBestSplit d sy) d.across row
+IsBestRow d sy row = AnswerRows (λ sx. IsBestSplit d sx sy) d.across row

@@ -55,7 +55,7 @@ fn taken(
     requires best { best_split (given inputs.now) sx sy ≡ split }
     requires units { UnitsChosen (given inputs.now) sx sy split (4 ^ split) units.now }
     requires room { IsRoom (given inputs.now) split units.now }
-    ensures { IfOk result (IsBestSplit (given inputs.now) sy sx) }
+    ensures { IfOk result (IsBestSplit (given inputs.now) sx sy) }
 {
     let units = Vec::from_slice(alloc, units)?;
     Ok(BestSplit { split, units })
@@ -76,7 +76,7 @@ fn decide_superblock(
     requires undivided { IsRoom (given inputs.now) 0 undivided.old.items }
     requires quarters { IsRoom (given inputs.now) 1 quarters.old.items }
     requires sixteenths { IsRoom (given inputs.now) 2 sixteenths.old.items }
-    ensures best { IfOk result (IsBestSplit (given inputs.now) sy sx) }
+    ensures best { IfOk result (IsBestSplit (given inputs.now) sx sy) }
     ensures undivided { IsRoom (given inputs.now) 0 undivided.new.items }
     ensures quarters { IsRoom (given inputs.now) 1 quarters.new.items }
     ensures sixteenths { IsRoom (given inputs.now) 2 sixteenths.new.items }

@@ -37,7 +37,7 @@ fn references(inputs: &Inputs<'_>) -> u8
 fn best_at<'a>(inputs: &Inputs<'_>, sy: u32, row: &'a [BestSplit], sx: u32) -> &'a BestSplit
     requires row { IsBestRow (given inputs.now) sy row.now }
     requires inside { sx < inputs.now.across }
-    ensures { IsBestSplit (given inputs.now) sy sx result.now }
+    ensures { IsBestSplit (given inputs.now) sx sy result.now }
 {
     &row[sx as usize]
 }
@@ -45,7 +45,7 @@ fn best_at<'a>(inputs: &Inputs<'_>, sy: u32, row: &'a [BestSplit], sx: u32) -> &
 /// Writes what was decided for superblock `sx` of row `sy`.
 fn put_best(inputs: &Inputs<'_>, sx: u32, sy: u32, best: &BestSplit, table: &mut BlockData)
     requires superblock { IsSuperblock (given inputs.now) sx sy }
-    requires best { IsBestSplit (given inputs.now) sy sx best.now }
+    requires best { IsBestSplit (given inputs.now) sx sy best.now }
     requires table { IsTableFor (given inputs.now) table.old }
     ensures { SuperblockDecided (given inputs.now) sx sy table.old table.new }
 {
@@ -221,7 +221,7 @@ pub fn decide(
     Ok(table)
 }
 
-/// The same, its rows of superblocks shared by the settings' workers.
+/// As `decide`; the settings' workers share its rows of superblocks.
 pub fn decide_by_workers<R: Threads + Sync>(
     rt: &R,
     alloc: Global,

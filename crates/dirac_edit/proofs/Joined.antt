@@ -15,7 +15,7 @@ use Rattle.dirac_edit_laws.specs.Laws.{JoinedStreamsShowTheSame}
 use Rattle.dirac_edit_laws.specs.Texts.{SequenceText, sequences}
 use Rattle.dirac_edit.specs.declared.answers.Edited.{Edited}
 use Rattle.dirac_edit.specs.declared.answers.Edited.TheVariants as edited
-use Rattle.dirac_edit.specs.Edits.{AnswersEdit, IsJoinAnswer, IsJoinedBy, ShowsSame, join_refusal, unless_refused}
+use Rattle.dirac_edit.specs.Edits.{AnswersEdit, IsJoinAnswer, IsJoinedBy, JoinedShowsSame, join_refusal, unless_refused}
 use Rattle.dirac_edit.specs.Kept.{kept_of}
 use Rattle.dirac_edit.specs.Steps.{IsChecked, IsReason, IsRefused, IsWhole, RefusesJoin, StopsReading}
 use Rattle.dirac_edit.proofs.Answering.{nothing_in_front, some_shown, stopped_by}
@@ -25,7 +25,7 @@ use Rattle.dirac_edit.proofs.Keeping.{all_kept}
 -- ---- what was read
 
 -- what joined bytes show, of the bytes themselves
-shows_same : (bytes : List ℕ) (units : List UnitText) → JoinedStreamsShowTheSame → AllByRecursion (λ b. b < 2 ^ 8) bytes → IsChecked bytes units → ShowsSame bytes
+shows_same : (bytes : List ℕ) (units : List UnitText) → JoinedStreamsShowTheSame → AllByRecursion (λ b. b < 2 ^ 8) bytes → IsChecked bytes units → JoinedShowsSame bytes
 shows_same bytes units law below c =
     let shown = law bytes units (faultless bytes units below c) in
     let good : (outcome begun start c.stream.units c.stream.end).end ≡ None = ap (λ (o : Outcome). o.end) c.stream.same ∙ c.none in
@@ -124,9 +124,9 @@ join_done (Some h) out out' bytes bytes' all all' is same w sequences written =
     subst (λ (bs : List ℕ). IsJoinedBy bs edited.Done out out') (same ∙ is)
     (w.outcome, w.stream, (w.allowed, subst (λ (bs : List ℕ). Appends out out' bs) (text_is bytes' all all' w sequences) written))
 
-pub join_shows : (held : Option (List ℕ)) (bytes bytes' : List ℕ) (all : List SequenceText) (P : Type 0) → IfSome held (λ h. bytes ≡ h) → bytes' ≡ bytes → IsWhole bytes' all → IfSome held (λ h. P → ShowsSame h)
+pub join_shows : (held : Option (List ℕ)) (bytes bytes' : List ℕ) (all : List SequenceText) (P : Type 0) → IfSome held (λ h. bytes ≡ h) → bytes' ≡ bytes → IsWhole bytes' all → IfSome held (λ h. P → JoinedShowsSame h)
 join_shows None bytes bytes' all P is same w = tt
-join_shows (Some h) bytes bytes' all P is same w = λ _. subst (λ (bs : List ℕ). ShowsSame bs) (same ∙ is) w.shows
+join_shows (Some h) bytes bytes' all P is same w = λ _. subst (λ (bs : List ℕ). JoinedShowsSame bs) (same ∙ is) w.shows
 
 pub join_failed : (held out out' : Option (List ℕ)) (bytes bytes' : List ℕ) (all all' : List SequenceText) → IfSome held (λ h. bytes ≡ h) → bytes' ≡ bytes → IsWhole bytes' all → all' ≡ all
     → AppendsFront out out' (bytes_or_bare all' (joined all')) → IfSome held (λ h. IsJoinedBy h edited.WriteFault out out')

@@ -71,8 +71,8 @@ IsJoinedBy bytes answer out out' =
     × AnswersEdit answer (join_refusal o.end) (joined_bytes stream.units) out out'
 
 -- these bytes, joined, have no fault, and show the raw pictures of these bytes, in order
-abbrev pub ShowsSame : List ℕ → Type 0
-ShowsSame bytes =
+abbrev pub JoinedShowsSame : List ℕ → Type 0
+JoinedShowsSame bytes =
     (o : Outcome) × (stream : IsShown bytes o) × (o' : Outcome) × IsShown (joined_bytes stream.units) o'
     × (raws o'.shown ≡ raws o.shown) × (o'.end ≡ None)
 

@@ -10,18 +10,12 @@ use Rattle.dirac_edit_laws.specs.Joined.{Group, Keyed, first_number, high, keyed
 use Rattle.dirac_edit_laws.specs.Texts.{PictureText, SequenceText}
 use Rattle.dirac_edit.specs.declared.keys.Keys.{Keys}
 
--- how far a number is above 0, and how far below it
-abbrev pub up_from_0 : ℤ → ℕ
-up_from_0 z = up z
-
-abbrev pub down_from_0 : ℤ → ℕ
-down_from_0 z = down z
-
--- the greatest key, and how far the least one is below 0
+-- the greatest key above 0, or 0
 unfoldable pub above : List Keyed → ℕ
 above [] = 0
 above (k ∷ keyed) = max (up k.key) (above keyed)
 
+-- how far the least key below 0 is below it, or 0
 unfoldable pub below : List Keyed → ℕ
 below [] = 0
 below (k ∷ keyed) = max (down k.key) (below keyed)
@@ -41,15 +35,17 @@ pub record Latest : Type 0 where
   pub first : ℕ
   pub high : ℕ
 
--- the latter's keys are moved so far: the least of them comes right behind the greatest of the former's
+-- how far the keys of a later sequence are moved: the least of them comes right behind the greatest of the latest
+-- sequence
 abbrev pub shift_onto : Latest → Keys → ℕ
 shift_onto l k = l.high + 1 + k.below
 
--- equal headers, and room for the moved keys
+-- a later sequence with this header and these keys may be appended to the latest one: their headers are equal, and
+-- there is room for its moved keys
 abbrev pub may_follow : Latest → List ℕ → Keys → Bool
 may_follow l header k = is_same header l.header && nat_le (shift_onto l k + k.above) (2 ^ 31 - 1)
 
--- how far numbers are moved, modulo 2 ^ 32
+-- how far the numbers of a later sequence's pictures are moved, modulo 2 ^ 32
 abbrev pub way_onto : Latest → Keys → ℕ
 way_onto l k = ((l.first + shift_onto l k) % 2 ^ 32 + (2 ^ 32 - k.first)) % 2 ^ 32
 
@@ -64,7 +60,7 @@ units_behind previous [] = []
 units_behind previous (p ∷ pictures) =
     unit p.code previous p.payload ++ units_behind (13 + length p.payload) pictures
 
--- the length of the last of these units
+-- the length of the last unit of pictures behind a unit of this length
 unfoldable pub length_behind : ℕ → List PictureText → ℕ
 length_behind previous [] = previous
 length_behind previous (p ∷ pictures) = length_behind (13 + length p.payload) pictures
@@ -74,7 +70,7 @@ abbrev pub own_bytes : ℕ → SequenceText → List ℕ
 own_bytes previous s =
     unit SEQUENCE_HEADER previous s.header ++ units_behind (13 + length s.header) (map (moved_on 0) s.pictures)
 
--- the length of the last of these units
+-- the length of the last unit of a sequence with its own header, before its end unit
 abbrev pub own_length : SequenceText → ℕ
 own_length s = length_behind (13 + length s.header) (map (moved_on 0) s.pictures)
 
@@ -89,7 +85,7 @@ pub record Added : Type 0 where
   pub latest : Latest
   pub previous : ℕ
 
--- a sequence of its own, behind these bytes
+-- what is written of a sequence with its own header, behind these bytes
 abbrev pub own : List ℕ → ℕ → SequenceText → Keys → Added
 own before previous s k = record {
   bytes = before ++ own_bytes previous s;
@@ -97,7 +93,7 @@ own before previous s k = record {
   previous = own_length s;
 }
 
--- a sequence that is appended to the one before it
+-- what is written of a sequence that is appended to the latest one
 abbrev pub onto : Latest → ℕ → SequenceText → Keys → Added
 onto l previous s k = record {
   bytes = units_behind previous (map (moved_on (way_onto l k)) s.pictures);
@@ -105,15 +101,17 @@ onto l previous s k = record {
   previous = length_behind previous (map (moved_on (way_onto l k)) s.pictures);
 }
 
--- a sequence, behind what was written; one of its own stands behind the end unit of the one before it, of 13 bytes
+-- what is written of a sequence behind the latest one; with its own header it stands behind the end unit of the latest
+-- one, of 13 bytes
 abbrev pub added_behind : Option Latest → ℕ → SequenceText → Keys → Added
 added_behind None previous s k = own [] previous s k
 added_behind (Some l) previous s k =
     if may_follow l s.header k then onto l previous s k else own (end_unit previous) 13 s k
 
+-- what is written of a sequence, where the writing is so far
 abbrev pub added : Progress → SequenceText → Added
 added p s = added_behind p.latest p.previous s (keys_among s.pictures)
 
--- how far the writing is behind it
+-- how far the writing is behind a sequence
 abbrev pub behind : Progress → SequenceText → Progress
 behind p s = record { latest = Some (added p s).latest; previous = (added p s).previous }

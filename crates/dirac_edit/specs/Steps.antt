@@ -7,7 +7,7 @@ use Rattle.dirac_edit_laws.specs.Cut.{end_point, part_of}
 use Rattle.dirac_edit_laws.specs.Texts.{SequenceText, points_of, sequences, with_pictures}
 use Rattle.dirac_edit.specs.declared.answers.Edited.{Edited}
 use Rattle.dirac_edit.specs.declared.answers.Edited.TheVariants as edited
-use Rattle.dirac_edit.specs.Edits.{ShowsPart, ShowsSame, cut_refusal, join_refusal}
+use Rattle.dirac_edit.specs.Edits.{ShowsPart, JoinedShowsSame, cut_refusal, join_refusal}
 
 -- the answers of a reading that stopped
 abbrev pub StopsReading : Edited → Type 0
@@ -65,7 +65,7 @@ pub record IsWhole (bytes : List ℕ) (all : List SequenceText) : Type 0 where
   pub outcome : Outcome
   pub stream : IsShown bytes outcome
   pub allowed : join_refusal outcome.end ≡ None
-  pub shows : ShowsSame bytes
+  pub shows : JoinedShowsSame bytes
   pub same : all ≡ sequences stream.units
 
 -- a joining of these bytes is refused by this answer, or memory was wanting

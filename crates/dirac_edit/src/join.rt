@@ -4,7 +4,7 @@ ghost use Rattle.std.specs.Prelude.{◌≡◌, ◌≤◌, ◌<◌, ◌^◌, IfEr
 ghost use Rattle.std.specs.List.{AllByRecursion};
 ghost use Rattle.std.specs.Io.KnownBytes.{IsAtEnd};
 ghost use Rattle.dirac_io.specs.Faults.{Rose};
-ghost use Rattle.dirac_edit.specs.Edits.{IfUnwritten, IsJoinAnswer, IsJoinedBy, ShowsSame};
+ghost use Rattle.dirac_edit.specs.Edits.{IfUnwritten, IsJoinAnswer, IsJoinedBy, JoinedShowsSame};
 ghost use Rattle.dirac_edit.specs.Steps.{IsWhole, RefusesJoin};
 
 use crate::answers::Edited;
@@ -25,7 +25,7 @@ use std::alloc::Global;
 pub fn join_stream<S: Source, K: Sink>(alloc: Global, source: &mut S, out: &mut K) -> Edited
     ensures joined { IfSome (S.held source.old) (λ bytes. IsJoinedBy bytes result (K.taken out.old) (K.taken out.new)) }
     // What was written has no fault, and shows the raw pictures of the whole stream, in order.
-    ensures shows { IfSome (S.held source.old) (λ bytes. result ≡ Edited.Done → ShowsSame bytes) }
+    ensures shows { IfSome (S.held source.old) (λ bytes. result ≡ Edited.Done → JoinedShowsSame bytes) }
     // No answer names a point or an open unit.
     ensures answer { IsJoinAnswer result }
     // A refusal and a failed read leave the sink as it was.

@@ -2,7 +2,8 @@
 
 ghost use Rattle.std.specs.Prelude.{◌≡◌, ◌<◌, ◌^◌, max};
 ghost use Rattle.dirac_edit_laws.specs.Joined.{first_number as first_among};
-ghost use Rattle.dirac_edit.specs.Merged.{down_from_0, keys_among, up_from_0};
+ghost use borrow.Author.Differences.{down, up};
+ghost use Rattle.dirac_edit.specs.Merged.{keys_among};
 
 use crate::numbers::number_in;
 use crate::sequence::HeldPicture;
@@ -58,14 +59,14 @@ fn greater(a: u32, b: u32) -> u32
 
 /// How far a key is above 0, if it is.
 fn above_0(key: i32) -> u32
-    ensures { result ≡ up_from_0 key }
+    ensures { result ≡ up key }
 {
     key.max(0).unsigned_abs()
 }
 
 /// How far a key is below 0, if it is.
 fn below_0(key: i32) -> u32
-    ensures { result ≡ down_from_0 key }
+    ensures { result ≡ down key }
 {
     key.min(0).unsigned_abs()
 }

@@ -28,7 +28,7 @@ use Rattle.dirac_stream.proofs.Streams.{ended_all, ended_early, source_read, sta
 use Rattle.dirac_stream.specs.Steps.{IsFault, StopsCoding}
 use Rattle.dirac_plan_laws.specs.Plans.{PlansCanBeCoded}
 use Rattle.dirac_plan_laws.specs.Order.{by_number}
-use Rattle.dirac_plan.specs.Planning.{Planning, empty_planning, is_closed, is_left, waiting_places, with_picture}
+use Rattle.dirac_plan.specs.Planning.{Planning, empty_planning, is_closed, must_be_taken_first, waiting_places, with_picture}
 use Rattle.dirac_plan.specs.declared.planned.Planned.{Planned}
 use Rattle.dirac_plan.specs.Plan.{plan}
 use Rattle.dirac_encode.specs.Going.{Goes, LeadsOn, Stops}
@@ -328,7 +328,7 @@ no_items (q ∷ l) e = absurd cc
 
 pub open_at_first : PlansCanBeCoded → (t : Settings) → IsAccepted t → is_closed (empty_planning t) ≡ false
 open_at_first plans t accepted =
-    ap (λ (l : List Planned). (0 == waiting_places t) || is_left t (slice_get l 0)) (no_items (plan 0 t) (plans t 0 accepted (omega arith)).count)
+    ap (λ (l : List Planned). (0 == waiting_places t) || must_be_taken_first t (slice_get l 0)) (no_items (plan 0 t) (plans t 0 accepted (omega arith)).count)
     ∙ ap (λ (b : Bool). b || false) (some_places (t.fields == 0))
   where
     some_places : (b : Bool) → (0 == (if b then 1 else 2) * 4) ≡ false

@@ -96,6 +96,13 @@ impl<W> WriterSink<W> {
     {
         WriterSink { writer, faults: 0 }
     }
+
+    /// How often a write or a flush of the writer has failed.
+    pub fn fault_count(&self) -> u64
+        ensures { result ≡ self.now.faults }
+    {
+        self.faults
+    }
 }
 
 impl<W: Write> WriterSink<W> {

@@ -25,7 +25,7 @@ pub record IsDirection (count length separation size : ℕ) (d : Direction) : Ty
 abbrev pub IsAcross : Compensation → Direction → Type 0
 IsAcross m d = IsDirection (blocks_across m) (x_length m) (x_separation m) m.width d
 
--- how they stand
+-- the blocks of a plane from left to right: how many stand there, how long they are, how far apart
 abbrev pub columns_of : Compensation → Direction
 columns_of m = record { count = blocks_across m; length = x_length m; separation = x_separation m }
 

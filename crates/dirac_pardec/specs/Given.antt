@@ -21,7 +21,7 @@ use Rattle.dirac_pardec.specs.Places.{component_at, place_of}
 use Rattle.dirac_pardec.specs.Planes.{up_at, up_rows}
 use Rattle.dirac_pardec.specs.Slices.{slice_of}
 
--- its parse code, its sequence, its prediction and residual, and the pictures that it refers to
+-- an inter picture: its parse code, its sequence, its prediction and residual, and the pictures that it refers to
 pub record Lent : Type 0 where
   pub code : ℕ
   pub sequence : Sequence
@@ -30,7 +30,7 @@ pub record Lent : Type 0 where
   pub first : Picture
   pub second : Option Picture
 
--- the data behind its references
+-- an inter picture, seen through its references
 abbrev pub given : Inter → Lent
 given i = record {
   code = i.code;
@@ -41,7 +41,7 @@ given i = record {
   second = option_copied i.second;
 }
 
--- it can be predicted from these pictures
+-- an inter picture can be predicted from the pictures that it refers to
 pub record IsInter (g : Lent) : Type 0 where
   pub sequence : IsSequence g.sequence
   pub motion : IsMotion g.code g.sequence g.motion
@@ -50,31 +50,31 @@ pub record IsInter (g : Lent) : Type 0 where
   pub second : ForSome g.second (IsPicture g.sequence)
   pub two : g.motion.blocks.refs ≡ 2 → IsSome g.second
 
--- the planes of its references, upconverted
+-- the planes of the pictures that an inter picture refers to, upconverted
 abbrev pub AreUps : Lent → List Up → Type 0
 AreUps g items = AnswerRows (λ r u. u ≡ up_at g.first g.second r) (up_rows g.second) items
 
--- what its plane of this number is predicted from
-abbrev pub plane_of_blocks : Lent → ℕ → Compensation
-plane_of_blocks g plane = compensation g.sequence g.motion g.first g.second (component_at plane)
+-- what the plane of this number of an inter picture is predicted from
+abbrev pub compensation_at : Lent → ℕ → Compensation
+compensation_at g plane = compensation g.sequence g.motion g.first g.second (component_at plane)
 
--- the weights of the columns of its planes Y and U; those of V are those of U
+-- the weights of the columns of an inter picture's planes Y and U; those of V are those of U
 pub record AreWeights (g : Lent) (w : PlaneWeights) : Type 0 where
-  pub luma : w.luma ≡ columns_of (plane_of_blocks g 0)
-  pub chroma : w.chroma ≡ columns_of (plane_of_blocks g 1)
+  pub luma : w.luma ≡ columns_of (compensation_at g 0)
+  pub chroma : w.chroma ≡ columns_of (compensation_at g 1)
 
--- what is predicted for one slice of it
+-- what is predicted for one slice of an inter picture
 abbrev pub predicted_in : Lent → SlicePlace → Table
 predicted_in g place =
     let c = component_at place.plane in
     slice_of (width_of g.sequence c) (height_of g.sequence c)
     (predicted_at (compensation g.sequence g.motion g.first g.second c)) place.slice
 
--- what is predicted for its slices
+-- what is predicted for slice number r of an inter picture
 abbrev pub predicted_slice : Lent → ℕ → Table
 predicted_slice g r = predicted_in g (place_of g.sequence r)
 
--- what is predicted for a plane of it, by rows
+-- what is predicted for a plane of an inter picture, by rows
 abbrev pub predicted_values : Lent → Component → List ℤ
 predicted_values g c =
     filled (width_of g.sequence c) (height_of g.sequence c)

@@ -2,7 +2,7 @@ ghost use Rattle.std.specs.Prelude.{◌≡◌, ◌<◌, IfOk};
 ghost use Rattle.dirac_obmc.specs.Compensation.{IsPredictable};
 ghost use Rattle.dirac_obmc.specs.Directions.{columns_of};
 ghost use Rattle.dirac_obmc.specs.Given as motions;
-ghost use Rattle.dirac_pardec.specs.Given.{given, plane_of_blocks, AreUps, AreWeights, IsInter};
+ghost use Rattle.dirac_pardec.specs.Given.{compensation_at, given, AreUps, AreWeights, IsInter};
 
 use crate::inter::Inter;
 use crate::places::component_at;
@@ -25,7 +25,7 @@ pub(crate) fn motion_at<'a>(inter: &Inter<'a>, ups: &'a [UpPlane], plane: u32) -
     requires inter { IsInter (given inter.now) }
     requires ups { AreUps (given inter.now) ups.now }
     requires plane { plane < 3 }
-    ensures value { motions.given result ≡ plane_of_blocks (given inter.now) plane }
+    ensures value { motions.given result ≡ compensation_at (given inter.now) plane }
     ensures fits { IsPredictable (motions.given result) }
 {
     plane_motion(
@@ -48,7 +48,7 @@ fn weights_in(
     requires inter { IsInter (given inter.now) }
     requires ups { AreUps (given inter.now) ups.now }
     requires plane { plane < 3 }
-    ensures { IfOk result (λ w. w ≡ columns_of (plane_of_blocks (given inter.now) plane)) }
+    ensures { IfOk result (λ w. w ≡ columns_of (compensation_at (given inter.now) plane)) }
 {
     let motion = motion_at(inter, ups, plane);
     let weights = column_weights(alloc, &motion)?;
@@ -78,7 +78,7 @@ pub(crate) fn weights_at<'a>(
     plane: u32,
 ) -> &'a ColumnWeights
     requires weights { AreWeights (given inter.now) weights.now }
-    ensures { result.now ≡ columns_of (plane_of_blocks (given inter.now) plane) }
+    ensures { result.now ≡ columns_of (compensation_at (given inter.now) plane) }
 {
     match plane {
         0 => &weights.luma,

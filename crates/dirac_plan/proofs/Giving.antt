@@ -4,7 +4,7 @@ use Rattle.std.proofs.lemmas.Bool.{cases_eq}
 use Rattle.dirac_types.specs.declared.settings.Settings.{Settings}
 use Rattle.dirac_plan.specs.declared.planned.Planned.{Planned}
 use Rattle.dirac_plan.specs.Plan.{opening, anchor_of, between_of, second_of, plan}
-use Rattle.dirac_plan.specs.Planning.{frame_pictures, group_offset, group_pictures, is_left, refers_elsewhere, stands_between, step_pictures}
+use Rattle.dirac_plan.specs.Planning.{frame_pictures, group_offset, group_pictures, must_be_taken_first, refers_elsewhere, stands_between, step_pictures}
 use Rattle.dirac_plan.specs.Waiting.{anchor_at, step_anchor, step_offset, whole_anchor_at, whole_frames}
 use Rattle.dirac_plan.proofs.Numbers.{anchor_number, between_number, either}
 use Rattle.dirac_plan.proofs.Items.{IsPlace, place_of, opening_item}
@@ -19,7 +19,7 @@ or_none true = refl
 or_none false = refl
 
 -- with frames those between two anchors
-left_frames : (s : Settings) (p : Planned) → s.fields ≡ 0 → is_left s (Some p) ≡ stands_between p
+left_frames : (s : Settings) (p : Planned) → s.fields ≡ 0 → must_be_taken_first s (Some p) ≡ stands_between p
 left_frames s p frames =
     ap (λ (b : Bool). stands_between p || (not b && p.number % 2 == 1 && refers_elsewhere p.number p.ref1)) (eq-eqb s.fields 0 frames)
     ∙ or_none (stands_between p)
@@ -46,7 +46,7 @@ pub record Next (n : ℕ) (s : Settings) (g : ℕ) : Type 0 where
   pub item : Planned
   pub at : slice_get (plan n s) g ≡ Some item
   pub number : Number n s g item.number
-  pub kind : is_left s (Some item) ≡ nat_lt 0 (step_offset s g)
+  pub kind : must_be_taken_first s (Some item) ≡ nat_lt 0 (step_offset s g)
 
 -- the place is in a frame that opens a group, or an anchor was accepted with all its fields, and all frames up to it
 pub data IsReady (n : ℕ) (s : Settings) (g : ℕ) : Type 0 where

@@ -7,7 +7,7 @@ use Rattle.dirac_units.specs.declared.codes.TheConstants.{INTRA_REFERENCE}
 use Rattle.dirac_plan.specs.declared.planned.Planned.{Planned}
 use Rattle.dirac_plan.specs.Frames.{IsBelow}
 use Rattle.dirac_plan.specs.Plan.{opening, anchor_of, between_of, field_of, field_or_first, second_of, plan}
-use Rattle.dirac_plan.specs.Planning.{frame_pictures, group_offset, group_pictures, is_left, refers_elsewhere, step_pictures}
+use Rattle.dirac_plan.specs.Planning.{frame_pictures, group_offset, group_pictures, must_be_taken_first, refers_elsewhere, step_pictures}
 use Rattle.dirac_plan.specs.Waiting.{anchor_at, step_offset, whole_anchor_at, whole_frames}
 use Rattle.dirac_plan.proofs.Numbers.{either}
 use Rattle.dirac_plan.proofs.Items.{IsPlace, opening_item}
@@ -111,7 +111,7 @@ second_kind s t ref fields =
     let odd : (2 * t + 1) % 2 ≡ 1 = omega arith in
     ap₂ (λ (a b : Bool). not a && b && refers_elsewhere (2 * t + 1) ref) (ne_eqb s.fields 0 fields) (eq-eqb ((2 * t + 1) % 2) 1 odd)
 
-opening_field_kind : (n : ℕ) (s : Settings) (p t : ℕ) → (s.fields ≡ 0 → ⊥) → p ≤ 1 → is_left s (Some (field_of n p (opening t))) ≡ false
+opening_field_kind : (n : ℕ) (s : Settings) (p t : ℕ) → (s.fields ≡ 0 → ⊥) → p ≤ 1 → must_be_taken_first s (Some (field_of n p (opening t))) ≡ false
 opening_field_kind n s zero t fields few = first_kind s t None
 opening_field_kind n s (suc zero) t fields few =
     second_kind s t (Some (2 * t)) fields ∙ ap not (eq-eqb (2 * t + 1) (2 * t + 1) refl)
@@ -124,16 +124,16 @@ elsewhere n number before less =
     ap not (ne_eqb (field_or_first n 1 before + 1) (2 * number + 1) (λ e. omega arith))
 
 pub anchor_field_kind : (n : ℕ) (s : Settings) (p number before : ℕ) (second retired : Option ℕ) → (s.fields ≡ 0 → ⊥) → p ≤ 1 → before < number
-    → is_left s (Some (field_of n p (anchor_of number before second retired))) ≡ nat_lt 0 p
+    → must_be_taken_first s (Some (field_of n p (anchor_of number before second retired))) ≡ nat_lt 0 p
 anchor_field_kind n s zero number before None retired fields few less = first_kind s number (Some (field_or_first n 0 before))
 anchor_field_kind n s zero number before (Some second) retired fields few less = first_kind s number (Some (field_or_first n 0 before))
 anchor_field_kind n s (suc zero) number before None retired fields few less = second_kind s number (Some (field_or_first n 1 before)) fields ∙ elsewhere n number before less
 anchor_field_kind n s (suc zero) number before (Some second) retired fields few less = second_kind s number (Some (field_or_first n 1 before)) fields ∙ elsewhere n number before less
 anchor_field_kind n s (suc (suc p)) number before second retired fields few less = absurd (omega arith)
 
-pub between_field_kind : (n : ℕ) (s : Settings) (p references before after number : ℕ) → is_left s (Some (field_of n p (between_of references before after number))) ≡ true
+pub between_field_kind : (n : ℕ) (s : Settings) (p references before after number : ℕ) → must_be_taken_first s (Some (field_of n p (between_of references before after number))) ≡ true
 between_field_kind n s p references before after number =
-    let P : Planned → Type 0 = λ f. is_left s (Some (field_of n p f)) ≡ true in
+    let P : Planned → Type 0 = λ f. must_be_taken_first s (Some (field_of n p f)) ≡ true in
     either (references == 2) P _ _ refl refl
 
 -- ---- their numbers
@@ -342,7 +342,7 @@ anchor_here_number : (n : ℕ) (s : Settings) (first k r b : ℕ) → (field_of 
 unfolding anchor_here
 anchor_here_number n s first k r b = anchor_field_number n r b (first + k * (s.between + 1)) (second_of s first k) (retirement s first k)
 
-anchor_here_kind : (n : ℕ) (s : Settings) (first k r b : ℕ) → (s.fields ≡ 0 → ⊥) → first + k * (s.between + 1) < b → r ≤ 1 → is_left s (Some (field_of n r (anchor_here s first k b))) ≡ nat_lt 0 r
+anchor_here_kind : (n : ℕ) (s : Settings) (first k r b : ℕ) → (s.fields ≡ 0 → ⊥) → first + k * (s.between + 1) < b → r ≤ 1 → must_be_taken_first s (Some (field_of n r (anchor_here s first k b))) ≡ nat_lt 0 r
 unfolding anchor_here
 anchor_here_kind n s first k r b fields less few = anchor_field_kind n s r b (first + k * (s.between + 1)) (second_of s first k) (retirement s first k) fields few less
 
@@ -350,7 +350,7 @@ between_here_number : (n : ℕ) (s : Settings) (first k p q b : ℕ) → (field_
 unfolding between_here
 between_here_number n s first k p q b = between_field_number n p s.references (first + k * (s.between + 1)) b (q - 1)
 
-between_here_kind : (n : ℕ) (s : Settings) (first k p q b : ℕ) → is_left s (Some (field_of n p (between_here s q first k b))) ≡ true
+between_here_kind : (n : ℕ) (s : Settings) (first k p q b : ℕ) → must_be_taken_first s (Some (field_of n p (between_here s q first k b))) ≡ true
 unfolding between_here
 between_here_kind n s first k p q b = between_field_kind n s p s.references (first + k * (s.between + 1)) b (q - 1)
 

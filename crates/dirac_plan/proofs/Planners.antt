@@ -12,7 +12,7 @@ use Rattle.dirac_types.specs.Settings.{IsAccepted}
 use Rattle.dirac_plan.specs.declared.planned.Planned.{Planned}
 use Rattle.dirac_plan.specs.declared.planner.TheConstants.{FRAMES_WAITING}
 use Rattle.dirac_plan.specs.Plan.{plan}
-use Rattle.dirac_plan.specs.Planning.{IsLasting, Planning, Takes, are_too_few, frame_pictures, group_offset, group_pictures, is_left, pictures_needed, step_pictures, waiting_places}
+use Rattle.dirac_plan.specs.Planning.{IsLasting, Planning, Takes, are_too_few, frame_pictures, group_offset, group_pictures, must_be_taken_first, pictures_needed, step_pictures, waiting_places}
 use Rattle.dirac_plan.specs.Waiting.{IsPlanning, ahead, anchor_at, left_by, number_of, step_offset, whole_anchor_at}
 use Rattle.dirac_plan.proofs.Accepted.{paced}
 use Rattle.dirac_plan.proofs.Lists.{range_split, remove-map}
@@ -64,7 +64,7 @@ begun_is s accepted =
       settings = accepted;
       in_range = omega arith;
       given_in_range = omega arith;
-      few_wait = omega arith;
+      waiting_fit = omega arith;
       counts = refl;
       numbers = sym (left_all 0 s 0 none);
       settled = λ _ more. absurd (omega (arith, none, more));
@@ -84,13 +84,13 @@ past_place s g some begun = elim (cases_lt (group_offset s g) (frame_pictures s)
 ]
 
 -- where nothing is still to be taken, a step starts
-no_step : (s : Settings) (n g : ℕ) → 0 < s.gop → g ≤ n → is_left s (slice_get (plan n s) g) ≡ false → (0 < step_offset s g → whole_anchor_at s g + frame_pictures s ≤ n) → step_offset s g ≡ 0
+no_step : (s : Settings) (n g : ℕ) → 0 < s.gop → g ≤ n → must_be_taken_first s (slice_get (plan n s) g) ≡ false → (0 < step_offset s g → whole_anchor_at s g + frame_pictures s ≤ n) → step_offset s g ≡ 0
 no_step s n g some within last settled = elim (cases_lt 0 (step_offset s g)) [
   | inl begun ↦
       elim (cases_lt g n) [
         | inl more ↦
             let is = next n s g more some in
-            let clash : true ≡ false = sym (lt-ltb 0 (step_offset s g) begun) ∙ sym is.kind ∙ sym (ap (is_left s) is.at) ∙ last in
+            let clash : true ≡ false = sym (lt-ltb 0 (step_offset s g) begun) ∙ sym is.kind ∙ sym (ap (must_be_taken_first s) is.at) ∙ last in
             absurd (cc)
         | inr all ↦ absurd (omega (arith, past_place s g some begun, settled begun))
       ]
@@ -98,7 +98,7 @@ no_step s n g some within last settled = elim (cases_lt 0 (step_offset s g)) [
 ]
 
 pub pushed_is : (s : Settings) (n g : ℕ) (ended : Bool) (ws : List Picture) (p : Picture) → IsPlanning s n g ended ws → ended ≡ false → p.number ≡ n → n < 2147483647 → length ws < waiting_places s
-    → is_left s (slice_get (plan n s) g) ≡ false → IsPlanning s (n + 1) g ended (ws ++ p ∷ [])
+    → must_be_taken_first s (slice_get (plan n s) g) ≡ false → IsPlanning s (n + 1) g ended (ws ++ p ∷ [])
 pushed_is s n g ended ws p is going number few room last =
     let some = (paced s is.settings).gop_least in
     let none = no_step s n g some is.given_in_range last (is.settled going) in
@@ -109,7 +109,7 @@ pushed_is s n g ended ws p is going number few room last =
       settings = is.settings;
       in_range = omega arith;
       given_in_range = omega arith;
-      few_wait = omega (arith, length-append ws (p ∷ []));
+      waiting_fit = omega (arith, length-append ws (p ∷ []));
       counts = omega (arith, length-append ws (p ∷ []), is.counts);
       numbers =
           map-append number_of ws (p ∷ [])
@@ -184,7 +184,7 @@ needed_there s n g some late none enough =
     omega (arith, is.place, is.in_group, is.offset, is.frame.0, is.frame.1, is.frame.2)
 
 -- while pictures may still come: what is still to be taken was settled before; else enough pictures wait
-ready_for : (s : Settings) (n g : ℕ) (ended : Bool) (ws : List Picture) → IsPlanning s n g ended ws → ended ≡ false → g < n → (is_left s (slice_get (plan n s) g) ≡ false → pictures_needed s g ≤ length ws) → IsReady n s g
+ready_for : (s : Settings) (n g : ℕ) (ended : Bool) (ws : List Picture) → IsPlanning s n g ended ws → ended ≡ false → g < n → (must_be_taken_first s (slice_get (plan n s) g) ≡ false → pictures_needed s g ≤ length ws) → IsReady n s g
 ready_for s n g ended ws is going more enough =
     let some = (paced s is.settings).gop_least in
     elim (cases_lt (group_offset s g) (frame_pictures s)) [
@@ -192,14 +192,14 @@ ready_for s n g ended ws is going more enough =
       | inr late ↦ elim (cases_eq (step_offset s g) 0) [
         | inl none ↦
             let here = next n s g more some in
-            let last : is_left s (slice_get (plan n s) g) ≡ false = ap (is_left s) here.at ∙ here.kind ∙ ap (nat_lt 0) none in
+            let last : must_be_taken_first s (slice_get (plan n s) g) ≡ false = ap (must_be_taken_first s) here.at ∙ here.kind ∙ ap (nat_lt 0) none in
             anchor_ready (needed_there s n g some late none (omega (arith, enough last, is.counts)))
         | inr begun ↦ anchor_ready (is.settled going (omega (arith, begun)))
       ]
     ]
 
 pub lasts : (s : Settings) (n g m : ℕ) (ended : Bool) (ws : List Picture) → IsPlanning s n g ended ws → ended ≡ false → g < n → n ≤ m
-    → (is_left s (slice_get (plan n s) g) ≡ false → pictures_needed s g ≤ length ws) → slice_get (plan m s) g ≡ slice_get (plan n s) g
+    → (must_be_taken_first s (slice_get (plan n s) g) ≡ false → pictures_needed s g ≤ length ws) → slice_get (plan m s) g ≡ slice_get (plan n s) g
 lasts s n g m ended ws is going more longer enough = lasting n m s g (paced s is.settings).gop_least more longer (ready_for s n g ended ws is going more enough)
 
 -- in the same step the same whole anchor
@@ -238,17 +238,17 @@ settled_next s n g some more ready begun =
     ]
 
 pub taken_is : (s : Settings) (n g : ℕ) (before now : Bool) (ws : List Picture) (x : Planned) → IsPlanning s n g before ws → g < n → slice_get (plan n s) g ≡ Some x
-    → (now ≡ false → before ≡ false) → (now ≡ false → is_left s (slice_get (plan n s) g) ≡ false → pictures_needed s g ≤ length ws)
+    → (now ≡ false → before ≡ false) → (now ≡ false → must_be_taken_first s (slice_get (plan n s) g) ≡ false → pictures_needed s g ≤ length ws)
     → IsPlanning s n (g + 1) now (remove ws (x.number - g))
 taken_is s n g before now ws x is more at kept enough =
     let place = place_in s n g before ws x is more at in
-    let room = is.few_wait in
+    let room = is.waiting_fit in
     let i : ℕ = x.number - g in
     record {
       settings = is.settings;
       in_range = is.in_range;
       given_in_range = omega arith;
-      few_wait = omega (arith, length-append (take i ws) (drop (suc i) ws), length-take i ws, length-drop (suc i) ws, place.inside);
+      waiting_fit = omega (arith, length-append (take i ws) (drop (suc i) ws), length-take i ws, length-drop (suc i) ws, place.inside);
       counts = omega (arith, length-append (take i ws) (drop (suc i) ws), length-take i ws, length-drop (suc i) ws, place.inside, is.counts);
       numbers = place.rest;
       settled = λ e begun. settled_next s n g (paced s is.settings).gop_least more (ready_for s n g before ws is (kept e) more (enough e)) begun;
@@ -256,7 +256,7 @@ taken_is s n g before now ws x is more at kept enough =
 
 -- told whether the pictures have ended
 pub told_is : (s : Settings) (n g : ℕ) (before now : Bool) (ws : List Picture) → IsPlanning s n g before ws → (now ≡ false → before ≡ false) → IsPlanning s n g now ws
-told_is s n g before now ws is kept = record { settings = is.settings; in_range = is.in_range; given_in_range = is.given_in_range; few_wait = is.few_wait; counts = is.counts; numbers = is.numbers; settled = λ e begun. is.settled (kept e) begun }
+told_is s n g before now ws is kept = record { settings = is.settings; in_range = is.in_range; given_in_range = is.given_in_range; waiting_fit = is.waiting_fit; counts = is.counts; numbers = is.numbers; settled = λ e begun. is.settled (kept e) begun }
 
 pub takes : (old new : Planning) (ended : Bool) (x : Planned) (p : Picture) → slice_get (plan old.accepted old.settings) old.given ≡ Some x
     → slice_get (map number_of old.waiting) (x.number - old.given) ≡ Some x.number → slice_get old.waiting (x.number - old.given) ≡ Some p
@@ -282,7 +282,7 @@ takes old new ended x p at number here left lasting =
 
 -- where not too few wait
 pub enough : (s : Settings) (n g : ℕ) (ended : Bool) (waiting : ℕ) {answer : Bool} → answer ≡ are_too_few s n g ended waiting → answer ≡ false → ended ≡ false
-    → is_left s (slice_get (plan n s) g) ≡ false → pictures_needed s g ≤ waiting
+    → must_be_taken_first s (slice_get (plan n s) g) ≡ false → pictures_needed s g ≤ waiting
 enough s n g ended waiting e false_is going last =
     let now : are_too_few s n g ended waiting ≡ nat_lt waiting (pictures_needed s g) = ap₂ (λ (a b : Bool). not a && not b && nat_lt waiting (pictures_needed s g)) going last in
     ltb-false waiting (pictures_needed s g) (sym now ∙ sym e ∙ false_is)
@@ -303,8 +303,8 @@ most_needed s g accepted =
 
 -- where too few wait, the next picture will be accepted
 pub opens_for_more : (s : Settings) (n g : ℕ) (ended : Bool) (ws : List Picture) {answer : Bool} → IsPlanning s n g ended ws → answer ≡ are_too_few s n g false (length ws) → answer ≡ true
-    → (length ws == waiting_places s || is_left s (slice_get (plan n s) g)) ≡ false
-opens_for_more s n g ended ws is e answer_is = by_kind (is_left s (slice_get (plan n s) g)) (sym e ∙ answer_is) (most_needed s g is.settings).0
+    → (length ws == waiting_places s || must_be_taken_first s (slice_get (plan n s) g)) ≡ false
+opens_for_more s n g ended ws is e answer_is = by_kind (must_be_taken_first s (slice_get (plan n s) g)) (sym e ∙ answer_is) (most_needed s g is.settings).0
   where
     by_kind : (b : Bool) → (not false && not b && nat_lt (length ws) (pictures_needed s g)) ≡ true → pictures_needed s g ≤ waiting_places s → (length ws == waiting_places s || b) ≡ false
     by_kind true e need = absurd (cc)
@@ -313,10 +313,10 @@ opens_for_more s n g ended ws is e answer_is = by_kind (is_left s (slice_get (pl
         ap (λ (b : Bool). b || false) (ne_eqb (length ws) (waiting_places s) (λ same. omega arith))
 
 -- where none waits, too
-pub opens_empty : (s : Settings) (n g : ℕ) (ended : Bool) (ws : List Picture) → IsPlanning s n g ended ws → length ws ≡ 0 → (length ws == waiting_places s || is_left s (slice_get (plan n s) g)) ≡ false
+pub opens_empty : (s : Settings) (n g : ℕ) (ended : Bool) (ws : List Picture) → IsPlanning s n g ended ws → length ws ≡ 0 → (length ws == waiting_places s || must_be_taken_first s (slice_get (plan n s) g)) ≡ false
 opens_empty s n g ended ws is none =
     let all = is.counts in
     let long = length_plan n s (paced s is.settings).gop_least in
     let past = slice_get_past (plan n s) g (omega arith) in
     let some = (most_needed s g is.settings).1 in
-    ap₂ (λ (a b : Bool). a || b) (ne_eqb (length ws) (waiting_places s) (λ same. omega arith)) (ap (is_left s) past)
+    ap₂ (λ (a b : Bool). a || b) (ne_eqb (length ws) (waiting_places s) (λ same. omega arith)) (ap (must_be_taken_first s) past)

@@ -7,19 +7,20 @@ use Rattle.dirac_units.specs.declared.codes.TheConstants.{INTER_NON_REFERENCE_1,
 use Rattle.dirac_units.specs.declared.codes.TheConstants.{INTER_REFERENCE_1, INTER_REFERENCE_2, INTRA_REFERENCE}
 use Rattle.dirac_plan.specs.declared.planned.Planned.{Planned}
 
--- the picture that opens a group: an intra picture to which others may refer, which retires none
+-- the frame that opens a group: an intra frame to which others may refer, which retires none
 abbrev pub opening : ℕ → Planned
 opening number = record { number = number; code = INTRA_REFERENCE; ref1 = None; ref2 = None; retire = None }
 
--- a picture to which others may refer, which refers to the anchor before it, and to a second one if there is one
+-- an anchor behind the first: a frame to which others may refer, which refers to the anchor before it, and to a second
+-- frame if there is one
 abbrev pub anchor_of : ℕ → ℕ → Option ℕ → Option ℕ → Planned
 anchor_of number before None retired =
     record { number = number; code = INTER_REFERENCE_1; ref1 = Some before; ref2 = None; retire = retired }
 anchor_of number before (Some second) retired =
     record { number = number; code = INTER_REFERENCE_2; ref1 = Some before; ref2 = Some second; retire = retired }
 
--- a picture between two anchors, to which none refers: with one reference to the anchor before it, with two also to the
--- one behind it
+-- a frame between two anchors, to which none refers: it refers to the anchor before it, with two references also to the
+-- anchor behind it
 abbrev pub between_of : ℕ → ℕ → ℕ → ℕ → Planned
 between_of references before after number =
     if references == 2
@@ -40,13 +41,13 @@ anchors_behind s len = (len - 1 + s.between) / (s.between + 1)
 abbrev pub second_of : Settings → ℕ → ℕ → Option ℕ
 second_of s first k = if s.references == 2 && nat_le 1 k then Some first else None
 
--- what it retires: the anchor before anchor k, if that isn't the group's first frame
+-- what the anchor behind anchor k retires: the anchor before anchor k, if that isn't the group's first frame
 abbrev pub retired_of : Settings → ℕ → ℕ → ℕ → Option ℕ
 retired_of s len first zero = None
 retired_of s len first (suc zero) = None
 retired_of s len first (suc (suc k)) = Some (first + anchor_offset s len (suc k))
 
--- the step from anchor k to the next one: that one is coded first, then the pictures between them
+-- the step from anchor k to the next anchor: the next anchor is coded first, then the frames between them
 abbrev pub step : Settings → ℕ → ℕ → ℕ → List Planned
 step s len first k =
     let before = first + anchor_offset s len k in
@@ -62,7 +63,7 @@ group s len first = opening first ∷ flat_map (step s len first) (range_with_le
 abbrev pub group_at : Settings → ℕ → ℕ → List Planned
 group_at s n i = group s (min s.gop (n - i * s.gop)) (i * s.gop)
 
--- how many groups there are
+-- how many groups n frames have
 abbrev pub group_count : Settings → ℕ → ℕ
 group_count s n = (n + (s.gop - 1)) / s.gop
 

@@ -66,19 +66,19 @@ refers_elsewhere number None = false
 refers_elsewhere number (Some reference) = not (reference + 1 == number)
 
 -- a planned picture is a second field, but not that of a frame that opens a group, which refers to the first field
-abbrev pub is_second_of_others : Settings → Planned → Bool
-is_second_of_others s p = not (s.fields == 0) && p.number % 2 == 1 && refers_elsewhere p.number p.ref1
+abbrev pub is_second_field_behind_the_opening : Settings → Planned → Bool
+is_second_field_behind_the_opening s p = not (s.fields == 0) && p.number % 2 == 1 && refers_elsewhere p.number p.ref1
 
 -- a planned picture is still to be taken before more are accepted: it stands between two anchors, or it is the second
 -- field of an anchor that opens no group
-abbrev pub is_left : Settings → Option Planned → Bool
-is_left s None = false
-is_left s (Some p) = stands_between p || is_second_of_others s p
+abbrev pub must_be_taken_first : Settings → Option Planned → Bool
+must_be_taken_first s None = false
+must_be_taken_first s (Some p) = stands_between p || is_second_field_behind_the_opening s p
 
 -- no picture is accepted for now: no place is free, or pictures between two anchors or the second field of an anchor
 -- that opens no group are still to be taken
 abbrev pub is_closed : Planning → Bool
-is_closed p = length p.waiting == waiting_places p.settings || is_left p.settings (next_planned p)
+is_closed p = length p.waiting == waiting_places p.settings || must_be_taken_first p.settings (next_planned p)
 
 -- how many pictures stand before a place in its group
 abbrev pub group_offset : Settings → ℕ → ℕ
@@ -94,7 +94,8 @@ pictures_needed s given =
 -- while pictures may still come, so many waiting ones are too few for the next planned one
 abbrev pub are_too_few : Settings → ℕ → ℕ → Bool → ℕ → Bool
 are_too_few s accepted given ended waiting =
-    not ended && not (is_left s (slice_get (plan accepted s) given)) && nat_lt waiting (pictures_needed s given)
+    not ended && not (must_be_taken_first s (slice_get (plan accepted s) given))
+    && nat_lt waiting (pictures_needed s given)
 
 -- no planned picture is given: none waits, or too few do
 abbrev pub gives_none : Planning → Bool → Bool

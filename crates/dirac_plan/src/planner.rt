@@ -81,10 +81,10 @@ impl Planner {
         ensures closed { IsErr result ↔ (plannings.is_closed self.old ≡ true) }
         ensures accepted { OnOk result (self.new ≡ plannings.with_picture self.old picture) }
         ensures handed_back { IfErr result (λ p. (p ≡ picture) × (self.new ≡ self.old)) }
-        ensures few_wait { length self.new.waiting ≤ plannings.waiting_places self.new.settings }
+        ensures waiting_fit { length self.new.waiting ≤ plannings.waiting_places self.new.settings }
         ensures counts { self.new.accepted ≡ self.new.given + length self.new.waiting }
     {
-        if self.queue.is_full() || is_left(&self.settings, self.accepted, self.given) {
+        if self.queue.is_full() || must_be_taken_first(&self.settings, self.accepted, self.given) {
             return Err(picture);
         }
         self.queue.push_back(picture);
@@ -108,7 +108,7 @@ impl Planner {
         ensures settings { self.new.settings ≡ self.old.settings }
         ensures accepted { self.new.accepted ≡ self.old.accepted }
         ensures ended { self.new.ended ≡ ended }
-        ensures few_wait { length self.new.waiting ≤ plannings.waiting_places self.new.settings }
+        ensures waiting_fit { length self.new.waiting ≤ plannings.waiting_places self.new.settings }
         ensures counts { self.new.accepted ≡ self.new.given + length self.new.waiting }
     {
         let waiting = self.queue.len();
@@ -158,8 +158,8 @@ fn refers_elsewhere(number: u32, reference: Option<u32>) -> bool
 }
 
 /// Whether a planned picture is the second field of a frame that opens no group.
-fn is_second_of_others(settings: &Settings, planned: &Planned) -> bool
-    ensures { result ≡ plannings.is_second_of_others settings.now planned.now }
+fn is_second_field_behind_the_opening(settings: &Settings, planned: &Planned) -> bool
+    ensures { result ≡ plannings.is_second_field_behind_the_opening settings.now planned.now }
 {
     settings.fields != 0
         && planned.number % 2 == 1
@@ -167,16 +167,16 @@ fn is_second_of_others(settings: &Settings, planned: &Planned) -> bool
 }
 
 /// Whether the next planned picture of those accepted is still to be taken before more are accepted.
-fn is_left(settings: &Settings, accepted: u32, given: u32) -> bool
+fn must_be_taken_first(settings: &Settings, accepted: u32, given: u32) -> bool
     requires settings { IsAccepted settings.now }
     requires in_range { accepted ≤ 2147483647 }
-    ensures { result ≡ plannings.is_left settings.now (slice_get (plans.plan accepted settings.now) given) }
+    ensures { result ≡ plannings.must_be_taken_first settings.now (slice_get (plans.plan accepted settings.now) given) }
 {
     if accepted <= given {
         return false;
     }
     let next = item_of(accepted, settings, given);
-    stands_between(&next) || is_second_of_others(settings, &next)
+    stands_between(&next) || is_second_field_behind_the_opening(settings, &next)
 }
 
 /// How many waiting pictures the next planned one needs, unless it is still to be taken.
@@ -200,7 +200,7 @@ fn are_too_few(settings: &Settings, accepted: u32, given: u32, ended: bool, wait
     ensures { result ≡ plannings.are_too_few settings.now accepted given ended waiting }
 {
     !ended
-        && !is_left(settings, accepted, given)
+        && !must_be_taken_first(settings, accepted, given)
         && waiting < pictures_needed(settings, given) as usize
 }
 

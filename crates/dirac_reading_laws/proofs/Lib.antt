@@ -1,3 +1,5 @@
 pub mod Broken
+pub mod Either
+mod Examples
 pub mod Numbers
 pub mod Outcomes

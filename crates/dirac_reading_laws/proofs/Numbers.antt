@@ -36,7 +36,7 @@ broken_here : (most : ℕ) (c : Cursor) (cause : Cause) → EndsBadly (bits_left
 broken_here most c cause ends =
     let none : List Bool = [] in
     let all : most - length none ≡ most = omega arith in
-    record { digits = []; few = omega arith; behind = c; passes = passes_none c; ends = rw all ends }
+    record { digits = []; at_most_that_many = omega arith; behind = c; passes = passes_none c; ends = rw all ends }
 
 -- one that ends badly behind a digit
 broken_behind : (left : ℕ) (b : Bool) (c e m : Cursor) (cause : Cause) → bit_next c ≡ Ok (false, e) → bit_next e ≡ Ok (b, m)
@@ -45,7 +45,7 @@ broken_behind left b c e m cause follow digit more =
     let same : suc left - length (b ∷ more.digits) ≡ left - length more.digits = omega arith in
     record {
       digits = b ∷ more.digits;
-      few = omega (arith, more.few);
+      at_most_that_many = omega (arith, more.at_most_that_many);
       behind = more.behind;
       passes =
           passes_join (false ∷ []) (b ∷ followed more.digits) c e more.behind (bit_passed false c e follow)
@@ -121,7 +121,7 @@ stops_behind (b ∷ bs) most value c d cause few p e =
     ∙ stops_behind bs (most - 1) (2 * value + bit_value b) (skip 1 (skip 1 c)) d cause (omega (arith, few)) digit.1 (rw same at e)
 
 pub number_stops : (most value : ℕ) (c : Cursor) (cause : Cause) → BreaksNumber most c cause → number_on most value c ≡ Err cause
-number_stops most value c cause b = stops_behind b.digits most value c b.behind cause b.few b.passes b.ends
+number_stops most value c cause b = stops_behind b.digits most value c b.behind cause b.at_most_that_many b.passes b.ends
 
 -- ---- signed numbers
 

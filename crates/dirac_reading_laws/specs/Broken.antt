@@ -1,4 +1,5 @@
--- Where a header breaks a rule: the fields before are spelled by the bits, and the next one isn't, or is refused.
+-- Where a header breaks: the fields before are spelled by the bits, and the next one isn't, or a rule refuses them at
+-- the place that the grammar names.
 use Rattle.std.specs.Prelude.{◌≡◌, ◌⊎◌, ℕ, zero, suc, ℤ, ◌+◌, ◌-◌, ◌*◌, ◌<◌, ◌≤◌, ◌^◌, Bool, true, false, List, [], ◌∷◌, length, unsigned_abs}
 use Rattle.std.specs.List.{AllByRecursion}
 use Rattle.dirac_types.specs.declared.limits.TheConstants.{MOST_DIGITS}
@@ -22,7 +23,7 @@ EndsBadly (true ∷ bits) left cause = ⊥
 -- no number of at most so many digits stands there: behind some digits it ends badly
 pub record BreaksNumber (most : ℕ) (c : Cursor) (cause : Cause) : Type 0 where
   pub digits : List Bool
-  pub few : length digits ≤ most
+  pub at_most_that_many : length digits ≤ most
   pub behind : Cursor
   pub passes : Passes c (followed digits) behind
   pub ends : EndsBadly (bits_left behind) (most - length digits) cause

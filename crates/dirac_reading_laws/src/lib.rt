@@ -1,7 +1,9 @@
-//! Laws of reading: a header is refused exactly where its first field breaks a rule, and each list of bytes shows
-//! exactly one outcome. No code waits for them.
+//! Laws of reading: a header is refused exactly at the first of its fields that breaks a rule, each header is spelled
+//! or breaks, and each list of bytes shows exactly one outcome. No crate stands on them.
 #![tactic(auto)]
 
 mod laws;
 
-pub use laws::{a_stream_shows_one_outcome, headers_are_refused_where_a_field_breaks};
+pub use laws::{
+    a_stream_shows_one_outcome, headers_are_refused_where_a_field_breaks, headers_are_spelled_or_break,
+};

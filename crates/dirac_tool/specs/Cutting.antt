@@ -20,7 +20,7 @@ ended_of edited.NoMemory = ended.NoMemory
 -- `cut`: from point `from` up to point `to`, of the bytes held; what was written of it shows its pictures
 pub record Cuts (from : ℕ) (to : Option ℕ) (held held' out out' : Option (List ℕ)) (answer : Ended) : Type 0 where
   pub how : Edited
-  pub answers : answer ≡ ended_of how
+  pub ends : answer ≡ ended_of how
   pub cut : IfSome held (λ bytes. IsCutBy bytes from to how out out')
   pub shows : IfSome held (λ bytes. how ≡ edited.Done → ShowsPart bytes from to)
   pub whole : answer ≡ ended.Done → IsAtEnd held'

@@ -49,8 +49,8 @@ text_of ended.NoMemory = codes "no memory"
 text_of (ended.NoSuchPoint n) = codes "no such point: " ++ decimal n
 text_of (ended.OpenCut n) = codes "open cut: unit " ++ decimal n
 
--- the answer after both sinks were flushed: a flush that fails behind `Done` is a fault of its sink, of the first one
--- first
+-- the answer behind a run with this one and the flushes of both sinks, where each is sound or isn't: behind `Done` a
+-- sink that isn't sound is answered as a fault of it, the one that comes out first
 abbrev pub after_flushes : Ended → Bool → Bool → Ended
 after_flushes ended.Done out side = if out then (if side then ended.Done else ended.SideFault) else ended.WriteFault
 after_flushes answer out side = answer

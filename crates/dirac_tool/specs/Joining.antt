@@ -3,7 +3,7 @@ use Rattle.std.specs.Prelude.{◌≡◌, ℕ, List, Option, IfSome, ⊤}
 use Rattle.std.specs.Io.KnownBytes.{IsAtEnd}
 use Rattle.dirac_edit.specs.declared.answers.Edited.{Edited}
 use Rattle.dirac_edit.specs.declared.answers.Edited.TheVariants as edited
-use Rattle.dirac_edit.specs.Edits.{IsJoinedBy, ShowsSame}
+use Rattle.dirac_edit.specs.Edits.{IsJoinedBy, JoinedShowsSame}
 use Rattle.dirac_tool.specs.declared.ended.Ended.{Ended}
 use Rattle.dirac_tool.specs.declared.ended.Ended.TheVariants as ended
 use Rattle.dirac_tool.specs.Cutting.{ended_of}
@@ -20,8 +20,8 @@ IsJoinAnswer _ = ⊥
 -- `join`: the sequences of the bytes held, joined; what was written shows the same raw pictures
 pub record Joins (held held' out out' : Option (List ℕ)) (answer : Ended) : Type 0 where
   pub how : Edited
-  pub answers : answer ≡ ended_of how
-  pub named : IsJoinAnswer answer
+  pub ends : answer ≡ ended_of how
+  pub answers : IsJoinAnswer answer
   pub joined : IfSome held (λ bytes. IsJoinedBy bytes how out out')
-  pub shows : IfSome held (λ bytes. how ≡ edited.Done → ShowsSame bytes)
+  pub shows : IfSome held (λ bytes. how ≡ edited.Done → JoinedShowsSame bytes)
   pub whole : answer ≡ ended.Done → IsAtEnd held'

@@ -50,8 +50,8 @@ pub fn status(ended: &Ended) -> u8
     }
 }
 
-/// The answer after both sinks were flushed. A flush that fails behind `Done` is a fault of its sink, of
-/// what comes out first.
+/// The answer behind a run and the flushes of its sinks, where it is known of each sink whether it is sound: nothing
+/// failed there. Behind `Done` a sink that isn't sound is answered as a fault of it, what comes out first.
 pub fn after_flushes(ended: Ended, out: bool, side: bool) -> Ended
     ensures { result ≡ ended_after_flushes ended out side }
 {

@@ -1,5 +1,5 @@
 //! The program `dirac_tool`: reads its words, runs a command on standard input and output, and ends
-//! with a status. All that it promises stands on `run`.
+//! with a status. All that it promises stands on `run_on` and `run_beside`.
 #![tactic(auto)]
 
 mod cut;

@@ -83,6 +83,7 @@ fn a_writer_that_takes_nothing_or_fails_once(rt: HostRuntime) {
     assert!(rt; sink.write(b"kl") == Took::Bytes(2));
     assert!(rt; !sink.flush());
     assert!(rt; sink.flush());
+    assert_eq!(rt; sink.fault_count(), 3);
     assert_eq!(rt; writer.taken.as_slice(), b"fghkl".as_slice());
     assert_eq!(rt; writer.flushes, 2);
 }

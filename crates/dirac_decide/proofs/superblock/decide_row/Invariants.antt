@@ -6,4 +6,4 @@ use Rattle.dirac_decide.proofs.superblock.decide_row.Given as goal
 
 abbrev pub invariant-loop-sx : goal.invariant-loop-sx
 invariant-loop-sx l =
-    AnswerRows (IsBestSplit (given l.inputs) l.sy) l.sx l.row.items × IsRoom (given l.inputs) 0 l.undivided.items × IsRoom (given l.inputs) 1 l.quarters.items × IsRoom (given l.inputs) 2 l.sixteenths.items
+    AnswerRows (λ sx. IsBestSplit (given l.inputs) sx l.sy) l.sx l.row.items × IsRoom (given l.inputs) 0 l.undivided.items × IsRoom (given l.inputs) 1 l.quarters.items × IsRoom (given l.inputs) 2 l.sixteenths.items

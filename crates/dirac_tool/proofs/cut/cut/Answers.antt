@@ -11,7 +11,7 @@ returns-clause-answer g c =
 pub returns-clause-cut : goal.returns-clause-cut
 returns-clause-cut g c = record {
   how = c.cut_stream-edited.result;
-  answers = c.ended_of.ensures;
+  ends = c.ended_of.ensures;
   cut = c.cut_stream-edited.ensures.cut;
   shows = c.cut_stream-edited.ensures.shows;
   whole = λ done. c.cut_stream-edited.ensures.whole (done_by c.cut_stream-edited.result (sym c.ended_of.ensures ∙ done));

@@ -12,8 +12,8 @@ returns-clause-answer g c =
 pub returns-clause-joined : goal.returns-clause-joined
 returns-clause-joined g c = record {
   how = c.join_stream-edited.result;
-  answers = c.ended_of.ensures;
-  named = subst (λ (answer : Ended). IsJoinAnswer answer) (sym c.ended_of.ensures) (is_join_answer c.join_stream-edited.result c.join_stream-edited.ensures.answer);
+  ends = c.ended_of.ensures;
+  answers = subst (λ (answer : Ended). IsJoinAnswer answer) (sym c.ended_of.ensures) (is_join_answer c.join_stream-edited.result c.join_stream-edited.ensures.answer);
   joined = c.join_stream-edited.ensures.joined;
   shows = c.join_stream-edited.ensures.shows;
   whole = λ done. c.join_stream-edited.ensures.whole (done_by c.join_stream-edited.result (sym c.ended_of.ensures ∙ done));
