@@ -227,23 +227,27 @@ def quantise(coefficient, index):
     return -magnitude if coefficient < 0 else magnitude
 
 
-def quantise_subband(rows, index):
+def quantise_subband(rows, index, counts):
     values = [quantise(coefficient, index) for row in rows for coefficient in row]
-    return decoder.Subband(len(rows[0]), len(rows), index if any(values) else 0, values)
+    index = index if any(values) else 0
+    return decoder.Subband(len(rows[0]), len(rows), index, values, counts, [index] * (counts[0] * counts[1]))
 
 
 def plane_subbands(plane, settings, is_intra):
     """The quantised subbands of a plane, in the order of the stream."""
     low_low = pad(plane, 2 ** settings["depth"])
-    others = []
+    levels = []
     for _ in range(settings["depth"]):
-        low_low, *level = analyse_level(low_low, settings["wavelet"])
-        others = level + others
+        low_low, *bands = analyse_level(low_low, settings["wavelet"])
+        levels.insert(0, bands)
+    counts = codeblock_counts(settings)
     if is_intra:
-        bands = [quantise_subband(low_low_differences(low_low), 0)]
+        bands = [quantise_subband(low_low_differences(low_low), 0, counts[0])]
     else:
-        bands = [quantise_subband(low_low, settings["index"])]
-    return bands + [quantise_subband(rows, settings["index"]) for rows in others]
+        bands = [quantise_subband(low_low, settings["index"], counts[0])]
+    for level, others in enumerate(levels, 1):
+        bands += [quantise_subband(rows, settings["index"], counts[level]) for rows in others]
+    return bands
 
 
 # The plan
@@ -617,14 +621,14 @@ def write_block_tables(writer, splits, units, reference_count):
 # Payloads
 
 
-def write_subband(writer, orientation, band, counts, parent):
+def write_subband(writer, orientation, band, parent):
     writer.align()
     if not any(band.values):
         writer.unsigned(0)
         return
     encoder = ArithmeticEncoder()
-    for rows, columns in decoder.codeblocks(band.width, band.height, *counts):
-        if counts != (1, 1):
+    for rows, columns in decoder.codeblocks(band.width, band.height, *band.counts):
+        if band.counts != (1, 1):
             is_zero = all(band.value(x, y) == 0 for y in rows for x in columns)
             encoder.decision(decoder.CODEBLOCK_ZERO, int(is_zero))
             if is_zero:
@@ -705,7 +709,7 @@ def write_residual(writer, settings, planes, is_intra):
         for position, band in enumerate(bands):
             level, orientation = decoder.subband_kind(position)
             parent = bands[position - 3] if level >= 2 else None
-            write_subband(writer, orientation, band, counts[level], parent)
+            write_subband(writer, orientation, band, parent)
 
 
 def offset_from(number, other):
