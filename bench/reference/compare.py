@@ -397,6 +397,7 @@ def random_settings(source):
     settings.update(width=across * source.randrange(1, 9), height=2 * rows if settings["fields"] else rows)
     settings.update(wavelet=source.randrange(7), depth=source.randrange(1, 5))
     settings.update(index=source.choice([0, 0, 12, 5, 30, 99]), codeblocks=source.choice([1, 1, 2, 3, 8]))
+    settings["finer"] = source.choice([0, 0, 1, 5, 12, 99])
     if source.random() < 0.5:
         settings.update(rate=source.randrange(1, 11), signal=source.randrange(1, 3))
         settings.update(profile=source.randrange(256), level=source.randrange(256))
