@@ -20,6 +20,7 @@ from writer import (
     INTER_2_UNLISTED,
     INTRA,
     INTRA_UNLISTED,
+    OFFSET_NUMBERS,
     PADDING,
     SEQUENCE_HEADER,
     Arithmetic,
@@ -219,6 +220,91 @@ def codeblocks_without_values():
     size, depth_ = (14, 10), 2
     counts = [tuple(band_length(length, depth_, level) for length in size) for level in range(depth_ + 1)]
     return Stream().sequence(size).intra(0, noise(62, 1, depth_, counts)).end()
+
+
+def indices_of(seed, lowest=0, highest=99, kept=3):
+    """Indices for codeblocks of mode 1: `kept` of 8 codeblocks keep the one before."""
+    source = Noise(seed)
+
+    def indices(plane, level, kind, index):
+        while True:
+            yield None if source.below(8) < kept else source.between(lowest, highest)
+
+    return indices
+
+
+def with_indices(residual, indices, counts=None):
+    """The residual in codeblock mode 1, with these indices of its codeblocks."""
+    residual.mode, residual.indices = 1, indices
+    residual.counts = residual.counts or counts or [(1, 1)] * (residual.depth + 1)
+    return residual
+
+
+@stream
+def codeblock_indices():
+    """codeblock mode 1: codeblocks at every level, counts 3 2, 5 1, 2 4, of indices 0 to 40 of their own; some skipped,
+    some of zeros that have an offset all the same; two intra pictures of 46 by 38, 4:2:2
+    """
+    counts = [(3, 2), (5, 1), (2, 4)]
+    made = Stream().sequence((46, 38), 1)
+    made.intra(0, with_indices(noise(64, 0, 2, counts, zeros=7), indices_of(65, highest=40)))
+    return made.intra(1, with_indices(noise(66, 4, 2, counts), indices_of(67, highest=40))).end()
+
+
+@stream
+def codeblock_indices_at_the_ends():
+    """codeblock mode 1: indices from 0 to 99 and from 99 to 0 and others between; codeblocks that are skipped or whose
+    offset is 0 keep the one before; two intra pictures of 48 by 48, 4:4:4, wavelet 3, depth 1, counts 4 4
+    """
+    ends = (99, None, 0, 99, 98, 0, 1, None, None, 12, 11, 13, 99, None, 0, 2)
+    lowest = (0, 1, 2, 3, None, 5, 6, 7, 8, None, None, 3, 2, 1, 0, 9)
+
+    def indices(plane, level, kind, index):
+        return iter(lowest if level == 0 else ends[4 * plane :] + ends[: 4 * plane])
+
+    made = Stream().sequence((48, 48), 0)
+    for number in range(2):
+        source = Noise(68 + number)
+
+        def rows(plane, level, kind, width, height, source=source, number=number):
+            values = [[0] * width for _ in range(height)]
+            index = 0
+            for n, wanted in enumerate(indices(plane, level, kind, 0)):
+                index = index if wanted is None else wanted
+                if wanted is None and number == 0:
+                    continue
+                # where the factor is large a single value, since it is clipped
+                count = 1 if index > 20 else 40
+                for _ in range(count):
+                    y = n // 4 * (height // 4) + source.below(height // 4)
+                    x = n % 4 * (width // 4) + source.below(width // 4)
+                    values[y][x] = source.between(-5, 5)
+            return values
+
+        made.intra(number, Residual(rows, lambda plane, *_: 33 * plane, 3, 1, 2 * [(4, 4)], 1, indices))
+    return made.end()
+
+
+@stream
+def codeblock_indices_without_flags():
+    """codeblock mode 1 where all counts are 1: each band has an offset and no zero flag, also one of zeros; three
+    intra pictures of 22 by 18, 4:2:0
+    """
+    made = Stream().sequence((22, 18))
+    made.intra(0, with_indices(noise(73, 0), indices_of(74, highest=30, kept=0)))
+    made.intra(1, with_indices(noise(75, 5, 3), indices_of(76, highest=30, kept=8)))
+    zeros = lambda plane, level, kind, width, height: [[0] * width for _ in range(height)]
+    return made.intra(2, with_indices(Residual(zeros, lambda *_: 20, 1, 1), indices_of(77))).end()
+
+
+@stream
+def codeblock_indices_without_values():
+    """codeblock mode 1: codeblocks that hold no value, skipped ones and others, which have an offset; 14 by 10, 4:2:0
+    """
+    size, depth_ = (14, 10), 2
+    counts = [tuple(band_length(length, depth_, level) for length in size) for level in range(depth_ + 1)]
+    made = Stream().sequence(size)
+    return made.intra(0, with_indices(noise(78, 1, depth_, counts), indices_of(79, highest=30, kept=4))).end()
 
 
 @stream
@@ -493,6 +579,22 @@ def inter_residuals():
         counts = [(2, 2), (3, 2), (4, 3)] if number % 2 else None
         residual = noise(260 + number, number - 1, 2, counts, zeros=5, finest=4 + number)
         made.inter(INTER_1, number, (-1,), mixed_motion(270 + number, 1), residual)
+    return made.end()
+
+
+@stream
+def inter_codeblock_indices():
+    """codeblock mode 1 in inter pictures of one and of two references: indices of each codeblock, of LL too; 64 by 32,
+    whole superblocks
+    """
+    made = one_anchor((64, 32))
+    for number in range(1, 5):
+        counts = [[(2, 2), (3, 2), (4, 3)], None, [(1, 1), (8, 4), (2, 1)], [(5, 3), (1, 1), (7, 2)]][number - 1]
+        residual = noise(550 + number, number + 1, 2, counts, zeros=5, finest=6)
+        residual = with_indices(residual, indices_of(560 + number, highest=28))
+        offsets = (-1, -2) if number % 2 == 0 else (-1,)
+        motion = mixed_motion(570 + number, len(offsets), precision=number % 3)
+        made.inter(INTER_2 if number % 2 == 0 else INTER_1, number, offsets, motion, residual)
     return made.end()
 
 
@@ -921,8 +1023,8 @@ def fault_codeblocks():
 
 @stream
 def fault_codeblock_mode():
-    """CodeblockMode: 1"""
-    return behind_a_picture(INTRA, intra_header().unsigned(3, 1).flag(1).unsigned(1, 1, 2, 1, 1))
+    """CodeblockMode: 2"""
+    return behind_a_picture(INTRA, intra_header().unsigned(3, 1).flag(1).unsigned(1, 1, 2, 1, 2))
 
 
 @stream
@@ -930,6 +1032,59 @@ def fault_quant_index():
     """QuantIndex: 100"""
     bits = intra_header().unsigned(0, 1).flag(0).align().unsigned(1, 100).align().bytes(b"\x2e")
     return behind_a_picture(INTRA, bits)
+
+
+def behind_offsets(index, numbers, flags=()):
+    """A picture of 8 by 8 whose first band has this index, and begins with these flags, offsets and values."""
+    block = Arithmetic()
+    for flag in flags:
+        block.decision(18, flag)
+    for contexts, value in numbers:
+        block.number(contexts, value)
+    block = block.block()
+    counts = (2, 1) if flags else (1, 1)
+    bits = intra_header().unsigned(0, 1).flag(1).unsigned(*counts, 1, 1, 1).align()
+    return behind_a_picture(INTRA, bits.unsigned(len(block), index).align().bytes(block))
+
+
+FIRST_VALUE = ([0, 4, 5, 6, 7, 8], 14, 15)
+
+
+@stream
+def fault_quant_index_of_a_codeblock():
+    """QuantIndex: 99, and an offset of 1"""
+    return behind_offsets(99, [(OFFSET_NUMBERS, 1)])
+
+
+@stream
+def fault_quant_index_below():
+    """QuantIndex: 0, a codeblock that is skipped, and an offset of -1"""
+    return behind_offsets(0, [(OFFSET_NUMBERS, -1)], flags=(True, False))
+
+
+@stream
+def fault_quant_index_by_256():
+    """QuantIndex: 7, and an offset of 256; then a value of 39 digits, which isn't looked at"""
+    return behind_offsets(7, [(OFFSET_NUMBERS, 256), (FIRST_VALUE, 2**39 - 1)])
+
+
+@stream
+def fault_quant_index_by_the_longest():
+    """QuantIndex: 50, and an offset of 2 - 2^39, which has 38 digits"""
+    return behind_offsets(50, [(OFFSET_NUMBERS, 2 - 2**39)])
+
+
+@stream
+def fault_number_too_long_as_an_offset():
+    """NumberTooLong: an offset has 39 digits"""
+    return behind_offsets(50, [(OFFSET_NUMBERS, 2**39 - 1)])
+
+
+@stream
+def fault_code_word_before_an_offset():
+    """CodeWord: in codeblock mode 1 a band's block begins with 16 ones, and an offset is wanted"""
+    bits = intra_header().unsigned(0, 1).flag(1).unsigned(1, 1, 1, 1, 1).align()
+    return behind_a_picture(INTRA, bits.unsigned(2, 99).align().bytes(b"\xff\xff"))
 
 
 @stream

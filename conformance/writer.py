@@ -35,6 +35,7 @@ STEPS = [
 SPLIT_NUMBERS = ([22, 23], 24, None)
 VECTOR_NUMBERS = ([27, 28, 29, 30, 31], 32, 33)
 DC_NUMBERS = ([34, 35], 36, 37)
+OFFSET_NUMBERS = ([19], 20, 21)
 
 
 class Noise:
@@ -235,8 +236,12 @@ def coefficient_contexts(kind, rows, parent, x, y):
     return follow, 14, 15 if beside == 0 else 16 if beside < 0 else 17
 
 
-def band_block(kind, rows, parent, counts):
-    """The arithmetic block of a band's values; a codeblock's zero flag is set wherever it can be."""
+def band_block(kind, rows, parent, counts, index=0, indices=None):
+    """The arithmetic block of a band's values; a codeblock's zero flag is set wherever it can be.
+
+    With `indices` each codeblock has an offset, from the band's `index` on. They are what the codeblocks are to have,
+    by rows: None keeps the index of the one before, and only such a codeblock is skipped.
+    """
     block = Arithmetic()
     width, height = len(rows[0]), len(rows)
     across, down = counts
@@ -244,11 +249,16 @@ def band_block(kind, rows, parent, counts):
         for m in range(across):
             columns = range(width * m // across, width * (m + 1) // across)
             lines = range(height * n // down, height * (n + 1) // down)
+            wanted = None if indices is None else indices[across * n + m]
             if counts != (1, 1):
-                is_zero = all(rows[y][x] == 0 for y in lines for x in columns)
+                is_zero = wanted is None and all(rows[y][x] == 0 for y in lines for x in columns)
                 block.decision(18, is_zero)
                 if is_zero:
                     continue
+            if indices is not None:
+                offset = 0 if wanted is None else wanted - index
+                block.number(OFFSET_NUMBERS, offset)
+                index += offset
             for y in lines:
                 for x in columns:
                     block.number(coefficient_contexts(kind, rows, parent, x, y), rows[y][x])
@@ -259,11 +269,12 @@ class Residual:
     """Transform parameters and subbands.
 
     `rows(plane, level, kind, width, height)` gives the values of a band by rows, or None for a band of length 0;
-    `index(plane, level, kind)` its quantiser index. `counts` are codeblocks across and down for each level.
+    `index(plane, level, kind)` its quantiser index. `counts` are codeblocks across and down for each level. In mode 1
+    `indices(plane, level, kind, index)` gives those of the codeblocks, without end, as band_block takes them.
     """
 
-    def __init__(self, rows, index, wavelet=0, depth=2, counts=None, mode=0):
-        self.rows, self.index = rows, index
+    def __init__(self, rows, index, wavelet=0, depth=2, counts=None, mode=0, indices=None):
+        self.rows, self.index, self.indices = rows, index, indices
         self.wavelet, self.depth, self.counts, self.mode = wavelet, depth, counts, mode
 
     def write(self, bits, size, chroma):
@@ -287,8 +298,12 @@ class Residual:
             bands[level, kind] = rows
             parent = bands.get((level - 1, kind))
             counts = (1, 1) if self.counts is None else self.counts[level]
-            block = band_block(kind, rows, parent, counts)
-            bits.unsigned(len(block), self.index(plane, level, kind)).align().bytes(block)
+            index, indices = self.index(plane, level, kind), None
+            if self.mode == 1:
+                source = self.indices(plane, level, kind, index)
+                indices = [next(source) for _ in range(counts[0] * counts[1])]
+            block = band_block(kind, rows, parent, counts, index, indices)
+            bits.unsigned(len(block), index).align().bytes(block)
 
 
 # Block tables

@@ -199,13 +199,18 @@ def random_residual(source, writer, sequence):
     depth = source.choice([1, 1, 2, 3, 4, 5])
     writer.unsigned(source.randrange(7)).unsigned(depth)
     is_partitioned = source.random() < 0.5
+    indices, mode = [0, 1, 2, 3, 7, 12, 20], 0
     writer.flag(is_partitioned)
     if is_partitioned:
         for level in range(depth + 1):
             for size in (sequence.width, sequence.height):
                 most = min(decoder.subband_length(size, depth, level), 5)
                 writer.unsigned(source.randrange(1, most + 1))
-        writer.unsigned(0)
+        mode = int(source.random() < 0.15)
+        writer.unsigned(mode)
+    if mode == 1:
+        # most offsets then stay inside
+        indices = [1, 30, 40, 50, 60]
     for _ in range(3 * (3 * depth + 1)):
         writer.align(source)
         if source.random() < 0.5:
@@ -214,7 +219,7 @@ def random_residual(source, writer, sequence):
         block = random_bytes(source, source.choice([1, 1, 2, 2, 3, 5, 9]))
         if block[:2] == b"\xff\xff" or block == b"\xff":
             block = b"\x30" + block[1:]
-        index = source.choice([0, 1, 2, 3, 7, 12, 20, source.randrange(100)])
+        index = source.choice([*indices, source.randrange(100)])
         writer.unsigned(len(block)).unsigned(index).align(source).bytes(block)
 
 
@@ -392,6 +397,7 @@ def random_settings(source):
     settings.update(width=across * source.randrange(1, 9), height=2 * rows if settings["fields"] else rows)
     settings.update(wavelet=source.randrange(7), depth=source.randrange(1, 5))
     settings.update(index=source.choice([0, 0, 12, 5, 30, 99]), codeblocks=source.choice([1, 1, 2, 3, 8]))
+    settings["finer"] = source.choice([0, 0, 1, 5, 12, 99])
     if source.random() < 0.5:
         settings.update(rate=source.randrange(1, 11), signal=source.randrange(1, 3))
         settings.update(profile=source.randrange(256), level=source.randrange(256))

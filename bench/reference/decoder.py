@@ -20,6 +20,7 @@ REFERENCE_PICTURES = (0x0C, 0x0D, 0x0E)
 WITHOUT_ARITHMETIC_CODING = (0x48, 0x4C)
 LOW_DELAY = (0xC8, 0xCC)
 PARSE_INFO_LENGTH = 13
+LARGEST_INDEX = 99
 MOST_DIGITS = 38
 MOST_REFERENCES = 8
 MOST_WAITING = 4
@@ -52,6 +53,7 @@ PARENT_NOT_ZERO_FOLLOW = [9, 10, 11, 12, 13]
 COEFFICIENT_DIGITS = 14
 SIGN_ZERO, SIGN_NEGATIVE, SIGN_POSITIVE = 15, 16, 17
 CODEBLOCK_ZERO = 18
+OFFSET_FOLLOW, OFFSET_DIGITS, OFFSET_SIGN = [19], 20, 21
 SPLIT_FOLLOW, SPLIT_DIGITS = [22, 23], 24
 REFERENCE_BITS = [25, 26]
 VECTOR_FOLLOW, VECTOR_DIGITS, VECTOR_SIGN = [27, 28, 29, 30, 31], 32, 33
@@ -657,20 +659,23 @@ def read_dc_values(decoder, units, uses):
 
 
 class TransformParameters(NamedTuple):
-    """The wavelet index, the transform depth, and the codeblock counts across and down of each level."""
+    """The wavelet index, the transform depth, the codeblock counts across and down of each level, and their mode."""
 
     wavelet: int
     depth: int
     codeblock_counts: list
+    codeblock_mode: int
 
 
 class Subband(NamedTuple):
-    """Values are those coded, by rows."""
+    """Values are those coded, by rows; counts are those of its codeblocks, each of which has an index, by rows."""
 
     width: int
     height: int
     index: int
     values: list
+    counts: tuple
+    indices: list
 
     def value(self, x, y):
         """The value at a place that may lie left of the band or above it."""
@@ -698,14 +703,15 @@ def read_transform_parameters(reader, width, height):
     wavelet = read_limited(reader, 0, 6, "Wavelet")
     depth = read_limited(reader, 1, 5, "Depth")
     counts = [(1, 1)] * (depth + 1)
+    mode = 0
     if reader.flag():
         counts = []
         for level in range(depth + 1):
             across = read_limited(reader, 1, subband_length(width, depth, level), "Codeblocks")
             down = read_limited(reader, 1, subband_length(height, depth, level), "Codeblocks")
             counts.append((across, down))
-        read_limited(reader, 0, 0, "CodeblockMode")
-    return TransformParameters(wavelet, depth, counts)
+        mode = read_limited(reader, 0, 1, "CodeblockMode")
+    return TransformParameters(wavelet, depth, counts, mode)
 
 
 def codeblocks(width, height, across, down):
@@ -729,22 +735,35 @@ def coefficient_contexts(orientation, band, parent, x, y):
     return follow, SIGN_NEGATIVE if sign_neighbour < 0 else SIGN_POSITIVE
 
 
-def read_subband(reader, orientation, width, height, counts, parent):
+def read_codeblock_index(decoder, index):
+    """What an offset makes of the index so far."""
+    index += decoder.signed(OFFSET_FOLLOW, OFFSET_DIGITS, OFFSET_SIGN)
+    if not 0 <= index <= LARGEST_INDEX:
+        raise Fault(decoder.place, "QuantIndex")
+    return index
+
+
+def read_subband(reader, orientation, width, height, counts, mode, parent):
     reader.align()
     length = reader.unsigned()
+    values = [0] * (width * height)
     if length == 0:
-        return Subband(width, height, 0, [0] * (width * height))
-    index = read_limited(reader, 0, 99, "QuantIndex")
+        return Subband(width, height, 0, values, counts, [0] * (counts[0] * counts[1]))
+    index = read_limited(reader, 0, LARGEST_INDEX, "QuantIndex")
     reader.align()
     decoder = ArithmeticDecoder(*reader.bytes(length))
-    band = Subband(width, height, index, [0] * (width * height))
+    band = Subband(width, height, index, values, counts, [])
     for rows, columns in codeblocks(width, height, *counts):
-        if counts != (1, 1) and decoder.decision(CODEBLOCK_ZERO):
+        is_skipped = counts != (1, 1) and decoder.decision(CODEBLOCK_ZERO)
+        if mode == 1 and not is_skipped:
+            index = read_codeblock_index(decoder, index)
+        band.indices.append(index)
+        if is_skipped:
             continue
         for y in rows:
             for x in columns:
                 follow, sign = coefficient_contexts(orientation, band, parent, x, y)
-                band.values[y * width + x] = decoder.signed(follow, COEFFICIENT_DIGITS, sign)
+                values[y * width + x] = decoder.signed(follow, COEFFICIENT_DIGITS, sign)
     return band
 
 
@@ -756,7 +775,8 @@ def read_plane_subbands(reader, parameters, width, height):
         band_height = subband_length(height, parameters.depth, level)
         parent = bands[position - 3] if level >= 2 else None
         counts = parameters.codeblock_counts[level]
-        bands.append(read_subband(reader, orientation, band_width, band_height, counts, parent))
+        mode = parameters.codeblock_mode
+        bands.append(read_subband(reader, orientation, band_width, band_height, counts, mode, parent))
     return bands
 
 
@@ -792,11 +812,15 @@ def restore_value(value, factor, offset):
 
 
 def restore_subband(band, is_intra):
-    """The band's restored values as rows."""
-    factor = quantiser_factor(band.index)
-    offset = quantiser_offset(band.index, is_intra)
-    values = [restore_value(value, factor, offset) for value in band.values]
-    return [values[y * band.width : (y + 1) * band.width] for y in range(band.height)]
+    """The band's restored values as rows, each codeblock by its index."""
+    restored = [[0] * band.width for _ in range(band.height)]
+    for (rows, columns), index in zip(codeblocks(band.width, band.height, *band.counts), band.indices):
+        factor = quantiser_factor(index)
+        offset = quantiser_offset(index, is_intra)
+        for y in rows:
+            for x in columns:
+                restored[y][x] = restore_value(band.value(x, y), factor, offset)
+    return restored
 
 
 def predict_low_low(rows, x, y):

@@ -18,6 +18,7 @@ INTER_PICTURES = {1: 0x09, 2: 0x0A}
 UNIT_TOO_LONG = 6
 TOO_MANY_PICTURES = 7
 PARTIAL_PICTURE = 5
+FLAT_BELOW = 64
 
 # name, lowest, highest, in the order of their check
 SETTING_RANGES = [
@@ -34,6 +35,7 @@ SETTING_RANGES = [
     ("depth", 1, 4),
     ("index", 0, 99),
     ("codeblocks", 1, 8),
+    ("finer", 0, 99),
     ("blocks", 2, 4),
     ("precision", 0, 3),
     ("references", 1, 2),
@@ -55,6 +57,7 @@ SETTING_DEFAULTS = {
     "depth": 4,
     "index": 12,
     "codeblocks": 1,
+    "finer": 0,
     "blocks": 2,
     "precision": 2,
     "references": 2,
@@ -227,23 +230,39 @@ def quantise(coefficient, index):
     return -magnitude if coefficient < 0 else magnitude
 
 
-def quantise_subband(rows, index):
-    values = [quantise(coefficient, index) for row in rows for coefficient in row]
-    return decoder.Subband(len(rows[0]), len(rows), index if any(values) else 0, values)
+def codeblock_index(coefficients, index, finer):
+    """A codeblock's index; without samples it is flat too."""
+    is_flat = all(abs(coefficient) < FLAT_BELOW for coefficient in coefficients)
+    return max(0, index - finer) if is_flat else index
+
+
+def quantise_subband(rows, index, counts, finer):
+    """The band, each codeblock quantised with its own index, also where it is skipped in the stream."""
+    band = decoder.Subband(len(rows[0]), len(rows), index, [0] * (len(rows) * len(rows[0])), counts, [])
+    for lines, columns in decoder.codeblocks(band.width, band.height, *counts):
+        own = codeblock_index([rows[y][x] for y in lines for x in columns], index, finer)
+        band.indices.append(own)
+        for y in lines:
+            for x in columns:
+                band.values[y * band.width + x] = quantise(rows[y][x], own)
+    return band
 
 
 def plane_subbands(plane, settings, is_intra):
     """The quantised subbands of a plane, in the order of the stream."""
     low_low = pad(plane, 2 ** settings["depth"])
-    others = []
+    levels = []
     for _ in range(settings["depth"]):
-        low_low, *level = analyse_level(low_low, settings["wavelet"])
-        others = level + others
+        low_low, *bands = analyse_level(low_low, settings["wavelet"])
+        levels.insert(0, bands)
+    counts, index, finer = codeblock_counts(settings), settings["index"], settings["finer"]
     if is_intra:
-        bands = [quantise_subband(low_low_differences(low_low), 0)]
+        bands = [quantise_subband(low_low_differences(low_low), 0, counts[0], finer)]
     else:
-        bands = [quantise_subband(low_low, settings["index"])]
-    return bands + [quantise_subband(rows, settings["index"]) for rows in others]
+        bands = [quantise_subband(low_low, index, counts[0], finer)]
+    for level, others in enumerate(levels, 1):
+        bands += [quantise_subband(rows, index, counts[level], finer) for rows in others]
+    return bands
 
 
 # The plan
@@ -617,18 +636,22 @@ def write_block_tables(writer, splits, units, reference_count):
 # Payloads
 
 
-def write_subband(writer, orientation, band, counts, parent):
+def write_subband(writer, orientation, band, mode, parent):
     writer.align()
     if not any(band.values):
         writer.unsigned(0)
         return
     encoder = ArithmeticEncoder()
-    for rows, columns in decoder.codeblocks(band.width, band.height, *counts):
-        if counts != (1, 1):
+    index = band.index
+    for (rows, columns), own in zip(decoder.codeblocks(band.width, band.height, *band.counts), band.indices):
+        if band.counts != (1, 1):
             is_zero = all(band.value(x, y) == 0 for y in rows for x in columns)
             encoder.decision(decoder.CODEBLOCK_ZERO, int(is_zero))
             if is_zero:
                 continue
+        if mode == 1:
+            encoder.signed(decoder.OFFSET_FOLLOW, decoder.OFFSET_DIGITS, decoder.OFFSET_SIGN, own - index)
+            index = own
         for y in rows:
             for x in columns:
                 follow, sign = decoder.coefficient_contexts(orientation, band, parent, x, y)
@@ -695,17 +718,18 @@ def write_residual(writer, settings, planes, is_intra):
             return
     writer.unsigned(settings["wavelet"]).unsigned(settings["depth"])
     counts = codeblock_counts(settings)
-    is_partitioned = any(count != (1, 1) for count in counts)
+    mode = int(settings["finer"] > 0)
+    is_partitioned = mode == 1 or any(count != (1, 1) for count in counts)
     writer.flag(is_partitioned)
     if is_partitioned:
         for across, down in counts:
             writer.unsigned(across).unsigned(down)
-        writer.unsigned(0)
+        writer.unsigned(mode)
     for bands in subbands:
         for position, band in enumerate(bands):
             level, orientation = decoder.subband_kind(position)
             parent = bands[position - 3] if level >= 2 else None
-            write_subband(writer, orientation, band, counts[level], parent)
+            write_subband(writer, orientation, band, mode, parent)
 
 
 def offset_from(number, other):
