@@ -20,4 +20,5 @@ pub mod ZeroTests
 pub mod BlockLengths
 pub mod SpelledBand
 pub mod Examples
+mod Fronts
 pub mod Going

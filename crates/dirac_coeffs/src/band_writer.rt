@@ -1,5 +1,6 @@
-ghost use Rattle.std.specs.Prelude.{◌≡◌, true, OnOk};
+ghost use Rattle.std.specs.Prelude.{◌≡◌, true, OnErr, OnOk};
 ghost use Rattle.std.specs.Option.{ForSome};
+ghost use Rattle.dirac_bits.specs.Fronts.{HoldsFront};
 ghost use Rattle.dirac_bits.specs.Writing.{IsWhole};
 ghost use Rattle.dirac_bits.specs.Spelling.{SpelledBehind};
 ghost use Rattle.dirac_coeffs.specs.Grammar.{band as band_grammar, values_of_parent, IsParentOf, IsCodedBand};
@@ -29,6 +30,8 @@ fn write_coded(
     requires indices { AreIndicesOf layout band.now.index band.now.table.values band.now.indices }
     ensures exact { OnOk result (w.new ≡ with_block band.now.index (block_of layout parent.now band.now.index
         band.now.table.values band.now.indices) w.old) }
+    ensures front { OnErr result (HoldsFront w.old w.new (with_block band.now.index (block_of layout parent.now
+        band.now.index band.now.table.values band.now.indices) w.old)) }
 {
     let index = band.index;
     let block = write_block(
@@ -46,7 +49,8 @@ fn write_coded(
 }
 
 /// Writes a subband (subband header and data, Dirac specification): bits 0 up to the next byte, the length of its
-/// block, the quantiser index and the block. A band of zeros has length 0. After want of memory a part may stand.
+/// block, the quantiser index and the block. A band of zeros has length 0. After want of memory what stood before
+/// still stands, with a front of these bits behind it.
 pub fn write_band(
     alloc: Global,
     w: &mut BitWriter,
@@ -61,6 +65,8 @@ pub fn write_band(
     requires zeros { is_zero_band band.now.table.values ≡ true → band.now.index ≡ 0 }
     requires zero_indices { is_zero_band band.now.table.values ≡ true → band.now.indices ≡ all_equal layout 0 }
     ensures exact { OnOk result (w.new ≡ with_band layout (values_of_parent parent.entry) band.now w.old) }
+    ensures front { OnErr result (HoldsFront w.old w.new
+        (with_band layout (values_of_parent parent.entry) band.now w.old)) }
     ensures spelled { OnOk result (SpelledBehind (band_grammar layout (values_of_parent parent.entry)) band.now w.old
         w.new) }
 {

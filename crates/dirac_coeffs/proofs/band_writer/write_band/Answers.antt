@@ -1,11 +1,14 @@
 use Rattle.std.proofs.Common.{rules, ◌≡◌, ℤ, Bool, true, List, Result, Ok, Err, OnOk, sym, subst}
 use Rattle.dirac_bits.specs.Spelling.{SpelledBehind}
+use Rattle.dirac_bits.specs.Writing.{gap}
+use Rattle.dirac_bits.proofs.Fronts.{on_err, none_stand}
 use Rattle.dirac_coeffs.specs.declared.layout.BandLayout.{BandLayout}
 use Rattle.dirac_coeffs.specs.declared.layout.CodedBand.{CodedBand}
 use Rattle.dirac_coeffs.specs.Grammar.{band as band_grammar, values_of_parent, IsCodedBand}
 use Rattle.dirac_coeffs.specs.Indices.{all_equal}
 use Rattle.dirac_coeffs.specs.Layouts.{IsBandLayout}
 use Rattle.dirac_coeffs.specs.Written.{AreIndicesOf, is_zero_band, with_band}
+use Rattle.dirac_coeffs.proofs.Fronts.{gap_alone}
 use Rattle.dirac_coeffs.proofs.SpelledBand.{band_spells}
 use Rattle.dirac_coeffs.proofs.band_writer.write_band.Goals as goal
 
@@ -22,3 +25,7 @@ returns-then-are_all_zeros-clause-spelled c =
 pub returns-clause-spelled : goal.returns-clause-spelled
 returns-clause-spelled c =
     written_spells c.args.layout (values_of_parent c.args.parent) c.args.band.now c.args.w.now c.write_coded.new.w c.requires.layout c.requires.band c.requires.indices c.requires.zeros c.requires.zero_indices c.write_coded.result (search rules)
+
+pub returns-in_err-align-clause-front : goal.returns-in_err-align-clause-front
+returns-in_err-align-clause-front c =
+    on_err _ (gap_alone c.args.layout (values_of_parent c.args.parent) c.args.band.now (none_stand (gap c.args.w.now) c.in_err-align.ensures.err))
