@@ -1,9 +1,9 @@
 -- Worked values of the definitions.
-use Rattle.std.proofs.Common.{◌≡◌, ℕ, pos, negsuc, List, [], ◌∷◌, refl}
+use Rattle.std.proofs.Common.{◌≡◌, pos, negsuc, [], ◌∷◌, refl}
 use Rattle.dirac_types.specs.Table.{Table, filled}
 use Rattle.dirac_coeffs.specs.declared.layout.CodedBand.{CodedBand}
 use Rattle.dirac_coeffs.specs.Written.{all_below}
-use Rattle.dirac_analysis.specs.Coded.{coded, index_behind, is_flat}
+use Rattle.dirac_analysis.specs.Coded.{coded, index_behind}
 
 -- two codeblocks of 2 by 2: all magnitudes of the first are below 64, in the second one is 64
 abbrev two_codeblocks : Table

@@ -1,18 +1,16 @@
 -- The sizes of the bands, and how large their values become.
-use Rattle.std.proofs.Common.{◌≡◌, ℕ, zero, suc, ◌+◌, ◌-◌, ◌*◌, ◌/◌, ◌%◌, ◌^◌, ◌<◌, ◌≤◌, ◌==◌, ℤ, pos, negsuc, Bool, true, false, if◌then◌else◌, List, [], ◌∷◌, ◌++◌, length, map, get_or, Some, refl, sym, ap, ◌∙◌, subst, arith, unsigned_abs, inl, inr, length-append}
+use Rattle.std.proofs.Common.{◌≡◌, ℕ, zero, suc, ◌+◌, ◌-◌, ◌*◌, ◌/◌, ◌^◌, ◌<◌, ◌≤◌, ℤ, pos, negsuc, List, [], ◌∷◌, ◌++◌, length, get_or, Some, refl, sym, ap, ◌∙◌, subst, arith, unsigned_abs, inl, inr, length-append}
 use Rattle.std.specs.Prelude.{slice_get, min}
 use Rattle.std.specs.List.{All}
 use Rattle.std.proofs.lemmas.Bool.{cases_eq, cases_lt}
 use Rattle.std.proofs.lemmas.Int.{ints}
-use Rattle.std.proofs.lemmas.List.{get_or-map, get_or_default, length-map}
-use Rattle.std.proofs.lemmas.Nat.{div-mul-add, div_below, mul-le, pow_pos}
+use Rattle.std.proofs.lemmas.Nat.{div-mul-add, div_below}
 use Rattle.std.proofs.lemmas.Option.{slice_get_within}
 use Rattle.dirac_types.specs.declared.formats.Kind.{Kind}
 use Rattle.dirac_types.specs.declared.formats.Kind.TheVariants.{Intra, Inter}
 use Rattle.dirac_types.specs.Table.{Table, table_at}
 use Rattle.dirac_types.specs.Samples.{clip}
 use Rattle.dirac_types.proofs.Bounds.{all_weaker, told_bound, values_bound}
-use Rattle.dirac_quant.specs.Quantiser.{factor_of, reduced, with_sign_of}
 use Rattle.dirac_bands.specs.DcSum.{IsDcSum}
 use Rattle.dirac_bands.specs.Interleaving.{band_of}
 use Rattle.dirac_bands.specs.Geometry.{level_of, padded_size}
@@ -20,14 +18,13 @@ use Rattle.dirac_bands.proofs.Predictions.{DifferencesFrom, differences_bound}
 use Rattle.dirac_header.specs.Counts.{counts_at}
 use Rattle.dirac_header.specs.declared.transform.Transform.{Transform}
 use Rattle.dirac_coeffs.specs.declared.layout.CodedBand.{CodedBand}
-use Rattle.dirac_coeffs.specs.Written.{is_zero_band}
 use Rattle.dirac_lift.specs.Level.{analysed}
 use Rattle.dirac_analysis.specs.Analysis.{coded_bands, coded_lowest, differences, padded}
 use Rattle.dirac_analysis.specs.Coded.{coded}
 use Rattle.dirac_analysis.specs.Fits.{AreDifferences, AreLevelBands, AreSamples, IsLevelBand, IsDivisible, IsQuantisable, grown}
 use Rattle.dirac_analysis.specs.Laws.{PlanesFit}
 use Rattle.dirac_analysis.proofs.FinerBands.{coded_fits}
-use Rattle.dirac_analysis.proofs.OneLevel.{length-filled, level_grows, low_divisible, padded_divisible}
+use Rattle.dirac_analysis.proofs.OneLevel.{level_grows, low_divisible, padded_divisible}
 use Rattle.dirac_analysis.proofs.Undone.{differences_sum, front_get}
 
 pub min_below : (x n : ℕ) → 1 ≤ n → min x (n - 1) < n

@@ -106,10 +106,9 @@ zeros_decide : (counts : ℕ × ℕ) (finer index : ℕ) (t : Table) (cy cx : �
 zeros_decide counts finer index t cy cx la lb =
     let numbers : Table = reduced_table counts finer index t in
     let chosen : ℕ = chosen_index counts finer index t cy cx in
-    let d = each_decides is_zero (λ v. is_zero v ≡ true) (λ v. (λ e. e, λ e. e)) counts numbers cy cx in
-    (
+    let d = each_decides is_zero (λ v. is_zero v ≡ true) (λ v. (λ e. e, λ e. e)) counts numbers cy cx in (
       λ e x y l r u b.
-      (zero_decides chosen (table_at t x y)).0 (ap is_zero (sym (number_in counts finer index t cy cx x y la lb l r u b)) ∙ d.0 e x y l r u b),
+          (zero_decides chosen (table_at t x y)).0 (ap is_zero (sym (number_in counts finer index t cy cx x y la lb l r u b)) ∙ d.0 e x y l r u b),
       λ h. d.1 (λ x y l r u b. ap is_zero (number_in counts finer index t cy cx x y la lb l r u b) ∙ (zero_decides chosen (table_at t x y)).1 (h x y l r u b)),
     )
 
@@ -123,8 +122,7 @@ pub record IsPeak (counts : ℕ × ℕ) (t : Table) (cy cx m : ℕ) : Type 0 whe
 pub flat_is : (counts : ℕ × ℕ) (t : Table) (cy cx m : ℕ) → IsPeak counts t cy cx m → nat_lt m 64 ≡ is_flat counts t cy cx
 flat_is counts t cy cx m peak =
     let d = Decides-ltb m 64 in
-    same_from_decides (nat_lt m 64) (is_flat counts t cy cx)
-    (
+    same_from_decides (nat_lt m 64) (is_flat counts t cy cx) (
       λ e x y l r u b. omega (arith, peak.bounds x y l r u b, d.0 e),
       λ h. d.1 (let most : m ≤ 63 = peak.least 63 (λ x y l r u b. omega (arith, h x y l r u b)) in omega arith),
     )
@@ -138,8 +136,7 @@ zeros_are counts finer index t cy cx m f la lb is peak =
     let d = Decides-ltb (4 * m) factor in
     let some : 4 ≤ factor = factor_least (chosen_index counts finer index t cy cx) in
     ap (nat_lt (4 * m)) is
-    ∙ same_from_decides (nat_lt (4 * m) factor) (each_passes is_zero counts (reduced_table counts finer index t) cy cx)
-    (
+    ∙ same_from_decides (nat_lt (4 * m) factor) (each_passes is_zero counts (reduced_table counts finer index t) cy cx) (
       λ e x y l r u b. omega (arith, peak.bounds x y l r u b, d.0 e),
       λ h. d.1 (let most : m ≤ (factor - 1) / 4 = peak.least ((factor - 1) / 4) (λ x y l r u b. omega (arith, h x y l r u b)) in omega (arith, some)),
     )

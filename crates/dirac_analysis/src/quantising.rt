@@ -49,7 +49,13 @@ pub fn quantise_plane(
     ensures { IfOk result (λ b. b ≡ quantised kind transform.now finer index plane.now) }
 {
     let counts = transform.counts.at(0);
-    let lowest = code_band(alloc, plane.lowest(), counts, finer, lowest_index(kind, index))?;
+    let lowest = code_band(
+        alloc,
+        plane.lowest(),
+        counts,
+        finer,
+        lowest_index(kind, index),
+    )?;
     let mut bands = single(alloc, lowest)?;
     let higher = plane.higher();
     'bands: for n in 0..higher.len() {

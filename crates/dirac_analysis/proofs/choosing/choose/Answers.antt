@@ -1,4 +1,4 @@
-use Rattle.std.proofs.Common.{◌≡◌, ◌/◌, ◌%◌, true, sym, ◌∙◌}
+use Rattle.std.proofs.Common.{◌/◌, ◌%◌, true, sym, ◌∙◌}
 use Rattle.dirac_analysis.proofs.Flatness.{IsPeak, chosen_is, skipped_is}
 use Rattle.dirac_analysis.proofs.choosing.choose.Goals as goal
 

@@ -12,7 +12,7 @@ loop-y-preserved c =
       below = row.below;
       bounds = rows_bounds t c.row.result.now c.edge-left.result c.edge-right.result c.edge-top.result c.loop-y.y c.loop-y.largest c.row_peak-largest.result c.row.ensures.value inside row.above c.loop-y.invariant.bounds row.bounds;
       least = λ limit all. row.least limit (c.loop-y.invariant.least limit all)
-      (rows_least t c.row.result.now c.edge-left.result c.edge-right.result c.edge-top.result c.edge-bottom.result c.loop-y.y limit c.row.ensures.value inside c.loop-y.auto.y c.loop-y-test.true all);
+          (rows_least t c.row.result.now c.edge-left.result c.edge-right.result c.edge-top.result c.edge-bottom.result c.loop-y.y limit c.row.ensures.value inside c.loop-y.auto.y c.loop-y-test.true all);
     }
 
 pub returns-clause-least : goal.returns-clause-least

@@ -1,4 +1,4 @@
-use Rattle.std.proofs.Common.{◌≡◌, ◌<◌, ◌≤◌, ◌^◌, ℕ, pos, unsigned_abs}
+use Rattle.std.proofs.Common.{◌<◌, ◌≤◌, ◌^◌, ℕ, unsigned_abs}
 use Rattle.dirac_types.specs.Table.{table_at}
 use Rattle.dirac_analysis.proofs.choosing.codeblock_peak.Given as goal
 

@@ -1,4 +1,4 @@
-use Rattle.std.proofs.Common.{◌≡◌, ◌<◌, ◌≤◌, ◌^◌, ℕ, pos, unsigned_abs, slice_index_or}
+use Rattle.std.proofs.Common.{◌<◌, ◌≤◌, ◌^◌, ℕ, pos, unsigned_abs, slice_index_or}
 use Rattle.dirac_analysis.proofs.choosing.row_peak.Given as goal
 
 abbrev pub invariant-loop-x : goal.invariant-loop-x

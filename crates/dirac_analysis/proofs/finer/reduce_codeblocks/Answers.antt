@@ -1,4 +1,4 @@
-use Rattle.std.proofs.Common.{◌≡◌, ◌+◌, ◌*◌, ◌<◌, ◌≤◌, pos, get_or, length, refl, ap, ◌∙◌, arith}
+use Rattle.std.proofs.Common.{◌+◌, ◌*◌, pos, get_or, refl, ap, ◌∙◌, arith}
 use Rattle.dirac_types.specs.Table.{table_at}
 use Rattle.dirac_types.proofs.Rows.{row_at, rows_all, rows_more}
 use Rattle.dirac_quant.specs.Quantiser.{reduced}

@@ -11,6 +11,6 @@ invariant-loop-y l = record {
   across : l.numbers.width ≡ l.table.width;
   down : l.numbers.height ≡ l.table.height;
   rows : RowsFilled
-  (λ x y. reduced (table_at l.table x y) (index_at l.indices (codeblock_of l.table.height l.counts.1 y * l.counts.0 + codeblock_of l.table.width l.counts.0 x)))
-  l.numbers.width l.numbers.height l.numbers.values l.y;
+      (λ x y. reduced (table_at l.table x y) (index_at l.indices (codeblock_of l.table.height l.counts.1 y * l.counts.0 + codeblock_of l.table.width l.counts.0 x)))
+      l.numbers.width l.numbers.height l.numbers.values l.y;
 }
