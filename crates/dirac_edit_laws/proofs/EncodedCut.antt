@@ -53,7 +53,7 @@ use Rattle.dirac_edit_laws.proofs.Joining.{keys_from}
 use Rattle.dirac_edit_laws.proofs.Keys.{AreAtLeast, AreAtMost, key_in, not_before}
 use Rattle.dirac_edit_laws.proofs.Later.{later_leave_later, left_from, length_remove}
 use Rattle.dirac_edit_laws.proofs.Parts.{RisesAll, RisesOpen, all_kept, is_among, rebuilt_is, same_with_pictures, texts_rise}
-use Rattle.dirac_edit_laws.proofs.PlannedParts.{first_planned, length_part, part_at, part_begins, part_begins_intra, part_first, part_from, part_lies, part_points, part_split, plan_is, some_pictures}
+use Rattle.dirac_edit_laws.proofs.PlannedParts.{first_planned, length_part, part_at, part_begins, part_begins_intra, part_first, part_from, part_lies, part_none, part_points, part_split, plan_is, some_pictures}
 use Rattle.dirac_edit_laws.proofs.Shifted.{flush_moved, waiting_with}
 use Rattle.dirac_edit_laws.proofs.UnitKinds.{behind_end, behind_header, behind_picture, kind_of, of_end, of_header, of_other, of_picture}
 use Rattle.dirac_edit_laws.proofs.Walking.{first_in, longer}
@@ -406,7 +406,8 @@ top_is first n end low up = omega arith
 
 last_part : (t : Settings) (pictures refs : List Picture) (i e : ℕ) → 0 < t.gop → i + e ≤ groups_in t (length pictures) → AreNumbers (min (length pictures) (i * group_pictures t)) (length pictures) (shown_groups t pictures refs i e)
 unfolding coded_under
-last_part t pictures refs i zero some h = tt
+last_part t pictures refs i zero some h =
+    subst (λ qs. AreNumbers (min (length pictures) (i * group_pictures t)) (length pictures) (map shown_of (coded_from t refs (map (job_of pictures) qs)))) (sym (part_none t (length pictures) i)) tt
 last_part t pictures refs i (suc e) some h =
     let n = length pictures in
     let gop = group_pictures t in
@@ -466,7 +467,10 @@ groups_slice plans t pictures a m zero accepted few some is low =
     let two = groups_length t pictures (first_refs t pictures a) a m some (omega (arith, is)) in
     let span : (a + m - a) * gop ≡ m * gop = ap (λ x. x * gop) (let e : a + m - a ≡ m = omega arith in e) in
     let long : (a + m) * gop ≡ a * gop + m * gop = omega arith in
-    ap (λ l. take k (drop (a * gop) l)) (reconstructions_split plans t pictures a m 0 accepted few some is low) ∙ slice_last fs gs (a * gop) k one (omega arith)
+    let rest : List Planned → List Picture = λ qs. flush (map as_waiting (map shown_of (coded_from t (second_refs t pictures a m) (map (job_of pictures) qs)))) in
+    ap (λ l. take k (drop (a * gop) l))
+    (reconstructions_split plans t pictures a m 0 accepted few some is low ∙ ap (λ qs. fs ++ (gs ++ rest qs)) (part_none t n (a + m)))
+    ∙ slice_last fs gs (a * gop) k one (omega arith)
 groups_slice plans t pictures a m (suc e) accepted few some is low =
     let n = length pictures in
     let gop = group_pictures t in

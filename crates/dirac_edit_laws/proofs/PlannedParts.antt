@@ -34,6 +34,14 @@ part_by frames s n i m = if frames then groups_at s n i m else flat_map (fields_
 abbrev pub part_at : Settings → ℕ → ℕ → ℕ → List Planned
 part_at s n i m = part_by (s.fields == 0) s n i m
 
+-- none of no group
+pub part_none : (s : Settings) (n i : ℕ) → part_at s n i 0 ≡ []
+part_none s n i = by_test (s.fields == 0)
+  where
+    by_test : (b : Bool) → part_by b s n i 0 ≡ []
+    by_test true = refl
+    by_test false = refl
+
 -- ---- the plan
 
 plan_by : (b : Bool) (s : Settings) (n : ℕ) → (if b then frames_plan n s else flat_map (fields_of n) (frames_plan ((n + 1) / 2) s)) ≡ part_by b s n 0 (group_count s (frames_by b n))
