@@ -15,7 +15,6 @@ use Rattle.dirac_header.specs.declared.transform.Transform.{Transform}
 use Rattle.dirac_header.specs.Written.{transform_bits}
 use Rattle.dirac_coeffs.specs.declared.layout.BandLayout.{BandLayout}
 use Rattle.dirac_coeffs.specs.declared.layout.CodedBand.{CodedBand}
-use Rattle.dirac_coeffs.specs.Indices.{all_equal}
 use Rattle.dirac_coeffs.specs.Written.{block_of, is_zero_band, with_band, with_block}
 use Rattle.dirac_picture.specs.declared.coded.CodedResidual.{CodedResidual}
 use Rattle.dirac_picture.specs.Bands.{layout_of, parent_values}
@@ -24,7 +23,7 @@ use Rattle.dirac_picture.proofs.Chroma.{part_size}
 use Rattle.dirac_picture.proofs.Lawful.{layout_lawful}
 use Rattle.dirac_decode.specs.Content.{bands_of, height_of, width_of}
 use Rattle.dirac_stream.specs.Payload.{with_bands, with_plane, with_planes, with_residual}
-use Rattle.dirac_stream.specs.Writable.{HaveZeros, IsWritten}
+use Rattle.dirac_stream.specs.Writable.{AreWritable, IsWritten}
 use Rattle.dirac_code.specs.declared.texts.Texts.{Texts}
 use Rattle.dirac_code.specs.Texts.{AreTexts, joined, text_of}
 
@@ -72,7 +71,7 @@ either_behind true index block old bits whole = ap (λ l. l ++ uint 0) (up_behin
 either_behind false index block old bits whole = ap (with_block index block) (up_behind old bits whole) ∙ block_behind index block old (up_to_byte bits) whole
 
 band_behind : (layout : BandLayout) (parent : List ℤ) (b : CodedBand) (old bits : List Bool) → IsWhole old → with_band layout parent b (old ++ bits) ≡ old ++ with_band layout parent b bits
-band_behind layout parent b old bits whole = either_behind (is_zero_band b.table.values) b.index (block_of layout parent b.index b.table.values (all_equal layout b.index)) old bits whole
+band_behind layout parent b old bits whole = either_behind (is_zero_band b.table.values) b.index (block_of layout parent b.index b.table.values b.indices) old bits whole
 
 bands_behind : (t : Transform) (width height : ℕ) (before bands : List CodedBand) (old bits : List Bool) → IsWhole old → with_bands t width height before bands (old ++ bits) ≡ old ++ with_bands t width height before bands bits
 bands_behind t width height before [] old bits whole = refl
@@ -84,7 +83,7 @@ bands_behind t width height before (b ∷ bands) old bits whole =
 -- a band begins at a byte
 band_from_byte : (layout : BandLayout) (parent : List ℤ) (b : CodedBand) (bits : List Bool) → with_band layout parent b (up_to_byte bits) ≡ with_band layout parent b bits
 band_from_byte layout parent b bits =
-    ap (λ l. if is_zero_band b.table.values then l ++ uint 0 else with_block b.index (block_of layout parent b.index b.table.values (all_equal layout b.index)) l) (up_twice bits)
+    ap (λ l. if is_zero_band b.table.values then l ++ uint 0 else with_block b.index (block_of layout parent b.index b.table.values b.indices) l) (up_twice bits)
 
 bands_from_byte : (t : Transform) (width height : ℕ) (bands : List CodedBand) (bits : List Bool) → 0 < length bands → with_plane t width height bands (up_to_byte bits) ≡ with_plane t width height bands bits
 bands_from_byte t width height [] bits some = absurd (omega arith)
@@ -128,18 +127,18 @@ residual_apart s r x old mid new is texts e f =
 
 -- what is asked of the bands of one plane
 pub text_asked : (s : Sequence) (r : CodedResidual) (o : Component) → IsSequence s → IsWritten s r
-    → IsLayout r.transform × IsPlaneSize (width_of s o) (height_of s o) × AreBandsOf r.transform (width_of s o) (height_of s o) (bands_of r o) × HaveZeros (bands_of r o)
+    → IsLayout r.transform × IsPlaneSize (width_of s o) (height_of s o) × AreBandsOf r.transform (width_of s o) (height_of s o) (bands_of r o) × AreWritable r.transform (width_of s o) (height_of s o) (bands_of r o)
 text_asked s r o lawful is =
     let luma = part_size s component.Y lawful in
     let layout = layout_lawful s.width (picture_height s) r.transform luma.across.1 luma.down.1 is.lawful.transform in
-    (layout, part_size s o lawful, bands_asked o, zeros_asked o)
+    (layout, part_size s o lawful, bands_asked o, writable_asked o)
   where
     bands_asked : (o : Component) → AreBandsOf r.transform (width_of s o) (height_of s o) (bands_of r o)
     bands_asked component.Y = is.lawful.y
     bands_asked component.U = is.lawful.u
     bands_asked component.V = is.lawful.v
 
-    zeros_asked : (o : Component) → HaveZeros (bands_of r o)
-    zeros_asked component.Y = is.y
-    zeros_asked component.U = is.u
-    zeros_asked component.V = is.v
+    writable_asked : (o : Component) → AreWritable r.transform (width_of s o) (height_of s o) (bands_of r o)
+    writable_asked component.Y = is.y
+    writable_asked component.U = is.u
+    writable_asked component.V = is.v

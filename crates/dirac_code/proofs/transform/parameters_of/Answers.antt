@@ -1,5 +1,5 @@
 use Rattle.std.proofs.Common.{◌+◌, ◌++◌, ◌∷◌, [], ℕ, List, refl, ap₂, ap, sym, ◌∙◌, arith, length}
-use Rattle.dirac_stream.specs.Coded.{counts_below}
+use Rattle.dirac_stream.specs.Coded.{count_of, counts_below}
 use Rattle.dirac_stream.proofs.Counting.{length-counts_below, count_more}
 use Rattle.dirac_code.proofs.transform.parameters_of.Goals as goal
 
@@ -14,5 +14,5 @@ pub levels-preserved : goal.levels-preserved
 levels-preserved c =
     let t = c.args.settings.now in
     let pair : ℕ → ℕ → ℕ × ℕ = λ a b. (a, b) in
-    c.push.ensures ∙ ap₂ (λ (before : List (ℕ × ℕ)) (p : ℕ × ℕ). before ++ p ∷ []) c.levels.invariant (ap₂ pair c.count_of.ensures c.count_of-in-levels.ensures)
+    c.push.ensures ∙ ap₂ (λ (before : List (ℕ × ℕ)) (p : ℕ × ℕ). before ++ p ∷ []) c.levels.invariant (ap₂ pair c.count_of.ensures (c.count_of-in-levels.ensures ∙ ap (λ rows. count_of t.codeblocks rows t.depth c.levels.level) c.picture_height-height.ensures))
     ∙ sym (count_more t c.levels.level (c.levels.level + 1) refl)
