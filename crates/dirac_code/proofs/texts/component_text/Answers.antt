@@ -3,3 +3,8 @@ use Rattle.dirac_code.proofs.texts.component_text.Goals as goal
 
 pub plane_text-requires-clause-layout : goal.plane_text-requires-clause-layout
 plane_text-requires-clause-layout c = (text_asked c.args.sequence.now c.args.residual.now c.args.component c.requires.sequence c.requires.written).0
+
+pub plane_text-requires-clause-writable : goal.plane_text-requires-clause-writable
+plane_text-requires-clause-writable c =
+    rw (c.plane_width-width.ensures, c.plane_height-height.ensures, c.bands_of-bands.ensures)
+    (text_asked c.args.sequence.now c.args.residual.now c.args.component c.requires.sequence c.requires.written).3
