@@ -40,8 +40,8 @@ whole_anchor_at s place = step_anchor s (group_pictures s) place
 unfoldable pub ahead : ℕ → Settings → ℕ → ℕ
 ahead n s place = min (step_offset s place) (min (frame_pictures s) (n - anchor_at n s place))
 
--- the numbers of the pictures that wait, of n pictures of which so many are given, so many of these of this anchor: with
--- none of the anchor all from the number given on, else those left before the anchor and those behind its pictures
+-- the numbers of the pictures that wait, of n pictures of which so many are given, so many of these of this anchor:
+-- with none of the anchor all from the number given on, else those left before the anchor and those behind its pictures
 abbrev pub left_by : ℕ → ℕ → ℕ → ℕ → List ℕ
 left_by n given anchor zero = range_with_len given (n - given)
 left_by n given anchor (suc more) =

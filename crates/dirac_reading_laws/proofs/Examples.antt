@@ -1,12 +1,12 @@
 -- Headers that break, worked out.
-use Rattle.std.proofs.Common.{◌≡◌, ℕ, true, false, [], ◌∷◌, List, ℤ, replicate, refl, inl, inr, arith}
+use Rattle.std.proofs.Common.{ℕ, true, false, [], ◌∷◌, List, ℤ, replicate, refl, inl, inr, arith}
 use Rattle.dirac_types.specs.declared.faults.Cause.{Cause}
 use Rattle.dirac_types.specs.declared.faults.Cause.TheVariants.{BlockSize, NumberTooLong, UnitShort}
 use Rattle.dirac_types.specs.declared.faults.Refusal.{Refusal}
 use Rattle.dirac_types.specs.Numbers.{digits_of, digits_within}
-use Rattle.dirac_bits.specs.Cursor.{Cursor, bits_left, start, Passes}
+use Rattle.dirac_bits.specs.Cursor.{Cursor, bits_left, start}
 use Rattle.dirac_bits.specs.Syntax.{Syntax, done, flag_then, uint_then, sint_then, align_then, here_then, refuse, uint}
-use Rattle.dirac_reading_laws.specs.Broken.{Breaks, BreaksNumber, EndsBadly, LacksSign}
+use Rattle.dirac_reading_laws.specs.Broken.{Breaks, EndsBadly}
 
 -- refused at this byte, for this cause
 abbrev refusal : ℕ → Cause → Refusal
@@ -27,24 +27,30 @@ short = refl
 -- ten bytes 00 hold 38 digits and a follow bit 0 behind them
 ten_zeros : Breaks uint (start (replicate 10 0)) (refusal 0 NumberTooLong)
 unfolding bits_left
-ten_zeros = inl (refl, record {
-  digits = replicate 38 false;
-  at_most_that_many = omega arith;
-  behind = bit (replicate 10 0) 76;
-  passes = record { same_bytes = refl; moved = refl; front = refl };
-  ends = refl;
-})
+ten_zeros = inl (
+  refl,
+  record {
+    digits = replicate 38 false;
+    at_most_that_many = omega arith;
+    behind = bit (replicate 10 0) 76;
+    passes = record { same_bytes = refl; moved = refl; front = refl };
+    ends = refl;
+  },
+)
 
 -- nine hold 36 digits, and no bit more
 nine_zeros : Breaks uint (start (replicate 9 0)) (refusal 0 UnitShort)
 unfolding bits_left
-nine_zeros = inl (refl, record {
-  digits = replicate 36 false;
-  at_most_that_many = omega arith;
-  behind = bit (replicate 9 0) 72;
-  passes = record { same_bytes = refl; moved = refl; front = refl };
-  ends = refl;
-})
+nine_zeros = inl (
+  refl,
+  record {
+    digits = replicate 36 false;
+    at_most_that_many = omega arith;
+    behind = bit (replicate 9 0) 72;
+    passes = record { same_bytes = refl; moved = refl; front = refl };
+    ends = refl;
+  },
+)
 
 -- five flags and a signed number
 abbrev signed_behind_flags : Syntax ℤ
@@ -56,19 +62,42 @@ no_sign : Breaks signed_behind_flags (start (0x01 ∷ [])) (refusal 0 UnitShort)
 unfolding bits_left digits_of digits_within
 no_sign =
     let behind : ℕ → Cursor = bit (0x01 ∷ []) in
-    inr (false, behind 1, record { same_bytes = refl; moved = refl; front = refl },
-    inr (false, behind 2, record { same_bytes = refl; moved = refl; front = refl },
-    inr (false, behind 3, record { same_bytes = refl; moved = refl; front = refl },
-    inr (false, behind 4, record { same_bytes = refl; moved = refl; front = refl },
-    inr (false, behind 5, record { same_bytes = refl; moved = refl; front = refl },
-    inl (refl, inr (record {
-      pred = 0;
-      below = omega arith;
-      behind = behind 8;
-      passes = record { same_bytes = refl; moved = refl; front = refl };
-      ends = refl;
-      is = refl;
-    })))))))
+    inr (
+      false,
+      behind 1,
+      record { same_bytes = refl; moved = refl; front = refl },
+      inr (
+        false,
+        behind 2,
+        record { same_bytes = refl; moved = refl; front = refl },
+        inr (
+          false,
+          behind 3,
+          record { same_bytes = refl; moved = refl; front = refl },
+          inr (
+            false,
+            behind 4,
+            record { same_bytes = refl; moved = refl; front = refl },
+            inr (
+              false,
+              behind 5,
+              record { same_bytes = refl; moved = refl; front = refl },
+              inl (
+                refl,
+                inr (record {
+                  pred = 0;
+                  below = omega arith;
+                  behind = behind 8;
+                  passes = record { same_bytes = refl; moved = refl; front = refl };
+                  ends = refl;
+                  is = refl;
+                }),
+              ),
+            ),
+          ),
+        ),
+      ),
+    )
 
 -- a flag, and behind a gap a number
 abbrev number_behind_gap : Syntax ℕ
@@ -79,14 +108,21 @@ behind_gap : Breaks number_behind_gap (start (0x80 ∷ 0x00 ∷ [])) (refusal 1 
 unfolding bits_left
 behind_gap =
     let behind : ℕ → Cursor = bit (0x80 ∷ 0x00 ∷ []) in
-    inr (true, behind 1, record { same_bytes = refl; moved = refl; front = refl },
-    inl (refl, record {
-      digits = replicate 4 false;
-      at_most_that_many = omega arith;
-      behind = behind 16;
-      passes = record { same_bytes = refl; moved = refl; front = refl };
-      ends = refl;
-    }))
+    inr (
+      true,
+      behind 1,
+      record { same_bytes = refl; moved = refl; front = refl },
+      inl (
+        refl,
+        record {
+          digits = replicate 4 false;
+          at_most_that_many = omega arith;
+          behind = behind 16;
+          passes = record { same_bytes = refl; moved = refl; front = refl };
+          ends = refl;
+        },
+      ),
+    )
 
 -- a flag, and behind a gap two numbers that a rule refuses together, behind the first of them
 abbrev two_refused : Syntax ℕ
@@ -98,7 +134,21 @@ later_rule : Breaks two_refused (start (0x80 ∷ 0x00 ∷ 0xC0 ∷ [])) (refusal
 unfolding bits_left digits_of digits_within
 later_rule =
     let behind : ℕ → Cursor = bit (0x80 ∷ 0x00 ∷ 0xC0 ∷ []) in
-    inr (true, behind 1, record { same_bytes = refl; moved = refl; front = refl },
-    inr (15, behind 17, omega arith, record { same_bytes = refl; moved = refl; front = refl },
-    inr (0, behind 18, omega arith, record { same_bytes = refl; moved = refl; front = refl },
-    (refl, refl))))
+    inr (
+      true,
+      behind 1,
+      record { same_bytes = refl; moved = refl; front = refl },
+      inr (
+        15,
+        behind 17,
+        omega arith,
+        record { same_bytes = refl; moved = refl; front = refl },
+        inr (
+          0,
+          behind 18,
+          omega arith,
+          record { same_bytes = refl; moved = refl; front = refl },
+          (refl, refl),
+        ),
+      ),
+    )

@@ -1,7 +1,4 @@
-ghost use Rattle.dirac_reading_laws.specs.Laws.{
-    BreaksWithOneRefusal, EachShowsAnOutcome, IsRefusedWhereBroken, IsSpelledOrBreaks, NoneSpelledBreaks,
-    SpellsOneValue, StreamsShowOneOutcome,
-};
+ghost use Rattle.dirac_reading_laws.specs.Laws.{BreaksWithOneRefusal, EachShowsAnOutcome, IsRefusedWhereBroken, IsSpelledOrBreaks, NoneSpelledBreaks, SpellsOneValue, StreamsShowOneOutcome};
 
 /// A header is refused exactly where the fields before are spelled by the bits and the next one breaks off or breaks
 /// its rule: a field that breaks off at the byte of its first bit, a broken rule at the place that the grammar names.

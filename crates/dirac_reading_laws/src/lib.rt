@@ -5,5 +5,6 @@
 mod laws;
 
 pub use laws::{
-    a_stream_shows_one_outcome, headers_are_refused_where_a_field_breaks, headers_are_spelled_or_break,
+    a_stream_shows_one_outcome, headers_are_refused_where_a_field_breaks,
+    headers_are_spelled_or_break,
 };
