@@ -1,8 +1,8 @@
 -- The rows of a plane, one after another.
-use Rattle.std.proofs.Common.{◌≡◌, ◌∙◌, ℕ, ◌+◌, ◌*◌, ◌-◌, ℤ, List, ◌++◌, length, take, drop, map, slice_range, Option, sym, ap, subst, arith, append_assoc}
+use Rattle.std.proofs.Common.{◌≡◌, ◌∙◌, ℕ, ◌+◌, ◌*◌, ◌-◌, ◌<◌, ◌≤◌, ℤ, pos, List, ◌++◌, length, get_or, take, drop, map, slice_range, Option, sym, ap, subst, arith, append_assoc}
 use Rattle.std.specs.Io.KnownBytes.{Appends}
 use Rattle.std.proofs.KnownBytes.{Appends-trans}
-use Rattle.std.proofs.lemmas.List.{map-append, take-append-drop}
+use Rattle.std.proofs.lemmas.List.{ext_get_or, get_or-map, length-map, map-append, take-append-drop}
 use Rattle.std.proofs.Math.Seq.{take-add, take-length}
 use Rattle.dirac_types.specs.Table.{Table, row_of}
 use Rattle.dirac_io.specs.Writing.{AppendsFront}
@@ -74,3 +74,9 @@ behind_front taken taken' taken'' first second so front = (
   ap (λ bs. first ++ bs) front.2 ∙ sym (append_assoc first front.0 front.1),
   Appends-trans taken taken' taken'' first front.0 so front.3,
 )
+
+-- values that are told one by one
+pub bytes_all : (f : ℤ → ℕ) (xs : List ℤ) (ys : List ℕ) (n : ℕ) → length ys ≡ length xs → ((k : ℕ) → k < n → get_or ys k 0 ≡ f (get_or xs k (pos 0))) → length xs ≤ n → ys ≡ map f xs
+bytes_all f xs ys n len each all =
+    ext_get_or 0 ys (map f xs) (len ∙ sym (length-map xs f)) (λ k l.
+    each k (omega (arith, l, len, all)) ∙ sym (get_or-map f xs k (pos 0) 0 (omega (arith, l, len))))

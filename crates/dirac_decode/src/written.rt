@@ -1,4 +1,4 @@
-ghost use Rattle.std.specs.Prelude.{◌≡◌, ◌≤◌, IsOk, IfOk, map};
+ghost use Rattle.std.specs.Prelude.{◌≡◌, ◌≤◌, IsOk, IfOk, length, map};
 ghost use Rattle.std.specs.Io.KnownBytes.{Appends};
 ghost use Rattle.dirac_io.specs.Faults.{Rose};
 ghost use Rattle.dirac_io.specs.Writing.{AppendsFront};
@@ -54,14 +54,23 @@ fn put_plane<K: Sink>(out: &mut K, plane: &Plane, row: &mut Vec<u8>) -> Put
 fn fill_row(row: &mut Vec<u8>, samples: &[i16]) -> Result<(), NoMemory>
     ensures { IfOk result (λ _. row.new.items ≡ map byte_of samples.now) }
 {
-    row.clear();
-    for sample in samples {
-        row.push(byte(*sample))?;
-    }
+    row.resize(samples.len(), 0)?;
+    put_bytes(samples, row.as_mut_slice());
     Ok(())
 }
 
+/// Writes the bytes of samples.
+fn put_bytes(samples: &[i16], bytes: &mut [u8])
+    requires { length bytes.old ≡ length samples.now }
+    ensures { bytes.new ≡ map byte_of samples.now }
+{
+    for i in 0..samples.len() {
+        bytes[i] = byte(samples[i]);
+    }
+}
+
 /// The byte of a sample.
+#[inline(always)]
 fn byte(sample: i16) -> u8
     ensures { result ≡ byte_of sample }
 {

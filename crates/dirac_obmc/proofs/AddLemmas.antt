@@ -8,7 +8,8 @@ use Rattle.std.proofs.lemmas.List.{get_or-set_same, get_or-set_other, length-set
 use Rattle.dirac_obmc.specs.Adding.{Adds, AddsPart}
 use Rattle.dirac_obmc.specs.Compensation.{total}
 
-add_zero : (x : ℤ) → x +ℤ pos 0 ≡ x
+-- 0 more is the same
+pub add_zero : (x : ℤ) → x +ℤ pos 0 ≡ x
 add_zero x = omega (arith, ints)
 
 pub part_none : (start : ℕ) (f : ℕ → ℤ) (xs : List ℤ) → AddsPart start f 0 xs xs
@@ -42,24 +43,6 @@ part_all start f n count xs ys a e = subst (λ (i : ℕ). AddsPart start f i xs 
 -- nothing is added
 pub adds_none : (f : ℕ → ℤ) (n : ℕ) (xs : List ℤ) → ((x : ℕ) → x < n → f x ≡ pos 0) → Adds f n xs xs
 adds_none f n xs h = record { len = refl; each = λ x l. sym (add_zero (get_or xs x (pos 0))) ∙ ap (λ z. get_or xs x (pos 0) +ℤ z) (sym (h x l)) }
-
--- a part grows, where f is 0 outside of it
-pub adds_part : (start : ℕ) (g f : ℕ → ℤ) (count n : ℕ) (xs ys : List ℤ) → AddsPart start g count xs ys → ((k : ℕ) → k < count → g k ≡ f (start + k))
-    → ((x : ℕ) → x < n → x < start → f x ≡ pos 0) → ((x : ℕ) → x < n → start + count ≤ x → f x ≡ pos 0) → Adds f n xs ys
-adds_part start g f count n xs ys a same before behind = record {
-  len = a.len;
-  each = λ x l. elim (cases_lt x start) [
-    | inl left ↦ a.before x left ∙ sym (add_zero (get_or xs x (pos 0))) ∙ ap (λ z. get_or xs x (pos 0) +ℤ z) (sym (before x l left))
-    | inr right ↦ elim (cases_lt x (start + count)) [
-      | inl inside ↦
-          let place : start + (x - start) ≡ x = omega arith in
-          ap (λ i. get_or ys i (pos 0)) (sym place) ∙ a.done (x - start) (omega arith)
-          ∙ ap (λ z. get_or xs (start + (x - start)) (pos 0) +ℤ z) (same (x - start) (omega arith))
-          ∙ ap (λ i. get_or xs i (pos 0) +ℤ f i) place
-      | inr past ↦ a.rest x past ∙ sym (add_zero (get_or xs x (pos 0))) ∙ ap (λ z. get_or xs x (pos 0) +ℤ z) (sym (behind x l past))
-    ]
-  ];
-}
 
 -- one more term is added
 pub adds_more : (f : ℕ → ℕ → ℤ) (k m n : ℕ) (xs ys zs : List ℤ) → Adds (λ x. total (f x) k) n xs ys → Adds (λ x. f x k) n ys zs → m ≡ k + 1 → Adds (λ x. total (f x) m) n xs zs

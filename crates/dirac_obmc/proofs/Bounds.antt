@@ -98,6 +98,14 @@ row_small m x y j n h s right below k few =
     let grows = sum_grows (weight_of m x y j) n (blocks_across m) few in
     omega (arith, sum, grows, row_weight m h x y j right, share_small m y j h below k)
 
+-- what one block adds
+pub term_within : (m : Compensation) (x y j i : ℕ) → IsMotion m → IsSound m → x < m.width → y < m.height → j < blocks_down m → i < blocks_across m → unsigned_abs (term m x y j i) ≤ 2 ^ 22
+term_within m x y j i h s right below k l =
+    apart (total (term m x y j) i) (term m x y j i) (row_small m x y j i h s right below k (omega arith)) (row_small m x y j (suc i) h s right below k (omega arith))
+  where
+    apart : (p q : ℤ) → unsigned_abs p ≤ 2 ^ 21 → unsigned_abs (p +ℤ q) ≤ 2 ^ 21 → unsigned_abs q ≤ 2 ^ 22
+    apart p q a b = omega (arith, ints)
+
 -- the sum of the first rows of blocks
 pub rows_small : (m : Compensation) (x y n : ℕ) → IsMotion m → IsSound m → x < m.width → y < m.height → n ≤ blocks_down m → unsigned_abs (total (λ j. total (term m x y j) (blocks_across m)) n) ≤ 2 ^ 21
 rows_small m x y n h s right below few =

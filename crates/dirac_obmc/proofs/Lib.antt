@@ -15,5 +15,7 @@ pub mod RowsAdded
 pub mod SamplesPredicted
 pub mod Shares
 pub mod SixtyFour
+pub mod Spans
+pub mod StripLemmas
 pub mod Totals
 pub mod WeightLists

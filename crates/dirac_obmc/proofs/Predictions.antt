@@ -1,19 +1,17 @@
 -- Tables of predictions.
-use Rattle.std.proofs.Common.{◌≡◌, ℕ, ℤ, pos, negsuc, ◌+◌, ◌-◌, ◌*◌, ◌/◌, ◌%◌, ◌^◌, ◌<◌, ◌≤◌, ◌+ℤ◌, unsigned_abs, replicate, arith, subst}
+use Rattle.std.proofs.Common.{◌≡◌, ℕ, ℤ, pos, negsuc, ◌+◌, ◌-◌, ◌*◌, ◌/◌, ◌%◌, ◌^◌, ◌<◌, ◌≤◌, ◌+ℤ◌, unsigned_abs, List, length, get_or, drop, replicate, arith, inl, inr, ap, sym, ◌∙◌}
 use Rattle.std.specs.Prelude.{◌≤ℤ◌}
 use Rattle.std.specs.Int.{int_shr}
 use Rattle.std.proofs.Math.Nat.{mul_comm}
 use Rattle.std.specs.List.{All}
 use Rattle.std.proofs.lemmas.Int.{ints}
-use Rattle.std.proofs.lemmas.List.FromFn.{get_or-map-range_with_len, length-map-range_with_len}
+use Rattle.std.proofs.lemmas.Bool.{cases_lt}
+use Rattle.std.proofs.lemmas.List.{get_or-replicate, get_or_past, length-replicate, take_at}
+use Rattle.std.proofs.lemmas.List.FromFn.{fill_by_all, get_or-map-range_with_len, length-map-range_with_len}
 use Rattle.std.proofs.lemmas.Nat.{mod_below, div_below}
-use Rattle.dirac_types.specs.Table.{Table, filled}
-use Rattle.std.proofs.lemmas.List.{length-replicate}
-use Rattle.dirac_types.proofs.Rows.{RowsFilled}
-use Rattle.dirac_obmc.specs.declared.room.BlockRoom.{BlockRoom}
-use Rattle.dirac_obmc.specs.declared.rows.Columns.{Columns}
-use Rattle.dirac_obmc.specs.Compensation.{Compensation, IsMotion, blended, blocks_down, predicted_at, predicted_rows, x_length}
-use Rattle.dirac_obmc.specs.Directions.{IsColumns, IsRoom, IsSound}
+use Rattle.dirac_types.specs.Table.{Table, filled, table_of, with_values}
+use Rattle.dirac_obmc.specs.Compensation.{Compensation, IsMotion, blended, blocks_down, predicted_at, predicted_rows}
+use Rattle.dirac_obmc.specs.Directions.{IsSound}
 use Rattle.dirac_obmc.proofs.Bounds.{rows_small}
 
 -- a sum of values times weights of 64 in all, divided by 64
@@ -45,13 +43,19 @@ rows_are_small m t first end h s inside e =
     rw e (filled_small (λ x y. predicted_at m x (first + y)) m.width (end - first) (2 ^ 15) (omega (arith, h.some_across))
     (λ x y l k. predicted_small m x (first + y) h s l (omega arith)))
 
--- no row is told yet
-pub rows_none : (f : ℕ → ℕ → ℤ) (t : Table) (w h n : ℕ) → t ≡ record { width = w; height = h; values = replicate (w * h) (pos 0) } → n ≡ 0 → RowsFilled f t.width t.height t.values n
-rows_none f t w h n e none = record {
-  len = rw e (length-replicate (w * h) (pos 0));
-  done = λ x y l k. absurd (omega arith);
-}
+-- rows that are written as one list
+pub lines_are : (f : ℕ → ℕ → ℤ) (w h : ℕ) (t : Table) (ws : List ℤ) → t ≡ record { width = w; height = h; values = replicate (w * h) (pos 0) } → length ws ≡ w * h
+    → ((p : ℕ) → p < w * h → get_or ws p (pos 0) ≡ f (p % w) (p / w)) → with_values t ws ≡ table_of w h f
+unfolding filled
+lines_are f w h t ws e len each =
+    let whole : length ws ≡ length t.values = len ∙ sym (ap (λ (u : Table). length u.values) e ∙ length-replicate (w * h) (pos 0)) in
+    let written : (with_values t ws).values ≡ ws = take_at ws (drop (length ws) t.values) (length t.values) whole in
+    let values : ws ≡ filled w h f = fill_by_all (λ p. f (p % w) (p / w)) ws (w * h) (pos 0) len each in
+    ap (λ (vs : List ℤ). record t { values = vs }) (written ∙ values) ∙ ap (λ (u : Table). record u { values = filled w h f }) e
 
--- room for the blocks of a plane
-pub room_of : (m : Compensation) (c : Columns) (r : BlockRoom) → IsColumns m c → IsRoom c.blocks.length r → IsRoom (x_length m) r
-room_of m c r h room = subst (λ (n : ℕ). IsRoom n r) h.direction.length_is room
+-- what stands in a table that is all 0
+pub zeros_of : (t : Table) (w h : ℕ) (xs : List ℤ) → t ≡ record { width = w; height = h; values = replicate (w * h) (pos 0) } → xs ≡ t.values → (p : ℕ) → get_or xs p (pos 0) ≡ pos 0
+zeros_of t w h xs e same p = elim (cases_lt p (w * h)) [
+  | inl inside ↦ ap (λ (ys : List ℤ). get_or ys p (pos 0)) (same ∙ ap (λ (u : Table). u.values) e) ∙ get_or-replicate (w * h) p (pos 0) (pos 0) inside
+  | inr past ↦ ap (λ (ys : List ℤ). get_or ys p (pos 0)) (same ∙ ap (λ (u : Table). u.values) e) ∙ get_or_past (replicate (w * h) (pos 0)) p (pos 0) (omega (arith, past, length-replicate (w * h) (pos 0)))
+]

@@ -6,16 +6,10 @@ use Rattle.dirac_obmc.specs.declared.direction.Direction.{Direction}
 use Rattle.dirac_obmc.specs.Adding.{Adds}
 use Rattle.dirac_obmc.specs.Compensation.{Compensation, blended, blocks_across, blocks_down, term, total, y_length, y_separation}
 use Rattle.dirac_obmc.specs.Directions.{IsDown}
-use Rattle.dirac_obmc.specs.Weights.{margin, share}
+use Rattle.dirac_obmc.specs.Weights.{margin}
 use Rattle.dirac_obmc.proofs.Added.{row_nothing}
 use Rattle.dirac_obmc.proofs.Shares.{share_before, share_behind}
 use Rattle.dirac_obmc.proofs.Totals.{total_nothing, total_stays}
-
--- the share of a row of blocks, told by their direction
-pub share_down : (m : Compensation) (rows : Direction) (j y d : ℕ) → IsDown m rows → d ≡ share j rows.count rows.length rows.separation y → d ≡ share j (blocks_down m) (y_length m) (y_separation m) y
-share_down m rows j y d h e =
-    e ∙ ap (λ n. share j n rows.length rows.separation y) h.count_is ∙ ap (λ n. share j (blocks_down m) n rows.separation y) h.length_is
-    ∙ ap (λ n. share j (blocks_down m) (y_length m) n y) h.separation_is
 
 -- rows of blocks that end above the place
 pub nothing_above : (m : Compensation) (rows : Direction) (y n x : ℕ) → IsDown m rows → ((j : ℕ) → j < n → j * rows.separation + rows.length ≤ y + margin rows.length rows.separation)

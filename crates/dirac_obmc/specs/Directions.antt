@@ -1,16 +1,14 @@
 -- How the blocks of a plane stand along one of its directions, and what its predictions are made from.
-use Rattle.std.specs.Prelude.{◌≡◌, ℕ, ◌+◌, ◌*◌, ◌<◌, ◌≤◌, List, length, slice_index, vec_len}
+use Rattle.std.specs.Prelude.{◌≡◌, ℕ, ◌+◌, ◌*◌, ◌<◌, ◌≤◌, List, length, slice_index}
 use Rattle.std.specs.List.{All}
 use Rattle.std.specs.Option.{ForSome}
 use Rattle.dirac_types.specs.declared.limits.TheConstants.{LARGEST_SIDE}
 use Rattle.dirac_blocks.specs.Tables.{IsBlockTable}
 use Rattle.dirac_upconvert.specs.HalfSamples.{IsSample}
-use Rattle.dirac_obmc.specs.declared.room.BlockRoom.{BlockRoom}
 use Rattle.dirac_obmc.specs.declared.rows.Columns.{Columns}
-use Rattle.dirac_obmc.specs.declared.rows.HeldRow.{HeldRow}
 use Rattle.dirac_obmc.specs.declared.direction.Direction.{Direction}
 use Rattle.dirac_obmc.specs.Compensation.{Compensation, blocks_across, blocks_down, x_length, x_separation, y_length, y_separation}
-use Rattle.dirac_obmc.specs.Weights.{IsOverlap, share, weight_at}
+use Rattle.dirac_obmc.specs.Weights.{IsOverlap, weight_at}
 
 -- blocks of this number, length and separation, which cover so many places
 pub record IsDirection (count length separation size : ℕ) (d : Direction) : Type 0 where
@@ -44,19 +42,6 @@ pub record IsWeights (count len separation : ℕ) (ws : List ℕ) : Type 0 where
 pub record IsColumns (m : Compensation) (c : Columns) : Type 0 where
   pub direction : IsAcross m c.blocks
   pub weights : IsWeights (blocks_across m) (x_length m) (x_separation m) c.weights.now
-
--- a row of the plane among a row of blocks, with their weight there
-pub record IsHeldRow (m : Compensation) (r : HeldRow) : Type 0 where
-  pub below : r.j < blocks_down m
-  pub inside : r.y < m.height
-  pub down : r.down ≡ share r.j (blocks_down m) (y_length m) (y_separation m) r.y
-  pub at_most_8 : r.down ≤ 8
-
--- room for rows of so many samples
-pub record IsRoom (len : ℕ) (r : BlockRoom) : Type 0 where
-  pub first : vec_len r.first ≡ len
-  pub second : vec_len r.second ≡ len
-  pub values : vec_len r.values ≡ len
 
 -- what block tables and upconverted planes always keep
 pub record IsSound (m : Compensation) : Type 0 where

@@ -10,7 +10,8 @@ use crate::direction::{across, down};
 use crate::motion::Motion;
 use crate::predicted::Predicted;
 use crate::room::block_room;
-use crate::rows::{Columns, predict_row};
+use crate::rows::{Columns, Lines, predict_lines};
+use crate::weights::weight_table;
 use dirac_types::NoMemory;
 use std::alloc::Global;
 
@@ -77,13 +78,17 @@ fn rows_between(
 {
     lawful(motion);
     let columns = columns_with(motion, weights);
-    let rows = down(motion);
-    let mut room = block_room(alloc, columns.blocks.length)?;
+    let blocks = down(motion);
+    let weights = weight_table(alloc, blocks)?;
+    let lines = Lines {
+        blocks,
+        weights: weights.as_slice(),
+        first,
+        end,
+    };
+    let mut room = block_room(alloc, columns.blocks, blocks)?;
     let mut predicted = Predicted::try_new(alloc, motion.width, end - first, 0)?;
-    for y in first..end {
-        let out = predicted.row_mut(y - first);
-        predict_row(motion, columns, rows, y, &mut room, out);
-    }
+    predict_lines(motion, columns, lines, &mut room, predicted.values_mut());
     Ok(predicted)
 }
 

@@ -5,7 +5,7 @@ ghost use Rattle.dirac_obmc.specs.Adding.{AddsPart};
 
 /// A value times its weights across and down.
 #[inline(always)]
-fn weighted(weight: u8, down: u8, value: i32) -> i32
+fn weigh(weight: u8, down: u8, value: i32) -> i32
     requires weight { weight ≤ 8 }
     requires down { down ≤ 8 }
     requires value { unsigned_abs value ≤ 2 ^ 15 }
@@ -17,48 +17,46 @@ fn weighted(weight: u8, down: u8, value: i32) -> i32
 
 #[inline(always)]
 fn sum(sum: i32, more: i32) -> i32
-    requires sum { unsigned_abs sum ≤ 2 ^ 22 }
+    requires sum { unsigned_abs sum ≤ 2 ^ 23 }
     requires more { unsigned_abs more ≤ 2 ^ 21 }
     ensures { result ≡ sum +ℤ more }
 {
     sum + more
 }
 
-/// Adds `count` values, each times its weights, to the sums from place `start` on; the weights stand from place
-/// `first` on.
-pub fn add_values(
-    sums: &mut [i32],
-    start: usize,
-    values: &[i32],
-    count: usize,
-    weights: &[u8],
-    first: usize,
-    down: u8,
-)
-    requires sums { All (λ v. unsigned_abs v ≤ 2 ^ 22) sums.old }
+/// Values of a row, from place `at` on, with their weights across, from place `first` on, and their weight down.
+#[derive(Clone, Copy)]
+pub struct Weighed<'a> {
+    pub values: &'a [i32],
+    pub at: usize,
+    pub weights: &'a [u8],
+    pub first: usize,
+    pub down: u8,
+}
+
+/// Adds `count` values, each times its weights, to the sums from place `start` on.
+pub fn add_values(sums: &mut [i32], start: usize, weighed: Weighed<'_>, count: usize)
+    requires sums { All (λ v. unsigned_abs v ≤ 2 ^ 23) sums.old }
     requires inside { start + count ≤ length sums.old }
-    requires enough { count ≤ length values.now }
-    requires values { (k : ℕ) → k < count → unsigned_abs (slice_index_or values.now k (pos 0)) ≤ 2 ^ 15 }
-    requires weighed { first + count ≤ length weights.now }
-    requires weights { All (λ w. w ≤ 8) weights.now }
-    requires down { down ≤ 8 }
-    ensures { AddsPart start (λ k. pos (slice_index weights.now (first + k) * down) *ℤ slice_index_or values.now k
-        (pos 0)) count sums.old sums.new }
+    requires enough { weighed.at + count ≤ length weighed.values.now }
+    requires values { (k : ℕ) → k < count → unsigned_abs (slice_index_or weighed.values.now (weighed.at + k) (pos 0))
+        ≤ 2 ^ 15 }
+    requires listed { weighed.first + count ≤ length weighed.weights.now }
+    requires weights { All (λ w. w ≤ 8) weighed.weights.now }
+    requires down { weighed.down ≤ 8 }
+    ensures { AddsPart start (λ k. pos (slice_index weighed.entry.weights.now (weighed.entry.first + k)
+        * weighed.entry.down) *ℤ slice_index_or weighed.entry.values.now (weighed.entry.at + k) (pos 0)) count sums.old
+        sums.new }
 {
     for k in 0..count {
         sums[start + k] = sum(
             sums[start + k],
-            weighted(weights[first + k], down, values[k]),
+            weigh(
+                weighed.weights[weighed.first + k],
+                weighed.down,
+                weighed.values[weighed.at + k],
+            ),
         );
-    }
-}
-
-/// Makes all sums 0.
-pub fn clear_sums(sums: &mut [i32])
-    ensures { (x : ℕ) → slice_index_or sums.new x (pos 0) ≡ pos 0 }
-{
-    for x in 0..sums.len() {
-        sums[x] = 0;
     }
 }
 

@@ -1,4 +1,4 @@
-ghost use Rattle.std.specs.Prelude.{◌≡◌, ℕ, pos, ◌+◌, ◌*◌, ◌^◌, ◌<◌, ◌≤◌, ◌+ℤ◌, ◌*ℤ◌, unsigned_abs, length, slice_index_or};
+ghost use Rattle.std.specs.Prelude.{◌≡◌, ℕ, pos, ◌+◌, ◌*◌, ◌/◌, ◌%◌, ◌^◌, ◌<◌, ◌≤◌, ◌+ℤ◌, ◌*ℤ◌, unsigned_abs, length, slice_index_or};
 ghost use Rattle.std.specs.Int.{int_div_euclid};
 ghost use Rattle.std.specs.List.{All};
 ghost use Rattle.dirac_vectors.specs.Neighbours.{IsShort};
@@ -8,6 +8,7 @@ ghost use Rattle.dirac_upconvert.specs.HalfSamples.{IsSample};
 ghost use Rattle.dirac_upconvert.specs.SubSamples.{rounded};
 ghost use Rattle.dirac_obmc.specs.Compensation.{IsMotion, dc_of, from_one, from_two, moved_sample, predicts, second_sample};
 ghost use Rattle.dirac_obmc.specs.Given.{given};
+ghost use Rattle.dirac_obmc.specs.Windows.{IsWindow};
 
 use crate::direction::{across_ratio, down_ratio};
 use crate::motion::Motion;
@@ -59,36 +60,41 @@ fn position(precision: u8, ratio: u32, place: u32, vector: i32) -> i64
     in_parts(precision, place) + divided(vector, ratio)
 }
 
-/// The samples of a reference to which a vector leads from row `y`, from column `x` on.
-fn moved_row(motion: &Motion<'_>, up: &UpPlane, vector: Vector, x: u32, y: u32, out: &mut [i16])
+/// Rows of `width` places of a plane, from column `x` of row `y` on.
+#[derive(Clone, Copy)]
+pub struct Window {
+    pub x: u32,
+    pub y: u32,
+    pub width: usize,
+}
+
+/// The samples of a reference to which a vector leads from a window, row after row.
+fn moved_rows(motion: &Motion<'_>, up: &UpPlane, vector: Vector, window: Window, out: &mut [i16])
     requires motion { IsMotion (given motion.now) }
     requires vector { IsShortVector vector }
-    requires x { x ≤ LARGEST_SIDE }
-    requires y { y ≤ LARGEST_SIDE }
-    requires at_most_64 { length out.old ≤ 64 }
+    requires window { IsWindow (length out.old) window }
     ensures value { (k : ℕ) → k < length out.old → slice_index_or out.new k (pos 0)
-        ≡ moved_sample (given motion.now) up.now vector (x + k) y }
+        ≡ moved_sample (given motion.now) up.now vector (window.x + k % window.width) (window.y + k / window.width) }
     ensures samples { All IsSample out.new }
 {
     let precision = motion.prediction.precision;
-    let across = position(precision, across_ratio(motion), x, vector.x);
-    let down = position(precision, down_ratio(motion), y, vector.y);
-    up.sub_row(precision, across, down, out);
+    let across = position(precision, across_ratio(motion), window.x, vector.x);
+    let down = position(precision, down_ratio(motion), window.y, vector.y);
+    up.sub_rows(precision, across, down, window.width, out);
 }
 
 /// The same of the second reference, and 0 where there is none.
-fn second_row(motion: &Motion<'_>, vector: Vector, x: u32, y: u32, out: &mut [i16])
+fn second_rows(motion: &Motion<'_>, vector: Vector, window: Window, out: &mut [i16])
     requires motion { IsMotion (given motion.now) }
     requires vector { IsShortVector vector }
-    requires x { x ≤ LARGEST_SIDE }
-    requires y { y ≤ LARGEST_SIDE }
-    requires at_most_64 { length out.old ≤ 64 }
+    requires window { IsWindow (length out.old) window }
     ensures value { (k : ℕ) → k < length out.old → slice_index_or out.new k (pos 0)
-        ≡ second_sample (given motion.now) (given motion.now).up2 vector (x + k) y }
+        ≡ second_sample (given motion.now) (given motion.now).up2 vector (window.x + k % window.width) (window.y
+        + k / window.width) }
     ensures samples { All IsSample out.new }
 {
     match motion.up2 {
-        Some(up) => moved_row(motion, up, vector, x, y, out),
+        Some(up) => moved_rows(motion, up, vector, window, out),
         None => clear(out),
     }
 }
@@ -251,30 +257,26 @@ fn set_all(value: i32, out: &mut [i32])
     }
 }
 
-/// What a block predicts in row `y` from column `x` on; `first` and `second` are room for the samples of the
-/// references.
-pub fn block_values(
+/// What a block predicts in a window, row after row; `first` and `second` are room for the samples of the references.
+fn block_values(
     motion: &Motion<'_>,
     block: &Block,
-    x: u32,
-    y: u32,
+    window: Window,
     first: &mut [i16],
     second: &mut [i16],
     out: &mut [i32],
 )
     requires motion { IsMotion (given motion.now) }
     requires block { IsBlock motion.now.blocks.now.refs block.now }
-    requires x { x ≤ LARGEST_SIDE }
-    requires y { y ≤ LARGEST_SIDE }
-    requires at_most_64 { length out.old ≤ 64 }
+    requires window { IsWindow (length out.old) window }
     requires lens { (length first.old ≡ length out.old) × (length second.old ≡ length out.old) }
     ensures { (k : ℕ) → k < length out.old → slice_index_or out.new k (pos 0)
-        ≡ predicts (given motion.now) block.now (x + k) y }
+        ≡ predicts (given motion.now) block.now (window.x + k % window.width) (window.y + k / window.width) }
 {
     if block.ref1 {
-        moved_row(motion, motion.up1, block.v1, x, y, first);
+        moved_rows(motion, motion.up1, block.v1, window, first);
         if block.ref2 {
-            second_row(motion, block.v2, x, y, second);
+            second_rows(motion, block.v2, window, second);
             weigh_two(motion.prediction, first, second, out);
             return;
         }
@@ -282,9 +284,39 @@ pub fn block_values(
         return;
     }
     if block.ref2 {
-        second_row(motion, block.v2, x, y, second);
+        second_rows(motion, block.v2, window, second);
         weigh_one(motion.prediction, second, out);
         return;
     }
     set_all(dc(motion.component, block), out);
+}
+
+/// What a block predicts in a window of `count` places, as the front of `out`; `first` and `second` are room for the
+/// samples of the references.
+pub fn block_front(
+    motion: &Motion<'_>,
+    block: &Block,
+    window: Window,
+    count: usize,
+    first: &mut [i16],
+    second: &mut [i16],
+    out: &mut [i32],
+)
+    requires motion { IsMotion (given motion.now) }
+    requires block { IsBlock motion.now.blocks.now.refs block.now }
+    requires window { IsWindow count window }
+    requires first { count ≤ length first.old }
+    requires second { count ≤ length second.old }
+    requires out { count ≤ length out.old }
+    ensures { (k : ℕ) → k < count → slice_index_or out.new k (pos 0)
+        ≡ predicts (given motion.now) block.now (window.x + k % window.width) (window.y + k / window.width) }
+{
+    block_values(
+        motion,
+        block,
+        window,
+        &mut first[..count],
+        &mut second[..count],
+        &mut out[..count],
+    );
 }

@@ -46,6 +46,26 @@ doubled_more line out i m a b before fits next ea eb = record {
   ];
 }
 
+-- the same of a list of its own, which is to stand from place 2 * i on
+pub pairs_more : (line lanes : List ℤ) (i k m : ℕ) (a b : ℤ) → ((p : ℕ) → p < 2 * k → get_or lanes p (pos 0) ≡ doubled_at (λ n. get_or line n (pos 0)) (length line - 1) (2 * i + p)) → 2 * k + 1 < length lanes
+    → m ≡ k + 1 → a ≡ get_or line (i + k) (pos 0) → b ≡ half_behind (λ n. get_or line n (pos 0)) (length line - 1) (i + k)
+    → (p : ℕ) → p < 2 * m → get_or (set (set lanes (2 * k) a) (2 * k + 1) b) p (pos 0) ≡ doubled_at (λ n. get_or line n (pos 0)) (length line - 1) (2 * i + p)
+pairs_more line lanes i k m a b before fits next ea eb p l = elim (cases_eq p (2 * k + 1)) [
+  | inl here ↦
+      ap (λ q. get_or (set (set lanes (2 * k) a) (2 * k + 1) b) q (pos 0)) here
+      ∙ get_or-set_same (set lanes (2 * k) a) (2 * k + 1) b (pos 0) (omega (arith, length-set lanes (2 * k) a))
+      ∙ eb ∙ sym (at_odd (λ n. get_or line n (pos 0)) (length line - 1) (i + k) (2 * i + p) (omega arith))
+  | inr other ↦
+      get_or-set_other (set lanes (2 * k) a) (2 * k + 1) p b (pos 0) other
+      ∙ elim (cases_eq p (2 * k)) [
+        | inl there ↦
+            ap (λ q. get_or (set lanes (2 * k) a) q (pos 0)) there
+            ∙ get_or-set_same lanes (2 * k) a (pos 0) (omega arith)
+            ∙ ea ∙ sym (at_even (λ n. get_or line n (pos 0)) (length line - 1) (i + k) (2 * i + p) (omega arith))
+        | inr old ↦ get_or-set_other lanes (2 * k) p a (pos 0) old ∙ before p (omega arith)
+      ]
+]
+
 -- the last sample is written
 pub doubled_end : (line out : List ℤ) (i n : ℕ) (a : ℤ) → DoubledBelow line out n → n ≡ 2 * i → length out ≡ 2 * i + 1 → a ≡ get_or line i (pos 0)
     → (p : ℕ) → p < length out → get_or (set out (2 * i) a) p (pos 0) ≡ doubled_at (λ k. get_or line k (pos 0)) (length line - 1) p

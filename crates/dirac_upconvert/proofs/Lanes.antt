@@ -1,12 +1,16 @@
 -- Rows that are written a few samples at a time.
-use Rattle.std.proofs.Common.{◌≡◌, ◌≢◌, ℕ, ℤ, pos, ◌+◌, ◌-◌, ◌*◌, ◌/◌, ◌%◌, ◌^◌, ◌<◌, ◌≤◌, ◌+ℤ◌, List, length, get_or, set, to_z, of_z, arith, refl, inl, inr, ap, sym, ◌∙◌}
+use Rattle.std.proofs.Common.{◌≡◌, ◌≢◌, ℕ, ℤ, pos, suc, ◌+◌, ◌-◌, ◌*◌, ◌/◌, ◌%◌, ◌^◌, ◌<◌, ◌≤◌, ◌+ℤ◌, List, length, get_or, set, take, to_z, of_z, arith, refl, inl, inr, ap, sym, ◌∙◌}
 use Rattle.std.specs.Int.{w16}
 use Rattle.std.specs.List.{All, slice_range}
 use Rattle.std.proofs.lemmas.Bool.{cases_eq, cases_lt}
 use Rattle.std.proofs.lemmas.Int.{ints, to_z-of_z, fits_signed_from_abs}
-use Rattle.std.proofs.lemmas.List.{get_or-set_same, get_or-set_other}
+use Rattle.std.proofs.lemmas.List.{get_or-set_same, get_or-set_other, get_or-take, get_or-append_right, length-take-le}
 use Rattle.std.proofs.lemmas.List.Edits.{get_or-between, length-between}
+use Rattle.std.proofs.lemmas.Nat.{div-add-mod', div-mul-add, mod-mul-add, mul-le, row_fits}
+use Rattle.std.proofs.lemmas.Slice.{take-put_mid, take-put_mid_below}
+use Rattle.std.proofs.Math.Nat.{suc-mul}
 use Rattle.std.proofs.Math.Pow.{pow_mono}
+use borrow.Rule.Slice.PartMut.{put_mid}
 use Rattle.dirac_types.specs.Table.{Table}
 use Rattle.dirac_upconvert.specs.HalfSamples.{IsSample}
 use Rattle.dirac_upconvert.specs.SubSamples.{IsRest, PutFrom, between_at, bilinear, four, rounded}
@@ -82,3 +86,49 @@ row_by_row_at t bits across down right below j k l =
     let row : (8 * j + k) / 8 ≡ j = omega arith in
     let f : ℕ → ℕ → ℤ = λ a b. rounded (2 * bits) (bilinear t (2 ^ bits) (across +ℤ pos (2 * a)) (down +ℤ pos (2 * b)) right below) in
     ap (λ a. f a ((8 * j + k) / 8)) column ∙ ap (f k) row
+
+-- a list of which a part is written over: before that part, and in it
+part_before : (a k n : ℕ) (xs ws : List ℤ) → n < a → a ≤ length xs → get_or (put_mid a k xs ws) n (pos 0) ≡ get_or xs n (pos 0)
+part_before a k n xs ws l fits =
+    sym (get_or-take a (put_mid a k xs ws) n (pos 0) l) ∙ ap (λ ys. get_or ys n (pos 0)) (take-put_mid_below a k xs ws a (omega arith) fits)
+    ∙ get_or-take a xs n (pos 0) l
+
+part_inside : (a k n : ℕ) (xs ws : List ℤ) → n < length ws → a ≤ length xs → get_or (put_mid a k xs ws) (a + n) (pos 0) ≡ get_or ws n (pos 0)
+part_inside a k n xs ws l fits =
+    let same : a + n - a ≡ n = omega arith in
+    sym (get_or-take (a + length ws) (put_mid a k xs ws) (a + n) (pos 0) (omega arith))
+    ∙ ap (λ ys. get_or ys (a + n) (pos 0)) (take-put_mid a k xs ws (a + length ws) refl fits)
+    ∙ get_or-append_right (take a xs) ws a (a + n) (pos 0) (length-take-le a xs fits) (omega arith)
+    ∙ ap (λ i. get_or ws i (pos 0)) same
+
+-- rows of so many samples, one behind another
+abbrev pub by_rows : Table → ℕ → ℤ → ℤ → ℤ → ℤ → ℕ → ℕ → ℤ
+by_rows t bits across down right below width n =
+    rounded (2 * bits) (bilinear t (2 ^ bits) (across +ℤ pos (2 * (n % width))) (down +ℤ pos (2 * (n / width))) right below)
+
+pub by_rows_at : (t : Table) (bits : ℕ) (across down right below : ℤ) (width j k : ℕ) → k < width
+    → by_rows t bits across down right below width (j * width + k) ≡ rounded (2 * bits) (bilinear t (2 ^ bits) (across +ℤ pos (2 * k)) (down +ℤ pos (2 * j)) right below)
+by_rows_at t bits across down right below width j k l =
+    let f : ℕ → ℕ → ℤ = λ a b. rounded (2 * bits) (bilinear t (2 ^ bits) (across +ℤ pos (2 * a)) (down +ℤ pos (2 * b)) right below) in
+    ap (λ a. f a ((j * width + k) / width)) (mod-mul-add j width k l) ∙ ap (f k) (div-mul-add j width k l)
+
+-- one more row is written
+pub rows_joined : (width j m a k : ℕ) (g : ℕ → ℤ) (xs ws : List ℤ) → ((n : ℕ) → n < j * width → get_or xs n (pos 0) ≡ g n) → a ≡ j * width → length ws ≡ width → a + width ≤ length xs → m ≡ suc j
+    → ((i : ℕ) → i < width → get_or ws i (pos 0) ≡ g (j * width + i)) → (n : ℕ) → n < m * width → get_or (put_mid a k xs ws) n (pos 0) ≡ g n
+rows_joined width j m a k g xs ws h start len fits next row n l = elim (cases_lt n (j * width)) [
+  | inl before ↦ part_before a k n xs ws (omega (arith, before, start)) (omega (arith, fits)) ∙ h n before
+  | inr past ↦
+      let end : m * width ≡ suc j * width = ap (λ i. i * width) next in
+      let inside : n - j * width < width = omega (arith, l, past, end, suc-mul j width) in
+      let here : a + (n - j * width) ≡ n = omega (arith, start, past) in
+      let there : j * width + (n - j * width) ≡ n = omega (arith, past) in
+      ap (λ i. get_or (put_mid a k xs ws) i (pos 0)) (sym here) ∙ part_inside a k (n - j * width) xs ws (omega (arith, inside, len)) (omega (arith, fits))
+      ∙ row (n - j * width) inside ∙ ap g there
+]
+
+-- places of whole rows
+pub row_inside : (len width j : ℕ) → j < len / width → j * width + width ≤ len
+row_inside len width j l = omega (arith, row_fits j width (len / width) width l (omega arith), div-add-mod' len width)
+
+pub in_whole_rows : (len width j n : ℕ) → len % width ≡ 0 → len / width ≤ j → n < len → n < j * width
+in_whole_rows len width j n whole all l = omega (arith, l, whole, div-add-mod' len width, mul-le (len / width) width j width all (omega arith))

@@ -1,12 +1,12 @@
 -- Rows of samples that lie a whole sample apart.
-use Rattle.std.proofs.Common.{◌≡◌, ℕ, ℤ, pos, ◌+◌, ◌-◌, ◌*◌, ◌^◌, ◌<◌, ◌≤◌, ◌+ℤ◌, ◌*ℤ◌, List, length, get_or, arith, refl, inl, inr, ap, ap₂, sym, subst, ◌∙◌, eq-eqb}
+use Rattle.std.proofs.Common.{◌≡◌, ℕ, ℤ, pos, ◌+◌, ◌-◌, ◌*◌, ◌/◌, ◌%◌, ◌^◌, ◌<◌, ◌≤◌, ◌+ℤ◌, ◌*ℤ◌, List, length, get_or, arith, refl, inl, inr, ap, ap₂, sym, subst, ◌∙◌, eq-eqb}
 use Rattle.std.specs.List.{All}
 use Rattle.std.proofs.lemmas.Bool.{cases_eq, ne_eqb}
 use Rattle.std.proofs.lemmas.Int.{ints}
 use Rattle.std.proofs.lemmas.Nat.{pow_pos}
 use Rattle.dirac_types.specs.Table.{Table, clamped_at}
 use Rattle.dirac_upconvert.specs.HalfSamples.{IsSample}
-use Rattle.dirac_upconvert.specs.SubSamples.{AreParts, ArePartsByFour, ArePlaces, IsRest, IsWithin, Up, bilinear, part_sample, place_at, rest_at, rounded, sub_sample}
+use Rattle.dirac_upconvert.specs.SubSamples.{AreParts, ArePartsByFour, ArePartsByRows, ArePlaces, IsRest, IsWithin, Up, bilinear, part_sample, place_at, rest_at, rounded, sub_sample}
 use Rattle.dirac_upconvert.proofs.Halves.{all_samples, clamped_sample}
 use Rattle.dirac_upconvert.proofs.PartRows.{four_at_place, part_more, place_more, rest_more}
 use Rattle.dirac_upconvert.proofs.Mixing.{four_products, mixed_within, remainder_is, remainder_rest, rounded_sample, sample_within}
@@ -57,27 +57,48 @@ pub row_samples : (up : Up) (precision : ℕ) (x y : ℤ) (out : List ℤ) → p
 row_samples up precision x y out few h e =
     all_samples out (λ k l. rw (e k l) (sub_sample_is up precision (x +ℤ pos (2 ^ precision * k)) y few h))
 
--- four rows of eight are rows of samples
-pub four_rows_of_places : (up : Up) (precision : ℕ) (x y : ℤ) (out : List ℤ) → precision ≡ 0 → ArePartsByFour up.table 0 (pos 2 *ℤ x) (pos 2 *ℤ y) (pos 0) (pos 0) out
-    → (j k : ℕ) → j < 4 → k < 8 → get_or out (8 * j + k) (pos 0) ≡ sub_sample up precision (x +ℤ pos (2 ^ precision * k)) (y +ℤ pos (2 ^ precision * j))
-four_rows_of_places up precision x y out e h j k few l =
-    subst (λ (q : ℕ). get_or out (8 * j + k) (pos 0) ≡ sub_sample up q (x +ℤ pos (2 ^ q * k)) (y +ℤ pos (2 ^ q * j))) (sym e)
-    (h j k few l
-    ∙ four_at_place 0 (clamped_at up.table (pos 2 *ℤ x +ℤ pos (2 * k)) (pos 2 *ℤ y +ℤ pos (2 * j))) (clamped_at up.table ((pos 2 *ℤ x +ℤ pos (2 * k)) +ℤ pos 1) (pos 2 *ℤ y +ℤ pos (2 * j)))
+-- the sample behind a place that is so many places and rows further on
+pub sample_of_place : (up : Up) (precision : ℕ) (x y : ℤ) (j k : ℕ) → precision ≡ 0
+    → rounded (2 * 0) (bilinear up.table (2 ^ 0) (pos 2 *ℤ x +ℤ pos (2 * k)) (pos 2 *ℤ y +ℤ pos (2 * j)) (pos 0) (pos 0)) ≡ sub_sample up precision (x +ℤ pos (2 ^ precision * k)) (y +ℤ pos (2 ^ precision * j))
+sample_of_place up precision x y j k e =
+    subst (λ (q : ℕ). rounded (2 * 0) (bilinear up.table (2 ^ 0) (pos 2 *ℤ x +ℤ pos (2 * k)) (pos 2 *ℤ y +ℤ pos (2 * j)) (pos 0) (pos 0)) ≡ sub_sample up q (x +ℤ pos (2 ^ q * k)) (y +ℤ pos (2 ^ q * j))) (sym e)
+    (four_at_place 0 (clamped_at up.table (pos 2 *ℤ x +ℤ pos (2 * k)) (pos 2 *ℤ y +ℤ pos (2 * j))) (clamped_at up.table ((pos 2 *ℤ x +ℤ pos (2 * k)) +ℤ pos 1) (pos 2 *ℤ y +ℤ pos (2 * j)))
     (clamped_at up.table (pos 2 *ℤ x +ℤ pos (2 * k)) ((pos 2 *ℤ y +ℤ pos (2 * j)) +ℤ pos 1)) (clamped_at up.table ((pos 2 *ℤ x +ℤ pos (2 * k)) +ℤ pos 1) ((pos 2 *ℤ y +ℤ pos (2 * j)) +ℤ pos 1)) (omega arith)
     ∙ ap₂ (λ (p q : ℤ). clamped_at up.table p q) (twice_more x k) (twice_more y j))
   where
     twice_more : (p : ℤ) (n : ℕ) → pos 2 *ℤ p +ℤ pos (2 * n) ≡ pos 2 *ℤ (p +ℤ pos (2 ^ 0 * n))
     twice_more p n = omega (arith, ints)
 
-pub four_rows_of_parts : (up : Up) (precision bits : ℕ) (x y : ℤ) (out : List ℤ) → bits ≤ 2 → precision ≡ bits + 1 → ArePartsByFour up.table bits (place_at x bits) (place_at y bits) (rest_at x bits) (rest_at y bits) out
-    → (j k : ℕ) → j < 4 → k < 8 → get_or out (8 * j + k) (pos 0) ≡ sub_sample up precision (x +ℤ pos (2 ^ precision * k)) (y +ℤ pos (2 ^ precision * j))
-four_rows_of_parts up precision bits x y out small e h j k few l =
+pub sample_of_part : (up : Up) (precision bits : ℕ) (x y : ℤ) (j k : ℕ) → bits ≤ 2 → precision ≡ bits + 1
+    → rounded (2 * bits) (bilinear up.table (2 ^ bits) (place_at x bits +ℤ pos (2 * k)) (place_at y bits +ℤ pos (2 * j)) (rest_at x bits) (rest_at y bits)) ≡ sub_sample up precision (x +ℤ pos (2 ^ precision * k)) (y +ℤ pos (2 ^ precision * j))
+sample_of_part up precision bits x y j k small e =
     let less : precision - 1 ≡ bits = omega arith in
     let z : ℤ = y +ℤ pos (2 ^ precision * j) in
     let below : z ≡ y +ℤ pos (2 ^ (bits + 1) * j) = ap (λ q. y +ℤ pos (2 ^ q * j)) e in
     rw (ne_eqb precision 0 (omega arith), less)
-    (h j k few l
-    ∙ ap (λ p. rounded (2 * bits) (bilinear up.table (2 ^ bits) (place_at x bits +ℤ pos (2 * k)) p (rest_at x bits) (rest_at y bits))) (sym (place_more y z bits j small below))
+    (ap (λ p. rounded (2 * bits) (bilinear up.table (2 ^ bits) (place_at x bits +ℤ pos (2 * k)) p (rest_at x bits) (rest_at y bits))) (sym (place_more y z bits j small below))
     ∙ ap (λ r. rounded (2 * bits) (bilinear up.table (2 ^ bits) (place_at x bits +ℤ pos (2 * k)) (place_at z bits) (rest_at x bits) r)) (sym (rest_more y z bits j small below))
     ∙ part_more up.table bits k x z (x +ℤ pos (2 ^ precision * k)) small (ap (λ q. x +ℤ pos (2 ^ q * k)) e))
+
+-- four rows of eight are rows of samples
+pub four_rows_of_places : (up : Up) (precision : ℕ) (x y : ℤ) (out : List ℤ) → precision ≡ 0 → ArePartsByFour up.table 0 (pos 2 *ℤ x) (pos 2 *ℤ y) (pos 0) (pos 0) out
+    → (j k : ℕ) → j < 4 → k < 8 → get_or out (8 * j + k) (pos 0) ≡ sub_sample up precision (x +ℤ pos (2 ^ precision * k)) (y +ℤ pos (2 ^ precision * j))
+four_rows_of_places up precision x y out e h j k few l = h j k few l ∙ sample_of_place up precision x y j k e
+
+pub four_rows_of_parts : (up : Up) (precision bits : ℕ) (x y : ℤ) (out : List ℤ) → bits ≤ 2 → precision ≡ bits + 1 → ArePartsByFour up.table bits (place_at x bits) (place_at y bits) (rest_at x bits) (rest_at y bits) out
+    → (j k : ℕ) → j < 4 → k < 8 → get_or out (8 * j + k) (pos 0) ≡ sub_sample up precision (x +ℤ pos (2 ^ precision * k)) (y +ℤ pos (2 ^ precision * j))
+four_rows_of_parts up precision bits x y out small e h j k few l = h j k few l ∙ sample_of_part up precision bits x y j k small e
+
+-- rows of any width are rows of samples
+pub rows_of_places : (up : Up) (precision : ℕ) (x y : ℤ) (width : ℕ) (out : List ℤ) → precision ≡ 0 → ArePartsByRows up.table 0 (pos 2 *ℤ x) (pos 2 *ℤ y) (pos 0) (pos 0) width out
+    → (n : ℕ) → n < length out → get_or out n (pos 0) ≡ sub_sample up precision (x +ℤ pos (2 ^ precision * (n % width))) (y +ℤ pos (2 ^ precision * (n / width)))
+rows_of_places up precision x y width out e h n l = h n l ∙ sample_of_place up precision x y (n / width) (n % width) e
+
+pub rows_of_parts : (up : Up) (precision bits : ℕ) (x y : ℤ) (width : ℕ) (out : List ℤ) → bits ≤ 2 → precision ≡ bits + 1 → ArePartsByRows up.table bits (place_at x bits) (place_at y bits) (rest_at x bits) (rest_at y bits) width out
+    → (n : ℕ) → n < length out → get_or out n (pos 0) ≡ sub_sample up precision (x +ℤ pos (2 ^ precision * (n % width))) (y +ℤ pos (2 ^ precision * (n / width)))
+rows_of_parts up precision bits x y width out small e h n l = h n l ∙ sample_of_part up precision bits x y (n / width) (n % width) small e
+
+pub rows_samples : (up : Up) (precision : ℕ) (x y : ℤ) (width : ℕ) (out : List ℤ) → precision ≤ 3 → All IsSample up.table.values
+    → ((n : ℕ) → n < length out → get_or out n (pos 0) ≡ sub_sample up precision (x +ℤ pos (2 ^ precision * (n % width))) (y +ℤ pos (2 ^ precision * (n / width)))) → All IsSample out
+rows_samples up precision x y width out few h e =
+    all_samples out (λ n l. rw (e n l) (sub_sample_is up precision (x +ℤ pos (2 ^ precision * (n % width))) (y +ℤ pos (2 ^ precision * (n / width))) few h))

@@ -1,5 +1,5 @@
 -- Samples at positions counted in parts of a sample.
-use Rattle.std.specs.Prelude.{◌≡◌, ℕ, ℤ, pos, ◌+◌, ◌-◌, ◌*◌, ◌/◌, ◌^◌, ◌<◌, ◌≤◌, ◌==◌, List, length, slice_index_or, ◌≤ℤ◌, ◌<ℤ◌, ◌+ℤ◌, ◌-ℤ◌, ◌*ℤ◌, if◌then◌else◌}
+use Rattle.std.specs.Prelude.{◌≡◌, ℕ, ℤ, pos, ◌+◌, ◌-◌, ◌*◌, ◌/◌, ◌%◌, ◌^◌, ◌<◌, ◌≤◌, ◌==◌, List, length, slice_index_or, ◌≤ℤ◌, ◌<ℤ◌, ◌+ℤ◌, ◌-ℤ◌, ◌*ℤ◌, if◌then◌else◌}
 use Rattle.std.specs.Int.{int_shr}
 use Rattle.std.specs.List.{All}
 use Rattle.dirac_types.specs.declared.limits.TheConstants.{LARGEST_SIDE}
@@ -106,3 +106,9 @@ abbrev pub ArePartsByFour : Table → ℕ → ℤ → ℤ → ℤ → ℤ → Li
 ArePartsByFour t bits across down right below out =
     (j k : ℕ) → j < 4 → k < 8 → slice_index_or out (8 * j + k) (pos 0) ≡ rounded (2 * bits)
     (bilinear t (2 ^ bits) (across +ℤ pos (2 * k)) (down +ℤ pos (2 * j)) right below)
+
+-- the samples behind every second place of every second row, row after row, so many in each row
+abbrev pub ArePartsByRows : Table → ℕ → ℤ → ℤ → ℤ → ℤ → ℕ → List ℤ → Type 0
+ArePartsByRows t bits across down right below width out =
+    (n : ℕ) → n < length out → slice_index_or out n (pos 0) ≡ rounded (2 * bits)
+    (bilinear t (2 ^ bits) (across +ℤ pos (2 * (n % width))) (down +ℤ pos (2 * (n / width))) right below)

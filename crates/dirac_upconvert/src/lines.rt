@@ -1,8 +1,10 @@
 ghost use Rattle.std.specs.Prelude.{◌≡◌, ℕ, pos, ◌+◌, ◌-◌, ◌*◌, ◌<◌, ◌≤◌, length, slice_index_or};
 ghost use Rattle.std.specs.List.{All};
 ghost use Rattle.dirac_upconvert.specs.HalfSamples.{IsSample, between, doubled_at, half_behind};
+ghost use Rattle.dirac_upconvert.specs.SubSamples.{PutFrom};
 
 use crate::half_sample::half_sample;
+use crate::rows::put;
 
 /// The sample at place `k` of a line.
 #[inline(always)]
@@ -131,6 +133,38 @@ fn half_inside(line: &[i16], i: usize) -> i16
     )
 }
 
+/// The samples of a line from place `i` on, as many as half of `out`, each with the half sample behind it.
+#[inline(always)]
+fn pairs_inside(line: &[i16], i: usize, count: usize, out: &mut [i16])
+    requires before { 3 ≤ i }
+    requires behind { i + count + 3 < length line.now }
+    requires len { length out.old ≡ 2 * count }
+    requires samples { All IsSample line.now }
+    ensures { (p : ℕ) → p < 2 * count → slice_index_or out.new p (pos 0)
+        ≡ doubled_at (λ k. slice_index_or line.now k (pos 0)) (length line.now - 1) (2 * i + p) }
+{
+    for k in 0..count {
+        out[2 * k] = line[i + k];
+        out[2 * k + 1] = half_inside(line, i + k);
+    }
+}
+
+/// Writes eight samples of a line from place `i` on, each with the half sample behind it. They stand in a list of their
+/// own first, so that they are computed side by side.
+#[inline(always)]
+fn put_eight(line: &[i16], i: usize, out: &mut [i16])
+    requires before { 3 ≤ i }
+    requires behind { i + 11 < length line.now }
+    requires len { length out.old + 1 ≡ 2 * length line.now }
+    requires samples { All IsSample line.now }
+    ensures { PutFrom (2 * i) 16 (λ p. doubled_at (λ k. slice_index_or line.now k (pos 0)) (length line.now - 1) (2 * i
+        + p)) out.old out.new }
+{
+    let mut lanes = [0i16; 16];
+    pairs_inside(line, i, 8, &mut lanes);
+    put(&lanes, out, 2 * i);
+}
+
 /// Writes a line with its half samples between.
 pub fn double_line(line: &[i16], out: &mut [i16])
     requires not_empty { 1 ≤ length line.now }
@@ -146,7 +180,11 @@ pub fn double_line(line: &[i16], out: &mut [i16])
         out[2 * i] = line[i];
         out[2 * i + 1] = half_clamped(line, i);
     }
-    'inside: for i in low..high {
+    let eights = (high - low) / 8;
+    'eights: for c in 0..eights {
+        put_eight(line, low + 8 * c, out);
+    }
+    'inside: for i in low + 8 * eights..high {
         out[2 * i] = line[i];
         out[2 * i + 1] = half_inside(line, i);
     }

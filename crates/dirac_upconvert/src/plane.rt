@@ -1,4 +1,4 @@
-ghost use Rattle.std.specs.Prelude.{◌≡◌, ℕ, ℤ, pos, ◌+◌, ◌-◌, ◌*◌, ◌^◌, ◌<◌, ◌≤◌, ◌+ℤ◌, unsigned_abs, length, slice_index_or, IfOk};
+ghost use Rattle.std.specs.Prelude.{◌≡◌, ℕ, ℤ, pos, ◌+◌, ◌-◌, ◌*◌, ◌/◌, ◌%◌, ◌^◌, ◌<◌, ◌≤◌, ◌+ℤ◌, unsigned_abs, length, slice_index_or, IfOk};
 ghost use Rattle.std.specs.List.{All};
 ghost use Rattle.dirac_types.specs.Table.{Table, clamped_at, table_at};
 ghost use Rattle.dirac_upconvert.specs.HalfSamples.{IsSample, half, half_at, half_behind};
@@ -6,7 +6,7 @@ ghost use Rattle.dirac_upconvert.specs.SubSamples.{ArePartsByFour, IsRest, IsUp,
 
 use crate::lines::{double_line, half_of_rows};
 use crate::parts::{part, place, twice, whole_sample};
-use crate::rows::{Rests, ahead, parts, places, put, rests_of, row_parts};
+use crate::rows::{Rests, ahead, parts, places, put, rests_of, row_parts, rows_of_parts};
 use dirac_types::{LARGEST_SIDE, NoMemory, Plane};
 use std::alloc::Global;
 use std::marker::Model;
@@ -177,6 +177,40 @@ impl UpPlane {
             places(&self.table, twice(x), twice(y), out);
         } else {
             parts(&self.table, u32::from(precision) - 1, x, y, out);
+        }
+    }
+
+    /// Writes the samples of rows of `width`, row after row, from column `x` of row `y` on, a whole sample apart; both
+    /// are counted in 2 to the power `precision` parts of a sample. Positions may lie outside the plane.
+    pub fn sub_rows(&self, precision: u8, x: i64, y: i64, width: usize, out: &mut [i16])
+        requires precision { precision ≤ 3 }
+        requires x { unsigned_abs x < 2 ^ 31 }
+        requires y { unsigned_abs y < 2 ^ 31 }
+        requires some { 1 ≤ width }
+        requires whole_rows { length out.old % width ≡ 0 }
+        requires at_most_4096 { length out.old ≤ LARGEST_SIDE }
+        ensures value { (n : ℕ) → n < length out.old → slice_index_or out.new n (pos 0)
+            ≡ sub_sample self.now precision (x +ℤ pos (2 ^ precision * (n % width))) (y +ℤ pos (2 ^ precision
+            * (n / width))) }
+        ensures samples { All IsSample out.new }
+    {
+        if precision == 0 {
+            let rests = Rests {
+                bits: 0,
+                right: 0,
+                below: 0,
+            };
+            rows_of_parts(&self.table, rests, twice(x), twice(y), width, out);
+        } else {
+            let bits = u32::from(precision) - 1;
+            rows_of_parts(
+                &self.table,
+                rests_of(bits, x, y),
+                place(x, bits),
+                place(y, bits),
+                width,
+                out,
+            );
         }
     }
 

@@ -1,8 +1,8 @@
-ghost use Rattle.std.specs.Prelude.{◌≡◌, ℕ, pos, ◌+◌, ◌-◌, ◌*◌, ◌^◌, ◌<◌, ◌≤◌, ◌+ℤ◌, ◌≤ℤ◌, IsTrue, unsigned_abs, length, slice_index_or};
+ghost use Rattle.std.specs.Prelude.{◌≡◌, ℕ, pos, ◌+◌, ◌-◌, ◌*◌, ◌%◌, ◌^◌, ◌<◌, ◌≤◌, ◌+ℤ◌, ◌≤ℤ◌, IsTrue, unsigned_abs, length, slice_index_or};
 ghost use Rattle.std.specs.List.{All};
 ghost use Rattle.dirac_types.specs.Table.{clamped_at, clamped_to, table_at};
 ghost use Rattle.dirac_upconvert.specs.HalfSamples.{IsSample};
-ghost use Rattle.dirac_upconvert.specs.SubSamples.{AreParts, ArePlaces, IsRest, IsWithin, PutFrom, between_at, bilinear, four, mixed, place_at, rest_at, rounded};
+ghost use Rattle.dirac_upconvert.specs.SubSamples.{AreParts, ArePartsByRows, ArePlaces, IsRest, IsWithin, PutFrom, between_at, bilinear, four, mixed, place_at, rest_at, rounded};
 
 use crate::parts::{mix, place, rest, rounded_sum, sample};
 use dirac_types::{LARGEST_SIDE, Plane};
@@ -417,6 +417,38 @@ pub fn row_parts(table: &Plane, rests: Rests, across: i64, down: i64, out: &mut 
         inner_parts(table, rests, across, down, out);
     } else {
         clamped_parts(table, rests, across, down, out);
+    }
+}
+
+/// The samples behind every second place of every second row, from place `across` of row `down` on: rows of `width`.
+pub fn rows_of_parts(
+    table: &Plane,
+    rests: Rests,
+    across: i64,
+    down: i64,
+    width: usize,
+    out: &mut [i16],
+)
+    requires samples { All IsSample table.now.values }
+    requires bits { rests.bits ≤ 2 }
+    requires across { unsigned_abs across ≤ 2 ^ 34 }
+    requires down { unsigned_abs down ≤ 2 ^ 34 }
+    requires right { IsRest rests.bits rests.right }
+    requires below { IsRest rests.bits rests.below }
+    requires some { 1 ≤ width }
+    requires whole_rows { length out.old % width ≡ 0 }
+    requires at_most_4096 { length out.old ≤ LARGEST_SIDE }
+    ensures { ArePartsByRows table.now rests.bits across down rests.right rests.below width out.new }
+{
+    for j in 0..out.len() / width {
+        let start = j * width;
+        row_parts(
+            table,
+            rests,
+            across,
+            ahead(down, j),
+            &mut out[start..start + width],
+        );
     }
 }
 

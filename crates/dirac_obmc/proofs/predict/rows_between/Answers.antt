@@ -1,41 +1,37 @@
-use Rattle.std.proofs.Common.{◌≡◌, ◌+◌, ◌-◌, arith, ap, ◌∙◌}
-use Rattle.dirac_types.specs.Table.{Table}
-use Rattle.dirac_types.proofs.Rows.{rows_more, rows_all}
+use Rattle.std.proofs.Common.{◌≡◌, ◌+◌, ◌-◌, ◌*◌, length, arith, ap, ◌∙◌}
+use Rattle.dirac_types.specs.Table.{Table, table_at}
+use Rattle.dirac_types.proofs.Rows.{filled_at}
 use Rattle.dirac_obmc.specs.Compensation.{predicted_at}
 use Rattle.dirac_obmc.specs.Given.{given}
-use Rattle.dirac_obmc.proofs.Predictions.{room_of, rows_none, rows_are_small}
+use Rattle.dirac_obmc.proofs.Predictions.{lines_are, rows_are_small}
 use Rattle.dirac_obmc.proofs.predict.rows_between.Goals as goal
-
-pub loop-y-init : goal.loop-y-init
-loop-y-init c = record {
-  across = ap (λ (t : Table). t.width) c.in_ok-predicted.ensures;
-  down = ap (λ (t : Table). t.height) c.in_ok-predicted.ensures;
-  room = room_of (given c.args.motion.now) _ _ c.columns_with-columns.ensures c.in_ok-room.ensures;
-  rows = rows_none _ _ _ _ _ c.in_ok-predicted.ensures (omega arith);
-}
-
-pub loop-y-preserved : goal.loop-y-preserved
-loop-y-preserved c =
-    let place : c.loop-y.y ≡ c.args.first + (c.loop-y.y - c.args.first) = omega arith in
-    record {
-      across = c.loop-y.invariant.across;
-      down = c.loop-y.invariant.down;
-      room = c.predict_row.ensures.room;
-      rows =
-          rows_more _ _ _ _ (c.loop-y.y - c.args.first) (c.loop-y.y + 1 - c.args.first) _ c.loop-y.invariant.rows (omega (arith, c.loop-y.invariant.down)) (omega arith)
-          (omega (arith, c.predict_row.auto.out, c.row_mut-out.ensures.len))
-          (λ x l. c.predict_row.ensures.value x (omega (arith, l, c.loop-y.invariant.across)) ∙ ap (predicted_at (given c.args.motion.now) x) place);
-    }
 
 pub returns-clause-value : goal.returns-clause-value
 returns-clause-value c =
-    rows_all _ c.loop-y.predicted _ _ (c.loop-y.y - c.args.first) c.loop-y.invariant.across c.loop-y.invariant.down (omega (arith, c.requires.motion.some_across)) (omega arith) c.loop-y.invariant.rows
+    let rows = c.args.end - c.args.first in
+    let size : length c.predict_lines.new.out ≡ c.args.motion.now.width * (c.args.end - c.args.first) =
+    c.predict_lines.auto.out ∙ c.values_mut.ensures.len ∙ ap (λ (t : Table). t.width * t.height) c.in_ok-predicted.ensures in
+    let table =
+    lines_are (λ x y. predicted_at (given c.args.motion.now) x (c.args.first + y)) c.args.motion.now.width rows _ c.predict_lines.new.out c.in_ok-predicted.ensures size
+    (λ p l. c.predict_lines.ensures p (omega (arith, l, size, c.predict_lines.auto.out))) in
+    table
 
 pub returns-clause-each : goal.returns-clause-each
 returns-clause-each c =
-    λ x y l k. c.loop-y.invariant.rows.done x y (omega (arith, l, c.loop-y.invariant.across)) (omega (arith, k))
+    let rows = c.args.end - c.args.first in
+    let size : length c.predict_lines.new.out ≡ c.args.motion.now.width * (c.args.end - c.args.first) =
+    c.predict_lines.auto.out ∙ c.values_mut.ensures.len ∙ ap (λ (t : Table). t.width * t.height) c.in_ok-predicted.ensures in
+    let table =
+    lines_are (λ x y. predicted_at (given c.args.motion.now) x (c.args.first + y)) c.args.motion.now.width rows _ c.predict_lines.new.out c.in_ok-predicted.ensures size
+    (λ p l. c.predict_lines.ensures p (omega (arith, l, size, c.predict_lines.auto.out))) in
+    λ x y l k. ap (λ (t : Table). table_at t x y) table ∙ filled_at (λ x y. predicted_at (given c.args.motion.now) x (c.args.first + y)) c.args.motion.now.width rows x y l k
 
 pub returns-clause-magnitudes_at_most_2_15 : goal.returns-clause-magnitudes_at_most_2_15
 returns-clause-magnitudes_at_most_2_15 c =
-    rows_are_small (given c.args.motion.now) c.loop-y.predicted c.args.first c.args.end c.requires.motion c.lawful.ensures c.requires.inside
-    (rows_all _ c.loop-y.predicted _ _ (c.loop-y.y - c.args.first) c.loop-y.invariant.across c.loop-y.invariant.down (omega (arith, c.requires.motion.some_across)) (omega arith) c.loop-y.invariant.rows)
+    let rows = c.args.end - c.args.first in
+    let size : length c.predict_lines.new.out ≡ c.args.motion.now.width * (c.args.end - c.args.first) =
+    c.predict_lines.auto.out ∙ c.values_mut.ensures.len ∙ ap (λ (t : Table). t.width * t.height) c.in_ok-predicted.ensures in
+    let table =
+    lines_are (λ x y. predicted_at (given c.args.motion.now) x (c.args.first + y)) c.args.motion.now.width rows _ c.predict_lines.new.out c.in_ok-predicted.ensures size
+    (λ p l. c.predict_lines.ensures p (omega (arith, l, size, c.predict_lines.auto.out))) in
+    rows_are_small (given c.args.motion.now) _ c.args.first c.args.end c.requires.motion c.lawful.ensures c.requires.inside table

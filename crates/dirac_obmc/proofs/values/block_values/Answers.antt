@@ -1,29 +1,39 @@
-use Rattle.std.proofs.Common.{◌+◌, arith, ◌∙◌}
+use Rattle.std.proofs.Common.{ℕ, ◌+◌, ◌/◌, ◌%◌, arith, sym, subst, ◌∙◌}
 use Rattle.std.specs.Int.{w32}
 use Rattle.std.proofs.lemmas.Int.{to_z-of_z}
 use Rattle.dirac_obmc.specs.Given.{given}
+use Rattle.dirac_obmc.specs.Windows.{IsWindow}
 use Rattle.dirac_obmc.proofs.Choices.{by_two, by_first, by_second, by_value}
 use Rattle.dirac_obmc.proofs.values.block_values.Goals as goal
+
+pub moved_rows-requires-clause-window : goal.moved_rows-requires-clause-window
+moved_rows-requires-clause-window c = subst (λ (n : ℕ). IsWindow n c.args.window) (sym c.requires.lens.0) c.requires.window
+
+pub second_rows-requires-clause-window : goal.second_rows-requires-clause-window
+second_rows-requires-clause-window c = subst (λ (n : ℕ). IsWindow n c.args.window) (sym c.requires.lens.1) c.requires.window
+
+pub second_rows-requires-then-block-3-clause-window : goal.second_rows-requires-then-block-3-clause-window
+second_rows-requires-then-block-3-clause-window c = subst (λ (n : ℕ). IsWindow n c.args.window) (sym c.requires.lens.1) c.requires.window
 
 pub returns-then-block-2 : goal.returns-then-block-2
 returns-then-block-2 c k l =
     c.weigh_two.ensures k l
-    ∙ by_two (given c.args.motion.now) c.args.block.now (c.args.x + k) c.args.y _ _ c.if-block.true c.if-block-2.true
-    (c.moved_row.ensures.value k (omega (arith, l, c.requires.lens.0))) (c.second_row.ensures.value k (omega (arith, l, c.requires.lens.1)))
+    ∙ by_two (given c.args.motion.now) c.args.block.now (c.args.window.x + k % c.args.window.width) (c.args.window.y + k / c.args.window.width) _ _ c.if-block.true c.if-block-2.true
+    (c.moved_rows.ensures.value k (omega (arith, l, c.requires.lens.0))) (c.second_rows.ensures.value k (omega (arith, l, c.requires.lens.1)))
 
 pub returns-then-block : goal.returns-then-block
 returns-then-block c k l =
     c.weigh_one.ensures k l
-    ∙ by_first (given c.args.motion.now) c.args.block.now (c.args.x + k) c.args.y _ c.if-block.true c.if-block-2.false
-    (c.moved_row.ensures.value k (omega (arith, l, c.requires.lens.0)))
+    ∙ by_first (given c.args.motion.now) c.args.block.now (c.args.window.x + k % c.args.window.width) (c.args.window.y + k / c.args.window.width) _ c.if-block.true c.if-block-2.false
+    (c.moved_rows.ensures.value k (omega (arith, l, c.requires.lens.0)))
 
 pub returns-then-block-3 : goal.returns-then-block-3
 returns-then-block-3 c k l =
     c.weigh_one-then-block-3.ensures k l
-    ∙ by_second (given c.args.motion.now) c.args.block.now (c.args.x + k) c.args.y _ c.if-block.false c.if-block-3.true
-    (c.second_row-then-block-3.ensures.value k (omega (arith, l, c.requires.lens.1)))
+    ∙ by_second (given c.args.motion.now) c.args.block.now (c.args.window.x + k % c.args.window.width) (c.args.window.y + k / c.args.window.width) _ c.if-block.false c.if-block-3.true
+    (c.second_rows-then-block-3.ensures.value k (omega (arith, l, c.requires.lens.1)))
 
 pub returns : goal.returns
 returns c k l =
     c.set_all.ensures k l ∙ to_z-of_z w32 _ (record { sfits = c.dc.type_inv }) ∙ c.dc.ensures
-    ∙ by_value (given c.args.motion.now) c.args.block.now (c.args.x + k) c.args.y c.if-block.false c.if-block-3.false
+    ∙ by_value (given c.args.motion.now) c.args.block.now (c.args.window.x + k % c.args.window.width) (c.args.window.y + k / c.args.window.width) c.if-block.false c.if-block-3.false

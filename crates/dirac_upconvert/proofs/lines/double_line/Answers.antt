@@ -2,7 +2,9 @@ use Rattle.std.proofs.Common.{rules, ◌*◌, ◌-◌, length, pos, slice_index_
 use Rattle.std.specs.Int.{w16}
 use Rattle.std.proofs.lemmas.Int.{to_z-of_z}
 use mir.Val.{SFits}
+use Rattle.dirac_upconvert.specs.HalfSamples.{doubled_at}
 use Rattle.dirac_upconvert.proofs.Doubling.{doubled_more, doubled_end}
+use Rattle.dirac_upconvert.proofs.Lanes.{joined}
 use Rattle.dirac_upconvert.proofs.lines.double_line.Goals as goal
 
 pub left-preserved : goal.left-preserved
@@ -10,6 +12,11 @@ left-preserved c =
     let sample : SFits w16 (slice_index_or c.args.line.now c.left.i (pos 0)) = search rules in
     doubled_more _ _ c.left.i _ _ _ c.left.invariant (omega arith) refl (to_z-of_z w16 _ sample)
     (to_z-of_z w16 _ (record { sfits = c.half_clamped.type_inv }) ∙ c.half_clamped.ensures)
+
+pub eights-preserved : goal.eights-preserved
+eights-preserved c = record {
+  done = λ p l. joined _ 16 (doubled_at (λ k. slice_index_or c.args.line.now k (pos 0)) (length c.args.line.now - 1)) _ c.eights.out _ c.eights.invariant.done c.put_eight.ensures (λ k b. refl) p (omega arith);
+}
 
 pub inside-preserved : goal.inside-preserved
 inside-preserved c =

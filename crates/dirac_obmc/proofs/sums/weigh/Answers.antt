@@ -3,7 +3,7 @@ use Rattle.std.specs.Int.{w32}
 use Rattle.std.proofs.lemmas.Int.{to_z-of_z, fits_signed_from_abs}
 use Rattle.std.proofs.lemmas.Nat.{mul-le}
 use Rattle.dirac_obmc.proofs.Totals.{weighed_small}
-use Rattle.dirac_obmc.proofs.sums.weighted.Goals as goal
+use Rattle.dirac_obmc.proofs.sums.weigh.Goals as goal
 
 pub returns-clause-value : goal.returns-clause-value
 returns-clause-value c =
