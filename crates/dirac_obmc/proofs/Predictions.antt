@@ -1,12 +1,11 @@
 -- Tables of predictions.
-use Rattle.std.proofs.Common.{◌≡◌, ℕ, ℤ, pos, negsuc, ◌+◌, ◌-◌, ◌*◌, ◌/◌, ◌%◌, ◌^◌, ◌<◌, ◌≤◌, ◌+ℤ◌, unsigned_abs, List, length, get_or, drop, replicate, arith, inl, inr, ap, sym, ◌∙◌}
+use Rattle.std.proofs.Common.{◌≡◌, ℕ, ℤ, pos, negsuc, ◌+◌, ◌-◌, ◌*◌, ◌/◌, ◌%◌, ◌^◌, ◌<◌, ◌≤◌, ◌+ℤ◌, unsigned_abs, List, length, get_or, drop, replicate, arith, ap, sym, ◌∙◌}
 use Rattle.std.specs.Prelude.{◌≤ℤ◌}
 use Rattle.std.specs.Int.{int_shr}
 use Rattle.std.proofs.Math.Nat.{mul_comm}
 use Rattle.std.specs.List.{All}
 use Rattle.std.proofs.lemmas.Int.{ints}
-use Rattle.std.proofs.lemmas.Bool.{cases_lt}
-use Rattle.std.proofs.lemmas.List.{get_or-replicate, get_or_past, length-replicate, take_at}
+use Rattle.std.proofs.lemmas.List.{length-replicate, take_at}
 use Rattle.std.proofs.lemmas.List.FromFn.{fill_by_all, get_or-map-range_with_len, length-map-range_with_len}
 use Rattle.std.proofs.lemmas.Nat.{mod_below, div_below}
 use Rattle.dirac_types.specs.Table.{Table, filled, table_of, with_values}
@@ -52,10 +51,3 @@ lines_are f w h t ws e len each =
     let written : (with_values t ws).values ≡ ws = take_at ws (drop (length ws) t.values) (length t.values) whole in
     let values : ws ≡ filled w h f = fill_by_all (λ p. f (p % w) (p / w)) ws (w * h) (pos 0) len each in
     ap (λ (vs : List ℤ). record t { values = vs }) (written ∙ values) ∙ ap (λ (u : Table). record u { values = filled w h f }) e
-
--- what stands in a table that is all 0
-pub zeros_of : (t : Table) (w h : ℕ) (xs : List ℤ) → t ≡ record { width = w; height = h; values = replicate (w * h) (pos 0) } → xs ≡ t.values → (p : ℕ) → get_or xs p (pos 0) ≡ pos 0
-zeros_of t w h xs e same p = elim (cases_lt p (w * h)) [
-  | inl inside ↦ ap (λ (ys : List ℤ). get_or ys p (pos 0)) (same ∙ ap (λ (u : Table). u.values) e) ∙ get_or-replicate (w * h) p (pos 0) (pos 0) inside
-  | inr past ↦ ap (λ (ys : List ℤ). get_or ys p (pos 0)) (same ∙ ap (λ (u : Table). u.values) e) ∙ get_or_past (replicate (w * h) (pos 0)) p (pos 0) (omega (arith, past, length-replicate (w * h) (pos 0)))
-]

@@ -1,5 +1,5 @@
 -- The places that a block holds.
-use Rattle.std.proofs.Common.{◌≡◌, ℕ, ◌+◌, ◌-◌, ◌*◌, ◌/◌, ◌<◌, ◌≤◌, max, min, get_or, arith, ap, sym, subst, ◌∙◌}
+use Rattle.std.proofs.Common.{◌≡◌, ℕ, ◌+◌, ◌-◌, ◌*◌, ◌/◌, ◌<◌, max, min, get_or, arith, ap, sym, subst, ◌∙◌}
 use Rattle.std.proofs.lemmas.Nat.{row_fits}
 use Rattle.dirac_obmc.specs.declared.direction.Direction.{Direction}
 use Rattle.dirac_obmc.specs.declared.rows.Span.{Span}
