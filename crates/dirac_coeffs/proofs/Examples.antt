@@ -84,6 +84,11 @@ out_refused : band_read moded_value [] 0 (0x3E ∷ []) ≡ Err QuantIndex
 unfolding band_read index_read repeated value_step values_step offset_step block_step decided number_read number_from_digit sign_read signed_read doublings_for step_of step_table front first_bits
 out_refused = refl
 
+-- in a band of index 1 the block 3E takes its codeblock to index 0, where the value is 0
+down_to_0 : band_read moded_value [] 1 (0x3E ∷ []) ≡ Ok (content (pos 0 ∷ []) (0 ∷ []))
+unfolding band_read index_read repeated value_step values_step offset_step block_step decided number_read number_from_digit sign_read signed_read doublings_for step_of step_table front first_bits
+down_to_0 = refl
+
 -- two codeblocks of mode 1: the first is skipped and keeps the band's index 5, the second goes on from there to 2
 abbrev moded_codeblocks : BandLayout
 moded_codeblocks = record { band = bands.HL; width = 2; height = 1; across = 2; down = 1; mode = 1 }
