@@ -97,6 +97,31 @@ fn decided_by_two(
     decide(alloc, source, settings, first, Some(second))
 }
 
+/// The blocks that are decided for a picture from a reference and from a flat one, in which nothing moves.
+fn decided_beside<R: Abort>(
+    rt: &R,
+    alloc: Global,
+    source: &Picture,
+    settings: &Settings,
+    first: RefView<'_>,
+    second: i16,
+) -> Result<BlockData, NoMemory>
+    requires settings { IsAccepted settings.now }
+    requires blocks { settings.now.blocks ≡ 2 }
+    requires source { IsOfSamples source.now }
+    requires across { source.now.y.width ≡ 32 }
+    requires down { source.now.y.height ≡ 32 }
+    requires first { IsSearched settings.now source.now (view_of first) }
+{
+    let other = flat(rt, alloc, second)?;
+    let still = field_of(rt, alloc, Vector { x: 0, y: 0 })?;
+    let beside = RefView {
+        up: &other,
+        field: &still,
+    };
+    decided_by_two(alloc, source, settings, first, beside)
+}
+
 /// The blocks that are decided for a picture from one flat reference, or from two.
 fn decided<R: Abort>(
     rt: &R,
@@ -121,13 +146,7 @@ fn decided<R: Abort>(
     let Some(second) = second else {
         return decide(alloc, source, &settings, view, None);
     };
-    let other = flat(rt, alloc, second)?;
-    let still = field_of(rt, alloc, Vector { x: 0, y: 0 })?;
-    let beside = RefView {
-        up: &other,
-        field: &still,
-    };
-    decided_by_two(alloc, source, &settings, view, beside)
+    decided_beside(rt, alloc, source, &settings, view, second)
 }
 
 /// A block of these references, vectors or luma value.
