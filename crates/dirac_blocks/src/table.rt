@@ -29,10 +29,20 @@ impl Model for BlockData {
     ghost Value = { BlockTable };
 
     ghost view = { λ t. record {
-        across = t.across; down = t.down; refs = t.refs; splits = t.splits; blocks = t.blocks } };
+      across = t.across;
+      down = t.down;
+      refs = t.refs;
+      splits = t.splits;
+      blocks = t.blocks;
+    } };
 
     ghost invariant = { λ t. IsBlockTable (record {
-        across = t.across; down = t.down; refs = t.refs; splits = t.splits; blocks = t.blocks }) };
+      across = t.across;
+      down = t.down;
+      refs = t.refs;
+      splits = t.splits;
+      blocks = t.blocks;
+    }) };
 }
 
 impl BlockData {

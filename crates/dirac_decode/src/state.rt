@@ -34,7 +34,12 @@ impl Model for State {
     ghost Value = { StreamState };
 
     ghost view = { λ s. record {
-        opened = s.opened; first = s.first; list = s.refs; waiting = s.waits; most = s.most } };
+      opened = s.opened;
+      first = s.first;
+      list = s.refs;
+      waiting = s.waits;
+      most = s.most;
+    } };
 
     ghost invariant = { λ s. IsOpen s.opened s.refs × (s.most ≤ MOST_REFERENCES) };
 }

@@ -234,11 +234,11 @@ mode_spelled : (t : Settings) (k : ℕ) → IsWritable t → Spells (coding_mode
 unfolding coding_mode shown sequence_of
 mode_spelled t k w = elim (cases_eq t.fields 1) [
   | inl one ↦
-    let whole : has_whole_fields (shown t) ≡ true = eq-eqb (t.height % (2 * ratio_down (chroma_of t.chroma))) 0 (w.whole_fields one) in
-    (t.fields, [], omega (arith, one), sym (append-nil (uint t.fields)), rw (one, whole) (refl, refl))
+      let whole : has_whole_fields (shown t) ≡ true = eq-eqb (t.height % (2 * ratio_down (chroma_of t.chroma))) 0 (w.whole_fields one) in
+      (t.fields, [], omega (arith, one), sym (append-nil (uint t.fields)), rw (one, whole) (refl, refl))
   | inr other ↦
-    let none : t.fields ≡ 0 = omega (arith, w.mode) in
-    (t.fields, [], omega (arith, none), sym (append-nil (uint t.fields)), rw none (refl, refl))
+      let none : t.fields ≡ 0 = omega (arith, w.mode) in
+      (t.fields, [], omega (arith, none), sym (append-nil (uint t.fields)), rw none (refl, refl))
 ]
 
 pub sequence_spelled : (t : Settings) (k : ℕ) → IsWritable t → Spells sequence (sequence_of t) k (sequence_bits t)
