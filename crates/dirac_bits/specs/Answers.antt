@@ -20,7 +20,8 @@ abbrev pub Gives : {X Y E : Type 0} → (X → Y) → Result X E → Result Y E 
 Gives view (Ok x) read = read ≡ Ok (view x)
 Gives view (Err e) read = read ≡ Err e
 
--- the answer of a reader that takes memory is what is read, and the reader stands behind it; want of memory says nothing of the input
+-- the answer of a reader that takes memory is what is read, and the reader stands behind it; want of memory says
+-- nothing of the input
 abbrev pub ReadsOrStops : {X : Type 0} → Result X Stop → Cursor → Result (X × Cursor) Refusal → Type 0
 ReadsOrStops (Ok x) new read = read ≡ Ok (x, new)
 ReadsOrStops (Err (stop.Refused r)) new read = read ≡ Err r

@@ -6,7 +6,8 @@ use Rattle.dirac_types.specs.Chain.{◌>>=◌ as ◌>>◌}
 use Rattle.dirac_bits.specs.Cursor.{Cursor, place, aligned}
 use Rattle.dirac_bits.specs.Fields.{flag_at, uint_at, sint_at, literal_at, block_at}
 
--- the fields of a header and, behind the last, the value that they spell; which field comes next may depend on those before
+-- the fields of a header and, behind the last, the value that they spell; which field comes next may depend on those
+-- before
 pub data Syntax (A : Type 0) : Type 0 where
   done : A → Syntax A
   flag_then : (Bool → Syntax A) → Syntax A

@@ -120,7 +120,8 @@ default_weights = record { bits = 1; first = pos 1; second = pos 1 }
 abbrev pub prediction_of : ℕ → ℕ → Prediction
 prediction_of blocks precision = weighted (grid_of blocks) precision default_weights
 
--- these parameters behind the bits `before`: the block index, the precision, no global motion, mode 0, no custom weights
+-- these parameters behind the bits `before`: the block index, the precision, no global motion, mode 0, no custom
+-- weights
 abbrev pub prediction_bits : List Bool → ℕ → ℕ → List Bool
 prediction_bits before blocks precision =
     gap before ++ numbers.uint blocks ++ numbers.uint precision ++ (false ∷ []) ++ numbers.uint 0 ++ (false ∷ [])

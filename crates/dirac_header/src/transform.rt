@@ -34,7 +34,8 @@ pub struct Partition {
     pub mode: u8,
 }
 
-/// The transform parameters of a picture of `width` by `height` luma samples: transform parameters, Dirac specification.
+/// The transform parameters of a picture of `width` by `height` luma samples: transform parameters, Dirac
+/// specification.
 pub fn read_transform(r: &mut BitReader<'_>, width: u32, height: u32) -> Result<Transform, Refusal>
     ensures value { Reads (λ t. t) result r.new (read (grammar.transform width height) r.old) }
     // What is answered is spelled by the bits left.

@@ -5,7 +5,8 @@ use dirac_types::NoMemory;
 use std::alloc::Global;
 use std::marker::Model;
 
-/// The subbands of a plane in the order in which they are coded: LL, then HL, LH and HH of level 1, of level 2 and so on.
+/// The subbands of a plane in the order in which they are coded: LL, then HL, LH and HH of level 1, of level 2 and so
+/// on.
 ///
 /// It is seen as a list.
 #[derive(Drop)]

@@ -5,8 +5,8 @@ use dirac_types::{BadSetting, Cause, Name};
 use std::alloc::Global;
 use std::test::Fail;
 
-// The picture's unit of the small stream in codeblock mode 1, behind its parse info's code: the counts of both levels are
-// 1, and the LL band's codeblock has the offset 0.
+// The picture's unit of the small stream in codeblock mode 1, behind its parse info's code: the counts of both levels
+// are 1, and the LL band's codeblock has the offset 0.
 const MODED: [u8; 29] = [
     0x00, 0x00, 0x00, 0x22, 0x00, 0x00, 0x00, 0x12, 0x00, 0x00, 0x00, 0x00, 0x80, 0x09, 0x92, 0x49,
     0x30, 0x96, 0x80, 0x80, 0x80, 0x80, 0x80, 0x80, 0x80, 0x80, 0x80, 0x80, 0x80,
