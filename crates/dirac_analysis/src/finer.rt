@@ -46,7 +46,7 @@ fn first_codeblock(height: u32, counts: (u32, u32), y: u32) -> u32
     requires down { (1 ≤ counts.1) × (counts.1 ≤ MOST_CODEBLOCKS) }
     requires inside { y < height }
     ensures value { result ≡ codeblock_of height counts.1 y * counts.0 }
-    ensures few { result ≤ MOST_CODEBLOCKS * MOST_CODEBLOCKS }
+    ensures at_most_all { result ≤ MOST_CODEBLOCKS * MOST_CODEBLOCKS }
     ensures row { result + counts.0 ≤ counts.0 * counts.1 }
 {
     let (across, down) = counts;
