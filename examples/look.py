@@ -4,8 +4,8 @@
 look.py [STREAM [PNG]]      STREAM is moving.drc beside this script where none is given; PNG its name with .png at the
                             end, in the current folder
 
-At most four pictures are decoded, by the plain decoder in bench/reference. It is slow: about two seconds for each
-picture of 176 by 144, a minute for one of 720 by 576. Where the stream has a fault before them, nothing is written,
+At most four pictures are decoded, by the plain decoder in bench/reference. It is slow: up to a second for each
+picture of 176 by 144, some fifteen for one of 720 by 576. Where the stream has a fault before them, nothing is written,
 and the status is 4. The colours are taken as those of full-range BT.601.
 """
 import os
