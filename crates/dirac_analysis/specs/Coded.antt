@@ -75,7 +75,8 @@ coded_as counts index indices numbers =
     then record { index = 0; indices = replicate (counts.0 * counts.1) 0; table = numbers }
     else record { index = index; indices = indices; table = numbers }
 
--- a table coded at this index, its flat codeblocks at one that is lower by so many; in codeblock mode 0 none is
+-- a table coded at this index, its flat codeblocks at one that is lower by `finer`, but no less than 0; where that is
+-- 0, none is
 abbrev pub coded : ℕ × ℕ → ℕ → ℕ → Table → CodedBand
 coded counts finer index t =
     coded_as counts index (coded_indices counts finer index t) (reduced_table counts finer index t)

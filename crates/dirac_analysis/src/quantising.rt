@@ -33,8 +33,9 @@ fn single(alloc: Global, band: CodedBand) -> Result<PlaneBands, NoMemory>
     Ok(bands)
 }
 
-/// The subbands of an analysed plane, quantised at `index`, but each flat codeblock at one that is lower by `finer`,
-/// and at least 0: all its coefficients have magnitudes below `FLAT_BELOW`. An intra picture's LL is coded at index 0.
+/// The subbands of an analysed plane, quantised at `index`, but each flat codeblock, whose coefficients all have
+/// magnitudes below `FLAT_BELOW`, at one that is lower by `finer`, but no less than 0. An intra picture's LL is coded at
+/// index 0.
 pub fn quantise_plane(
     alloc: Global,
     kind: Kind,

@@ -182,8 +182,8 @@ fn write_counts(w: &mut BitWriter, counts: &Counts) -> Result<(), NoMemory>
 }
 
 /// Writes the prediction parameters of the encoder: picture prediction parameters, Dirac specification. These are
-/// block parameters `blocks`, motion vectors of 2^`precision` parts of a luma sample, no global motion, mode 0 and the
-/// default weights. Bits 0 up to the next byte stand before them.
+/// block parameters `blocks`, motion vectors in parts of a luma sample, 2^`precision` to each, no global motion, mode 0
+/// and the default weights. Bits 0 up to the next byte stand before them.
 ///
 /// After want of memory what stood before still stands, with a front of these bits behind it.
 pub fn write_prediction(w: &mut BitWriter, blocks: u32, precision: u32) -> Result<(), NoMemory>

@@ -27,7 +27,7 @@ use Rattle.dirac_analysis.proofs.Undone.{planes_kept}
 use Rattle.dirac_decode.specs.Content.{bands_of as bands_in, compensation, height_of, named, plane_of, predicted_among, rebuilt, residual_among, samples_from, width_of}
 use Rattle.dirac_plan.specs.declared.planned.Planned.{Planned}
 use Rattle.dirac_stream.specs.Coded.{IsSource, are_zero_bands, bands_of, coded_of, coded_with, is_zero_residual, kind_of, left_of, less_prediction, motion_of, residual_of, residual_unless_zero, transform_of}
-use Rattle.dirac_stream.specs.Coding.{IndexRule, Job, blank, coded_under, job_of, made_under, own_index, refs_after, shown_of}
+use Rattle.dirac_stream.specs.Coding.{AreAtIndexZero, IndexRule, Job, blank, coded_under, job_of, jobs_of, made_under, own_index, refs_after, shown_of}
 use Rattle.dirac_stream.specs.Laws.{AreMade, AreNumbered, GivesIndices, IsWhole, JobsAreKept, SourcesAreKept, SourcesAreKeptUnder}
 use Rattle.dirac_stream.specs.Tables.{TablesAreChosen}
 use Rattle.dirac_stream.specs.Writable.{IsCodable}
@@ -200,17 +200,17 @@ each_numbered pictures [] all below = tt
 each_numbered pictures (q ∷ qs) all below = (omega (arith, numbered_at pictures 0 q.number all below.0), each_numbered pictures qs all below.1)
 
 kept_from : (f : IndexRule) → GivesIndices f → (t : Settings) (pictures refs : List Picture) (qs : List Planned) → IsAccepted t → AllByRecursion (IsSource t) pictures → AllByRecursion IsWhole pictures → AllByRecursion (λ (q : Planned). q.number < length pictures) qs
-    → AllByRecursion IsPlanned qs → AllByRecursion (λ (q : Planned). (source_of pictures q).number ≡ q.number) qs → AreMade t refs (coded_under f t refs (map (job_of pictures) qs)) → ((refs : List Picture) (j : Job) → f t refs j ≡ 0)
+    → AllByRecursion IsPlanned qs → AllByRecursion (λ (q : Planned). (source_of pictures q).number ≡ q.number) qs → AreMade t refs (coded_under f t refs (map (job_of pictures) qs)) → AreAtIndexZero f t refs (map (job_of pictures) qs)
     → map shown_of (coded_under f t refs (map (job_of pictures) qs)) ≡ map (source_of pictures) qs
-unfolding coded_under
+unfolding coded_under AreAtIndexZero
 kept_from f gives t pictures refs [] accepted sources whole below planned numbers all none = refl
 kept_from f gives t pictures refs (q ∷ qs) accepted sources whole below planned numbers all none =
     let j = job_of pictures q in
     let m = made_under f t refs j in
     let index = f t refs j in
     let source : IsSource t (source_of pictures q) = picture_at (IsSource t) pictures q.number sources below.0 in
-    let one = source_kept (at_index t index) refs q (source_of pictures q) (accepted_at t index accepted (gives t refs j accepted)) (source_with t index (source_of pictures q) source) (picture_at IsWhole pictures q.number whole below.0) planned.0 all.0.found numbers.0 (none refs j) in
-    ap₂ (λ (x : Picture) (xs : List Picture). x ∷ xs) one (kept_from f gives t pictures (refs_after refs m) qs accepted sources whole below.1 planned.1 numbers.1 all.1 none)
+    let one = source_kept (at_index t index) refs q (source_of pictures q) (accepted_at t index accepted (gives t refs j accepted)) (source_with t index (source_of pictures q) source) (picture_at IsWhole pictures q.number whole below.0) planned.0 all.0.found numbers.0 none.0 in
+    ap₂ (λ (x : Picture) (xs : List Picture). x ∷ xs) one (kept_from f gives t pictures (refs_after refs m) qs accepted sources whole below.1 planned.1 numbers.1 all.1 none.1)
 
 pub jobs_kept : JobsAreKept
 jobs_kept t refs j accepted source whole planned found number none = source_kept t refs j.planned j.source accepted source whole planned found number none
@@ -226,6 +226,12 @@ kept_under plans tables f gives t pictures is numbered whole none =
     ∙ by_take pictures (map (source_of pictures) qs) n (omega arith) (λ k l. let found = law.all k l in number_listed pictures qs k found.0 found.1 found.2 found.3 numbers)
     ∙ take_all n pictures (omega arith)
 
+-- where the settings' index is 0 each source has it
+pub own_at_zero : (t : Settings) (refs : List Picture) (jobs : List Job) → t.index ≡ 0 → AreAtIndexZero own_index t refs jobs
+unfolding AreAtIndexZero
+own_at_zero t refs [] none = tt
+own_at_zero t refs (j ∷ jobs) none = (none, own_at_zero t (refs_after refs (made_under own_index t refs j)) jobs none)
+
 -- with the settings' index
 pub sources_kept : PlansCanBeCoded → TablesAreChosen → SourcesAreKept
-sources_kept plans tables t pictures is numbered whole none = kept_under plans tables own_index own_gives t pictures (sources_under t pictures is) numbered whole (λ refs j. none)
+sources_kept plans tables t pictures is numbered whole none = kept_under plans tables own_index own_gives t pictures (sources_under t pictures is) numbered whole (own_at_zero t [] (jobs_of t pictures) none)

@@ -20,13 +20,13 @@ use Rattle.dirac_analysis.specs.Fits.{AreSamples}
 use Rattle.dirac_stream.specs.Coded.{IsSource}
 use Rattle.dirac_stream.specs.Encoding.{IsRecovered, IsRecoveredUnder, first_long, is_short}
 use Rattle.dirac_stream.specs.Raw.{chroma_bytes, luma_bytes, picture_from, pictures_in, raw_length, sample_of, sources, whole_pictures}
-use Rattle.dirac_stream.specs.Coding.{IndexRule, Made, coding_under, own_index, reconstructions_under}
+use Rattle.dirac_stream.specs.Coding.{AreAtIndexZero, IndexRule, Made, coding_under, jobs_of, own_index, reconstructions_under}
 use Rattle.dirac_stream.specs.Laws.{AreSourcesUnder, GivesIndices, IsWhole, RawPicturesAreRecovered, RawPicturesAreRecoveredUnder, StreamsShowTheirPictures}
 use Rattle.dirac_stream.specs.Tables.{TablesAreChosen}
 use Rattle.dirac_stream.specs.Stream.{StreamsAreCut, picture_length, stream_under, units_under}
 use Rattle.dirac_stream.proofs.Accepted.{most_bytes, most_pictures}
 use Rattle.std.proofs.lemmas.Bool.{leb-true}
-use Rattle.dirac_stream.proofs.Kept.{kept_under}
+use Rattle.dirac_stream.proofs.Kept.{kept_under, own_at_zero}
 use Rattle.dirac_stream.proofs.Reading.{jobs_read}
 use Rattle.dirac_stream.proofs.Showing.{each_unit}
 use Rattle.dirac_stream.proofs.Sourcing.{jobs_read_under, shown_under, sources_made}
@@ -152,7 +152,7 @@ recovered law cuts plans tables f gives t n bytes accepted some few all is short
     record {
       cut = subst (λ (l : List Picture). IsCut start (stream_under f t l) (units_under f t l) None) (sym is) (cuts t (coding_under f t ps) (each_unit t [] (coding_under f t ps) made.0));
       shows = subst (λ (l : List Picture). (o : Outcome) × IsShown (stream_under f t l) o × (o.shown ≡ reconstructions_under f t l) × (o.end ≡ None)) (sym is) shows;
-      lossless = λ none. subst (λ (l : List Picture). reconstructions_under f t l ≡ l) (sym is) (kept_under plans tables f gives t ps sourced (numbered_in t n 0 bytes) (wholes_in t n 0 bytes some) none);
+      lossless = λ none. subst (λ (l : List Picture). reconstructions_under f t l ≡ l) (sym is) (kept_under plans tables f gives t ps sourced (numbered_in t n 0 bytes) (wholes_in t n 0 bytes some) (subst (λ (l : List Picture). AreAtIndexZero f t [] (jobs_of t l)) is none));
       raw = subst (λ (l : List Picture). raws l ≡ take (length l * raw_length t) bytes) (sym is) (raws_in t n 0 bytes all ∙ ap (λ k. take (k * raw_length t) bytes) (sym count));
     }
 
@@ -171,7 +171,7 @@ under_recovered law cuts plans tables f gives t bytes accepted all short =
 
 -- with the settings' index
 pub own_recovered : (t : Settings) (bytes : List ℕ) → IsRecoveredUnder own_index t bytes → IsRecovered t bytes
-own_recovered t bytes is = record { cut = is.cut; shows = is.shows; lossless = λ none. is.lossless (λ refs j. none); raw = is.raw }
+own_recovered t bytes is = record { cut = is.cut; shows = is.shows; lossless = λ none. is.lossless (own_at_zero t [] (jobs_of t (sources t bytes)) none); raw = is.raw }
 
 pub raws_recovered : StreamsShowTheirPictures → StreamsAreCut → PlansCanBeCoded → TablesAreChosen → RawPicturesAreRecovered
 raws_recovered law cuts plans tables t bytes accepted all short = own_recovered t bytes (under_recovered law cuts plans tables own_index own_gives t bytes accepted all short)

@@ -1,6 +1,6 @@
 -- The recursion over coding order: each picture is coded with the reconstructions that are listed by then, and with the
 -- quantiser index that a rule gives it.
-use Rattle.std.specs.Prelude.{ℕ, List, [], ◌∷◌, length, map, slice_index_or}
+use Rattle.std.specs.Prelude.{◌≡◌, ⊤, ℕ, List, [], ◌∷◌, length, map, slice_index_or}
 use Rattle.dirac_types.specs.declared.picture.Picture.{Picture}
 use Rattle.dirac_types.specs.declared.settings.Settings.{Settings}
 use Rattle.dirac_sequence.specs.Written.{sequence_of}
@@ -82,6 +82,12 @@ jobs_of t pictures = map (job_of pictures) (plan (length pictures) t)
 -- what these pictures become under a rule, in coding order; no picture is listed before the first
 abbrev pub coding_under : IndexRule → Settings → List Picture → List Made
 coding_under f t pictures = coded_under f t [] (jobs_of t pictures)
+
+-- under a rule each of these sources has quantiser index 0, coded one after another with these pictures listed before
+unfoldable pub AreAtIndexZero : IndexRule → Settings → List Picture → List Job → Type 0
+AreAtIndexZero f t refs [] = ⊤
+AreAtIndexZero f t refs (j ∷ jobs) =
+    (f t refs j ≡ 0) × AreAtIndexZero f t (refs_after refs (made_under f t refs j)) jobs
 
 -- with the settings' index
 abbrev pub coding : Settings → List Picture → List Made

@@ -10,7 +10,7 @@ use Rattle.dirac_decode.specs.Raw.{raws}
 use Rattle.dirac_decode.specs.Shown.{Outcome, IsShown}
 use Rattle.dirac_stream.specs.declared.answers.Encoded.{Encoded}
 use Rattle.dirac_stream.specs.declared.answers.Encoded.TheVariants as encoded
-use Rattle.dirac_stream.specs.Coding.{IndexRule, Job, Made, coding_under, own_index, pushed, reconstructions, reconstructions_under, shown_of}
+use Rattle.dirac_stream.specs.Coding.{AreAtIndexZero, IndexRule, Made, coding_under, jobs_of, own_index, pushed, reconstructions, reconstructions_under, shown_of}
 use Rattle.dirac_stream.specs.Raw.{left_over, raw_length, sources, whole_pictures}
 use Rattle.dirac_stream.specs.Stream.{header_before, last_length, picture_length, stream_from, stream_of, stream_under, stream_units, units_of, units_under}
 use Rattle.dirac_plan_laws.specs.Order.{by_number}
@@ -99,13 +99,13 @@ EndsStream encoded.TooManyPictures = ⊤
 EndsStream answer = ⊥
 
 -- under a rule for their indices the stream of these bytes' pictures is cut into its units, has no fault and shows
--- their reconstructions; where every index is 0 these are the pictures themselves; the raw bytes of the pictures are
--- the first of these bytes
+-- their reconstructions; where each picture's index is 0 these are the pictures themselves; the raw bytes of the
+-- pictures are the first of these bytes
 pub record IsRecoveredUnder (f : IndexRule) (t : Settings) (bytes : List ℕ) : Type 0 where
   pub cut : IsCut start (stream_under f t (sources t bytes)) (units_under f t (sources t bytes)) None
   pub shows : (o : Outcome) × IsShown (stream_under f t (sources t bytes)) o
       × (o.shown ≡ reconstructions_under f t (sources t bytes)) × (o.end ≡ None)
-  pub lossless : ((refs : List Picture) (j : Job) → f t refs j ≡ 0)
+  pub lossless : AreAtIndexZero f t [] (jobs_of t (sources t bytes))
       → reconstructions_under f t (sources t bytes) ≡ sources t bytes
   pub raw : raws (sources t bytes) ≡ take (length (sources t bytes) * raw_length t) bytes
 

@@ -11,7 +11,7 @@ use Rattle.dirac_picture.specs.Grammar.{are_listed, is_intra, picture_read}
 use Rattle.dirac_decode.specs.Content.{rebuilt}
 use Rattle.dirac_decode.specs.Shown.{Outcome, IsShown}
 use Rattle.dirac_stream.specs.Coded.{IsSource, coded_of, motion_of, residual_of}
-use Rattle.dirac_stream.specs.Coding.{IndexRule, Job, Made, coding, coding_under, made, made_under, pushed, reconstructions, reconstructions_under, refs_after}
+use Rattle.dirac_stream.specs.Coding.{AreAtIndexZero, IndexRule, Job, Made, coding, coding_under, jobs_of, made, made_under, pushed, reconstructions, reconstructions_under, refs_after}
 use Rattle.dirac_stream.specs.Encoding.{IsRecovered, IsRecoveredUnder, first_long}
 use Rattle.dirac_stream.specs.Raw.{sources}
 use Rattle.dirac_stream.specs.Payload.{payload_of}
@@ -130,12 +130,12 @@ SourcesShowReconstructionsUnder =
     → (o : Outcome) × IsShown (stream_under f t pictures) o
     × (o.shown ≡ reconstructions_under f t pictures) × (o.end ≡ None)
 
--- where every index is 0 these are the sources
+-- where each source's index is 0 these are the sources
 abbrev pub SourcesAreKeptUnder : Type 0
 SourcesAreKeptUnder =
     (f : IndexRule) → GivesIndices f → (t : Settings) (pictures : List Picture) → AreSourcesUnder f t pictures
     → AreNumbered 0 pictures → AllByRecursion IsWhole pictures
-    → ((refs : List Picture) (j : Job) → f t refs j ≡ 0) → reconstructions_under f t pictures ≡ pictures
+    → AreAtIndexZero f t [] (jobs_of t pictures) → reconstructions_under f t pictures ≡ pictures
 
 -- raw pictures are recovered from their stream where no unit is longer than the settings allow
 abbrev pub RawPicturesAreRecoveredUnder : Type 0

@@ -26,7 +26,8 @@ pub fn streams_show_their_pictures()
     ensures coefficients { JobsAreSmall }
     // At index 0 it is shown again.
     ensures sources_shown_again { JobsAreKept }
-    // The stream of sources has no fault and shows their reconstructions in order.
+    // The stream of fewer than 2^31 sources, whose units have lengths that their offsets can hold, has no fault and
+    // shows their reconstructions in order.
     ensures sources_shown { SourcesShowReconstructions }
     // At index 0 these are the sources.
     ensures sources_kept { SourcesAreKept }
@@ -39,7 +40,7 @@ pub fn streams_show_their_pictures()
     ensures sources_under { JobsAreReadUnder }
     // the stream of sources has no fault and shows their reconstructions,
     ensures shown_under { SourcesShowReconstructionsUnder }
-    // where every index is 0 these are the sources,
+    // where each source's index is 0 these are the sources,
     ensures kept_under { SourcesAreKeptUnder }
     // and the stream of raw pictures shows their reconstructions.
     ensures recovered_under { RawPicturesAreRecoveredUnder }
