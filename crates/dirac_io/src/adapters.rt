@@ -1,6 +1,6 @@
-ghost use Rattle.std.specs.Prelude.{◌≡◌, ◌<◌, ◌≤◌, ◌^◌, false, length};
+ghost use Rattle.std.specs.Prelude.{◌≡◌, ◌<◌, ◌≤◌, ◌^◌, false, length, true};
 ghost use Rattle.std.specs.Io.KnownBytes.{Keeps};
-ghost use Rattle.dirac_io.specs.Faults.{Rose, clipped, clipped_fits};
+ghost use Rattle.dirac_io.specs.Faults.{Rose, clipped, clipped_fits, one_more};
 ghost use Rattle.dirac_io.specs.Writing.{IfTaken, TakesFront};
 ghost use Rattle.dirac_io.specs.Adapters.{left_after, left_after_fits};
 
@@ -111,6 +111,8 @@ impl<W: Write> WriterSink<W> {
         ensures failed { result ≡ false → Rose (clipped self.old.faults) (clipped self.new.faults) }
         ensures kept { Keeps (W.contents self.old.writer) (W.contents self.new.writer) }
         ensures count { self.old.faults ≤ self.new.faults }
+        ensures uncounted { result ≡ true → self.new.faults ≡ self.old.faults }
+        ensures counted { result ≡ false → self.new.faults ≡ one_more self.old.faults }
     {
         match self.writer.flush() {
             Ok(()) => true,
@@ -137,6 +139,8 @@ impl<W: Write> Sink for WriterSink<W> {
         ensures kept { result ≡ Took.Failed → Keeps (W.contents self.old.writer) (W.contents self.new.writer) }
         ensures memory { result ≡ Took.NoMemory → ⊥ }
         ensures count { clipped self.old.faults ≤ clipped self.new.faults }
+        ensures uncounted { IfTaken result (λ _. self.new.faults ≡ self.old.faults) }
+        ensures counted { result ≡ Took.Failed → self.new.faults ≡ one_more self.old.faults }
     {
         match self.writer.write(piece) {
             Ok(0) | Err(_) => {
