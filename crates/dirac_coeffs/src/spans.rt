@@ -13,6 +13,13 @@ pub struct Span {
     pub length: usize,
 }
 
+/// The place of a codeblock in its band, counted from 0.
+#[derive(Clone, Copy)]
+pub struct Codeblock {
+    pub row: u32,
+    pub column: u32,
+}
+
 /// The columns or rows of codeblock `c`.
 pub fn codeblock_span(size: u32, count: u32, c: u32) -> Span
     requires size { size ≤ LARGEST_TABLE_SIDE }

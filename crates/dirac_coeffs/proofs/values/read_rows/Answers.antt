@@ -7,7 +7,7 @@ use Rattle.dirac_coeffs.proofs.values.read_rows.Goals as goal
 pub rows-init : goal.rows-init
 rows-init c =
     record {
-      value = repeated_none (λ j. row_step (frame_of c.args.layout c.args.parent.now) (c.args.top + j) c.args.from c.args.count) (progress c.args.values.now c.args.decoder.now);
+      value = repeated_none (λ j. row_step (frame_of c.args.layout c.args.parent.now) (c.args.rows.start + j) c.args.columns.start c.args.columns.length) (progress c.args.values.now c.args.decoder.now);
       len = refl;
       few = omega arith;
     }
@@ -16,11 +16,11 @@ pub rows-preserved : goal.rows-preserved
 rows-preserved c =
     record {
       value =
-          repeated_next (λ j. row_step (frame_of c.args.layout c.args.parent.now) (c.args.top + j) c.args.from c.args.count) c.rows.j (progress c.args.values.now c.args.decoder.now) (progress c.rows.values c.rows.decoder) _ c.rows.invariant.value c.in-Ok.ensures.value;
+          repeated_next (λ j. row_step (frame_of c.args.layout c.args.parent.now) (c.args.rows.start + j) c.args.columns.start c.args.columns.length) c.rows.j (progress c.args.values.now c.args.decoder.now) (progress c.rows.values c.rows.decoder) _ c.rows.invariant.value c.in-Ok.ensures.value;
       len = c.read_row.ensures.len ∙ c.rows.invariant.len;
       few = omega (arith, c.read_row.ensures.few_doublings);
     }
 
 pub returns-in-Err-clause-value : goal.returns-in-Err-clause-value
 returns-in-Err-clause-value c =
-    repeated_stops (λ j. row_step (frame_of c.args.layout c.args.parent.now) (c.args.top + j) c.args.from c.args.count) c.rows.j c.args.rows (progress c.args.values.now c.args.decoder.now) (progress c.rows.values c.rows.decoder) c.in-Err.cause (omega arith) c.rows.invariant.value c.in-Err.ensures.value
+    repeated_stops (λ j. row_step (frame_of c.args.layout c.args.parent.now) (c.args.rows.start + j) c.args.columns.start c.args.columns.length) c.rows.j c.args.rows.length (progress c.args.values.now c.args.decoder.now) (progress c.rows.values c.rows.decoder) c.in-Err.cause (omega arith) c.rows.invariant.value c.in-Err.ensures.value
