@@ -122,10 +122,7 @@ fn write_codeblocks(
             row: cy,
             column: cx,
         };
-        match write_codeblock(encoder, values, indices, layout, parent, index, codeblock) {
-            Ok(()) => {}
-            Err(e) => return Err(e),
-        }
+        write_codeblock(encoder, values, indices, layout, parent, index, codeblock)?;
     }
     Ok(())
 }
@@ -147,10 +144,7 @@ pub fn write_all(
         (band_decisions layout parent.now values.now (marks_of layout index values.now indices.now))) }
 {
     'down: for cy in 0..layout.down {
-        match write_codeblocks(encoder, values, indices, layout, parent, index, cy) {
-            Ok(()) => {}
-            Err(e) => return Err(e),
-        }
+        write_codeblocks(encoder, values, indices, layout, parent, index, cy)?;
     }
     Ok(())
 }

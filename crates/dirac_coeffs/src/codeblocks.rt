@@ -128,10 +128,7 @@ fn read_codeblocks(
             row: cy,
             column: cx,
         };
-        match read_codeblock(decoder, values, indices, layout, parent, index, codeblock) {
-            Ok(()) => {}
-            Err(cause) => return Err(cause),
-        }
+        read_codeblock(decoder, values, indices, layout, parent, index, codeblock)?;
     }
     Ok(())
 }
@@ -155,10 +152,7 @@ pub fn read_all(
     ensures count { length indices.new ≡ length indices.old }
 {
     'down: for cy in 0..layout.down {
-        match read_codeblocks(decoder, values, indices, layout, parent, index, cy) {
-            Ok(()) => {}
-            Err(cause) => return Err(cause),
-        }
+        read_codeblocks(decoder, values, indices, layout, parent, index, cy)?;
     }
     Ok(())
 }

@@ -81,10 +81,7 @@ fn write_row(
         (row_part (frame_of layout parent.now) values.now y columns.start columns.length)) }
 {
     'values: for i in 0..columns.length {
-        match write_at(encoder, values, layout, parent, columns.start + i, y) {
-            Ok(()) => {}
-            Err(e) => return Err(e),
-        }
+        write_at(encoder, values, layout, parent, columns.start + i, y)?;
     }
     Ok(())
 }
@@ -107,10 +104,7 @@ pub fn write_rows(
         columns.start columns.length rows.start rows.length)) }
 {
     'rows: for j in 0..rows.length {
-        match write_row(encoder, values, layout, parent, rows.start + j, columns) {
-            Ok(()) => {}
-            Err(e) => return Err(e),
-        }
+        write_row(encoder, values, layout, parent, rows.start + j, columns)?;
     }
     Ok(())
 }

@@ -142,10 +142,7 @@ pub fn read_rows(
         * columns.length }
 {
     'rows: for j in 0..rows.length {
-        match read_row(decoder, values, layout, parent, rows.start + j, columns) {
-            Ok(()) => {}
-            Err(cause) => return Err(cause),
-        }
+        read_row(decoder, values, layout, parent, rows.start + j, columns)?;
     }
     Ok(())
 }

@@ -16,4 +16,4 @@ rows-preserved c =
     let from = c.args.columns.start in
     let count = c.args.columns.length in
     let j = c.rows.j in
-    narrowed_more _ _ _ (rows_part f xs from count top j) (row_part f xs (top + j) from count) _ c.rows.invariant c.in-Ok.ensures (rows_next f xs from count top j)
+    narrowed_more _ _ _ (rows_part f xs from count top j) (row_part f xs (top + j) from count) _ c.rows.invariant c.in_ok-write_row.ensures (rows_next f xs from count top j)
