@@ -10,7 +10,7 @@ down-init c =
       value = repeated_none (λ cy. blocks_step c.args.layout c.args.parent.now c.args.index cy c.args.layout.across) (band_progress c.args.values.now c.args.indices.now c.args.decoder.now);
       len = refl;
       count = refl;
-      few = omega arith;
+      few_doublings = omega arith;
     }
 
 pub down-preserved : goal.down-preserved
@@ -20,7 +20,7 @@ down-preserved c =
           repeated_next (λ cy. blocks_step c.args.layout c.args.parent.now c.args.index cy c.args.layout.across) c.down.cy (band_progress c.args.values.now c.args.indices.now c.args.decoder.now) (band_progress c.down.values c.down.indices c.down.decoder) _ c.down.invariant.value c.in_ok-read_codeblocks.ensures.value;
       len = c.read_codeblocks.ensures.len ∙ c.down.invariant.len;
       count = c.read_codeblocks.ensures.count ∙ c.down.invariant.count;
-      few = omega (arith, c.read_codeblocks.ensures.few_doublings, c.down.invariant.few);
+      few_doublings = omega (arith, c.read_codeblocks.ensures.few_doublings, c.down.invariant.few_doublings);
     }
 
 pub returns-in_err-read_codeblocks-clause-value : goal.returns-in_err-read_codeblocks-clause-value

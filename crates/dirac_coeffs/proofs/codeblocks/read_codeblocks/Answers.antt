@@ -11,7 +11,7 @@ across-init c =
       value = repeated_none (block_step c.args.layout c.args.parent.now c.args.index c.args.cy) (band_progress c.args.values.now c.args.indices.now c.args.decoder.now);
       len = refl;
       count = refl;
-      few = omega arith;
+      few_doublings = omega arith;
     }
 
 pub across-preserved : goal.across-preserved
@@ -21,7 +21,7 @@ across-preserved c =
           repeated_next (block_step c.args.layout c.args.parent.now c.args.index c.args.cy) c.across.cx (band_progress c.args.values.now c.args.indices.now c.args.decoder.now) (band_progress c.across.values c.across.indices c.across.decoder) _ c.across.invariant.value c.in_ok-read_codeblock.ensures.value;
       len = c.read_codeblock.ensures.len ∙ c.across.invariant.len;
       count = c.read_codeblock.ensures.count ∙ c.across.invariant.count;
-      few = omega (arith, c.read_codeblock.ensures.few_doublings, c.across.invariant.few, span_end c.args.layout.width c.args.layout.across c.across.cx (omega arith));
+      few_doublings = omega (arith, c.read_codeblock.ensures.few_doublings, c.across.invariant.few_doublings, span_end c.args.layout.width c.args.layout.across c.across.cx (omega arith));
     }
 
 pub returns-in_err-read_codeblock-clause-value : goal.returns-in_err-read_codeblock-clause-value
@@ -34,7 +34,7 @@ pub returns-in_err-read_codeblock-clause-few_doublings : goal.returns-in_err-rea
 returns-in_err-read_codeblock-clause-few_doublings c =
     let w = c.args.layout.width in
     let n = c.across.cx in
-    omega (arith, c.read_codeblock.ensures.few_doublings, c.across.invariant.few, span_end w c.args.layout.across n (omega arith), edge_most w c.args.layout.across (n + 1) (omega arith) (omega arith))
+    omega (arith, c.read_codeblock.ensures.few_doublings, c.across.invariant.few_doublings, span_end w c.args.layout.across n (omega arith), edge_most w c.args.layout.across (n + 1) (omega arith) (omega arith))
 
 pub returns-clause-few_doublings : goal.returns-clause-few_doublings
-returns-clause-few_doublings c = omega (arith, c.across.invariant.few, edge_most c.args.layout.width c.args.layout.across c.across.cx (omega arith) (omega arith))
+returns-clause-few_doublings c = omega (arith, c.across.invariant.few_doublings, edge_most c.args.layout.width c.args.layout.across c.across.cx (omega arith) (omega arith))

@@ -16,7 +16,7 @@ values-init c =
     record {
       value = repeated_none (λ i. value_step (frame_of c.args.layout c.args.parent.now) (c.args.columns.start + i) c.args.y) (progress c.args.values.now c.args.decoder.now);
       len = refl;
-      few = omega arith;
+      few_doublings = omega arith;
       left = left ∙ c.left_value-left.ensures ∙ ap (λ x. left_of c.args.layout.width c.args.values.now x c.args.y) same;
       corner = corner ∙ c.corner_value-corner.ensures ∙ ap (λ x. corner_of c.args.layout.width c.args.values.now x c.args.y) same;
     }
@@ -34,7 +34,7 @@ values-preserved c =
       value =
           repeated_next (λ i. value_step (frame_of c.args.layout c.args.parent.now) (c.args.columns.start + i) c.args.y) c.values.i (progress c.args.values.now c.args.decoder.now) (progress c.values.values c.values.decoder) _ c.values.invariant.value c.in-Ok.ensures.value;
       len = c.read_at.ensures.len ∙ c.values.invariant.len;
-      few = omega (arith, c.read_at.ensures.few_doublings);
+      few_doublings = omega (arith, c.read_at.ensures.few_doublings);
       left = value ∙ subst (λ (xs : List ℤ). c.in-Ok.value ≡ left_of w xs (c.args.columns.start + (c.values.i + 1)) y) written (left_next w c.values.values x y (c.args.columns.start + (c.values.i + 1)) c.in-Ok.value (omega arith) next);
       corner = above ∙ subst (λ (xs : List ℤ). c.above_value-above.result ≡ corner_of w xs (c.args.columns.start + (c.values.i + 1)) y) written (corner_next w c.values.values x y (c.args.columns.start + (c.values.i + 1)) c.in-Ok.value c.above_value-above.result (omega arith) c.above_value-above.ensures next);
     }

@@ -9,7 +9,7 @@ invariant-values l =
     record {
       value : row_step (frame_of l.layout l.parent) l.y l.columns.start l.i (progress l.fn.values l.fn.decoder) ≡ Ok (progress l.values l.decoder);
       len : length l.values ≡ length l.fn.values;
-      few : l.decoder.at.doublings ≤ l.fn.decoder.at.doublings + 702 * l.i;
+      few_doublings : l.decoder.at.doublings ≤ l.fn.decoder.at.doublings + 702 * l.i;
       left : l.left ≡ left_of l.layout.width l.values (l.columns.start + l.i) l.y;
       corner : l.corner ≡ corner_of l.layout.width l.values (l.columns.start + l.i) l.y;
     }

@@ -10,7 +10,7 @@ rows-init c =
     record {
       value = repeated_none (λ j. row_step (frame_of c.args.layout c.args.parent.now) (c.args.rows.start + j) c.args.columns.start c.args.columns.length) (progress c.args.values.now c.args.decoder.now);
       len = refl;
-      few = omega arith;
+      few_doublings = omega arith;
     }
 
 pub rows-preserved : goal.rows-preserved
@@ -19,7 +19,7 @@ rows-preserved c =
       value =
           repeated_next (λ j. row_step (frame_of c.args.layout c.args.parent.now) (c.args.rows.start + j) c.args.columns.start c.args.columns.length) c.rows.j (progress c.args.values.now c.args.decoder.now) (progress c.rows.values c.rows.decoder) _ c.rows.invariant.value c.in_ok-read_row.ensures.value;
       len = c.read_row.ensures.len ∙ c.rows.invariant.len;
-      few = omega (arith, c.read_row.ensures.few_doublings);
+      few_doublings = omega (arith, c.read_row.ensures.few_doublings);
     }
 
 pub returns-in_err-read_row-clause-value : goal.returns-in_err-read_row-clause-value

@@ -8,5 +8,5 @@ invariant-rows l =
     record {
       value : rows_step (frame_of l.layout l.parent) l.columns.start l.columns.length l.rows.start l.j (progress l.fn.values l.fn.decoder) ≡ Ok (progress l.values l.decoder);
       len : length l.values ≡ length l.fn.values;
-      few : l.decoder.at.doublings ≤ l.fn.decoder.at.doublings + 702 * (l.j * l.columns.length);
+      few_doublings : l.decoder.at.doublings ≤ l.fn.decoder.at.doublings + 702 * (l.j * l.columns.length);
     }
