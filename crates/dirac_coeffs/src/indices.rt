@@ -8,15 +8,6 @@ use dirac_types::NoMemory;
 use std::alloc::Global;
 use std::marker::Model;
 
-/// The context of the follow decisions of an offset, which changes a codeblock's quantiser index.
-pub const OFFSET_FOLLOW: [u8; 1] = [19];
-
-/// The context of the digits of an offset.
-pub const OFFSET_DIGITS: u8 = 20;
-
-/// The context of the sign of an offset.
-pub const OFFSET_SIGN: u8 = 21;
-
 /// The quantiser indices of a subband's codeblocks, by rows.
 ///
 /// It is seen as a list.

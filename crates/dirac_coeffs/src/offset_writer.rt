@@ -3,12 +3,10 @@ ghost use Rattle.dirac_arith.specs.Interval.{narrowed_by};
 ghost use Rattle.dirac_coeffs.specs.Indices as spec;
 ghost use Rattle.dirac_coeffs.specs.Layouts.{IsBandLayout};
 
-use crate::indices::{
-    Indices, OFFSET_DIGITS, OFFSET_FOLLOW, OFFSET_SIGN, codeblock_place, former_index,
-};
+use crate::indices::{Indices, codeblock_place, former_index};
 use crate::layout::BandLayout;
 use crate::spans::Codeblock;
-use dirac_arith::Encoder;
+use dirac_arith::{Encoder, OFFSET_DIGITS, OFFSET_FOLLOW, OFFSET_SIGN};
 use dirac_types::NoMemory;
 
 /// Writes the offset of a codeblock's index, where the mode has one.

@@ -5,12 +5,10 @@ ghost use Rattle.dirac_coeffs.specs.BandRead.{band_progress, offset_step};
 ghost use Rattle.dirac_coeffs.specs.Indices as spec;
 ghost use Rattle.dirac_coeffs.specs.Layouts.{IsBandLayout};
 
-use crate::indices::{
-    Indices, OFFSET_DIGITS, OFFSET_FOLLOW, OFFSET_SIGN, codeblock_place, former_index,
-};
+use crate::indices::{Indices, codeblock_place, former_index};
 use crate::layout::BandLayout;
 use crate::spans::Codeblock;
-use dirac_arith::Decoder;
+use dirac_arith::{Decoder, OFFSET_DIGITS, OFFSET_FOLLOW, OFFSET_SIGN};
 use dirac_types::{Cause, LARGEST_INDEX};
 
 /// An index and an offset.
