@@ -1,6 +1,7 @@
 ghost use Rattle.std.specs.Prelude.{◌≡◌, ◌+◌, ◌*◌, ◌^◌, ◌<◌, ◌≤◌, length};
 ghost use Rattle.dirac_coeffs.specs.Answers.{Moves};
-ghost use Rattle.dirac_coeffs.specs.BandRead.{progress, band_progress, filled_step, unskipped_step, block_step, blocks_step, block_rows_step};
+ghost use Rattle.dirac_coeffs.specs.BandRead.{progress, band_progress, filled_step, unskipped_step, block_step};
+ghost use Rattle.dirac_coeffs.specs.BandRead.{blocks_step, block_rows_step};
 ghost use Rattle.dirac_coeffs.specs.Layouts.{IsBandLayout, span_of};
 
 use crate::indices::Indices;

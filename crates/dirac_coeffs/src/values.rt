@@ -2,7 +2,8 @@ ghost use Rattle.std.specs.Prelude.{◌≡◌, ◌+◌, ◌*◌, ◌^◌, ◌<�
 ghost use Rattle.dirac_arith.specs.Deciding.{Gives, signed_read};
 ghost use Rattle.dirac_coeffs.specs.Answers.{Moves};
 ghost use Rattle.dirac_coeffs.specs.BandRead.{progress, value_step, row_step, rows_step};
-ghost use Rattle.dirac_coeffs.specs.Contexts.{above_of, follow_among, bits_context, corner_of, left_of, sign_of, sign_neighbour};
+ghost use Rattle.dirac_coeffs.specs.Contexts.{above_of, follow_among, bits_context, corner_of, left_of, sign_of};
+ghost use Rattle.dirac_coeffs.specs.Contexts.{sign_neighbour};
 ghost use Rattle.dirac_coeffs.specs.Decisions.{frame_of};
 
 use crate::contexts;
