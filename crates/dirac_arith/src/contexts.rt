@@ -28,6 +28,15 @@ pub const SIGN_OF_POSITIVE: u8 = 17;
 /// The zero flag of a codeblock.
 pub const ZERO_FLAG: u8 = 18;
 
+/// The follow context of an offset, which changes a codeblock's quantiser index.
+pub const OFFSET_FOLLOW: [u8; 1] = [19];
+
+/// The digits of an offset.
+pub const OFFSET_DIGITS: u8 = 20;
+
+/// The sign of an offset.
+pub const OFFSET_SIGN: u8 = 21;
+
 /// The follow contexts of a superblock's split.
 pub const SPLIT_FOLLOW: [u8; 2] = [22, 23];
 

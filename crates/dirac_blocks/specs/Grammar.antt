@@ -1,6 +1,6 @@
--- A block table in a payload: for each of its lists a length and an arithmetic block, which is read over the table
--- that the lists before gave. Superblocks are read by rows, the units of one by rows, and what a unit has holds for
--- all its blocks.
+-- A block table in a payload (motion data, Dirac specification, section 12): for each of its lists a length and an
+-- arithmetic block, which is read over the table that the lists before gave. Superblocks are read by rows, the units
+-- of one by rows, and what a unit has holds for all its blocks.
 use Rattle.std.specs.Prelude.{ℕ, zero, suc, ℤ, pos, negsuc, ◌+◌, ◌+ℤ◌, ◌*◌, ◌%◌, ◌^◌, ◌==◌, int_le, if◌then◌else◌, Bool, true, false, not, ◌||◌, ◌&&◌, List, replicate, slice_set, Result, Ok, Err}
 use Rattle.dirac_arith.specs.declared.contexts.TheConstants.{DC_DIGITS, DC_FOLLOW, DC_SIGN, REFERENCE_1, REFERENCE_2, SPLIT_DIGITS, SPLIT_FOLLOW, VECTOR_DIGITS, VECTOR_FOLLOW, VECTOR_SIGN}
 use Rattle.dirac_types.specs.declared.faults.Cause.{Cause}

@@ -10,9 +10,9 @@ use dirac_bits::BitReader;
 use dirac_types::Stop;
 use std::alloc::Global;
 
-/// Reads a block table (block data, Dirac specification) of `across` by `down` superblocks for so many references:
-/// passes to the next byte, and takes for each of its lists a length and an arithmetic block. What an arithmetic
-/// block doesn't hold is refused at its first byte.
+/// Reads a block table (motion data, Dirac specification, section 12) of `across` by `down` superblocks for that number
+/// of references: passes to the next byte, and takes for each of its lists a length and an arithmetic block. What an
+/// arithmetic block doesn't hold is refused at its first byte.
 #[tactic(auto, unfolding(crate::specs::Grammar::blocks))]
 pub fn read_blocks(
     alloc: Global,

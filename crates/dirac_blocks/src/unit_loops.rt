@@ -32,7 +32,7 @@ fn write_unit_row(
     Ok(())
 }
 
-/// Writes `count` rows of `across` units each, from block `i` of row `j` on.
+/// Writes the units of a superblock whose first block is block `i` of row `j`: `across` rows of `across` units each.
 fn write_unit_rows(
     encoder: &mut Encoder,
     table: &BlockData,
@@ -41,17 +41,16 @@ fn write_unit_rows(
     across: u32,
     i: u32,
     j: u32,
-    count: u32,
 ) -> Result<(), NoMemory>
     requires size { 1 ≤ size }
     requires column { i + across * size ≤ 4 * table.now.across }
-    requires row { j + count * size ≤ 4 * table.now.down }
+    requires row { j + across * size ≤ 4 * table.now.down }
     requires most_across { table.now.across ≤ 1024 }
     requires most_down { table.now.down ≤ 1024 }
     ensures { OnOk result (encoder.new ≡ narrowed_by encoder.old
-        (unit_rows (part_at part table.now) size across i j count)) }
+        (unit_rows (part_at part table.now) size across i j across)) }
 {
-    'rows: for n in 0..count {
+    'rows: for n in 0..across {
         write_unit_row(encoder, table, part, size, i, j + n * size, across)?;
     }
     Ok(())
@@ -75,7 +74,7 @@ fn write_superblock(
     let split = table.split(sx, sy);
     let size = unit_blocks(split) as u32;
     let across = units_across(split) as u32;
-    write_unit_rows(encoder, table, part, size, across, 4 * sx, 4 * sy, across)
+    write_unit_rows(encoder, table, part, size, across, 4 * sx, 4 * sy)
 }
 
 /// Writes the first `count` superblocks of row `sy`.

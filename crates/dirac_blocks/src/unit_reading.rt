@@ -64,7 +64,7 @@ fn read_unit_row(
     Ok(())
 }
 
-/// Reads `count` rows of `across` units each, from block `i` of row `j` on.
+/// Reads the units of a superblock whose first block is block `i` of row `j`: `across` rows of `across` units each.
 fn read_unit_rows(
     decoder: &mut Decoder<'_>,
     table: &mut BlockData,
@@ -73,23 +73,21 @@ fn read_unit_rows(
     across: u32,
     i: u32,
     j: u32,
-    count: u32,
 ) -> Result<(), Cause>
-    requires units { (u v : ℕ) → u < across → v < count → IsUnit table.old size (i + u * size) (j + v * size) }
+    requires units { (u v : ℕ) → u < across → v < across → IsUnit table.old size (i + u * size) (j + v * size) }
     requires size { 1 ≤ size }
     requires column { i + across * size ≤ 4 * table.old.across }
-    requires row { j + count * size ≤ 4 * table.old.down }
+    requires row { j + across * size ≤ 4 * table.old.down }
     requires most_across { table.old.across ≤ 1024 }
     requires most_down { table.old.down ≤ 1024 }
     requires no_overflow { decoder.old.at.doublings < 2 ^ 58 }
-    requires few_across { across ≤ 4 }
-    requires at_most_4 { count ≤ 4 }
-    ensures value { Moves result table.new decoder.new (unit_rows_step part size across i j count
+    requires at_most_4 { across ≤ 4 }
+    ensures value { Moves result table.new decoder.new (unit_rows_step part size across i j across
         (progress table.old decoder.old)) }
     ensures shape { SameShape table.old table.new }
-    ensures few_doublings { decoder.new.at.doublings ≤ decoder.old.at.doublings + 2808 * count }
+    ensures few_doublings { decoder.new.at.doublings ≤ decoder.old.at.doublings + 2808 * across }
 {
-    'rows: for n in 0..count {
+    'rows: for n in 0..across {
         read_unit_row(decoder, table, part, size, i, j + n * size, across)?;
     }
     Ok(())
@@ -116,7 +114,7 @@ fn read_superblock(
     let split = table.split(sx, sy);
     let size = unit_blocks(split) as u32;
     let across = units_across(split) as u32;
-    read_unit_rows(decoder, table, part, size, across, 4 * sx, 4 * sy, across)
+    read_unit_rows(decoder, table, part, size, across, 4 * sx, 4 * sy)
 }
 
 /// Reads the first `count` superblocks of row `sy`.

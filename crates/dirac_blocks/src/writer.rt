@@ -115,9 +115,9 @@ fn write_dcs(alloc: Global, w: &mut BitWriter, table: &BlockData) -> Result<(), 
     write_part(alloc, w, table, ListKind::Dc(Component::V))
 }
 
-/// Writes a block table (block data, Dirac specification): for each of its lists a length and an arithmetic block.
-/// It is read as the same table. After want of memory what stood before still stands, with a front of these bits
-/// behind it.
+/// Writes a block table (motion data, Dirac specification, section 12): for each of its lists a length and an
+/// arithmetic block. It is read as the same table. After want of memory what stood before still stands, with a front
+/// of these bits behind it.
 #[tactic(auto, using(crate::proofs::Appended::lists_append))]
 pub fn write_blocks(alloc: Global, w: &mut BitWriter, blocks: &BlockData) -> Result<(), NoMemory>
     requires { IsWhole w.old }

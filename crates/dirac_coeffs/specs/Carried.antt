@@ -9,7 +9,7 @@ use Rattle.dirac_arith.specs.Carried.{Carries}
 use Rattle.dirac_arith.specs.Interval.{Decision}
 use Rattle.dirac_arith.specs.Spelling.{spelt, signed_spelling}
 use Rattle.dirac_bands.specs.Geometry.{edge_of}
-use Rattle.dirac_coeffs.specs.declared.indices.TheConstants.{OFFSET_FOLLOW, OFFSET_DIGITS, OFFSET_SIGN}
+use Rattle.dirac_arith.specs.declared.contexts.TheConstants.{OFFSET_FOLLOW, OFFSET_DIGITS, OFFSET_SIGN}
 use Rattle.dirac_coeffs.specs.declared.layout.BandLayout.{BandLayout}
 use Rattle.dirac_coeffs.specs.Contexts.{value_at, bits_context}
 use Rattle.dirac_coeffs.specs.Decisions.{Frame, Mark, Marks, frame_of, follow_here, row_part, rows_part, flagged_part}

@@ -1,4 +1,5 @@
--- A subband in a payload: the length of its block, and where that isn't 0 its quantiser index and the block.
+-- A subband in a payload (wavelet coefficients, Dirac specification, section 13): the length of its block, and where
+-- that isn't 0 its quantiser index and the block.
 use Rattle.std.specs.Prelude.{◌≡◌, ℕ, ℤ, pos, ◌*◌, ◌==◌, if◌then◌else◌, List, [], length, All, replicate, Option, Some}
 use Rattle.std.specs.Prelude.{None, Result, Ok, Err}
 use Rattle.std.specs.Borrow.{Bor}

@@ -11,7 +11,7 @@ use Rattle.dirac_arith.specs.Deciding.{signed_read}
 use Rattle.dirac_arith.specs.Interval.{Decision}
 use Rattle.dirac_arith.specs.Reading.{Reading}
 use Rattle.dirac_arith.specs.Spelling.{signed_spelling}
-use Rattle.dirac_coeffs.specs.declared.indices.TheConstants.{OFFSET_FOLLOW, OFFSET_DIGITS, OFFSET_SIGN}
+use Rattle.dirac_arith.specs.declared.contexts.TheConstants.{OFFSET_FOLLOW, OFFSET_DIGITS, OFFSET_SIGN}
 use Rattle.dirac_coeffs.specs.declared.layout.BandLayout.{BandLayout}
 
 -- the place of codeblock cx of row cy among all

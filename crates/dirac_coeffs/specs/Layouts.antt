@@ -16,6 +16,10 @@ pub record IsBandLayout (layout : BandLayout) : Type 0 where
 abbrev pub span_of : ℕ → ℕ → ℕ → ℕ
 span_of size count c = edge_of size count (c + 1) - edge_of size count c
 
+-- whether a subband with these codeblocks across and down is divided: it has more than one
+abbrev pub is_parted : ℕ × ℕ → Bool
+is_parted counts = not (counts.0 == 1 && counts.1 == 1)
+
 -- whether each codeblock begins with a zero flag: where there is more than one
 abbrev pub is_flagged : BandLayout → Bool
-is_flagged layout = not (layout.across == 1 && layout.down == 1)
+is_flagged layout = is_parted (layout.across, layout.down)

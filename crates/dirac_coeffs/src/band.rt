@@ -56,8 +56,9 @@ fn read_coded(
     })
 }
 
-/// Reads a subband (subband header and data, Dirac specification): passes to the next byte, and takes the length
-/// of its block, the quantiser index and the block. What an arithmetic block doesn't hold is refused at its first byte.
+/// Reads a subband (wavelet coefficients, Dirac specification, section 13): passes to the next byte, and takes the
+/// length of its block, the quantiser index and the block. What an arithmetic block doesn't hold is refused at its
+/// first byte.
 #[tactic(auto, unfolding(crate::specs::Grammar::band))]
 pub fn read_band(
     alloc: Global,

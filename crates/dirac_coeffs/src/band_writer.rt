@@ -48,8 +48,8 @@ fn write_coded(
     w.block(block.as_slice())
 }
 
-/// Writes a subband (subband header and data, Dirac specification): bits 0 up to the next byte, the length of its
-/// block, the quantiser index and the block. A band of zeros has length 0. After want of memory what stood before
+/// Writes a subband (wavelet coefficients, Dirac specification, section 13): bits 0 up to the next byte, the length of
+/// its block, the quantiser index and the block. A band of zeros has length 0. After want of memory what stood before
 /// still stands, with a front of these bits behind it.
 pub fn write_band(
     alloc: Global,

@@ -13,9 +13,9 @@ use dirac_arith::Decoder;
 use dirac_types::{BandTable, Cause, NoMemory, Refusal, Stop};
 use std::alloc::Global;
 
-/// The coefficients of a subband from its arithmetic block (subband data, Dirac specification), and the quantiser
-/// index of each codeblock, where the band's is `index`. `parent` holds the values of the parent band by rows, and is
-/// empty where there is none; a refusal is given the place `at`.
+/// The coefficients of a subband from its arithmetic block (wavelet coefficients, Dirac specification, section 13), and
+/// the quantiser index of each codeblock, where the band's is `index`. `parent` holds the values of the parent band by
+/// rows, and is empty where there is none; a refusal is given the place `at`.
 pub fn read_block(
     alloc: Global,
     block: &[u8],

@@ -10,43 +10,33 @@ ghost use Rattle.dirac_coeffs.specs.Written.{marks_of};
 use crate::indices::Indices;
 use crate::layout::BandLayout;
 use crate::offset_writer::write_offset;
-use crate::spans::{codeblock_span, has_flags};
+use crate::spans::{Codeblock, codeblock_span, has_flags};
 use crate::value_writer::write_rows;
 use crate::zeros::has_zeros_alone;
 use dirac_arith::{Encoder, ZERO_FLAG};
 use dirac_types::NoMemory;
 
-/// Writes the values of codeblock `cx` of row `cy`.
+/// Writes the values of a codeblock.
 fn write_block_values(
     encoder: &mut Encoder,
     values: &[i64],
     layout: BandLayout,
     parent: &[i64],
-    cy: u32,
-    cx: u32,
+    codeblock: Codeblock,
 ) -> Result<(), NoMemory>
     requires layout { IsBandLayout layout }
-    requires row { cy < layout.down }
-    requires column { cx < layout.across }
+    requires row { codeblock.row < layout.down }
+    requires column { codeblock.column < layout.across }
     requires len { length values.now ≡ layout.width * layout.height }
     requires magnitudes_bounded { AreSmall values.now }
     ensures { OnOk result (encoder.new ≡ narrowed_by encoder.old
-        (rows_part (frame_of layout parent.now) values.now (edge_of layout.width layout.across cx)
-        (span_of layout.width layout.across cx) (edge_of layout.height layout.down cy)
-        (span_of layout.height layout.down cy))) }
+        (rows_part (frame_of layout parent.now) values.now (edge_of layout.width layout.across codeblock.column)
+        (span_of layout.width layout.across codeblock.column) (edge_of layout.height layout.down codeblock.row)
+        (span_of layout.height layout.down codeblock.row))) }
 {
-    let columns = codeblock_span(layout.width, layout.across, cx);
-    let rows = codeblock_span(layout.height, layout.down, cy);
-    write_rows(
-        encoder,
-        values,
-        layout,
-        parent,
-        rows.start,
-        rows.length,
-        columns.start,
-        columns.length,
-    )
+    let columns = codeblock_span(layout.width, layout.across, codeblock.column);
+    let rows = codeblock_span(layout.height, layout.down, codeblock.row);
+    write_rows(encoder, values, layout, parent, rows, columns)
 }
 
 /// Writes a codeblock that isn't skipped: in mode 1 the offset of its index, and its values.
@@ -57,28 +47,27 @@ fn write_unskipped(
     layout: BandLayout,
     parent: &[i64],
     index: u8,
-    cy: u32,
-    cx: u32,
+    codeblock: Codeblock,
 ) -> Result<(), NoMemory>
     requires layout { IsBandLayout layout }
-    requires row { cy < layout.down }
-    requires column { cx < layout.across }
+    requires row { codeblock.row < layout.down }
+    requires column { codeblock.column < layout.across }
     requires len { length values.now ≡ layout.width * layout.height }
     requires magnitudes_bounded { AreSmall values.now }
     requires count { length indices.now ≡ layout.across * layout.down }
     ensures { OnOk result (encoder.new ≡ narrowed_by encoder.old
-        (offset_part layout.mode (marks_of layout index values.now indices.now cy cx).offset
-        ++ rows_part (frame_of layout parent.now) values.now (edge_of layout.width layout.across cx)
-        (span_of layout.width layout.across cx) (edge_of layout.height layout.down cy)
-        (span_of layout.height layout.down cy))) }
+        (offset_part layout.mode (marks_of layout index values.now indices.now codeblock.row codeblock.column).offset
+        ++ rows_part (frame_of layout parent.now) values.now (edge_of layout.width layout.across codeblock.column)
+        (span_of layout.width layout.across codeblock.column) (edge_of layout.height layout.down codeblock.row)
+        (span_of layout.height layout.down codeblock.row))) }
 {
-    match write_offset(encoder, indices, layout, index, cy, cx) {
-        Ok(()) => write_block_values(encoder, values, layout, parent, cy, cx),
+    match write_offset(encoder, indices, layout, index, codeblock) {
+        Ok(()) => write_block_values(encoder, values, layout, parent, codeblock),
         Err(e) => Err(e),
     }
 }
 
-/// Writes codeblock `cx` of row `cy` behind its zero flag, where it has one.
+/// Writes a codeblock behind its zero flag, where it has one.
 fn write_codeblock(
     encoder: &mut Encoder,
     values: &[i64],
@@ -86,26 +75,26 @@ fn write_codeblock(
     layout: BandLayout,
     parent: &[i64],
     index: u8,
-    cy: u32,
-    cx: u32,
+    codeblock: Codeblock,
 ) -> Result<(), NoMemory>
     requires layout { IsBandLayout layout }
-    requires row { cy < layout.down }
-    requires column { cx < layout.across }
+    requires row { codeblock.row < layout.down }
+    requires column { codeblock.column < layout.across }
     requires len { length values.now ≡ layout.width * layout.height }
     requires magnitudes_bounded { AreSmall values.now }
     requires count { length indices.now ≡ layout.across * layout.down }
     ensures { OnOk result (encoder.new ≡ narrowed_by encoder.old
-        (block_part layout parent.now values.now cy cx (marks_of layout index values.now indices.now cy cx))) }
+        (block_part layout parent.now values.now codeblock.row codeblock.column
+        (marks_of layout index values.now indices.now codeblock.row codeblock.column))) }
 {
     if !has_flags(layout) {
-        return write_unskipped(encoder, values, indices, layout, parent, index, cy, cx);
+        return write_unskipped(encoder, values, indices, layout, parent, index, codeblock);
     }
-    if has_zeros_alone(values, layout, cy, cx) {
+    if has_zeros_alone(values, layout, codeblock) {
         return encoder.decision(ZERO_FLAG, true);
     }
     match encoder.decision(ZERO_FLAG, false) {
-        Ok(()) => write_unskipped(encoder, values, indices, layout, parent, index, cy, cx),
+        Ok(()) => write_unskipped(encoder, values, indices, layout, parent, index, codeblock),
         Err(e) => Err(e),
     }
 }
@@ -129,10 +118,11 @@ fn write_codeblocks(
         (blocks_part layout parent.now values.now (marks_of layout index values.now indices.now cy) cy layout.across)) }
 {
     'across: for cx in 0..layout.across {
-        match write_codeblock(encoder, values, indices, layout, parent, index, cy, cx) {
-            Ok(()) => {}
-            Err(e) => return Err(e),
-        }
+        let codeblock = Codeblock {
+            row: cy,
+            column: cx,
+        };
+        write_codeblock(encoder, values, indices, layout, parent, index, codeblock)?;
     }
     Ok(())
 }
@@ -154,10 +144,7 @@ pub fn write_all(
         (band_decisions layout parent.now values.now (marks_of layout index values.now indices.now))) }
 {
     'down: for cy in 0..layout.down {
-        match write_codeblocks(encoder, values, indices, layout, parent, index, cy) {
-            Ok(()) => {}
-            Err(e) => return Err(e),
-        }
+        write_codeblocks(encoder, values, indices, layout, parent, index, cy)?;
     }
     Ok(())
 }

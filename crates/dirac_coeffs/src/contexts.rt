@@ -1,6 +1,7 @@
 ghost use Rattle.std.specs.Prelude.{◌≡◌, ◌+◌, ◌*◌, ◌<◌, ◌≤◌, ◌&&◌, length};
 ghost use Rattle.dirac_arith.specs.Spelling.{AreContexts};
-ghost use Rattle.dirac_coeffs.specs.Contexts.{left_of, above_of, corner_of, parent_of, is_zero, follow_of, sign_of, sign_neighbour};
+ghost use Rattle.dirac_coeffs.specs.Contexts.{left_of, above_of, corner_of, parent_of, is_zero, follow_of, sign_of};
+ghost use Rattle.dirac_coeffs.specs.Contexts.{sign_neighbour};
 
 use dirac_arith::{
     CONTEXTS, PARENT_VALUES, PARENT_ZEROS, SIGN_OF_NEGATIVE, SIGN_OF_POSITIVE, SIGN_OF_ZERO,

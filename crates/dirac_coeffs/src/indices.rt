@@ -3,18 +3,10 @@ ghost use Rattle.dirac_coeffs.specs.Indices as spec;
 ghost use Rattle.dirac_coeffs.specs.Layouts.{IsBandLayout};
 
 use crate::layout::BandLayout;
+use crate::spans::Codeblock;
 use dirac_types::NoMemory;
 use std::alloc::Global;
 use std::marker::Model;
-
-/// The context of the follow decisions of an offset, which changes a codeblock's quantiser index.
-pub const OFFSET_FOLLOW: [u8; 1] = [19];
-
-/// The context of the digits of an offset.
-pub const OFFSET_DIGITS: u8 = 20;
-
-/// The context of the sign of an offset.
-pub const OFFSET_SIGN: u8 = 21;
 
 /// The quantiser indices of a subband's codeblocks, by rows.
 ///
@@ -33,7 +25,7 @@ impl Model for Indices {
 }
 
 impl Indices {
-    /// So many codeblocks, all of this index.
+    /// That number of codeblocks, all of this index.
     pub fn try_new(alloc: Global, count: u32, value: u8) -> Result<Indices, NoMemory>
         ensures { IfOk result (λ i. i ≡ replicate count value) }
     {
@@ -67,15 +59,15 @@ pub fn equal_indices(alloc: Global, layout: BandLayout, index: u8) -> Result<Ind
     Indices::try_new(alloc, layout.across * layout.down, index)
 }
 
-/// The place of codeblock `cx` of row `cy` among all.
-pub fn codeblock_place(layout: BandLayout, cy: u32, cx: u32) -> u32
+/// The place of a codeblock among all, counted by rows.
+pub fn codeblock_place(layout: BandLayout, codeblock: Codeblock) -> u32
     requires layout { IsBandLayout layout }
-    requires row { cy < layout.down }
-    requires column { cx < layout.across }
-    ensures value { result ≡ spec.place_of layout cy cx }
+    requires row { codeblock.row < layout.down }
+    requires column { codeblock.column < layout.across }
+    ensures value { result ≡ spec.place_of layout codeblock.row codeblock.column }
     ensures inside { result < layout.across * layout.down }
 {
-    cy * layout.across + cx
+    codeblock.row * layout.across + codeblock.column
 }
 
 /// The index of the codeblock before codeblock `c`; before the first one the band's holds.

@@ -1,6 +1,8 @@
 //! What holds of all subbands and blocks, each as the contract of a function that does nothing.
-ghost use Rattle.dirac_coeffs.specs.Laws.{OneBandIsCarried, NoBandBesideLong, NoBandBesideNoIndex, NotLongAndNoIndex, OnesCarryNothing};
-ghost use Rattle.dirac_coeffs.specs.Laws.{BandIsRead, PlainIsEqual, LongIsRefused, NoIndexIsRefused, OnesAreRefused, BlocksAreShort};
+ghost use Rattle.dirac_coeffs.specs.Laws.{OneBandIsCarried, NoBandBesideLong, NoBandBesideNoIndex, NotLongAndNoIndex};
+ghost use Rattle.dirac_coeffs.specs.Laws.{OnesCarryNothing};
+ghost use Rattle.dirac_coeffs.specs.Laws.{BandIsRead, PlainIsEqual, LongIsRefused, NoIndexIsRefused, OnesAreRefused};
+ghost use Rattle.dirac_coeffs.specs.Laws.{BlocksAreShort};
 
 /// A block carries the decisions of one band at most, and none beside those of a number that is too long, or of an
 /// offset that leads to no index; it doesn't carry both of these. One that begins with sixteen ones carries none.

@@ -24,6 +24,7 @@ pub use band::read_band;
 pub use band_writer::write_band;
 pub use block::read_block;
 pub use block_writer::write_block;
-pub use indices::{Indices, OFFSET_DIGITS, OFFSET_FOLLOW, OFFSET_SIGN};
+pub use indices::Indices;
 pub use laws::{a_block_reads_to_its_band, blocks_are_short, one_band_is_carried};
 pub use layout::{BandBlock, BandLayout, CodedBand};
+pub use spans::is_parted;

@@ -3,34 +3,32 @@ ghost use Rattle.dirac_arith.specs.Interval.{narrowed_by};
 ghost use Rattle.dirac_coeffs.specs.Indices as spec;
 ghost use Rattle.dirac_coeffs.specs.Layouts.{IsBandLayout};
 
-use crate::indices::{
-    Indices, OFFSET_DIGITS, OFFSET_FOLLOW, OFFSET_SIGN, codeblock_place, former_index,
-};
+use crate::indices::{Indices, codeblock_place, former_index};
 use crate::layout::BandLayout;
-use dirac_arith::Encoder;
+use crate::spans::Codeblock;
+use dirac_arith::{Encoder, OFFSET_DIGITS, OFFSET_FOLLOW, OFFSET_SIGN};
 use dirac_types::NoMemory;
 
-/// Writes the offset of the index of codeblock `cx` of row `cy`, where the mode has one.
+/// Writes the offset of a codeblock's index, where the mode has one.
 pub fn write_offset(
     encoder: &mut Encoder,
     indices: &Indices,
     layout: BandLayout,
     index: u8,
-    cy: u32,
-    cx: u32,
+    codeblock: Codeblock,
 ) -> Result<(), NoMemory>
     requires layout { IsBandLayout layout }
-    requires row { cy < layout.down }
-    requires column { cx < layout.across }
+    requires row { codeblock.row < layout.down }
+    requires column { codeblock.column < layout.across }
     requires count { length indices.now ≡ layout.across * layout.down }
     ensures { OnOk result (encoder.new ≡ narrowed_by encoder.old (spec.offset_part layout.mode
-        (pos (spec.index_at indices.now (spec.place_of layout cy cx))
-        -ℤ pos (spec.index_before index indices.now (spec.place_of layout cy cx))))) }
+        (pos (spec.index_at indices.now (spec.place_of layout codeblock.row codeblock.column))
+        -ℤ pos (spec.index_before index indices.now (spec.place_of layout codeblock.row codeblock.column))))) }
 {
     if layout.mode == 0 {
         return Ok(());
     }
-    let c = codeblock_place(layout, cy, cx);
+    let c = codeblock_place(layout, codeblock);
     let offset = i64::from(indices.at(c)) - i64::from(former_index(indices, index, c));
     encoder.signed(&OFFSET_FOLLOW, OFFSET_DIGITS, OFFSET_SIGN, offset)
 }

@@ -5,11 +5,10 @@ ghost use Rattle.dirac_coeffs.specs.BandRead.{band_progress, offset_step};
 ghost use Rattle.dirac_coeffs.specs.Indices as spec;
 ghost use Rattle.dirac_coeffs.specs.Layouts.{IsBandLayout};
 
-use crate::indices::{
-    Indices, OFFSET_DIGITS, OFFSET_FOLLOW, OFFSET_SIGN, codeblock_place, former_index,
-};
+use crate::indices::{Indices, codeblock_place, former_index};
 use crate::layout::BandLayout;
-use dirac_arith::Decoder;
+use crate::spans::Codeblock;
+use dirac_arith::{Decoder, OFFSET_DIGITS, OFFSET_FOLLOW, OFFSET_SIGN};
 use dirac_types::{Cause, LARGEST_INDEX};
 
 /// An index and an offset.
@@ -55,30 +54,29 @@ fn read_index(decoder: &mut Decoder<'_>, former: u8) -> Result<u8, Cause>
     }
 }
 
-/// Reads the offset of the index of codeblock `cx` of row `cy`, where the mode has one, and notes the index.
+/// Reads the offset of a codeblock's index, where the mode has one, and notes the index.
 #[tactic(auto, unfolding(crate::specs::BandRead::offset_step))]
 pub fn read_offset(
     decoder: &mut Decoder<'_>,
     indices: &mut Indices,
     layout: BandLayout,
     index: u8,
-    cy: u32,
-    cx: u32,
+    codeblock: Codeblock,
 ) -> Result<(), Cause>
     requires layout { IsBandLayout layout }
-    requires row { cy < layout.down }
-    requires column { cx < layout.across }
+    requires row { codeblock.row < layout.down }
+    requires column { codeblock.column < layout.across }
     requires count { length indices.old ≡ layout.across * layout.down }
     requires no_overflow { decoder.old.at.doublings < 2 ^ 61 }
     ensures value { (xs : List ℤ) → Moves result (band_progress xs indices.new decoder.new) (offset_step layout.mode
-        index (spec.place_of layout cy cx) (band_progress xs indices.old decoder.old)) }
+        index (spec.place_of layout codeblock.row codeblock.column) (band_progress xs indices.old decoder.old)) }
     ensures count { length indices.new ≡ length indices.old }
     ensures few_doublings { decoder.new.at.doublings ≤ decoder.old.at.doublings + 702 }
 {
     if layout.mode == 0 {
         return Ok(());
     }
-    let c = codeblock_place(layout, cy, cx);
+    let c = codeblock_place(layout, codeblock);
     let former = former_index(indices, index, c);
     match read_index(decoder, former) {
         Ok(next) => {
@@ -90,18 +88,19 @@ pub fn read_offset(
 }
 
 /// Notes that a skipped codeblock has the index of the one before it, which in mode 0 it has already.
-pub fn note_former(indices: &mut Indices, layout: BandLayout, index: u8, cy: u32, cx: u32)
+pub fn note_former(indices: &mut Indices, layout: BandLayout, index: u8, codeblock: Codeblock)
     requires layout { IsBandLayout layout }
-    requires row { cy < layout.down }
-    requires column { cx < layout.across }
+    requires row { codeblock.row < layout.down }
+    requires column { codeblock.column < layout.across }
     requires count { length indices.old ≡ layout.across * layout.down }
-    ensures value { indices.new ≡ spec.with_former layout.mode index (spec.place_of layout cy cx) indices.old }
+    ensures value { indices.new ≡ spec.with_former layout.mode index
+        (spec.place_of layout codeblock.row codeblock.column) indices.old }
     ensures count { length indices.new ≡ length indices.old }
 {
     if layout.mode == 0 {
         return;
     }
-    let c = codeblock_place(layout, cy, cx);
+    let c = codeblock_place(layout, codeblock);
     let former = former_index(indices, index, c);
     indices.set(c, former);
 }

@@ -6,6 +6,7 @@ ghost use Rattle.dirac_coeffs.specs.Decisions.{frame_of, value_part, row_part, r
 
 use crate::contexts;
 use crate::layout::BandLayout;
+use crate::spans::Span;
 use dirac_arith::{COEFFICIENT_DIGITS, Encoder};
 use dirac_types::{Band, LARGEST_TABLE_SIDE, NoMemory};
 
@@ -62,57 +63,48 @@ fn write_at(
     )
 }
 
-/// Writes `count` values of row `y`, from column `from` on.
+/// Writes the values of these columns of row `y`.
 fn write_row(
     encoder: &mut Encoder,
     values: &[i64],
     layout: BandLayout,
     parent: &[i64],
     y: usize,
-    from: usize,
-    count: usize,
+    columns: Span,
 ) -> Result<(), NoMemory>
-    requires columns { from + count ≤ layout.width }
+    requires columns { columns.start + columns.length ≤ layout.width }
     requires width { layout.width ≤ LARGEST_TABLE_SIDE }
     requires row { y < LARGEST_TABLE_SIDE }
     requires inside { (y + 1) * layout.width ≤ length values.now }
     requires magnitudes_bounded { AreSmall values.now }
     ensures { OnOk result (encoder.new ≡ narrowed_by encoder.old
-        (row_part (frame_of layout parent.now) values.now y from count)) }
+        (row_part (frame_of layout parent.now) values.now y columns.start columns.length)) }
 {
-    'values: for i in 0..count {
-        match write_at(encoder, values, layout, parent, from + i, y) {
-            Ok(()) => {}
-            Err(e) => return Err(e),
-        }
+    'values: for i in 0..columns.length {
+        write_at(encoder, values, layout, parent, columns.start + i, y)?;
     }
     Ok(())
 }
 
-/// Writes `count` values of each of `rows` rows, from column `from` of row `top` on.
+/// Writes the values of these columns of these rows.
 pub fn write_rows(
     encoder: &mut Encoder,
     values: &[i64],
     layout: BandLayout,
     parent: &[i64],
-    top: usize,
-    rows: usize,
-    from: usize,
-    count: usize,
+    rows: Span,
+    columns: Span,
 ) -> Result<(), NoMemory>
-    requires columns { from + count ≤ layout.width }
+    requires columns { columns.start + columns.length ≤ layout.width }
     requires width { layout.width ≤ LARGEST_TABLE_SIDE }
-    requires rows { top + rows ≤ LARGEST_TABLE_SIDE }
-    requires inside { (top + rows) * layout.width ≤ length values.now }
+    requires rows { rows.start + rows.length ≤ LARGEST_TABLE_SIDE }
+    requires inside { (rows.start + rows.length) * layout.width ≤ length values.now }
     requires magnitudes_bounded { AreSmall values.now }
-    ensures { OnOk result (encoder.new ≡ narrowed_by encoder.old
-        (rows_part (frame_of layout parent.now) values.now from count top rows)) }
+    ensures { OnOk result (encoder.new ≡ narrowed_by encoder.old (rows_part (frame_of layout parent.now) values.now
+        columns.start columns.length rows.start rows.length)) }
 {
-    'rows: for j in 0..rows {
-        match write_row(encoder, values, layout, parent, top + j, from, count) {
-            Ok(()) => {}
-            Err(e) => return Err(e),
-        }
+    'rows: for j in 0..rows.length {
+        write_row(encoder, values, layout, parent, rows.start + j, columns)?;
     }
     Ok(())
 }

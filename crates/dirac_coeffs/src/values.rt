@@ -2,35 +2,49 @@ ghost use Rattle.std.specs.Prelude.{◌≡◌, ◌+◌, ◌*◌, ◌^◌, ◌<�
 ghost use Rattle.dirac_arith.specs.Deciding.{Gives, signed_read};
 ghost use Rattle.dirac_coeffs.specs.Answers.{Moves};
 ghost use Rattle.dirac_coeffs.specs.BandRead.{progress, value_step, row_step, rows_step};
-ghost use Rattle.dirac_coeffs.specs.Contexts.{follow_among, bits_context, corner_of, left_of, sign_of, sign_neighbour};
+ghost use Rattle.dirac_coeffs.specs.Contexts.{above_of, follow_among, bits_context, corner_of, left_of, sign_of};
+ghost use Rattle.dirac_coeffs.specs.Contexts.{sign_neighbour};
 ghost use Rattle.dirac_coeffs.specs.Decisions.{frame_of};
 
 use crate::contexts;
 use crate::layout::BandLayout;
+use crate::spans::Span;
 use dirac_arith::{COEFFICIENT_DIGITS, Decoder};
 use dirac_types::{Band, Cause, LARGEST_TABLE_SIDE};
+
+/// The values beside a coefficient by which its contexts are chosen, 0 outside the band.
+#[derive(Clone, Copy)]
+struct Neighbours {
+    left: i64,
+    above: i64,
+    corner: i64,
+}
 
 /// Reads a value among these neighbours.
 #[inline(always)]
 fn read_value(
     decoder: &mut Decoder<'_>,
     band: Band,
-    left: i64,
-    above: i64,
-    corner: i64,
+    neighbours: Neighbours,
     parent: i64,
 ) -> Result<i64, Cause>
     requires no_overflow { decoder.old.at.doublings < 2 ^ 61 }
-    ensures read { Gives result decoder.new (signed_read (follow_among left above corner parent) bits_context
-        (sign_of (sign_neighbour band left above)) decoder.old) }
+    ensures read { Gives result decoder.new (signed_read
+        (follow_among neighbours.left neighbours.above neighbours.corner parent) bits_context
+        (sign_of (sign_neighbour band neighbours.left neighbours.above)) decoder.old) }
     ensures few_doublings { decoder.new.at.doublings ≤ decoder.old.at.doublings + 702 }
 {
-    let follow = contexts::follow_among(left, above, corner, parent);
-    let sign = contexts::sign_context(band, left, above);
+    let follow = contexts::follow_among(
+        neighbours.left,
+        neighbours.above,
+        neighbours.corner,
+        parent,
+    );
+    let sign = contexts::sign_context(band, neighbours.left, neighbours.above);
     decoder.signed(follow, COEFFICIENT_DIGITS, sign)
 }
 
-/// Reads the value in column `x` of row `y`, whose neighbours to the left and above that are at hand.
+/// Reads the value in column `x` of row `y` among these neighbours of it.
 #[tactic(auto, unfolding(crate::specs::BandRead::value_step))]
 #[inline(always)]
 fn read_at(
@@ -40,15 +54,15 @@ fn read_at(
     parent: &[i64],
     x: usize,
     y: usize,
-    left: i64,
-    corner: i64,
+    neighbours: Neighbours,
 ) -> Result<i64, Cause>
     requires column { x < layout.width }
     requires width { layout.width ≤ LARGEST_TABLE_SIDE }
     requires row { y < LARGEST_TABLE_SIDE }
     requires inside { (y + 1) * layout.width ≤ length values.old }
-    requires left { left ≡ left_of layout.width values.old x y }
-    requires corner { corner ≡ corner_of layout.width values.old x y }
+    requires left { neighbours.left ≡ left_of layout.width values.old x y }
+    requires above { neighbours.above ≡ above_of layout.width values.old x y }
+    requires corner { neighbours.corner ≡ corner_of layout.width values.old x y }
     requires no_overflow { decoder.old.at.doublings < 2 ^ 61 }
     ensures value { Moves result (progress values.new decoder.new) (value_step (frame_of layout parent.now) x y
         (progress values.old decoder.old)) }
@@ -57,9 +71,8 @@ fn read_at(
     ensures few_doublings { decoder.new.at.doublings ≤ decoder.old.at.doublings + 702 }
 {
     let width = layout.width as usize;
-    let above = contexts::above_value(values, width, x, y);
     let parent = contexts::parent_value(parent, width, x, y);
-    match read_value(decoder, layout.band, left, above, corner, parent) {
+    match read_value(decoder, layout.band, neighbours, parent) {
         Ok(value) => {
             values[y * width + x] = value;
             Ok(value)
@@ -68,32 +81,37 @@ fn read_at(
     }
 }
 
-/// Reads `count` values of row `y`, from column `from` on.
+/// Reads the values of these columns of row `y`.
 fn read_row(
     decoder: &mut Decoder<'_>,
     values: &mut [i64],
     layout: BandLayout,
     parent: &[i64],
     y: usize,
-    from: usize,
-    count: usize,
+    columns: Span,
 ) -> Result<(), Cause>
-    requires columns { from + count ≤ layout.width }
+    requires columns { columns.start + columns.length ≤ layout.width }
     requires width { layout.width ≤ LARGEST_TABLE_SIDE }
     requires row { y < LARGEST_TABLE_SIDE }
     requires inside { (y + 1) * layout.width ≤ length values.old }
     requires no_overflow { decoder.old.at.doublings < 2 ^ 60 }
-    ensures value { Moves result (progress values.new decoder.new) (row_step (frame_of layout parent.now) y from count
-        (progress values.old decoder.old)) }
+    ensures value { Moves result (progress values.new decoder.new) (row_step (frame_of layout parent.now) y
+        columns.start columns.length (progress values.old decoder.old)) }
     ensures len { length values.new ≡ length values.old }
-    ensures few_doublings { decoder.new.at.doublings ≤ decoder.old.at.doublings + 702 * count }
+    ensures few_doublings { decoder.new.at.doublings ≤ decoder.old.at.doublings + 702 * columns.length }
 {
     let width = layout.width as usize;
-    let mut left = contexts::left_value(values, width, from, y);
-    let mut corner = contexts::corner_value(values, width, from, y);
-    'values: for i in 0..count {
-        let above = contexts::above_value(values, width, from + i, y);
-        match read_at(decoder, values, layout, parent, from + i, y, left, corner) {
+    let mut left = contexts::left_value(values, width, columns.start, y);
+    let mut corner = contexts::corner_value(values, width, columns.start, y);
+    'values: for i in 0..columns.length {
+        let x = columns.start + i;
+        let above = contexts::above_value(values, width, x, y);
+        let neighbours = Neighbours {
+            left,
+            above,
+            corner,
+        };
+        match read_at(decoder, values, layout, parent, x, y, neighbours) {
             Ok(value) => {
                 left = value;
                 corner = above;
@@ -104,32 +122,28 @@ fn read_row(
     Ok(())
 }
 
-/// Reads `count` values of each of `rows` rows, from column `from` of row `top` on.
+/// Reads the values of these columns of these rows.
 pub fn read_rows(
     decoder: &mut Decoder<'_>,
     values: &mut [i64],
     layout: BandLayout,
     parent: &[i64],
-    top: usize,
-    rows: usize,
-    from: usize,
-    count: usize,
+    rows: Span,
+    columns: Span,
 ) -> Result<(), Cause>
-    requires columns { from + count ≤ layout.width }
+    requires columns { columns.start + columns.length ≤ layout.width }
     requires width { layout.width ≤ LARGEST_TABLE_SIDE }
-    requires rows { top + rows ≤ LARGEST_TABLE_SIDE }
-    requires inside { (top + rows) * layout.width ≤ length values.old }
+    requires rows { rows.start + rows.length ≤ LARGEST_TABLE_SIDE }
+    requires inside { (rows.start + rows.length) * layout.width ≤ length values.old }
     requires no_overflow { decoder.old.at.doublings < 2 ^ 59 }
-    ensures value { Moves result (progress values.new decoder.new) (rows_step (frame_of layout parent.now) from count
-        top rows (progress values.old decoder.old)) }
+    ensures value { Moves result (progress values.new decoder.new) (rows_step (frame_of layout parent.now)
+        columns.start columns.length rows.start rows.length (progress values.old decoder.old)) }
     ensures len { length values.new ≡ length values.old }
-    ensures few_doublings { decoder.new.at.doublings ≤ decoder.old.at.doublings + 702 * LARGEST_TABLE_SIDE * count }
+    ensures few_doublings { decoder.new.at.doublings ≤ decoder.old.at.doublings + 702 * LARGEST_TABLE_SIDE
+        * columns.length }
 {
-    'rows: for j in 0..rows {
-        match read_row(decoder, values, layout, parent, top + j, from, count) {
-            Ok(()) => {}
-            Err(cause) => return Err(cause),
-        }
+    'rows: for j in 0..rows.length {
+        read_row(decoder, values, layout, parent, rows.start + j, columns)?;
     }
     Ok(())
 }

@@ -6,7 +6,7 @@ ghost use Rattle.dirac_coeffs.specs.Layouts.{IsBandLayout, span_of};
 
 use crate::contexts::is_zero_value;
 use crate::layout::BandLayout;
-use crate::spans::codeblock_span;
+use crate::spans::{Codeblock, Span, codeblock_span};
 use dirac_types::LARGEST_TABLE_SIDE;
 
 /// Whether `count` values of row `y` from column `from` on are zeros.
@@ -27,49 +27,35 @@ fn is_zero_row(values: &[i64], width: usize, y: usize, from: usize, count: usize
 }
 
 /// Whether the values of these columns of these rows are zeros.
-fn are_zero_rows(
-    values: &[i64],
-    width: usize,
-    top: usize,
-    rows: usize,
-    from: usize,
-    count: usize,
-) -> bool
-    requires columns { from + count ≤ width }
+fn are_zero_rows(values: &[i64], width: usize, rows: Span, columns: Span) -> bool
+    requires columns { columns.start + columns.length ≤ width }
     requires width { width ≤ LARGEST_TABLE_SIDE }
-    requires rows { top + rows ≤ LARGEST_TABLE_SIDE }
-    requires inside { (top + rows) * width ≤ length values.now }
-    ensures zeros { result ≡ true → (i j : ℕ) → i < count → j < rows → value_at width values.now (from + i) (top + j)
-        ≡ pos 0 }
-    ensures others { result ≡ false → ((i j : ℕ) → i < count → j < rows → value_at width values.now (from + i) (top + j)
-        ≡ pos 0) → ⊥ }
+    requires rows { rows.start + rows.length ≤ LARGEST_TABLE_SIDE }
+    requires inside { (rows.start + rows.length) * width ≤ length values.now }
+    ensures zeros { result ≡ true → (i j : ℕ) → i < columns.length → j < rows.length
+        → value_at width values.now (columns.start + i) (rows.start + j) ≡ pos 0 }
+    ensures others { result ≡ false → ((i j : ℕ) → i < columns.length → j < rows.length
+        → value_at width values.now (columns.start + i) (rows.start + j) ≡ pos 0) → ⊥ }
 {
-    'rows: for j in 0..rows {
-        if !is_zero_row(values, width, top + j, from, count) {
+    'rows: for j in 0..rows.length {
+        if !is_zero_row(values, width, rows.start + j, columns.start, columns.length) {
             return false;
         }
     }
     true
 }
 
-/// Whether codeblock `cx` of row `cy` has zeros alone, or no values.
-pub fn has_zeros_alone(values: &[i64], layout: BandLayout, cy: u32, cx: u32) -> bool
+/// Whether a codeblock has zeros alone, or no values.
+pub fn has_zeros_alone(values: &[i64], layout: BandLayout, codeblock: Codeblock) -> bool
     requires layout { IsBandLayout layout }
-    requires row { cy < layout.down }
-    requires column { cx < layout.across }
+    requires row { codeblock.row < layout.down }
+    requires column { codeblock.column < layout.across }
     requires len { length values.now ≡ layout.width * layout.height }
-    ensures { result ≡ is_zero_block layout values.now cy cx }
+    ensures { result ≡ is_zero_block layout values.now codeblock.row codeblock.column }
 {
-    let columns = codeblock_span(layout.width, layout.across, cx);
-    let rows = codeblock_span(layout.height, layout.down, cy);
-    are_zero_rows(
-        values,
-        layout.width as usize,
-        rows.start,
-        rows.length,
-        columns.start,
-        columns.length,
-    )
+    let columns = codeblock_span(layout.width, layout.across, codeblock.column);
+    let rows = codeblock_span(layout.height, layout.down, codeblock.row);
+    are_zero_rows(values, layout.width as usize, rows, columns)
 }
 
 /// Whether all values are zeros.

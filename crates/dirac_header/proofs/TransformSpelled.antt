@@ -199,3 +199,6 @@ divided_here counts level across down is here = divided_from counts level (acros
 
 pub none_divided : (counts : List (ℕ × ℕ)) (n : ℕ) → n ≡ length counts → is_divided (drop n counts) ≡ false
 none_divided counts n is = ap is_divided (drop_all n counts (omega arith))
+
+-- whether a count is above 1, level by level
+pub ruleset divided_steps = (divided_later, divided_here, none_divided)

@@ -1,4 +1,4 @@
--- The picture header, field after field: picture header, Dirac specification.
+-- The picture header, field after field: picture header, Dirac specification, section 11.
 use Rattle.std.specs.Prelude.{ℕ, ℤ, pos, ◌+ℤ◌, ◌^◌, nat_le, if◌then◌else◌, Bool, Option, Some, None, unsigned_abs}
 use Rattle.std.specs.Int.{int_rem_euclid}
 use Rattle.std.specs.Ordering.{int_eq}

@@ -23,8 +23,8 @@ pub struct PictureHeader {
     pub retire: Option<u32>,
 }
 
-/// The header of a picture with this parse code: picture header, Dirac specification. The bits up to the next byte are
-/// passed over first.
+/// The header of a picture with this parse code: picture header, Dirac specification, section 11. The bits up to the
+/// next byte are passed over first.
 pub fn read_header(r: &mut BitReader<'_>, code: u8) -> Result<PictureHeader, Refusal>
     ensures value { Reads (λ h. h) result r.new (read (grammar.header code) r.old) }
     // What is answered is spelled by the bits left.

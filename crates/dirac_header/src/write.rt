@@ -13,8 +13,8 @@ use dirac_bits::BitWriter;
 use dirac_types::NoMemory;
 use dirac_units::is_reference;
 
-/// Writes the header of a picture with this parse code: picture header, Dirac specification. Bits 0 up to the next byte
-/// stand before it. Each offset is written as a number from -2^31 to 2^31 - 1.
+/// Writes the header of a picture with this parse code: picture header, Dirac specification, section 11. Bits 0 up to
+/// the next byte stand before it. Each offset is written as a number from -2^31 to 2^31 - 1.
 ///
 /// After want of memory what stood before still stands, with a front of these bits behind it.
 pub fn write_header(w: &mut BitWriter, header: &PictureHeader, code: u8) -> Result<(), NoMemory>
@@ -150,7 +150,7 @@ fn is_parted(counts: &Counts, mode: u8) -> bool
 }
 
 /// Whether a count is above 1.
-#[tactic(auto, using(crate::proofs::TransformSpelled::divided_later, crate::proofs::TransformSpelled::divided_here, crate::proofs::TransformSpelled::none_divided))]
+#[tactic(auto, using(crate::proofs::TransformSpelled::divided_steps))]
 fn is_divided(counts: &Counts) -> bool
     ensures { result ≡ written.is_divided counts.now }
 {

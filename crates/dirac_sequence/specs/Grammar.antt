@@ -1,4 +1,4 @@
--- The sequence header, field after field: sequence header, Dirac specification.
+-- The sequence header, field after field: sequence header, Dirac specification, section 10.
 use Rattle.std.specs.Prelude.{ℕ, ◌+◌, ◌-◌, ◌*◌, ◌%◌, ◌^◌, false, true, ◌==◌, nat_le, nat_lt, ◌&&◌, if◌then◌else◌, Bool, List, Result}
 use Rattle.dirac_types.specs.declared.limits.TheConstants.{LARGEST_HEIGHT, LARGEST_WIDTH}
 use Rattle.dirac_types.specs.declared.faults.Cause.TheVariants.{Version, Preset, Size, ChromaFormat, Sampling, RateIndex, AspectIndex, SignalRange as SignalIndex, Depth8, Fields}

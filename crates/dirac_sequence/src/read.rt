@@ -15,7 +15,8 @@ use crate::tables::preset;
 use dirac_bits::BitReader;
 use dirac_types::{Cause, Refusal};
 
-/// The sequence that a payload begins with: sequence header, Dirac specification. What follows its last field is free.
+/// The sequence that a payload begins with: sequence header, Dirac specification, section 10. What follows its last
+/// field is free.
 ///
 /// A refusal names the first field that breaks a rule, by the byte of its first bit. A size that isn't a multiple of
 /// the chroma ratios is refused at the flag of the chroma format, a depth other than 8 at the flag of the signal range,

@@ -115,8 +115,8 @@ fn is_own_signal(settings: &Settings, base: &Sequence) -> bool
     !(is_same(signal.luma, base.luma) && is_same(signal.colour, base.colour))
 }
 
-/// The bytes of the sequence header of these settings: sequence header, Dirac specification. A custom flag is set
-/// exactly where a value differs from the base's, and for the clean area where the size does.
+/// The bytes of the sequence header of these settings: sequence header, Dirac specification, section 10. A custom flag
+/// is set exactly where a value differs from the base's, and for the clean area where the size does.
 pub fn write_sequence(alloc: Global, settings: &Settings) -> Result<Vec<u8>, NoMemory>
     requires { IsAccepted settings.now }
     ensures exact { IfOk result (λ v. v.items ≡ written.sequence_payload settings.now) }

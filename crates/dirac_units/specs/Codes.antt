@@ -1,4 +1,4 @@
--- What the parse code of a picture says: parse info, Dirac specification.
+-- What the parse code of a picture says: parse info, Dirac specification, section 9.6.
 use Rattle.std.specs.Prelude.{ℕ, ◌==◌, ◌||◌, if◌then◌else◌, Bool}
 use Rattle.dirac_units.specs.declared.codes.TheConstants.{INTER_NON_REFERENCE_1, INTER_NON_REFERENCE_2}
 use Rattle.dirac_units.specs.declared.codes.TheConstants.{INTER_REFERENCE_1, INTER_REFERENCE_2}

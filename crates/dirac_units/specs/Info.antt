@@ -1,5 +1,6 @@
--- Parse info: the header of each unit.
-use Rattle.std.specs.Prelude.{◌≡◌, ℕ, ◌+◌, ◌==◌, nat_eq, nat_le, Bool, ◌&&◌, ◌||◌, if◌then◌else◌, List, [], ◌∷◌, slice_index, max, Option, None, Some, Result, Ok, Err}
+-- Parse info, the header of each unit: parse info, Dirac specification, section 9.6.
+use Rattle.std.specs.Prelude.{◌≡◌, ℕ, ◌+◌, ◌==◌, nat_eq, nat_le, Bool, ◌&&◌, ◌||◌, if◌then◌else◌, List, [], ◌∷◌}
+use Rattle.std.specs.Prelude.{slice_index, max, Option, None, Some, Result, Ok, Err}
 use Rattle.std.specs.List.{starts_with}
 use Rattle.std.specs.Int.{from_be_bytes, w32}
 use Rattle.dirac_types.specs.declared.faults.Cause.{Cause}

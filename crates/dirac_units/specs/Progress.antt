@@ -1,5 +1,6 @@
 -- How far the cutting of a source came, and what its next step gives.
-use Rattle.std.specs.Prelude.{◌≡◌, ℕ, ◌+◌, ◌≤◌, length, Bool, ◌&&◌, if◌then◌else◌, List, [], drop, slice_range, Option, None, Some, IfSome, Ok, Err, ⊤}
+use Rattle.std.specs.Prelude.{◌≡◌, ℕ, ◌+◌, ◌≤◌, length, Bool, ◌&&◌, if◌then◌else◌, List, [], drop, slice_range, Option}
+use Rattle.std.specs.Prelude.{None, Some, IfSome, Ok, Err, ⊤}
 use Rattle.std.specs.Io.KnownBytes.{prepend_known, IsAtEnd}
 use Rattle.dirac_types.specs.declared.faults.Fault.{Fault}
 use Rattle.dirac_units.specs.declared.info.ParseInfo.{ParseInfo}

@@ -1,6 +1,7 @@
 -- Taking the next unit of a source, and no byte beyond it.
 -- Inner: for the proofs of this crate.
-use Rattle.std.specs.Prelude.{◌≡◌, ℕ, ◌+◌, ◌<◌, ◌≤◌, Bool, if◌then◌else◌, List, [], length, Option, None, Some, IfSome, Ok, Err, ⊤}
+use Rattle.std.specs.Prelude.{◌≡◌, ℕ, ◌+◌, ◌<◌, ◌≤◌, Bool, if◌then◌else◌, List, [], length, Option, None, Some, IfSome}
+use Rattle.std.specs.Prelude.{Ok, Err, ⊤}
 use Rattle.std.specs.Io.KnownBytes.{Consumes, IsAtEnd}
 use Rattle.dirac_types.specs.declared.faults.Cause.TheVariants.{Truncated}
 use Rattle.dirac_units.specs.declared.info.ParseInfo.{ParseInfo}

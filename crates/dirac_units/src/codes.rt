@@ -1,4 +1,4 @@
-//! The parse codes of units (parse info, Dirac specification).
+//! The parse codes of units (parse info, Dirac specification, section 9.6).
 
 ghost use Rattle.std.specs.Prelude.{◌≡◌};
 ghost use Rattle.dirac_units.specs.Codes as codes;

@@ -1,5 +1,6 @@
 ghost use Rattle.std.specs.Prelude.{◌≡◌, ℕ, ◌≤◌, ◌<◌, ◌^◌, length, IfErr};
-ghost use Rattle.dirac_units.specs.Info.{unit_kind, fields_are_read as has_fields, offset_is_lawful, info_read, span_of};
+ghost use Rattle.dirac_units.specs.Info.{unit_kind, fields_are_read as has_fields, offset_is_lawful, info_read};
+ghost use Rattle.dirac_units.specs.Info.{span_of};
 
 use crate::codes::{
     AUXILIARY_DATA, END_OF_SEQUENCE, INTER_NON_REFERENCE_1, INTER_NON_REFERENCE_2,
@@ -14,8 +15,8 @@ pub const PARSE_INFO_LENGTH: usize = 13;
 // The parse info prefix, `BBCD`.
 const PREFIX: [u8; 4] = [0x42, 0x42, 0x43, 0x44];
 
-/// A parse info header (parse info, Dirac specification). The next offset counts bytes from this
-/// header's first byte to the next header's; the previous offset counts back to the header before.
+/// A parse info header (parse info, Dirac specification, section 9.6). The next offset counts bytes from this header's
+/// first byte to the next header's; the previous offset counts back to the header before.
 #[derive(Clone, Copy, Debug, PartialEq, Eq)]
 pub struct ParseInfo {
     pub code: u8,
@@ -68,8 +69,8 @@ fn is_lawful_offset(kind: UnitKind, next: u32) -> bool
     }
 }
 
-/// Reads a parse info. A refusal's place counts from the header's first byte: the prefix is looked
-/// at first, then the code, then the next offset. The previous offset is never refused.
+/// Reads a parse info (parse info, Dirac specification, section 9.6). A refusal's place counts from the header's first
+/// byte: the prefix is looked at first, then the code, then the next offset. The previous offset is never refused.
 pub fn read_info(header: &[u8]) -> Result<ParseInfo, Refusal>
     requires { length header.now ≡ PARSE_INFO_LENGTH }
     ensures read { result ≡ info_read header.now }

@@ -4,7 +4,7 @@ ghost use Rattle.dirac_units.specs.Writing.{info_bytes, IsReadAsWritten};
 
 use crate::info::{PARSE_INFO_LENGTH, ParseInfo};
 
-/// The bytes of a parse info header (parse info, Dirac specification).
+/// The bytes of a parse info header (parse info, Dirac specification, section 9.6).
 pub fn write_info(info: ParseInfo) -> [u8; PARSE_INFO_LENGTH]
     ensures bytes { result ≡ info_bytes info }
     ensures read { IsLawful info → info_read result ≡ Ok info }

@@ -10,7 +10,7 @@ superblocks-init c =
     record {
       value = repeated_none (split_step c.args.sy) (progress c.args.table.now c.args.decoder.now);
       blocks = blocks_refl c.args.table.now;
-      few = omega arith;
+      few_doublings = omega arith;
     }
 
 pub superblocks-preserved : goal.superblocks-preserved
@@ -19,7 +19,7 @@ superblocks-preserved c =
       value =
           repeated_next (split_step c.args.sy) c.superblocks.n (progress c.args.table.now c.args.decoder.now) (progress c.superblocks.table c.superblocks.decoder) _ c.superblocks.invariant.value c.in_ok-read_split.ensures.value;
       blocks = blocks_join c.args.table.now c.superblocks.table c.read_split.new.table c.superblocks.invariant.blocks c.read_split.ensures.blocks;
-      few = omega (arith, c.read_split.ensures.few_doublings);
+      few_doublings = omega (arith, c.read_split.ensures.few_doublings);
     }
 
 pub returns-in_err-read_split-clause-value : goal.returns-in_err-read_split-clause-value

@@ -10,7 +10,7 @@ rows-init c =
     record {
       value = repeated_none (λ sy. repeated (split_step sy) c.args.across) (progress c.args.table.now c.args.decoder.now);
       blocks = blocks_refl c.args.table.now;
-      few = omega arith;
+      few_doublings = omega arith;
     }
 
 pub rows-preserved : goal.rows-preserved
@@ -19,7 +19,7 @@ rows-preserved c =
       value =
           repeated_next (λ sy. repeated (split_step sy) c.args.across) c.rows.n (progress c.args.table.now c.args.decoder.now) (progress c.rows.table c.rows.decoder) _ c.rows.invariant.value c.in_ok-read_split_row.ensures.value;
       blocks = blocks_join c.args.table.now c.rows.table c.read_split_row.new.table c.rows.invariant.blocks c.read_split_row.ensures.blocks;
-      few = omega (arith, c.read_split_row.ensures.few_doublings);
+      few_doublings = omega (arith, c.read_split_row.ensures.few_doublings);
     }
 
 pub returns-in_err-read_split_row-clause-value : goal.returns-in_err-read_split_row-clause-value

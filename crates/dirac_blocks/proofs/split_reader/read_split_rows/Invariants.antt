@@ -8,5 +8,5 @@ invariant-rows l =
     record {
       value : repeated (λ sy. repeated (split_step sy) l.across) l.n (progress l.fn.table l.fn.decoder) ≡ Ok (progress l.table l.decoder);
       blocks : SameBlocks l.fn.table l.table;
-      few : l.decoder.at.doublings ≤ 709632 * l.n;
+      few_doublings : l.decoder.at.doublings ≤ 709632 * l.n;
     }

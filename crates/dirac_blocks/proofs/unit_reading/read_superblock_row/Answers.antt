@@ -10,7 +10,7 @@ superblocks-init c =
     record {
       value = repeated_none (superblock_step c.args.part c.args.sy) (progress c.args.table.now c.args.decoder.now);
       shape = shape_refl c.args.table.now;
-      few = omega arith;
+      few_doublings = omega arith;
     }
 
 pub superblocks-preserved : goal.superblocks-preserved
@@ -19,7 +19,7 @@ superblocks-preserved c =
       value =
           repeated_next (superblock_step c.args.part c.args.sy) c.superblocks.n (progress c.args.table.now c.args.decoder.now) (progress c.superblocks.table c.superblocks.decoder) _ c.superblocks.invariant.value c.in_ok-read_superblock.ensures.value;
       shape = shape_join c.args.table.now c.superblocks.table c.read_superblock.new.table c.superblocks.invariant.shape c.read_superblock.ensures.shape;
-      few = omega (arith, c.read_superblock.ensures.few_doublings);
+      few_doublings = omega (arith, c.read_superblock.ensures.few_doublings);
     }
 
 pub returns-in_err-read_superblock-clause-value : goal.returns-in_err-read_superblock-clause-value

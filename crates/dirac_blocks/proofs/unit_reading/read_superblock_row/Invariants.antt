@@ -8,5 +8,5 @@ invariant-superblocks l =
     record {
       value : repeated (superblock_step l.part l.sy) l.n (progress l.fn.table l.fn.decoder) ≡ Ok (progress l.table l.decoder);
       shape : SameShape l.fn.table l.table;
-      few : l.decoder.at.doublings ≤ l.fn.decoder.at.doublings + 11232 * l.n;
+      few_doublings : l.decoder.at.doublings ≤ l.fn.decoder.at.doublings + 11232 * l.n;
     }

@@ -8,5 +8,5 @@ invariant-rows l =
     record {
       value : repeated (λ sy. repeated (superblock_step l.part sy) l.across) l.n (progress l.fn.table l.fn.decoder) ≡ Ok (progress l.table l.decoder);
       shape : SameShape l.fn.table l.table;
-      few : l.decoder.at.doublings ≤ 11501568 * l.n;
+      few_doublings : l.decoder.at.doublings ≤ 11501568 * l.n;
     }

@@ -10,7 +10,7 @@ units-init c =
     record {
       value = repeated_none (λ u. unit_step c.args.part c.args.size (c.args.i + u * c.args.size) c.args.j) (progress c.args.table.now c.args.decoder.now);
       shape = shape_refl c.args.table.now;
-      few = omega arith;
+      few_doublings = omega arith;
     }
 
 pub units-preserved : goal.units-preserved
@@ -19,7 +19,7 @@ units-preserved c =
       value =
           repeated_next (λ u. unit_step c.args.part c.args.size (c.args.i + u * c.args.size) c.args.j) c.units.n (progress c.args.table.now c.args.decoder.now) (progress c.units.table c.units.decoder) _ c.units.invariant.value c.in_ok-read_unit.ensures.value;
       shape = shape_join c.args.table.now c.units.table c.read_unit.new.table c.units.invariant.shape c.read_unit.ensures.shape;
-      few = omega (arith, c.read_unit.ensures.few_doublings);
+      few_doublings = omega (arith, c.read_unit.ensures.few_doublings);
     }
 
 pub returns-in_err-read_unit-clause-value : goal.returns-in_err-read_unit-clause-value

@@ -8,5 +8,5 @@ invariant-units l =
     record {
       value : unit_row_step l.part l.size l.i l.j l.n (progress l.fn.table l.fn.decoder) ≡ Ok (progress l.table l.decoder);
       shape : SameShape l.fn.table l.table;
-      few : l.decoder.at.doublings ≤ l.fn.decoder.at.doublings + 702 * l.n;
+      few_doublings : l.decoder.at.doublings ≤ l.fn.decoder.at.doublings + 702 * l.n;
     }

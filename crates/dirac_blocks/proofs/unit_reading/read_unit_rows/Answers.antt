@@ -10,7 +10,7 @@ rows-init c =
     record {
       value = repeated_none (λ v. unit_row_step c.args.part c.args.size c.args.i (c.args.j + v * c.args.size) c.args.across) (progress c.args.table.now c.args.decoder.now);
       shape = shape_refl c.args.table.now;
-      few = omega arith;
+      few_doublings = omega arith;
     }
 
 pub rows-preserved : goal.rows-preserved
@@ -19,14 +19,14 @@ rows-preserved c =
       value =
           repeated_next (λ v. unit_row_step c.args.part c.args.size c.args.i (c.args.j + v * c.args.size) c.args.across) c.rows.n (progress c.args.table.now c.args.decoder.now) (progress c.rows.table c.rows.decoder) _ c.rows.invariant.value c.in_ok-read_unit_row.ensures.value;
       shape = shape_join c.args.table.now c.rows.table c.read_unit_row.new.table c.rows.invariant.shape c.read_unit_row.ensures.shape;
-      few = omega (arith, c.read_unit_row.ensures.few_doublings);
+      few_doublings = omega (arith, c.read_unit_row.ensures.few_doublings);
     }
 
 pub returns-in_err-read_unit_row-clause-value : goal.returns-in_err-read_unit_row-clause-value
 returns-in_err-read_unit_row-clause-value c =
     let p = err_from_is_err_and c.from_residual.result c.from_residual.ensures.1 in
     rw (p.1, p.2)
-    (repeated_stops (λ v. unit_row_step c.args.part c.args.size c.args.i (c.args.j + v * c.args.size) c.args.across) c.rows.n c.args.count (progress c.args.table.now c.args.decoder.now) (progress c.rows.table c.rows.decoder) _ (omega arith) c.rows.invariant.value c.in_err-read_unit_row.ensures.value)
+    (repeated_stops (λ v. unit_row_step c.args.part c.args.size c.args.i (c.args.j + v * c.args.size) c.args.across) c.rows.n c.args.across (progress c.args.table.now c.args.decoder.now) (progress c.rows.table c.rows.decoder) _ (omega arith) c.rows.invariant.value c.in_err-read_unit_row.ensures.value)
 
 pub returns-in_err-read_unit_row-clause-shape : goal.returns-in_err-read_unit_row-clause-shape
 returns-in_err-read_unit_row-clause-shape c = shape_join c.args.table.now c.rows.table c.read_unit_row.new.table c.rows.invariant.shape c.read_unit_row.ensures.shape
@@ -38,7 +38,7 @@ read_unit_row-requires-clause-units c = λ u less.
 pub read_unit_row-requires-clause-row : goal.read_unit_row-requires-clause-row
 read_unit_row-requires-clause-row c =
     let same = c.rows.invariant.shape.down in
-    omega (arith, unit_within c.args.j c.rows.n c.args.count c.args.size (4 * c.args.table.now.down) (omega arith) c.requires.size c.requires.row)
+    omega (arith, unit_within c.args.j c.rows.n c.args.across c.args.size (4 * c.args.table.now.down) (omega arith) c.requires.size c.requires.row)
 
 pub read_unit_row-requires-clause-column : goal.read_unit_row-requires-clause-column
 read_unit_row-requires-clause-column c =

@@ -8,5 +8,5 @@ invariant-rows l =
     record {
       value : unit_rows_step l.part l.size l.across l.i l.j l.n (progress l.fn.table l.fn.decoder) ≡ Ok (progress l.table l.decoder);
       shape : SameShape l.fn.table l.table;
-      few : l.decoder.at.doublings ≤ l.fn.decoder.at.doublings + 2808 * l.n;
+      few_doublings : l.decoder.at.doublings ≤ l.fn.decoder.at.doublings + 2808 * l.n;
     }

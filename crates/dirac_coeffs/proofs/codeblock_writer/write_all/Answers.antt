@@ -16,4 +16,4 @@ down-preserved c =
     let xs = c.args.values.now in
     let marks = marks_of layout c.args.index xs c.args.indices.now in
     let n = c.down.cy in
-    narrowed_more _ _ _ (bands_part layout parent xs marks n) (blocks_part layout parent xs (marks n) n layout.across) _ c.down.invariant c.in-Ok.ensures (bands_next layout parent xs marks n)
+    narrowed_more _ _ _ (bands_part layout parent xs marks n) (blocks_part layout parent xs (marks n) n layout.across) _ c.down.invariant c.in_ok-write_codeblocks.ensures (bands_next layout parent xs marks n)

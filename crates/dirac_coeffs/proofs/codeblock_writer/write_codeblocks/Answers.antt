@@ -17,4 +17,4 @@ across-preserved c =
     let cy = c.args.cy in
     let marks = marks_of layout c.args.index xs c.args.indices.now cy in
     let n = c.across.cx in
-    narrowed_more _ _ _ (blocks_part layout parent xs marks cy n) (block_part layout parent xs cy n (marks n)) _ c.across.invariant c.in-Ok.ensures (blocks_next layout parent xs marks cy n)
+    narrowed_more _ _ _ (blocks_part layout parent xs marks cy n) (block_part layout parent xs cy n (marks n)) _ c.across.invariant c.in_ok-write_codeblock.ensures (blocks_next layout parent xs marks cy n)

@@ -10,6 +10,6 @@ pub returns-in-Ok : goal.returns-in-Ok
 returns-in-Ok c =
     let layout = c.args.layout in
     let xs = c.args.values.now in
-    let ds = offset_part layout.mode (marks_of layout c.args.index xs c.args.indices.now c.args.cy c.args.cx).offset in
-    let es = values_part layout c.args.parent.now xs c.args.cy c.args.cx in
+    let ds = offset_part layout.mode (marks_of layout c.args.index xs c.args.indices.now c.args.codeblock.row c.args.codeblock.column).offset in
+    let es = values_part layout c.args.parent.now xs c.args.codeblock.row c.args.codeblock.column in
     on_ok_weaker c.write_block_values.result (λ e. narrowed_more _ _ _ ds es (ds ++ es) c.in-Ok.ensures e refl) c.write_block_values.ensures

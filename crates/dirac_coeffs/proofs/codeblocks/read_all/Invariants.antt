@@ -8,5 +8,5 @@ invariant-down l =
       value : block_rows_step l.layout l.parent l.index l.cy (band_progress l.fn.values l.fn.indices l.fn.decoder) ≡ Ok (band_progress l.values l.indices l.decoder);
       len : length l.values ≡ length l.fn.values;
       count : length l.indices ≡ length l.fn.indices;
-      few : l.decoder.at.doublings ≤ (711 * 8192 + 702 * 8192 * 8192) * l.cy;
+      few_doublings : l.decoder.at.doublings ≤ (711 * 8192 + 702 * 8192 * 8192) * l.cy;
     }

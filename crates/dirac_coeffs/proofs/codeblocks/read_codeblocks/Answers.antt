@@ -1,4 +1,5 @@
 use Rattle.std.proofs.Common.{◌+◌, ◌∙◌, arith, refl}
+use Rattle.std.proofs.lemmas.Result.{err_from_is_err_and}
 use Rattle.dirac_coeffs.specs.BandRead.{band_progress, block_step}
 use Rattle.dirac_coeffs.proofs.Edges.{edge_most, span_end}
 use Rattle.dirac_coeffs.proofs.Repeating.{repeated_none, repeated_next, repeated_stops}
@@ -10,28 +11,30 @@ across-init c =
       value = repeated_none (block_step c.args.layout c.args.parent.now c.args.index c.args.cy) (band_progress c.args.values.now c.args.indices.now c.args.decoder.now);
       len = refl;
       count = refl;
-      few = omega arith;
+      few_doublings = omega arith;
     }
 
 pub across-preserved : goal.across-preserved
 across-preserved c =
     record {
       value =
-          repeated_next (block_step c.args.layout c.args.parent.now c.args.index c.args.cy) c.across.cx (band_progress c.args.values.now c.args.indices.now c.args.decoder.now) (band_progress c.across.values c.across.indices c.across.decoder) _ c.across.invariant.value c.in-Ok.ensures.value;
+          repeated_next (block_step c.args.layout c.args.parent.now c.args.index c.args.cy) c.across.cx (band_progress c.args.values.now c.args.indices.now c.args.decoder.now) (band_progress c.across.values c.across.indices c.across.decoder) _ c.across.invariant.value c.in_ok-read_codeblock.ensures.value;
       len = c.read_codeblock.ensures.len ∙ c.across.invariant.len;
       count = c.read_codeblock.ensures.count ∙ c.across.invariant.count;
-      few = omega (arith, c.read_codeblock.ensures.few_doublings, c.across.invariant.few, span_end c.args.layout.width c.args.layout.across c.across.cx (omega arith));
+      few_doublings = omega (arith, c.read_codeblock.ensures.few_doublings, c.across.invariant.few_doublings, span_end c.args.layout.width c.args.layout.across c.across.cx (omega arith));
     }
 
-pub returns-in-Err-clause-value : goal.returns-in-Err-clause-value
-returns-in-Err-clause-value c =
-    repeated_stops (block_step c.args.layout c.args.parent.now c.args.index c.args.cy) c.across.cx c.args.layout.across (band_progress c.args.values.now c.args.indices.now c.args.decoder.now) (band_progress c.across.values c.across.indices c.across.decoder) c.in-Err.cause (omega arith) c.across.invariant.value c.in-Err.ensures.value
+pub returns-in_err-read_codeblock-clause-value : goal.returns-in_err-read_codeblock-clause-value
+returns-in_err-read_codeblock-clause-value c =
+    let p = err_from_is_err_and c.from_residual.result c.from_residual.ensures.1 in
+    rw (p.1, p.2)
+    (repeated_stops (block_step c.args.layout c.args.parent.now c.args.index c.args.cy) c.across.cx c.args.layout.across (band_progress c.args.values.now c.args.indices.now c.args.decoder.now) (band_progress c.across.values c.across.indices c.across.decoder) _ (omega arith) c.across.invariant.value c.in_err-read_codeblock.ensures.value)
 
-pub returns-in-Err-clause-few_doublings : goal.returns-in-Err-clause-few_doublings
-returns-in-Err-clause-few_doublings c =
+pub returns-in_err-read_codeblock-clause-few_doublings : goal.returns-in_err-read_codeblock-clause-few_doublings
+returns-in_err-read_codeblock-clause-few_doublings c =
     let w = c.args.layout.width in
     let n = c.across.cx in
-    omega (arith, c.read_codeblock.ensures.few_doublings, c.across.invariant.few, span_end w c.args.layout.across n (omega arith), edge_most w c.args.layout.across (n + 1) (omega arith) (omega arith))
+    omega (arith, c.read_codeblock.ensures.few_doublings, c.across.invariant.few_doublings, span_end w c.args.layout.across n (omega arith), edge_most w c.args.layout.across (n + 1) (omega arith) (omega arith))
 
 pub returns-clause-few_doublings : goal.returns-clause-few_doublings
-returns-clause-few_doublings c = omega (arith, c.across.invariant.few, edge_most c.args.layout.width c.args.layout.across c.across.cx (omega arith) (omega arith))
+returns-clause-few_doublings c = omega (arith, c.across.invariant.few_doublings, edge_most c.args.layout.width c.args.layout.across c.across.cx (omega arith) (omega arith))

@@ -9,5 +9,5 @@ invariant-across l =
       value : blocks_step l.layout l.parent l.index l.cy l.cx (band_progress l.fn.values l.fn.indices l.fn.decoder) ≡ Ok (band_progress l.values l.indices l.decoder);
       len : length l.values ≡ length l.fn.values;
       count : length l.indices ≡ length l.fn.indices;
-      few : l.decoder.at.doublings ≤ l.fn.decoder.at.doublings + 711 * l.cx + 702 * 8192 * edge_of l.layout.width l.layout.across l.cx;
+      few_doublings : l.decoder.at.doublings ≤ l.fn.decoder.at.doublings + 711 * l.cx + 702 * 8192 * edge_of l.layout.width l.layout.across l.cx;
     }

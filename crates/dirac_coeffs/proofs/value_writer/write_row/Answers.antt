@@ -12,7 +12,7 @@ pub values-preserved : goal.values-preserved
 values-preserved c =
     let f = frame_of c.args.layout c.args.parent.now in
     let xs = c.args.values.now in
-    let from = c.args.from in
+    let from = c.args.columns.start in
     let y = c.args.y in
     let i = c.values.i in
-    narrowed_more _ _ _ (row_part f xs y from i) (value_part f xs (from + i) y) _ c.values.invariant c.in-Ok.ensures (row_next f xs y from i)
+    narrowed_more _ _ _ (row_part f xs y from i) (value_part f xs (from + i) y) _ c.values.invariant c.in_ok-write_at.ensures (row_next f xs y from i)

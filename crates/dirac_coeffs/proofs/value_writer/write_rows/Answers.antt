@@ -12,8 +12,8 @@ pub rows-preserved : goal.rows-preserved
 rows-preserved c =
     let f = frame_of c.args.layout c.args.parent.now in
     let xs = c.args.values.now in
-    let top = c.args.top in
-    let from = c.args.from in
-    let count = c.args.count in
+    let top = c.args.rows.start in
+    let from = c.args.columns.start in
+    let count = c.args.columns.length in
     let j = c.rows.j in
-    narrowed_more _ _ _ (rows_part f xs from count top j) (row_part f xs (top + j) from count) _ c.rows.invariant c.in-Ok.ensures (rows_next f xs from count top j)
+    narrowed_more _ _ _ (rows_part f xs from count top j) (row_part f xs (top + j) from count) _ c.rows.invariant c.in_ok-write_row.ensures (rows_next f xs from count top j)

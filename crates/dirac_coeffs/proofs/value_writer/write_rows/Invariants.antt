@@ -4,4 +4,4 @@ use Rattle.dirac_coeffs.specs.Decisions.{frame_of, rows_part}
 use Rattle.dirac_coeffs.proofs.value_writer.write_rows.Given as goal
 
 abbrev pub invariant-rows : goal.invariant-rows
-invariant-rows l = l.encoder ≡ narrowed_by l.fn.encoder (rows_part (frame_of l.layout l.parent) l.values l.from l.count l.top l.j)
+invariant-rows l = l.encoder ≡ narrowed_by l.fn.encoder (rows_part (frame_of l.layout l.parent) l.values l.columns.start l.columns.length l.rows.start l.j)

@@ -7,9 +7,9 @@ use Rattle.dirac_coeffs.proofs.values.read_row.Given as goal
 abbrev pub invariant-values : goal.invariant-values
 invariant-values l =
     record {
-      value : row_step (frame_of l.layout l.parent) l.y l.from l.i (progress l.fn.values l.fn.decoder) ≡ Ok (progress l.values l.decoder);
+      value : row_step (frame_of l.layout l.parent) l.y l.columns.start l.i (progress l.fn.values l.fn.decoder) ≡ Ok (progress l.values l.decoder);
       len : length l.values ≡ length l.fn.values;
-      few : l.decoder.at.doublings ≤ l.fn.decoder.at.doublings + 702 * l.i;
-      left : l.left ≡ left_of l.layout.width l.values (l.from + l.i) l.y;
-      corner : l.corner ≡ corner_of l.layout.width l.values (l.from + l.i) l.y;
+      few_doublings : l.decoder.at.doublings ≤ l.fn.decoder.at.doublings + 702 * l.i;
+      left : l.left ≡ left_of l.layout.width l.values (l.columns.start + l.i) l.y;
+      corner : l.corner ≡ corner_of l.layout.width l.values (l.columns.start + l.i) l.y;
     }

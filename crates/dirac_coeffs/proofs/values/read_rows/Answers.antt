@@ -1,4 +1,5 @@
 use Rattle.std.proofs.Common.{◌+◌, ◌∙◌, arith, refl}
+use Rattle.std.proofs.lemmas.Result.{err_from_is_err_and}
 use Rattle.dirac_coeffs.specs.BandRead.{progress, row_step}
 use Rattle.dirac_coeffs.specs.Decisions.{frame_of}
 use Rattle.dirac_coeffs.proofs.Repeating.{repeated_none, repeated_next, repeated_stops}
@@ -7,20 +8,22 @@ use Rattle.dirac_coeffs.proofs.values.read_rows.Goals as goal
 pub rows-init : goal.rows-init
 rows-init c =
     record {
-      value = repeated_none (λ j. row_step (frame_of c.args.layout c.args.parent.now) (c.args.top + j) c.args.from c.args.count) (progress c.args.values.now c.args.decoder.now);
+      value = repeated_none (λ j. row_step (frame_of c.args.layout c.args.parent.now) (c.args.rows.start + j) c.args.columns.start c.args.columns.length) (progress c.args.values.now c.args.decoder.now);
       len = refl;
-      few = omega arith;
+      few_doublings = omega arith;
     }
 
 pub rows-preserved : goal.rows-preserved
 rows-preserved c =
     record {
       value =
-          repeated_next (λ j. row_step (frame_of c.args.layout c.args.parent.now) (c.args.top + j) c.args.from c.args.count) c.rows.j (progress c.args.values.now c.args.decoder.now) (progress c.rows.values c.rows.decoder) _ c.rows.invariant.value c.in-Ok.ensures.value;
+          repeated_next (λ j. row_step (frame_of c.args.layout c.args.parent.now) (c.args.rows.start + j) c.args.columns.start c.args.columns.length) c.rows.j (progress c.args.values.now c.args.decoder.now) (progress c.rows.values c.rows.decoder) _ c.rows.invariant.value c.in_ok-read_row.ensures.value;
       len = c.read_row.ensures.len ∙ c.rows.invariant.len;
-      few = omega (arith, c.read_row.ensures.few_doublings);
+      few_doublings = omega (arith, c.read_row.ensures.few_doublings);
     }
 
-pub returns-in-Err-clause-value : goal.returns-in-Err-clause-value
-returns-in-Err-clause-value c =
-    repeated_stops (λ j. row_step (frame_of c.args.layout c.args.parent.now) (c.args.top + j) c.args.from c.args.count) c.rows.j c.args.rows (progress c.args.values.now c.args.decoder.now) (progress c.rows.values c.rows.decoder) c.in-Err.cause (omega arith) c.rows.invariant.value c.in-Err.ensures.value
+pub returns-in_err-read_row-clause-value : goal.returns-in_err-read_row-clause-value
+returns-in_err-read_row-clause-value c =
+    let p = err_from_is_err_and c.from_residual.result c.from_residual.ensures.1 in
+    rw (p.1, p.2)
+    (repeated_stops (λ j. row_step (frame_of c.args.layout c.args.parent.now) (c.args.rows.start + j) c.args.columns.start c.args.columns.length) c.rows.j c.args.rows.length (progress c.args.values.now c.args.decoder.now) (progress c.rows.values c.rows.decoder) _ (omega arith) c.rows.invariant.value c.in_err-read_row.ensures.value)

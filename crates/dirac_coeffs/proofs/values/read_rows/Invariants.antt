@@ -6,7 +6,7 @@ use Rattle.dirac_coeffs.proofs.values.read_rows.Given as goal
 abbrev pub invariant-rows : goal.invariant-rows
 invariant-rows l =
     record {
-      value : rows_step (frame_of l.layout l.parent) l.from l.count l.top l.j (progress l.fn.values l.fn.decoder) ≡ Ok (progress l.values l.decoder);
+      value : rows_step (frame_of l.layout l.parent) l.columns.start l.columns.length l.rows.start l.j (progress l.fn.values l.fn.decoder) ≡ Ok (progress l.values l.decoder);
       len : length l.values ≡ length l.fn.values;
-      few : l.decoder.at.doublings ≤ l.fn.decoder.at.doublings + 702 * (l.j * l.count);
+      few_doublings : l.decoder.at.doublings ≤ l.fn.decoder.at.doublings + 702 * (l.j * l.columns.length);
     }

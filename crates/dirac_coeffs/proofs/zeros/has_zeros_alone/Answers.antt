@@ -5,7 +5,7 @@ use Rattle.dirac_coeffs.proofs.zeros.has_zeros_alone.Goals as goal
 
 pub returns : goal.returns
 returns c =
-    tests_block c.are_zero_rows.result c.args.layout c.args.values.now c.args.cy c.args.cx
+    tests_block c.are_zero_rows.result c.args.layout c.args.values.now c.args.codeblock.row c.args.codeblock.column
     c.codeblock_span-columns.result.start c.codeblock_span-columns.result.length c.codeblock_span-rows.result.start c.codeblock_span-rows.result.length
     c.codeblock_span-columns.ensures.start c.codeblock_span-columns.ensures.length c.codeblock_span-rows.ensures.start c.codeblock_span-rows.ensures.length
     c.are_zero_rows.ensures.zeros c.are_zero_rows.ensures.others
