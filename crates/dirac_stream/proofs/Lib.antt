@@ -6,11 +6,8 @@ pub mod Indices
 pub mod Fitting
 pub mod Sourcing
 pub mod Encodings
-pub mod Behind
 pub mod Sizes
 pub mod Counting
-pub mod Pictures
-pub mod Written
 pub mod Coding
 pub mod Lefts
 pub mod Reading

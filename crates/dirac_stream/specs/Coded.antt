@@ -11,7 +11,6 @@ use Rattle.dirac_sequence.specs.Written.{sequence_of}
 use Rattle.dirac_header.specs.declared.header.PictureHeader.{PictureHeader}
 use Rattle.dirac_header.specs.declared.transform.Transform.{Transform}
 use Rattle.dirac_header.specs.Transform.{band_length}
-use Rattle.dirac_header.specs.Written.{prediction_of}
 use Rattle.dirac_blocks.specs.Tables.{BlockTable}
 use Rattle.dirac_coeffs.specs.declared.layout.CodedBand.{CodedBand}
 use Rattle.dirac_types.specs.declared.formats.Component.{Component}
@@ -20,6 +19,7 @@ use Rattle.dirac_picture.specs.declared.coded.CodedMotion.{CodedMotion}
 use Rattle.dirac_picture.specs.declared.coded.CodedPicture.{CodedPicture}
 use Rattle.dirac_picture.specs.declared.coded.CodedResidual.{CodedResidual}
 use Rattle.dirac_picture.specs.Grammar.{chroma_width, chroma_height, is_intra}
+pub use Rattle.dirac_picture.specs.Written.{motion_with}
 use Rattle.dirac_analysis.specs.Analysis.{plane_bands}
 use Rattle.dirac_analysis.specs.Fits.{AreSamples}
 use Rattle.dirac_decode.specs.Content.{named, plane_of, predicted_among}
@@ -53,12 +53,7 @@ transform_of t = record {
   mode = mode_of t;
 }
 
--- an inter picture's motion by a block table, with block index and precision of the settings, without global motion,
--- with default weights
-abbrev pub motion_with : Settings → BlockTable → CodedMotion
-motion_with t b = record { prediction = prediction_of t.blocks t.precision; blocks = b }
-
--- the same, if there is a table
+-- the motion by a block table, if there is one
 abbrev pub motion_among : Settings → Option BlockTable → Option CodedMotion
 motion_among t None = None
 motion_among t (Some b) = Some (motion_with t b)

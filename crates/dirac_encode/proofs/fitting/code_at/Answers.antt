@@ -2,10 +2,10 @@ use Rattle.std.proofs.Common.{ap, ◌∙◌}
 use Rattle.dirac_residual.proofs.Maps.{ok_weaker}
 use Rattle.dirac_sequence.specs.Written.{sequence_of}
 use Rattle.dirac_picture.specs.declared.coded.CodedPicture.{CodedPicture}
+use Rattle.dirac_picture.specs.Written.{payload_of}
 use Rattle.dirac_decode.specs.Content.{rebuilt}
 use Rattle.dirac_choose.specs.Chosen.{at_index}
 use Rattle.dirac_code.specs.Prepared.{blocks_in}
-use Rattle.dirac_stream.specs.Payload.{payload_of}
 use Rattle.dirac_encode.proofs.AtIndex.{coded_chosen}
 use Rattle.dirac_encode.proofs.fitting.code_at.Goals as goal
 

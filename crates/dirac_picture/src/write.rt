@@ -1,25 +1,25 @@
 //! The payload of a coded picture, written.
 
-ghost use Rattle.std.specs.Prelude.{◌≡◌, ◌<◌, ◌≤◌, ◌++◌, Some, OnOk, IfSome};
+ghost use Rattle.std.specs.Prelude.{◌≡◌, ◌≤◌, [], ◌++◌, Some, OnOk, IfOk, IfSome};
 ghost use Rattle.dirac_types.specs.Bits.{bits_of};
 ghost use Rattle.dirac_bits.specs.Writing.{up_to_byte};
 ghost use Rattle.dirac_sequence.specs.Lawful.{IsSequence};
 ghost use Rattle.dirac_sequence.specs.Written.{sequence_of as sequence_for};
 ghost use Rattle.dirac_header.specs.Codes.{is_reference};
 ghost use Rattle.dirac_header.specs.Written.{HasReferences, MayRetire, header_bits};
-ghost use Rattle.dirac_stream.specs.Coded.{motion_with};
-ghost use Rattle.dirac_stream.specs.Payload.{HasSpelledBlocks, with_blocks, with_coefficients, with_flag};
-ghost use Rattle.dirac_stream.specs.Payload.{with_motion, with_picture, with_residual};
-ghost use Rattle.dirac_stream.specs.Writable.{IsWritten};
-ghost use Rattle.dirac_code.specs.Texts.{AreTexts, joined};
+ghost use Rattle.dirac_picture.specs.Texts.{AreTexts, joined};
+ghost use Rattle.dirac_picture.specs.Writable.{IsWritten};
+ghost use Rattle.dirac_picture.specs.Written.{HasSpelledBlocks, motion_with, with_blocks, with_coefficients};
+ghost use Rattle.dirac_picture.specs.Written.{with_flag, with_motion, with_picture, with_residual};
 
+use crate::coded::{CodedMotion, CodedPicture, CodedResidual};
 use crate::texts::Texts;
 use dirac_bits::BitWriter;
 use dirac_blocks::{BlockData, write_blocks};
 use dirac_header::{write_header, write_prediction, write_transform};
-use dirac_picture::{CodedMotion, CodedPicture, CodedResidual, is_intra};
 use dirac_sequence::Sequence;
 use dirac_types::{NoMemory, Settings};
+use dirac_units::is_intra;
 use std::alloc::Global;
 
 /// Writes the bands of Y, U and V, which were written apart.
@@ -123,7 +123,7 @@ fn write_coefficients(
 
 /// Writes a coded picture, up to a byte's end: picture parsing, Dirac specification. After want of memory a part may
 /// stand.
-pub(crate) fn write_picture(
+fn write_picture(
     alloc: Global,
     w: &mut BitWriter,
     settings: &Settings,
@@ -147,4 +147,31 @@ pub(crate) fn write_picture(
     write_motion(alloc, w, settings, &coded.motion)?;
     w.align()?;
     write_coefficients(w, sequence, coded.code, &coded.residual, texts)
+}
+
+/// The payload of a coded picture with these settings, the bytes of its bands being these (picture parsing, Dirac
+/// specification).
+pub fn payload_bytes(
+    alloc: Global,
+    settings: &Settings,
+    sequence: &Sequence,
+    coded: &CodedPicture,
+    texts: &Texts,
+) -> Result<Vec<u8>, NoMemory>
+    requires sequence { IsSequence sequence.now }
+    requires same { sequence.now ≡ sequence_for settings.now }
+    requires blocks { (2 ≤ settings.now.blocks) × (settings.now.blocks ≤ 4) }
+    requires precision { settings.now.precision ≤ 3 }
+    requires references { HasReferences coded.now.code coded.now.header }
+    requires retires { MayRetire (is_reference coded.now.code) coded.now.header.number coded.now.header.retire }
+    requires written { IfSome coded.now.residual (IsWritten sequence.now) }
+    requires texts { IfSome coded.now.residual (λ r. AreTexts sequence.now r texts.now) }
+    ensures value { IfOk result (λ v. bits_of v.items ≡ up_to_byte (with_picture settings.now coded.now [])) }
+    ensures spelled { IfOk result (λ v. HasSpelledBlocks settings.now coded.now.motion
+        (header_bits [] coded.now.code coded.now.header)) }
+{
+    let mut w = BitWriter::new(alloc);
+    write_picture(alloc, &mut w, settings, sequence, coded, texts)?;
+    let bytes = w.finish()?;
+    Ok(bytes)
 }

@@ -10,22 +10,21 @@ use Rattle.dirac_bits.specs.Writing.{IsWhole, gap, up_to_byte}
 use Rattle.dirac_bits.proofs.Bits.{length-bits_of}
 use Rattle.dirac_sequence.specs.declared.sequence.Sequence.{Sequence}
 use Rattle.dirac_sequence.specs.Lawful.{IsSequence}
-use Rattle.dirac_sequence.specs.Sizes.{picture_height}
+use Rattle.dirac_sequence.specs.Sizes.{picture_height, plane_height, plane_width}
 use Rattle.dirac_header.specs.declared.transform.Transform.{Transform}
 use Rattle.dirac_header.specs.Written.{transform_bits}
 use Rattle.dirac_coeffs.specs.declared.layout.BandLayout.{BandLayout}
 use Rattle.dirac_coeffs.specs.declared.layout.CodedBand.{CodedBand}
 use Rattle.dirac_coeffs.specs.Written.{block_of, is_zero_band, with_band, with_block}
 use Rattle.dirac_picture.specs.declared.coded.CodedResidual.{CodedResidual}
-use Rattle.dirac_picture.specs.Bands.{layout_of, parent_values}
+use Rattle.dirac_picture.specs.Bands.{bands_of, layout_of, parent_values}
 use Rattle.dirac_picture.specs.Fits.{AreBandsOf, IsLayout, IsPlaneSize}
 use Rattle.dirac_picture.proofs.Chroma.{part_size}
 use Rattle.dirac_picture.proofs.Lawful.{layout_lawful}
-use Rattle.dirac_decode.specs.Content.{bands_of, height_of, width_of}
-use Rattle.dirac_stream.specs.Payload.{with_bands, with_plane, with_planes, with_residual}
-use Rattle.dirac_stream.specs.Writable.{AreWritable, IsWritten}
-use Rattle.dirac_code.specs.declared.texts.Texts.{Texts}
-use Rattle.dirac_code.specs.Texts.{AreTexts, joined, text_of}
+use Rattle.dirac_picture.specs.declared.texts.Texts.{Texts}
+use Rattle.dirac_picture.specs.Texts.{AreTexts, joined, text_of}
+use Rattle.dirac_picture.specs.Writable.{AreWritable, IsWritten}
+use Rattle.dirac_picture.specs.Written.{with_bands, with_plane, with_planes, with_residual}
 
 -- ---- bits up to a byte's end
 
@@ -105,15 +104,15 @@ some_bands : (t : Transform) (width height : ℕ) (bands : List CodedBand) → A
 some_bands t width height bands is = omega (arith, is.count)
 
 with_text : (s : Sequence) (r : CodedResidual) (o : Component) (bits before text : List Bool) → 0 < length (bands_of r o) → up_to_byte bits ≡ before → text ≡ text_of s r o
-    → up_to_byte (with_plane r.transform (width_of s o) (height_of s o) (bands_of r o) bits) ≡ before ++ text
+    → up_to_byte (with_plane r.transform (plane_width s o) (plane_height s o) (bands_of r o) bits) ≡ before ++ text
 with_text s r o bits before text some e f =
-    plane_apart r.transform (width_of s o) (height_of s o) (bands_of r o) bits some ∙ ap₂ (λ (a b : List Bool). a ++ b) e (sym f)
+    plane_apart r.transform (plane_width s o) (plane_height s o) (bands_of r o) bits some ∙ ap₂ (λ (a b : List Bool). a ++ b) e (sym f)
 
 planes_apart : (s : Sequence) (r : CodedResidual) (x : Texts) (bits : List Bool) → IsWritten s r → AreTexts s r x → up_to_byte (with_planes s r bits) ≡ joined bits (bits_of x.y.items) (bits_of x.u.items) (bits_of x.v.items)
 planes_apart s r x bits is texts =
     let t = r.transform in
-    let luma = with_plane t (width_of s component.Y) (height_of s component.Y) r.y bits in
-    let both = with_plane t (width_of s component.U) (height_of s component.U) r.u luma in
+    let luma = with_plane t (plane_width s component.Y) (plane_height s component.Y) r.y bits in
+    let both = with_plane t (plane_width s component.U) (plane_height s component.U) r.u luma in
     let y = up_to_byte bits ++ bits_of x.y.items in
     let u = y ++ bits_of x.u.items in
     let after_y : up_to_byte luma ≡ y = with_text s r component.Y bits (up_to_byte bits) (bits_of x.y.items) (some_bands t _ _ r.y is.lawful.y) refl texts.y in
@@ -127,18 +126,18 @@ residual_apart s r x old mid new is texts e f =
 
 -- what is asked of the bands of one plane
 pub text_asked : (s : Sequence) (r : CodedResidual) (o : Component) → IsSequence s → IsWritten s r
-    → IsLayout r.transform × IsPlaneSize (width_of s o) (height_of s o) × AreBandsOf r.transform (width_of s o) (height_of s o) (bands_of r o) × AreWritable r.transform (width_of s o) (height_of s o) (bands_of r o)
+    → IsLayout r.transform × IsPlaneSize (plane_width s o) (plane_height s o) × AreBandsOf r.transform (plane_width s o) (plane_height s o) (bands_of r o) × AreWritable r.transform (plane_width s o) (plane_height s o) (bands_of r o)
 text_asked s r o lawful is =
     let luma = part_size s component.Y lawful in
     let layout = layout_lawful s.width (picture_height s) r.transform luma.across.1 luma.down.1 is.lawful.transform in
     (layout, part_size s o lawful, bands_asked o, writable_asked o)
   where
-    bands_asked : (o : Component) → AreBandsOf r.transform (width_of s o) (height_of s o) (bands_of r o)
+    bands_asked : (o : Component) → AreBandsOf r.transform (plane_width s o) (plane_height s o) (bands_of r o)
     bands_asked component.Y = is.lawful.y
     bands_asked component.U = is.lawful.u
     bands_asked component.V = is.lawful.v
 
-    writable_asked : (o : Component) → AreWritable r.transform (width_of s o) (height_of s o) (bands_of r o)
+    writable_asked : (o : Component) → AreWritable r.transform (plane_width s o) (plane_height s o) (bands_of r o)
     writable_asked component.Y = is.y
     writable_asked component.U = is.u
     writable_asked component.V = is.v

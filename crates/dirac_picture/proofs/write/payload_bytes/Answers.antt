@@ -1,9 +1,9 @@
 use Rattle.std.proofs.Common.{◌++◌, Bool, List, ap, ◌∙◌, subst}
 use Rattle.dirac_bits.specs.Writing.{up_to_byte}
-use Rattle.dirac_stream.specs.Payload.{HasSpelledBlocks, with_picture}
 use Rattle.dirac_header.specs.Written.{header_bits}
-use Rattle.dirac_code.proofs.Apart.{up_is_whole}
-use Rattle.dirac_code.proofs.picture.payload_bytes.Goals as goal
+use Rattle.dirac_picture.proofs.Apart.{up_is_whole}
+use Rattle.dirac_picture.proofs.write.payload_bytes.Goals as goal
+use Rattle.dirac_picture.specs.Written.{HasSpelledBlocks, with_picture}
 
 pub finish-requires : goal.finish-requires
 finish-requires c = up_is_whole (with_picture c.args.settings.now c.args.coded.now c.new-w.result) c.write_picture.new.w c.in_ok-write_picture.ensures.value

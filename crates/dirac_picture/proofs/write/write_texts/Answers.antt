@@ -1,5 +1,5 @@
-use Rattle.dirac_code.proofs.Apart.{bytes_after, up_is_whole}
-use Rattle.dirac_code.proofs.payload.write_texts.Goals as goal
+use Rattle.dirac_picture.proofs.Apart.{bytes_after, up_is_whole}
+use Rattle.dirac_picture.proofs.write.write_texts.Goals as goal
 
 pub block-requires : goal.block-requires
 block-requires c = up_is_whole c.args.w.now c.align.new.self c.in_ok-align.ensures.ok

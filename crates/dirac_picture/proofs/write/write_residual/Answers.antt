@@ -1,5 +1,5 @@
-use Rattle.dirac_code.proofs.Apart.{residual_apart}
-use Rattle.dirac_code.proofs.payload.write_residual.Goals as goal
+use Rattle.dirac_picture.proofs.Apart.{residual_apart}
+use Rattle.dirac_picture.proofs.write.write_residual.Goals as goal
 
 pub returns : goal.returns
 returns c =

@@ -1,4 +1,4 @@
--- The payload of a coded picture.
+-- The payload of a coded picture: its fields, as they are written.
 use Rattle.std.specs.Prelude.{ℕ, Bool, true, false, if◌then◌else◌, List, [], ◌∷◌, ◌++◌, length, Option, None, Some}
 use Rattle.dirac_sequence.specs.Sizes.{picture_height}
 use Rattle.dirac_types.specs.declared.settings.Settings.{Settings}
@@ -6,7 +6,7 @@ use Rattle.dirac_types.specs.Bytes.{bytes_of}
 use Rattle.dirac_sequence.specs.declared.sequence.Sequence.{Sequence}
 use Rattle.dirac_sequence.specs.Written.{sequence_of}
 use Rattle.dirac_header.specs.declared.transform.Transform.{Transform}
-use Rattle.dirac_header.specs.Written.{header_bits, prediction_bits, transform_bits}
+use Rattle.dirac_header.specs.Written.{header_bits, prediction_bits, prediction_of, transform_bits}
 use Rattle.dirac_blocks.specs.Decisions.{block_decisions, least_numbers}
 use Rattle.dirac_blocks.specs.Grammar.{blocks}
 use Rattle.dirac_blocks.specs.Tables.{BlockTable}
@@ -40,6 +40,11 @@ with_planes s r bits =
 -- with the transform parameters and the bands behind them
 abbrev pub with_residual : Sequence → CodedResidual → List Bool → List Bool
 with_residual s r bits = with_planes s r (bits ++ transform_bits r.transform)
+
+-- an inter picture's motion by a block table, with block index and precision of the settings, without global motion,
+-- with default weights
+abbrev pub motion_with : Settings → BlockTable → CodedMotion
+motion_with t b = record { prediction = prediction_of t.blocks t.precision; blocks = b }
 
 -- with the block index and precision of these settings and a block table behind them
 abbrev pub with_blocks : Settings → BlockTable → List Bool → List Bool

@@ -1,30 +1,16 @@
--- What can be written.
-use Rattle.std.specs.Prelude.{◌≡◌, ℕ, ◌≤◌, ◌<◌, ◌^◌, List, true, Some, slice_get, unsigned_abs}
-use Rattle.dirac_sequence.specs.Sizes.{chroma_height, chroma_width, picture_height}
-use Rattle.std.specs.List.{All}
-use Rattle.dirac_types.specs.Limits.{IsEncodedDepth, IsIndex, IsWavelet}
-use Rattle.dirac_types.specs.declared.limits.TheConstants.{LARGEST_INDEX}
-use Rattle.dirac_types.specs.declared.settings.Settings.{Settings}
+-- What can be written of a picture.
+use Rattle.std.specs.Prelude.{◌≡◌, ℕ, List, true, Some, slice_get}
 use Rattle.dirac_sequence.specs.declared.sequence.Sequence.{Sequence}
-use Rattle.dirac_sequence.specs.Written.{IsWritable}
+use Rattle.dirac_sequence.specs.Sizes.{chroma_height, chroma_width, picture_height}
 use Rattle.dirac_header.specs.declared.transform.Transform.{Transform}
 use Rattle.dirac_header.specs.Written.{FitFrom, IsTransform}
-use Rattle.dirac_coeffs.specs.declared.layout.CodedBand.{CodedBand}
 use Rattle.dirac_coeffs.specs.declared.layout.BandLayout.{BandLayout}
+use Rattle.dirac_coeffs.specs.declared.layout.CodedBand.{CodedBand}
 use Rattle.dirac_coeffs.specs.Indices.{all_equal}
 use Rattle.dirac_coeffs.specs.Written.{AreIndicesOf, is_zero_band}
 use Rattle.dirac_picture.specs.declared.coded.CodedResidual.{CodedResidual}
 use Rattle.dirac_picture.specs.Bands.{layout_of}
 use Rattle.dirac_picture.specs.Fits.{IsResidual}
-
--- settings with which a picture can be coded
-pub record IsCodable (t : Settings) : Type 0 where
-  pub sequence : IsWritable t
-  pub wavelet : IsWavelet t.wavelet
-  pub depth : IsEncodedDepth t.depth
-  pub index : IsIndex t.index
-  pub codeblocks : 1 ≤ t.codeblocks
-  pub finer : t.finer ≤ LARGEST_INDEX
 
 -- a band that can be written: indices that its codeblocks can have, and 0 alone where it has zeros alone
 pub record IsWritableBand (layout : BandLayout) (b : CodedBand) : Type 0 where
@@ -45,14 +31,3 @@ pub record IsWritten (s : Sequence) (r : CodedResidual) : Type 0 where
   pub y : AreWritable r.transform s.width (picture_height s) r.y
   pub u : AreWritable r.transform (chroma_width s) (chroma_height s) r.u
   pub v : AreWritable r.transform (chroma_width s) (chroma_height s) r.v
-
--- coefficients stay below 2 ^ 38
-abbrev pub HaveSmall : List CodedBand → Type 0
-HaveSmall bands =
-    (n : ℕ) (b : CodedBand) → slice_get bands n ≡ Some b → All (λ v. unsigned_abs v < 2 ^ 38) b.table.values
-
--- those of all three planes
-pub record AreSmall (r : CodedResidual) : Type 0 where
-  pub y : HaveSmall r.y
-  pub u : HaveSmall r.u
-  pub v : HaveSmall r.v
