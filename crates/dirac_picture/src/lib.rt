@@ -20,7 +20,7 @@ pub use coded::{CodedMotion, CodedPicture, CodedResidual};
 pub use dirac_units::is_intra;
 pub use layouts::layout;
 pub use motion::superblocks_over;
-pub use picture::read_picture;
+pub use picture::{are_listed, read_picture};
 pub use plane_bands::PlaneBands;
 pub use texts::{Texts, text_among, texts_of};
 pub use write::payload_bytes;
