@@ -6,10 +6,10 @@ ghost use Rattle.std.specs.Io.KnownBytes.{IsAtEnd};
 ghost use Rattle.dirac_io.specs.Faults.{Rose};
 ghost use Rattle.dirac_types.specs.Settings.{IsAccepted};
 ghost use Rattle.dirac_sequence.specs.Written.{sequence_payload};
+ghost use Rattle.dirac_decode.specs.Raw.{raw_length as length_of};
 ghost use Rattle.dirac_plan.specs.Planning.{empty_planning};
 ghost use Rattle.dirac_stream.specs.Encoding.{AnswersEncode, EndsStream, IsRecoveredUnder, behind, encoding_under};
 ghost use Rattle.dirac_stream.specs.Fit.{rule_of};
-ghost use Rattle.dirac_stream.specs.Raw.{raw_length as length_of};
 ghost use Rattle.dirac_stream.specs.Steps.{no_progress};
 ghost use Rattle.dirac_encode.specs.Going.{so_far};
 

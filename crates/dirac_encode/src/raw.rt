@@ -8,9 +8,8 @@ ghost use Rattle.dirac_types.specs.Sizes.{picture_height};
 ghost use Rattle.dirac_sequence.specs.Lawful.{IsSequence};
 ghost use Rattle.dirac_picture.specs.Fits.{IsPlaneSize};
 ghost use Rattle.dirac_picture.specs.Grammar.{chroma_height, chroma_width};
-ghost use Rattle.dirac_decode.specs.Raw.{raw as raw_of};
+ghost use Rattle.dirac_decode.specs.Raw.{picture_from, picture_in, plane_from, raw as raw_of, raw_length as length_of, sample_of};
 ghost use Rattle.dirac_stream.specs.Coded.{IsSource};
-ghost use Rattle.dirac_stream.specs.Raw.{picture_from, picture_in, plane_from, raw_length as length_of, sample_of};
 
 use dirac_sequence::{Sequence, sequence_of};
 use dirac_types::{Component, LARGEST_SIDE, NoMemory, Picture, Plane, Settings};

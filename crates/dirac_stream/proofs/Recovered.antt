@@ -14,12 +14,11 @@ use Rattle.dirac_types.specs.Samples.{clip}
 use Rattle.dirac_units.specs.Cut.{IsCut, start}
 use Rattle.dirac_sequence.specs.Written.{sequence_of}
 use Rattle.dirac_picture.specs.Grammar.{chroma_height, chroma_width}
-use Rattle.dirac_decode.specs.Raw.{raws}
+use Rattle.dirac_decode.specs.Raw.{chroma_bytes, luma_bytes, picture_from, pictures_in, raw_length, raws, sample_of, sources, whole_pictures}
 use Rattle.dirac_decode.specs.Shown.{Outcome, IsShown}
 use Rattle.dirac_analysis.specs.Fits.{AreSamples}
 use Rattle.dirac_stream.specs.Coded.{IsSource}
 use Rattle.dirac_stream.specs.Encoding.{IsRecovered, IsRecoveredUnder, first_long, is_short}
-use Rattle.dirac_stream.specs.Raw.{chroma_bytes, luma_bytes, picture_from, pictures_in, raw_length, sample_of, sources, whole_pictures}
 use Rattle.dirac_stream.specs.Coding.{IndexRule, Made, coding_under, own_index, reconstructions_under}
 use Rattle.dirac_stream.specs.Laws.{AreSourcesUnder, GivesIndices, IsWhole, RawPicturesAreRecovered, RawPicturesAreRecoveredUnder, StreamsShowTheirPictures}
 use Rattle.dirac_stream.specs.Tables.{TablesAreChosen}

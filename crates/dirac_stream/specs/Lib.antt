@@ -2,7 +2,6 @@ pub mod Coded
 pub mod Coding
 pub mod Stream
 pub mod Fit
-pub mod Raw
 pub mod Encoding
 pub mod Codable
 pub mod Tables

@@ -2,11 +2,10 @@ use Rattle.std.proofs.Common.{◌≡◌, ◌+◌, ◌*◌, length, ap, sym, ◌�
 use Rattle.dirac_types.specs.Sizes.{picture_height}
 use Rattle.dirac_sequence.specs.declared.sequence.Sequence.{Sequence}
 use Rattle.dirac_picture.specs.Grammar.{chroma_height, chroma_width}
-use Rattle.dirac_stream.specs.Raw.{picture_in}
 use Rattle.dirac_residual.proofs.Maps.{ok_weaker}
 use Rattle.dirac_stream.proofs.Coding.{codable}
 use Rattle.dirac_stream.proofs.Raws.{raw_sizes, raw_source, ok_four}
-use Rattle.dirac_decode.specs.Raw.{raw}
+use Rattle.dirac_decode.specs.Raw.{picture_in, raw}
 use Rattle.dirac_stream.proofs.RawBytes.{raw_again}
 use Rattle.dirac_sequence.proofs.Packed.{all_below}
 use Rattle.dirac_encode.proofs.raw.picture_of.Goals as goal
