@@ -1,5 +1,5 @@
 -- Raw pictures: the rows of Y, then of U, then of V, a byte a sample.
-use Rattle.std.specs.Prelude.{ℕ, zero, suc, ℤ, pos, ◌+◌, ◌*◌, ◌/◌, ◌%◌, ◌+ℤ◌, ◌-ℤ◌, unsigned_abs, List, [], ◌∷◌, ◌++◌, length, map, min, take, drop}
+use Rattle.std.specs.Prelude.{◌≡◌, ℕ, zero, suc, ℤ, pos, ◌+◌, ◌*◌, ◌/◌, ◌%◌, ◌+ℤ◌, ◌-ℤ◌, unsigned_abs, List, [], ◌∷◌, ◌++◌, length, map, min, take, drop}
 use Rattle.std.specs.Int.{int_rem_euclid}
 use Rattle.std.specs.List.{flat_map}
 use Rattle.dirac_types.specs.declared.picture.Picture.{Picture}
@@ -8,6 +8,7 @@ use Rattle.dirac_types.specs.Sizes.{picture_height}
 use Rattle.dirac_types.specs.Table.{Table}
 use Rattle.dirac_sequence.specs.Sizes.{chroma_height, chroma_width}
 use Rattle.dirac_sequence.specs.Written.{sequence_of}
+use Rattle.dirac_residual.specs.Residual.{AreSamples}
 
 -- the byte of a sample: it is 128 more, modulo 256, and samples are from -128 to 127
 abbrev pub byte_of : ℤ → ℕ
@@ -57,6 +58,18 @@ picture_in width height chroma_width chroma_height number bytes = record {
 abbrev pub picture_from : Settings → ℕ → List ℕ → Picture
 picture_from t number bytes =
     picture_in t.width (picture_height t) (chroma_width (sequence_of t)) (chroma_height (sequence_of t)) number bytes
+
+-- a plane of this size, its samples from -128 to 127
+pub record IsPlane (width height : ℕ) (t : Table) : Type 0 where
+  pub across : t.width ≡ width
+  pub down : t.height ≡ height
+  pub samples : AreSamples t.values
+
+-- a picture that can be coded with these settings
+pub record IsSource (t : Settings) (p : Picture) : Type 0 where
+  pub y : IsPlane t.width (picture_height t) p.y
+  pub u : IsPlane (chroma_width (sequence_of t)) (chroma_height (sequence_of t)) p.u
+  pub v : IsPlane (chroma_width (sequence_of t)) (chroma_height (sequence_of t)) p.v
 
 -- how many whole raw pictures these bytes are, and how many bytes are left over
 abbrev pub whole_pictures : Settings → List ℕ → ℕ

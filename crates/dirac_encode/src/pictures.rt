@@ -17,7 +17,7 @@ use crate::coder::Coder;
 use crate::ending::put_last;
 use crate::planned::put_planned;
 use crate::progress::Progress;
-use crate::raw::picture_of;
+use dirac_decode::picture_of;
 use dirac_io::{Filled, RowGate, Sink, Source, fill};
 use dirac_plan::Planner;
 use dirac_plan_laws::plans_can_be_coded;

@@ -6,7 +6,6 @@ pub mod Indices
 pub mod Fitting
 pub mod Sourcing
 pub mod Encodings
-pub mod Sizes
 pub mod Counting
 pub mod Coding
 pub mod Lefts
@@ -14,8 +13,6 @@ pub mod Reading
 pub mod Kept
 pub mod Sources
 pub mod Streams
-pub mod RawBytes
-pub mod Raws
 pub mod Accepted
 pub mod Recovered
 pub mod OldCase

@@ -56,7 +56,7 @@ use Rattle.dirac_stream.proofs.Coding.{bands_fit, bands_writable, bands_small, c
 use Rattle.dirac_stream.proofs.Headers.{length-bytes_in}
 use Rattle.dirac_stream.proofs.InBytes.{bytes_again}
 use Rattle.dirac_stream.proofs.Lefts.{IsPredicting, differences_small, found_is, named_is, picture_is, predicted_are, samples_are}
-use Rattle.dirac_stream.proofs.Sizes.{sequence_lawful}
+use Rattle.dirac_decode.proofs.Sizes.{sequence_lawful}
 use Rattle.dirac_plan_laws.specs.Headers.{IsPlanned, header_of}
 
 -- ---- settings

@@ -30,7 +30,7 @@ use Rattle.dirac_stream.proofs.Reading.{jobs_read}
 use Rattle.dirac_stream.proofs.Showing.{each_unit}
 use Rattle.dirac_stream.proofs.Sourcing.{jobs_read_under, shown_under, sources_made}
 use Rattle.dirac_stream.proofs.Indices.{own_gives}
-use Rattle.dirac_stream.proofs.RawBytes.{below_drop, below_take, raw_again}
+use Rattle.dirac_decode.proofs.RawBytes.{below_drop, below_take, raw_again}
 use Rattle.dirac_stream.proofs.Sources.{length-pictures_in, numbered_in}
 use Rattle.dirac_plan_laws.specs.Plans.{PlansCanBeCoded}
 

@@ -1,5 +1,5 @@
 -- The coded picture that a planned picture becomes.
-use Rattle.std.specs.Prelude.{◌≡◌, ℕ, ℤ, zero, suc, ◌+◌, ◌-ℤ◌, ◌==◌, ◌&&◌, if◌then◌else◌, Bool, List, [], ◌∷◌, ◌++◌, min, Option, Some, None}
+use Rattle.std.specs.Prelude.{ℕ, ℤ, zero, suc, ◌+◌, ◌-ℤ◌, ◌==◌, ◌&&◌, if◌then◌else◌, Bool, List, [], ◌∷◌, ◌++◌, min, Option, Some, None}
 use Rattle.std.specs.Simd.Lanes.{zip2}
 use Rattle.dirac_types.specs.declared.formats.Kind.{Kind}
 use Rattle.dirac_types.specs.declared.formats.Kind.TheVariants.{Intra, Inter}
@@ -18,11 +18,11 @@ use Rattle.dirac_types.specs.declared.formats.Component.TheVariants as component
 use Rattle.dirac_picture.specs.declared.coded.CodedMotion.{CodedMotion}
 use Rattle.dirac_picture.specs.declared.coded.CodedPicture.{CodedPicture}
 use Rattle.dirac_picture.specs.declared.coded.CodedResidual.{CodedResidual}
-use Rattle.dirac_picture.specs.Grammar.{chroma_width, chroma_height, is_intra}
+use Rattle.dirac_picture.specs.Grammar.{is_intra}
 pub use Rattle.dirac_picture.specs.Written.{motion_with}
 use Rattle.dirac_analysis.specs.Analysis.{plane_bands}
-use Rattle.dirac_analysis.specs.Fits.{AreSamples}
 use Rattle.dirac_decode.specs.Content.{named, plane_of, predicted_among}
+pub use Rattle.dirac_decode.specs.Raw.{IsPlane, IsSource}
 pub use Rattle.dirac_residual.specs.Zeros.{are_zero_bands}
 use Rattle.dirac_plan.specs.declared.planned.Planned.{Planned}
 pub use Rattle.dirac_plan_laws.specs.Headers.{header_of}
@@ -118,15 +118,3 @@ coded_with t refs q p m = record {
 -- the coded picture of a planned source, with these pictures listed
 abbrev pub coded_of : Settings → List Picture → Planned → Picture → CodedPicture
 coded_of t refs q p = coded_with t refs q p (motion_of t refs q p)
-
--- a plane of this size, its samples from -128 to 127
-pub record IsPlane (width height : ℕ) (t : Table) : Type 0 where
-  pub across : t.width ≡ width
-  pub down : t.height ≡ height
-  pub samples : AreSamples t.values
-
--- a picture that can be coded with these settings
-pub record IsSource (t : Settings) (p : Picture) : Type 0 where
-  pub y : IsPlane t.width (picture_height t) p.y
-  pub u : IsPlane (chroma_width (sequence_of t)) (chroma_height (sequence_of t)) p.u
-  pub v : IsPlane (chroma_width (sequence_of t)) (chroma_height (sequence_of t)) p.v

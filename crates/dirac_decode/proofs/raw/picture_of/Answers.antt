@@ -3,20 +3,20 @@ use Rattle.dirac_types.specs.Sizes.{picture_height}
 use Rattle.dirac_sequence.specs.declared.sequence.Sequence.{Sequence}
 use Rattle.dirac_picture.specs.Grammar.{chroma_height, chroma_width}
 use Rattle.dirac_residual.proofs.Maps.{ok_weaker}
-use Rattle.dirac_stream.proofs.Coding.{codable}
-use Rattle.dirac_stream.proofs.Raws.{raw_sizes, raw_source, ok_four}
+use Rattle.dirac_sequence.proofs.Accepted.{writable}
+use Rattle.dirac_decode.proofs.Raws.{raw_sizes, raw_source, ok_four}
 use Rattle.dirac_decode.specs.Raw.{picture_in, raw}
-use Rattle.dirac_stream.proofs.RawBytes.{raw_again}
+use Rattle.dirac_decode.proofs.RawBytes.{raw_again}
 use Rattle.dirac_sequence.proofs.Packed.{all_below}
-use Rattle.dirac_encode.proofs.raw.picture_of.Goals as goal
+use Rattle.dirac_decode.proofs.raw.picture_of.Goals as goal
 
 pub planes_of-requires-clause-luma : goal.planes_of-requires-clause-luma
 planes_of-requires-clause-luma c =
-    (raw_sizes c.args.settings.now c.sequence_of-sequence.result (codable c.args.settings.now c.requires.accepted) c.sequence_of-sequence.ensures.value).0
+    (raw_sizes c.args.settings.now c.sequence_of-sequence.result (writable c.args.settings.now c.requires.accepted) c.sequence_of-sequence.ensures.value).0
 
 pub planes_of-requires-clause-chroma : goal.planes_of-requires-clause-chroma
 planes_of-requires-clause-chroma c =
-    (raw_sizes c.args.settings.now c.sequence_of-sequence.result (codable c.args.settings.now c.requires.accepted) c.sequence_of-sequence.ensures.value).1
+    (raw_sizes c.args.settings.now c.sequence_of-sequence.result (writable c.args.settings.now c.requires.accepted) c.sequence_of-sequence.ensures.value).1
 
 pub planes_of-requires-clause-bytes : goal.planes_of-requires-clause-bytes
 planes_of-requires-clause-bytes c =

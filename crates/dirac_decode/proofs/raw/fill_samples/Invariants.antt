@@ -1,7 +1,7 @@
 use Rattle.std.proofs.Common.{◌≡◌, ◌<◌, ℕ, pos, slice_index_or}
 use Rattle.dirac_residual.specs.Residual.{clip}
 use Rattle.dirac_decode.specs.Raw.{sample_of}
-use Rattle.dirac_encode.proofs.raw.fill_samples.Given as goal
+use Rattle.dirac_decode.proofs.raw.fill_samples.Given as goal
 
 abbrev pub invariant-loop-i : goal.invariant-loop-i
 invariant-loop-i l = record {

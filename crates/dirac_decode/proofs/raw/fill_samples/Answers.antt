@@ -1,7 +1,7 @@
 use Rattle.std.proofs.Common.{pos, arith}
 use Rattle.std.proofs.lemmas.List.{get_or_default}
-use Rattle.dirac_stream.proofs.Raws.{samples_all}
-use Rattle.dirac_encode.proofs.raw.fill_samples.Goals as goal
+use Rattle.dirac_decode.proofs.Raws.{samples_all}
+use Rattle.dirac_decode.proofs.raw.fill_samples.Goals as goal
 
 pub returns-clause-value : goal.returns-clause-value
 returns-clause-value c =
