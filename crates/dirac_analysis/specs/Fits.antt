@@ -5,18 +5,14 @@ use Rattle.std.specs.List.{All}
 use Rattle.dirac_types.specs.Limits.{IsIndex}
 use Rattle.dirac_types.specs.declared.limits.TheConstants.{LARGEST_TABLE_SIDE}
 use Rattle.dirac_types.specs.Table.{Table}
-use Rattle.dirac_types.specs.Samples.{clip}
 use Rattle.dirac_bands.specs.Geometry.{level_of}
 pub use Rattle.dirac_bands.specs.Geometry.{lowest_size}
 use Rattle.dirac_header.specs.Counts.{counts_at}
 use Rattle.dirac_coeffs.specs.declared.layout.BandLayout.{BandLayout}
 use Rattle.dirac_coeffs.specs.declared.layout.CodedBand.{CodedBand}
 use Rattle.dirac_coeffs.specs.Written.{AreIndicesOf, is_zero_band}
+pub use Rattle.dirac_residual.specs.Residual.{AreSamples}
 use Rattle.dirac_analysis.specs.Analysis.{Analysis}
-
--- samples are from -128 to 127: clipping keeps them
-abbrev pub AreSamples : List ℤ → Type 0
-AreSamples xs = All (λ v. clip v ≡ v) xs
 
 -- two samples are at most 255 apart: samples less what is predicted for them, or samples themselves
 abbrev pub AreDifferences : List ℤ → Type 0

@@ -14,6 +14,7 @@ use crate::choosing::{Choices, choose_all};
 use crate::coded::{are_all_zeros, reduce_part};
 use dirac_bands::edge;
 use dirac_coeffs::{CodedBand, Indices};
+use dirac_residual::first_codeblock;
 use dirac_types::{BandTable, LARGEST_TABLE_SIDE, MOST_CODEBLOCKS, NoMemory, Wide};
 use std::alloc::Global;
 
@@ -37,21 +38,6 @@ fn reduce_row(values: &[i128], indices: &Indices, first: u32, across: u32, line:
         let index = indices.at(first + cx);
         reduce_part(values, index, start as usize, end as usize, line);
     }
-}
-
-/// Where the codeblocks of this row of a band begin among all.
-fn first_codeblock(height: u32, counts: (u32, u32), y: u32) -> u32
-    requires height { height ≤ LARGEST_TABLE_SIDE }
-    requires across { counts.0 ≤ MOST_CODEBLOCKS }
-    requires down { (1 ≤ counts.1) × (counts.1 ≤ MOST_CODEBLOCKS) }
-    requires inside { y < height }
-    ensures value { result ≡ codeblock_of height counts.1 y * counts.0 }
-    ensures at_most_all { result ≤ MOST_CODEBLOCKS * MOST_CODEBLOCKS }
-    ensures row { result + counts.0 ≤ counts.0 * counts.1 }
-{
-    let (across, down) = counts;
-    let cy = ((u64::from(down) * (u64::from(y) + 1) - 1) / u64::from(height)) as u32;
-    cy * across
 }
 
 /// The numbers of a band, each codeblock quantised with its own index.

@@ -13,13 +13,14 @@ use Rattle.dirac_picture.specs.declared.coded.CodedPicture.{CodedPicture}
 use Rattle.dirac_picture.specs.declared.coded.CodedResidual.{CodedResidual}
 use Rattle.dirac_picture.specs.Fits.{FitsSequence, HasResidual, IsResidual}
 use Rattle.dirac_picture.specs.Grammar.{is_intra, picture_read}
+use Rattle.dirac_picture.specs.Written.{HasSpelledBlocks, payload_of}
+use Rattle.dirac_picture.specs.Writable.{IsWritten}
 use Rattle.dirac_decode.specs.Content.{rebuilt}
 use Rattle.dirac_plan.specs.declared.planned.Planned.{Planned}
 use Rattle.dirac_plan_laws.specs.Headers.{header_of}
 use Rattle.dirac_stream.specs.Coded.{coded_with, is_zero_residual, motion_among, motion_with, residual_of}
 use Rattle.dirac_stream.specs.Laws.{IsWhole}
-use Rattle.dirac_stream.specs.Payload.{HasSpelledBlocks, payload_of}
-use Rattle.dirac_stream.specs.Writable.{AreSmall, IsWritten}
+use Rattle.dirac_stream.specs.Codable.{AreSmall}
 use Rattle.dirac_stream.proofs.Kept.{kept_with}
 use Rattle.dirac_stream.proofs.Lefts.{motion_fits}
 use Rattle.dirac_stream.proofs.Reading.{Moves, predicting, read_spelled, residual_fits, residual_small}

@@ -1,6 +1,4 @@
-pub mod Apart
 pub mod Asking
-pub mod Bandwise
 pub mod Choices
 pub mod Differences
 pub mod Facts
@@ -8,4 +6,3 @@ pub mod Finishing
 pub mod Lending
 pub mod Predicting
 pub mod Preparing
-pub mod Taken

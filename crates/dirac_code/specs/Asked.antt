@@ -9,12 +9,12 @@ use Rattle.dirac_blocks.specs.Tables.{BlockTable}
 use Rattle.dirac_picture.specs.declared.coded.CodedMotion.{CodedMotion}
 use Rattle.dirac_picture.specs.declared.coded.CodedPicture.{CodedPicture}
 use Rattle.dirac_picture.specs.Grammar.{are_listed, is_intra, picture_read}
+use Rattle.dirac_picture.specs.Written.{payload_of}
 use Rattle.dirac_decode.specs.Content.{rebuilt}
 use Rattle.dirac_plan.specs.declared.planned.Planned.{Planned}
 use Rattle.dirac_plan_laws.specs.Headers.{IsPlanned, header_of}
 use Rattle.dirac_stream.specs.Coded.{IsSource, coded_with, motion_among, residual_of}
-use Rattle.dirac_stream.specs.Payload.{payload_of}
-use Rattle.dirac_stream.specs.Writable.{AreSmall}
+use Rattle.dirac_stream.specs.Codable.{AreSmall}
 use Rattle.dirac_choose.specs.Chosen.{IsChosen}
 use Rattle.dirac_choose.specs.Lent.{AreLent, AreNamed}
 use Rattle.dirac_code.specs.declared.prepared.Moving.{Moving}

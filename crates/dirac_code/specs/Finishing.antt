@@ -3,9 +3,9 @@ use Rattle.std.specs.Prelude.{◌≡◌, List, Option, Some, IfSome}
 use Rattle.dirac_types.specs.declared.picture.Picture.{Picture}
 use Rattle.dirac_sequence.specs.declared.sequence.Sequence.{Sequence}
 use Rattle.dirac_picture.specs.declared.coded.CodedPicture.{CodedPicture}
+use Rattle.dirac_picture.specs.Writable.{IsWritten}
 use Rattle.dirac_decode.specs.Content.{named}
 use Rattle.dirac_decode.specs.Rebuilding.{CanBeRebuilt}
-use Rattle.dirac_stream.specs.Writable.{IsWritten}
 use Rattle.dirac_code.specs.declared.prepared.Compensated.{Compensated}
 use Rattle.dirac_code.specs.Predictions.{ArePredictions}
 

@@ -3,4 +3,3 @@ pub mod Asked
 pub mod Finishing
 pub mod Predictions
 pub mod Prepared
-pub mod Texts

@@ -1,13 +1,11 @@
 //! A picture, coded as it is planned: its payload, and the picture that decoders show for it.
 #![tactic(auto)]
 
-mod bands;
 mod beside;
 mod choosing;
 mod difference;
 mod making;
 mod motion;
-mod payload;
 mod picture;
 mod predictions;
 mod prepared;

@@ -1,39 +1,30 @@
 //! A picture, coded.
 
-ghost use Rattle.std.specs.Prelude.{◌≡◌, ◌≤◌, ◌<◌, ◌^◌, [], true, Ok, IfOk, IfSome};
+ghost use Rattle.std.specs.Prelude.{◌≡◌, ◌<◌, ◌^◌, true, Ok, IfOk};
 ghost use Rattle.std.specs.List.{AllByRecursion};
 ghost use Rattle.std.specs.Option.{option_copied};
-ghost use Rattle.dirac_types.specs.Bits.{bits_of};
 ghost use Rattle.dirac_types.specs.Limits.{IsIndex};
 ghost use Rattle.dirac_types.specs.Settings.{IsAccepted};
-ghost use Rattle.dirac_bits.specs.Writing.{up_to_byte};
-ghost use Rattle.dirac_sequence.specs.Lawful.{IsSequence};
 ghost use Rattle.dirac_sequence.specs.Written.{sequence_of as sequence_for};
-ghost use Rattle.dirac_header.specs.Codes.{is_reference};
-ghost use Rattle.dirac_header.specs.Written.{HasReferences, MayRetire, header_bits};
 ghost use Rattle.dirac_picture.specs.Grammar.{are_listed, picture_read};
+ghost use Rattle.dirac_picture.specs.Written.{payload_of};
 ghost use Rattle.dirac_decode.specs.Content.{rebuilt};
 ghost use Rattle.dirac_plan_laws.specs.Headers.{IsPlanned, header_of};
 ghost use Rattle.dirac_stream.specs.Coded.{IsSource, motion_among, residual_of};
-ghost use Rattle.dirac_stream.specs.Payload.{HasSpelledBlocks, payload_of, with_picture};
-ghost use Rattle.dirac_stream.specs.Writable.{AreSmall, IsWritten};
+ghost use Rattle.dirac_stream.specs.Codable.{AreSmall};
 ghost use Rattle.dirac_choose.specs.Chosen.{at_index};
 ghost use Rattle.dirac_code.specs.Asked.{HasBlocks, IsCoding, coded_by};
 ghost use Rattle.dirac_code.specs.Prepared.{IsPrepared, blocks_in};
-ghost use Rattle.dirac_code.specs.Texts.{AreTexts};
 
 use crate::making::coded_picture;
-use crate::payload::write_picture;
 use crate::prepared::{Prepared, prepare};
 use crate::showing::Finished;
-use crate::texts::Texts;
 use crate::workers::{OneWorker, Workers};
-use dirac_bits::BitWriter;
 use dirac_blocks::BlockData;
-use dirac_picture::CodedPicture;
+use dirac_picture::payload_bytes;
 use dirac_plan::Planned;
 use dirac_refs::RefBuffer;
-use dirac_sequence::{Sequence, sequence_of};
+use dirac_sequence::sequence_of;
 use dirac_types::{NoMemory, Picture, Settings};
 use std::alloc::Global;
 
@@ -42,32 +33,6 @@ use std::alloc::Global;
 pub struct Coded {
     pub payload: Vec<u8>,
     pub shown: Picture,
-}
-
-/// The bytes of a coded picture, those of its bands being these.
-fn payload_bytes(
-    alloc: Global,
-    settings: &Settings,
-    sequence: &Sequence,
-    coded: &CodedPicture,
-    texts: &Texts,
-) -> Result<Vec<u8>, NoMemory>
-    requires sequence { IsSequence sequence.now }
-    requires same { sequence.now ≡ sequence_for settings.now }
-    requires blocks { (2 ≤ settings.now.blocks) × (settings.now.blocks ≤ 4) }
-    requires precision { settings.now.precision ≤ 3 }
-    requires references { HasReferences coded.now.code coded.now.header }
-    requires retires { MayRetire (is_reference coded.now.code) coded.now.header.number coded.now.header.retire }
-    requires written { IfSome coded.now.residual (IsWritten sequence.now) }
-    requires texts { IfSome coded.now.residual (λ r. AreTexts sequence.now r texts.now) }
-    ensures value { IfOk result (λ v. bits_of v.items ≡ up_to_byte (with_picture settings.now coded.now [])) }
-    ensures spelled { IfOk result (λ v. HasSpelledBlocks settings.now coded.now.motion
-        (header_bits [] coded.now.code coded.now.header)) }
-{
-    let mut w = BitWriter::new(alloc);
-    write_picture(alloc, &mut w, settings, sequence, coded, texts)?;
-    let bytes = w.finish()?;
-    Ok(bytes)
 }
 
 /// Bytes are below 256.

@@ -9,7 +9,7 @@ ghost use Rattle.dirac_analysis.specs.Analysis.{quantised};
 ghost use Rattle.dirac_analysis.specs.Fits.{AreDifferences, AreQuantisable};
 ghost use Rattle.dirac_decode.specs.Content.{plane_of};
 ghost use Rattle.dirac_stream.specs.Coded as coding;
-ghost use Rattle.dirac_stream.specs.Writable.{IsCodable};
+ghost use Rattle.dirac_stream.specs.Codable.{IsCodable};
 ghost use Rattle.dirac_code.specs.Analyses.{AreAnalysed, AreQuantisablePlanes, IsAnalysed, analysis_of};
 ghost use Rattle.dirac_code.specs.Analyses.{quantised_planes};
 ghost use Rattle.dirac_code.specs.Predictions.{IsCodablePlane, IsCodableSource, IsPicturePredictedBy, IsPredictedBy};

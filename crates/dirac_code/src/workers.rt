@@ -4,14 +4,14 @@ ghost use Rattle.std.specs.Prelude.{◌≡◌, IfOk, IfSome, IsSome, Some};
 ghost use Rattle.dirac_types.specs.declared.formats.Kind.TheVariants.{Inter, Intra};
 ghost use Rattle.dirac_sequence.specs.Lawful.{IsSequence};
 ghost use Rattle.dirac_picture.specs.Fits.{IsMotion};
+ghost use Rattle.dirac_picture.specs.Texts.{AreTexts};
 ghost use Rattle.dirac_decode.specs.Content.{rebuilt};
 ghost use Rattle.dirac_stream.specs.Coded as coding;
-ghost use Rattle.dirac_stream.specs.Writable.{IsCodable};
+ghost use Rattle.dirac_stream.specs.Codable.{IsCodable};
 ghost use Rattle.dirac_choose.specs.Lent.{AreLent, first_of, second_of};
 ghost use Rattle.dirac_code.specs.Analyses.{AreAnalysed, AreQuantisablePlanes, quantised_planes};
 ghost use Rattle.dirac_code.specs.Finishing.{CanBeFinished};
 ghost use Rattle.dirac_code.specs.Predictions.{ArePredictions, IsCodableSource, IsPicturePredictedBy};
-ghost use Rattle.dirac_code.specs.Texts.{AreTexts};
 
 use crate::predictions::{Predictions, predict_planes, predict_side_by_side};
 use crate::prepared::Compensated;

@@ -6,6 +6,7 @@ use Rattle.std.proofs.lemmas.List.{ext_get_or, get_or-map, length-map, map-appen
 use Rattle.std.proofs.Math.Seq.{take-add, take-length}
 use Rattle.dirac_types.specs.Table.{Table, row_of}
 use Rattle.dirac_io.specs.Writing.{AppendsFront}
+pub use Rattle.dirac_units.proofs.Appended.{behind_front, front_then}
 use Rattle.dirac_decode.specs.Raw.{byte_of, plane_bytes}
 
 -- the rows before row y, as bytes
@@ -61,19 +62,6 @@ front_in_row t y row taken taken' taken'' so is front =
     ∙ ap (λ bs. rows_before t y ++ bs) (append_assoc front.0 front.1 (rows_from t (y + 1)))
     ∙ sym (append_assoc (rows_before t y) front.0 (front.1 ++ rows_from t (y + 1))) in
     (rows_before t y ++ front.0, front.1 ++ rows_from t (y + 1), text, Appends-trans taken taken' taken'' (rows_before t y) front.0 so front.3)
-
--- planes, one after another
-pub front_then : (taken taken' : Option (List ℕ)) (first second : List ℕ) → AppendsFront taken taken' first → AppendsFront taken taken' (first ++ second)
-front_then taken taken' first second front =
-    (front.0, front.1 ++ second, ap (λ bs. bs ++ second) front.2 ∙ append_assoc front.0 front.1 second, front.3)
-
-pub behind_front : (taken taken' taken'' : Option (List ℕ)) (first second : List ℕ) → Appends taken taken' first → AppendsFront taken' taken'' second → AppendsFront taken taken'' (first ++ second)
-behind_front taken taken' taken'' first second so front = (
-  first ++ front.0,
-  front.1,
-  ap (λ bs. first ++ bs) front.2 ∙ sym (append_assoc first front.0 front.1),
-  Appends-trans taken taken' taken'' first front.0 so front.3,
-)
 
 -- values that are told one by one
 pub bytes_all : (f : ℤ → ℕ) (xs : List ℤ) (ys : List ℕ) (n : ℕ) → length ys ≡ length xs → ((k : ℕ) → k < n → get_or ys k 0 ≡ f (get_or xs k (pos 0))) → length xs ≤ n → ys ≡ map f xs

@@ -9,7 +9,6 @@ use Rattle.dirac_types.specs.Table.{Table}
 use Rattle.dirac_sequence.specs.declared.sequence.Sequence.{Sequence}
 use Rattle.dirac_sequence.specs.Sizes.{chroma_height, chroma_width, picture_height, plane_height, plane_width}
 use Rattle.dirac_header.specs.declared.header.PictureHeader.{PictureHeader}
-use Rattle.dirac_coeffs.specs.declared.layout.CodedBand.{CodedBand}
 use Rattle.dirac_upconvert.specs.HalfSamples.{IsSample, half}
 use Rattle.dirac_upconvert.specs.SubSamples.{Up}
 use Rattle.dirac_types.specs.declared.formats.Component.{Component}
@@ -19,6 +18,7 @@ use Rattle.dirac_refs.specs.References.{listed}
 use Rattle.dirac_picture.specs.declared.coded.CodedMotion.{CodedMotion}
 use Rattle.dirac_picture.specs.declared.coded.CodedPicture.{CodedPicture}
 use Rattle.dirac_picture.specs.declared.coded.CodedResidual.{CodedResidual}
+pub use Rattle.dirac_picture.specs.Bands.{bands_of}
 use Rattle.dirac_picture.specs.Grammar.{are_listed}
 use Rattle.dirac_residual.specs.Residual.{residual, clipped, with_prediction}
 pub use Rattle.dirac_residual.specs.Zeros.{zeros}
@@ -36,12 +36,6 @@ abbrev pub plane_of : Picture → Component → Table
 plane_of p component.Y = p.y
 plane_of p component.U = p.u
 plane_of p component.V = p.v
-
--- the bands of a plane
-abbrev pub bands_of : CodedResidual → Component → List CodedBand
-bands_of r component.Y = r.y
-bands_of r component.U = r.u
-bands_of r component.V = r.v
 
 -- the residual of a plane; where none is coded it is 0
 abbrev pub residual_among : Sequence → Kind → Component → Option CodedResidual → Table

@@ -8,17 +8,15 @@ ghost use Rattle.dirac_picture.specs.Grammar.{is_picture, picture_read};
 ghost use Rattle.dirac_residual.specs.Residual.{clipped as clipped_table, with_prediction};
 ghost use Rattle.dirac_decode.specs.Content as content;
 ghost use Rattle.dirac_decode.specs.Content.{AreReferences, IsPicture, rebuilt};
-ghost use Rattle.dirac_decode.specs.StreamState.{as_reference};
 ghost use Rattle.dirac_decode.specs.Predicting.{inter_picture, inter_plane, intra_picture};
 ghost use Rattle.dirac_decode.specs.Rebuilding.{Rebuilds};
 ghost use Rattle.dirac_decode.specs.Taking.{IfStopped, IsRebuilt};
 
 use crate::compensate::{named, predict_from};
 use crate::planes::residual_of;
-use dirac_header::is_reference;
 use dirac_obmc::Component;
 use dirac_picture::{CodedMotion, CodedPicture, CodedResidual, read_picture};
-use dirac_refs::RefBuffer;
+use dirac_refs::{RefBuffer, reference_of};
 use dirac_residual::{clipped, clipped_sum};
 use dirac_sequence::Sequence;
 use dirac_types::{Kind, NoMemory, Picture, Plane, Stop};
@@ -205,17 +203,6 @@ pub(crate) struct Rebuilt {
     pub(crate) coded: CodedPicture,
     pub(crate) picture: Picture,
     pub(crate) reference: Option<Picture>,
-}
-
-/// A picture once more, where later pictures may refer to one with this parse code.
-fn reference_of(alloc: Global, code: u8, picture: &Picture) -> Result<Option<Picture>, NoMemory>
-    ensures { IfOk result (λ r. r ≡ as_reference code picture.now) }
-{
-    if !is_reference(code) {
-        return Ok(None);
-    }
-    let copy = picture.try_copy(alloc)?;
-    Ok(Some(copy))
 }
 
 /// The picture that a coded picture stands for, rebuilt by `make`.

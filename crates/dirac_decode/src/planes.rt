@@ -5,7 +5,7 @@ ghost use Rattle.dirac_picture.specs.Fits.{IsPlaneSize, IsResidual};
 ghost use Rattle.dirac_decode.specs.Content as content;
 
 use dirac_obmc::Component;
-use dirac_picture::{CodedResidual, PlaneBands};
+use dirac_picture::CodedResidual;
 use dirac_residual::{Residual, plane_residual};
 use dirac_sequence::Sequence;
 use dirac_types::{Kind, LARGEST_SIDE, NoMemory, Picture, Plane};
@@ -42,17 +42,6 @@ pub fn plane_of(picture: &Picture, component: Component) -> &Plane
     }
 }
 
-/// Lends the bands of a plane.
-fn bands_of(residual: &CodedResidual, component: Component) -> &PlaneBands
-    ensures { result.now ≡ content.bands_of residual.now component }
-{
-    match component {
-        Component::Y => &residual.y,
-        Component::U => &residual.u,
-        Component::V => &residual.v,
-    }
-}
-
 /// The residual of a plane that is coded.
 fn coded_residual(
     alloc: Global,
@@ -70,7 +59,7 @@ fn coded_residual(
         alloc,
         &residual.transform,
         kind,
-        bands_of(residual, component).bands(),
+        residual.plane_bands(component).bands(),
         width_of(sequence, component),
         height_of(sequence, component),
     )

@@ -13,9 +13,10 @@ ghost use Rattle.dirac_edit.specs.Merged.{added, behind, length_behind, may_foll
 use crate::keys::{Keys, keys_of};
 use crate::numbers::{behind_number, number_in};
 use crate::sequence::{HeldPicture, HeldSequence};
-use crate::writing::{put_end, put_unit, unit_length};
 use dirac_io::{Put, Sink, put_all};
-use dirac_units::{PARSE_INFO_LENGTH, ParseInfo, SEQUENCE_HEADER, write_info};
+use dirac_units::{
+    PARSE_INFO_LENGTH, ParseInfo, SEQUENCE_HEADER, put_end, put_unit, unit_length, write_info,
+};
 use std::marker::Model;
 
 // The greatest key that a sequence may have.

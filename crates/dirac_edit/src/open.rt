@@ -1,12 +1,11 @@
 ghost use Rattle.std.specs.Prelude.{◌≡◌, [], IfOk, None, Some, if◌then◌else◌};
-ghost use Rattle.dirac_refs.specs.References.{as_reference};
-ghost use Rattle.dirac_picture.specs.Grammar as grammar;
-ghost use Rattle.dirac_edit.specs.Open.{dot as one_sample, first_open as first_open_of, first_open_among, header_in, list_with, numbered};
+ghost use Rattle.dirac_edit.specs.Open.{dot as one_sample, first_open as first_open_of, first_open_among, header_in, list_with, numbered as numbered_as};
 
 use crate::sequence::{HeldPicture, HeldSequence};
 use dirac_bits::BitReader;
-use dirac_header::{PictureHeader, is_reference, read_header};
-use dirac_refs::RefBuffer;
+use dirac_header::read_header;
+use dirac_picture::are_listed;
+use dirac_refs::{RefBuffer, reference_of};
 use dirac_types::{NoMemory, Picture, Plane, Table};
 use std::alloc::Global;
 
@@ -50,42 +49,22 @@ fn is_open(alloc: Global, picture: &HeldPicture<'_>, refs: &mut RefBuffer) -> Re
     if !are_listed(refs, &head) {
         return Ok(true);
     }
-    let reference = reference_of(alloc, picture.code(), head.number)?;
+    let listed = numbered(alloc, head.number)?;
+    let reference = reference_of(alloc, picture.code(), &listed)?;
     refs.commit(head.retire, reference);
     Ok(false)
 }
 
-/// Whether each reference that a header names is listed.
-fn are_listed(refs: &RefBuffer, head: &PictureHeader) -> bool
-    ensures { result ≡ grammar.are_listed refs.now head.now }
+/// A picture of this number, which is all that a list of references is asked for here.
+fn numbered(alloc: Global, number: u32) -> Result<Picture, NoMemory>
+    ensures { IfOk result (λ picture. picture ≡ numbered_as number) }
 {
-    is_listed(refs, head.ref1) && is_listed(refs, head.ref2)
-}
-
-/// Whether a reference is listed, where a header names one.
-fn is_listed(refs: &RefBuffer, number: Option<u32>) -> bool
-    ensures { result ≡ grammar.is_listed refs.now number }
-{
-    match number {
-        None => true,
-        Some(number) => refs.find(number).is_some(),
-    }
-}
-
-/// What a list of references gets of a picture with this parse code and number.
-fn reference_of(alloc: Global, code: u8, number: u32) -> Result<Option<Picture>, NoMemory>
-    ensures { IfOk result (λ r. r ≡ as_reference code (numbered number)) }
-{
-    if !is_reference(code) {
-        return Ok(None);
-    }
-    let picture = Picture {
+    Ok(Picture {
         number,
         y: dot(alloc)?,
         u: dot(alloc)?,
         v: dot(alloc)?,
-    };
-    Ok(Some(picture))
+    })
 }
 
 /// A plane of one sample.

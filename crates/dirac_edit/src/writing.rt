@@ -1,59 +1,15 @@
 //! Units, written to a sink.
 
-ghost use Rattle.std.specs.Prelude.{◌≡◌, ◌≤◌, ◌<◌, ◌+◌, ◌^◌, length};
+ghost use Rattle.std.specs.Prelude.{◌≡◌, ◌≤◌};
 ghost use Rattle.std.specs.Io.KnownBytes.{Appends};
 ghost use Rattle.dirac_io.specs.Faults.{Rose};
 ghost use Rattle.dirac_io.specs.Writing.{AppendsFront};
-ghost use Rattle.dirac_stream.specs.Stream.{end_unit, unit};
 ghost use Rattle.dirac_edit_laws.specs.Texts.{with_pictures};
 ghost use Rattle.dirac_edit_laws.specs.Units.{pictures_bytes, sequence_bytes, sequences_bytes};
 
 use crate::sequence::{HeldPicture, HeldSequence};
-use dirac_io::{Put, Sink, put_all};
-use dirac_units::{END_OF_SEQUENCE, PARSE_INFO_LENGTH, ParseInfo, SEQUENCE_HEADER, write_info};
-
-/// Writes a unit with this parse code behind a unit of `previous` bytes.
-pub(crate) fn put_unit<K: Sink>(out: &mut K, code: u8, previous: u32, payload: &[u8]) -> Put
-    requires { 13 + length payload.now < 2 ^ 32 }
-    ensures all { result ≡ Put.All → Appends (K.taken out.old) (K.taken out.new) (unit code previous payload.now) }
-    ensures front { AppendsFront (K.taken out.old) (K.taken out.new) (unit code previous payload.now) }
-    ensures failed { result ≡ Put.Failed → Rose (K.faults out.old) (K.faults out.new) }
-    ensures count { K.faults out.old ≤ K.faults out.new }
-{
-    let info = write_info(ParseInfo {
-        code,
-        next: unit_length(payload),
-        previous,
-    });
-    match put_all(out, &info) {
-        Put::All => put_all(out, payload),
-        Put::Failed => Put::Failed,
-        Put::NoMemory => Put::NoMemory,
-    }
-}
-
-/// The length of a unit with this payload.
-pub(crate) fn unit_length(payload: &[u8]) -> u32
-    requires { 13 + length payload.now < 2 ^ 32 }
-    ensures { result ≡ 13 + length payload.now }
-{
-    (PARSE_INFO_LENGTH + payload.len()) as u32
-}
-
-/// Writes an end unit behind a unit of `previous` bytes.
-pub(crate) fn put_end<K: Sink>(out: &mut K, previous: u32) -> Put
-    ensures all { result ≡ Put.All → Appends (K.taken out.old) (K.taken out.new) (end_unit previous) }
-    ensures front { AppendsFront (K.taken out.old) (K.taken out.new) (end_unit previous) }
-    ensures failed { result ≡ Put.Failed → Rose (K.faults out.old) (K.faults out.new) }
-    ensures count { K.faults out.old ≤ K.faults out.new }
-{
-    let info = write_info(ParseInfo {
-        code: END_OF_SEQUENCE,
-        next: 0,
-        previous,
-    });
-    put_all(out, &info)
-}
+use dirac_io::{Put, Sink};
+use dirac_units::{PARSE_INFO_LENGTH, SEQUENCE_HEADER, put_end, put_unit, unit_length};
 
 /// Writes the units of pictures behind a unit of `previous` bytes, and an end unit.
 fn put_pictures<K: Sink>(out: &mut K, previous: u32, pictures: &[HeldPicture<'_>]) -> Put

@@ -33,7 +33,7 @@ use Rattle.dirac_plan_laws.specs.Plans.{PlansCanBeCoded}
 use Rattle.dirac_plan_laws.proofs.Each.{each_append, each_more}
 use Rattle.dirac_stream.specs.Coding.{Made, coded_under, coding, job_of, made, own_index, pushed, reconstructions, refs_after, shown_of}
 use Rattle.dirac_stream.specs.Laws.{AreMade, AreSources, Begins, JobsAreRead}
-use Rattle.dirac_stream.specs.Payload.{payload_of, with_picture as picture_bits}
+use Rattle.dirac_picture.specs.Written.{payload_of, with_picture as picture_bits}
 use Rattle.dirac_stream.specs.Stream.{end_text, header_text, picture_length, picture_text as made_unit, stream_units, units_from, units_in}
 use Rattle.dirac_stream.proofs.Headers.{header_read, header_short}
 use Rattle.dirac_stream.proofs.Indices.{own_gives, sources_under}

@@ -1,26 +1,13 @@
 -- A picture at another quantiser index.
-use Rattle.std.proofs.Common.{◌≡◌, ℕ, ◌+◌, ◌<◌, ◌≤◌, if◌then◌else◌, Bool, true, false, List, refl, ap, ◌∙◌, subst, arith, Option, None, Some, inl, inr}
+use Rattle.std.proofs.Common.{◌≡◌, ℕ, ◌+◌, ◌<◌, ◌≤◌, List, subst, arith, inl, inr}
 use Rattle.std.proofs.lemmas.Bool.{cases_lt}
 use Rattle.dirac_types.specs.declared.picture.Picture.{Picture}
 use Rattle.dirac_types.specs.declared.settings.Settings.{Settings}
 use Rattle.dirac_types.specs.Settings.{IsAccepted}
-use Rattle.dirac_blocks.specs.Tables.{BlockTable}
-use Rattle.dirac_picture.specs.Grammar.{is_intra}
-use Rattle.dirac_plan.specs.declared.planned.Planned.{Planned}
-use Rattle.dirac_choose.specs.Chosen.{at_index, chosen, chosen_unless_intra}
-use Rattle.dirac_code.specs.Asked.{coded_by}
+use Rattle.dirac_choose.specs.Chosen.{at_index}
 use Rattle.dirac_stream.specs.Coding.{Job, made, made_under}
 use Rattle.dirac_stream.specs.Fit.{IsLeast, fit, length_at}
 use Rattle.dirac_stream.proofs.Fitting.{fit_is}
-use Rattle.dirac_stream.specs.Coded.{coded_of, coded_with, motion_among, motion_with}
-
--- the coded picture by the blocks that are chosen
-motion_by : (t : Settings) (intra : Bool) (b : BlockTable) → motion_among t (if intra then None else Some b) ≡ (if intra then None else Some (motion_with t b))
-motion_by t true b = refl
-motion_by t false b = refl
-
-pub coded_chosen : (t : Settings) (refs : List Picture) (q : Planned) (p : Picture) (o : Option BlockTable) → o ≡ chosen_unless_intra t refs q p → coded_by t refs q p o ≡ coded_of t refs q p
-coded_chosen t refs q p o is = ap (coded_by t refs q p) is ∙ ap (coded_with t refs q p) (motion_by t (is_intra q.code) (chosen t refs q p))
 
 -- one index more at which the unit is too long
 pub more_long : (lengths : ℕ → ℕ) (budget first n : ℕ) → ((i : ℕ) → first ≤ i → i < n → budget < lengths i) → budget < lengths n → (i : ℕ) → first ≤ i → i < n + 1 → budget < lengths i

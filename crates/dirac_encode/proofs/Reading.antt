@@ -9,6 +9,7 @@ use Rattle.dirac_types.specs.declared.picture.Picture.{Picture}
 use Rattle.dirac_types.specs.declared.settings.Settings.{Settings}
 use Rattle.dirac_types.specs.Settings.{IsAccepted}
 use Rattle.dirac_refs.specs.Delivery.{flush}
+use Rattle.dirac_decode.specs.Raw.{left_over, picture_from, pictures_in, raw_length, sources, whole_pictures}
 use Rattle.dirac_stream.specs.declared.answers.Encoded.{Encoded}
 use Rattle.dirac_stream.specs.declared.answers.Encoded.TheVariants as encoded
 use Rattle.dirac_stream.specs.Coding.{IndexRule, Job, coded_under, coding_under, job_of, made_under, pushed, refs_after, shown_of}
@@ -17,7 +18,6 @@ use Rattle.dirac_stream.specs.Stream.{StreamsAreCut}
 use Rattle.dirac_stream.specs.Laws.{GivesIndices, StreamsShowTheirPictures}
 use Rattle.dirac_stream.specs.Tables.{TablesAreChosen}
 use Rattle.dirac_stream.proofs.Recovered.{AreBytes, below_more, recovered}
-use Rattle.dirac_stream.specs.Raw.{left_over, picture_from, pictures_in, raw_length, sources, whole_pictures}
 use Rattle.dirac_stream.specs.Standing.{AreAmong, Leave, coding_in, jobs_in}
 use Rattle.dirac_stream.specs.Steps.{EndsEarly, IsEnded, Progress}
 use Rattle.dirac_stream.proofs.Accepted.{most_pictures}

@@ -11,7 +11,7 @@ use Rattle.dirac_sequence.specs.Written.{sequence_payload}
 use Rattle.dirac_picture.specs.Grammar.{is_intra}
 use Rattle.dirac_refs.specs.Delivery.{delivered}
 use Rattle.dirac_refs.specs.References.{committed}
-use Rattle.dirac_decode.proofs.Rows.{behind_front}
+use Rattle.dirac_units.proofs.Appended.{behind_front}
 use Rattle.dirac_decode.specs.StreamState.{as_reference}
 use Rattle.dirac_decode.specs.Raw.{raws}
 use Rattle.dirac_stream.specs.declared.answers.Encoded.{Encoded}

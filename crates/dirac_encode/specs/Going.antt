@@ -6,6 +6,7 @@ use Rattle.dirac_types.specs.declared.picture.Picture.{Picture}
 use Rattle.dirac_types.specs.declared.settings.Settings.{Settings}
 use Rattle.dirac_refs.specs.declared.waiting.Waiting.{Waiting}
 use Rattle.dirac_refs.specs.Delivery.{key_of}
+use Rattle.dirac_decode.specs.Raw.{sources}
 use Rattle.dirac_plan.specs.declared.planned.Planned.{Planned}
 use Rattle.dirac_plan.specs.Plan.{plan}
 use Rattle.dirac_plan.specs.Planning.{Planning}
@@ -14,7 +15,6 @@ use Rattle.dirac_stream.specs.declared.answers.Encoded.{Encoded}
 use Rattle.dirac_stream.specs.Coded.{IsSource}
 use Rattle.dirac_stream.specs.Coding.{IndexRule, coding_under}
 use Rattle.dirac_stream.specs.Encoding.{AnswersEncode, encoding_under}
-use Rattle.dirac_stream.specs.Raw.{sources}
 use Rattle.dirac_stream.specs.Standing.{AreAmong, Leave, Stands}
 use Rattle.dirac_stream.specs.Steps as steps
 use Rattle.dirac_encode.specs.declared.progress.Progress.{Progress}

@@ -8,14 +8,13 @@ mod fitting;
 mod pictures;
 mod planned;
 mod progress;
-mod raw;
 mod shared;
 mod source;
 mod stream;
 mod units;
 
 pub use dirac_code::{Coded, choose_blocks, code_picture, code_with_blocks};
+pub use dirac_decode::{picture_of, raw_length};
 pub use dirac_stream::{Encoded, streams_show_their_pictures};
 pub use fitting::fit_picture;
-pub use raw::{picture_of, raw_length};
 pub use stream::{StreamCoder, encode_by, encode_stream};

@@ -24,29 +24,17 @@ use crate::coder::Coder;
 use crate::delivering::deliver;
 use crate::fitting::fit_picture;
 use crate::progress::Progress;
-use crate::units::{put_header, put_unit};
+use crate::units::put_header;
 use dirac_code::{Coded, code_picture};
-use dirac_header::is_reference;
 use dirac_io::{Put, RowGate, Sink};
 use dirac_picture::is_intra;
 use dirac_plan::Planned;
-use dirac_refs::RefBuffer;
+use dirac_refs::{RefBuffer, reference_of};
 use dirac_stream::Encoded;
 use dirac_types::{NoMemory, Picture};
-use dirac_units::PARSE_INFO_LENGTH;
+use dirac_units::{PARSE_INFO_LENGTH, put_unit};
 use std::alloc::Global;
 use std::thread::Threads;
-
-/// A reconstruction once more, where later pictures may refer to one with this parse code.
-fn reference_of(alloc: Global, code: u8, shown: &Picture) -> Result<Option<Picture>, NoMemory>
-    ensures { IfOk result (λ r. r ≡ as_reference code shown.now) }
-{
-    if !is_reference(code) {
-        return Ok(None);
-    }
-    let copy = shown.try_copy(alloc)?;
-    Ok(Some(copy))
-}
 
 /// Writes the unit of a coded picture behind a unit of `previous` bytes, lists the reconstruction if others may refer
 /// to it, and delivers what leaves.

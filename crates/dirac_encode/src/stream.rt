@@ -10,7 +10,7 @@ ghost use Rattle.dirac_stream.specs.Fit.{rule_of};
 use crate::coder::Coder;
 use crate::pictures::put_pictures;
 use crate::progress::Progress;
-use crate::raw::raw_length;
+use dirac_decode::raw_length;
 use dirac_io::{RowGate, Sink, Source};
 use dirac_plan::Planner;
 use dirac_sequence::write_sequence;

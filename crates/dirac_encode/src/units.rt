@@ -1,39 +1,18 @@
 //! The units of a stream, written to a sink.
 
-ghost use Rattle.std.specs.Prelude.{◌≡◌, ◌≤◌, ◌<◌, ◌+◌, ◌^◌, if◌then◌else◌, [], length};
+ghost use Rattle.std.specs.Prelude.{◌≡◌, ◌≤◌, if◌then◌else◌, []};
 ghost use Rattle.std.specs.Io.KnownBytes.{Appends};
 ghost use Rattle.dirac_io.specs.Faults.{Rose};
 ghost use Rattle.dirac_io.specs.Writing.{AppendsFront};
 ghost use Rattle.dirac_sequence.specs.Written.{sequence_payload};
 ghost use Rattle.dirac_picture.specs.Grammar as grammar;
 ghost use Rattle.dirac_stream.specs.Steps.{last_units};
-ghost use Rattle.dirac_stream.specs.Stream.{end_unit, header_unit, unit};
+ghost use Rattle.dirac_stream.specs.Stream.{header_unit};
 
-use dirac_io::{Put, Sink, put_all};
+use dirac_io::{Put, Sink};
 use dirac_picture::is_intra;
 use dirac_types::Settings;
-use dirac_units::{END_OF_SEQUENCE, PARSE_INFO_LENGTH, ParseInfo, SEQUENCE_HEADER, write_info};
-
-/// Writes a unit with this parse code behind a unit of `previous` bytes.
-pub(crate) fn put_unit<K: Sink>(out: &mut K, code: u8, previous: u32, payload: &[u8]) -> Put
-    requires { 13 + length payload.now < 2 ^ 32 }
-    ensures all { result ≡ Put.All → Appends (K.taken out.old) (K.taken out.new) (unit code previous payload.now) }
-    ensures front { AppendsFront (K.taken out.old) (K.taken out.new) (unit code previous payload.now) }
-    ensures failed { result ≡ Put.Failed → Rose (K.faults out.old) (K.faults out.new) }
-    ensures count { K.faults out.old ≤ K.faults out.new }
-{
-    let next = (PARSE_INFO_LENGTH + payload.len()) as u32;
-    let info = write_info(ParseInfo {
-        code,
-        next,
-        previous,
-    });
-    match put_all(out, &info) {
-        Put::All => put_all(out, payload),
-        Put::Failed => Put::Failed,
-        Put::NoMemory => Put::NoMemory,
-    }
-}
+use dirac_units::{PARSE_INFO_LENGTH, SEQUENCE_HEADER, put_end, put_unit};
 
 /// Writes the unit of this sequence header before an intra picture, behind a unit of `previous` bytes.
 pub(crate) fn put_header<K: Sink>(
@@ -56,21 +35,6 @@ pub(crate) fn put_header<K: Sink>(
     } else {
         Put::All
     }
-}
-
-/// Writes an end unit behind a unit of `previous` bytes.
-pub(crate) fn put_end<K: Sink>(out: &mut K, previous: u32) -> Put
-    ensures all { result ≡ Put.All → Appends (K.taken out.old) (K.taken out.new) (end_unit previous) }
-    ensures front { AppendsFront (K.taken out.old) (K.taken out.new) (end_unit previous) }
-    ensures failed { result ≡ Put.Failed → Rose (K.faults out.old) (K.faults out.new) }
-    ensures count { K.faults out.old ≤ K.faults out.new }
-{
-    let info = write_info(ParseInfo {
-        code: END_OF_SEQUENCE,
-        next: 0,
-        previous,
-    });
-    put_all(out, &info)
 }
 
 /// Writes the units at the end: where no picture was coded the unit of this sequence header, and the end unit.

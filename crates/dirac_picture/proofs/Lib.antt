@@ -7,3 +7,8 @@ pub mod Lawful
 pub mod Answering
 pub mod Chroma
 pub mod Examples
+pub mod Spelled
+pub mod Written
+pub mod Taken
+pub mod Bandwise
+pub mod Apart

@@ -4,12 +4,15 @@ use Rattle.std.specs.Prelude.{◌≡◌, ◌≤◌, ℕ, ℤ, ◌+◌, ◌-◌, 
 use Rattle.std.specs.Prelude.{slice_get, Option, None, Some}
 use Rattle.dirac_types.specs.declared.formats.Band.{Band}
 use Rattle.dirac_types.specs.declared.formats.Band.TheVariants.{LL, HL, LH, HH}
+use Rattle.dirac_types.specs.declared.formats.Component.{Component}
+use Rattle.dirac_types.specs.declared.formats.Component.TheVariants as component
 use Rattle.dirac_types.specs.Table.{Table}
 use Rattle.dirac_bands.specs.Geometry.{level_of, band_length}
 pub use Rattle.dirac_header.specs.Counts.{counts_among, counts_at}
 use Rattle.dirac_header.specs.declared.transform.Transform.{Transform}
 use Rattle.dirac_coeffs.specs.declared.layout.BandLayout.{BandLayout}
 use Rattle.dirac_coeffs.specs.declared.layout.CodedBand.{CodedBand}
+use Rattle.dirac_picture.specs.declared.coded.CodedResidual.{CodedResidual}
 
 -- how many there are
 abbrev pub band_count : ℕ → ℕ
@@ -45,3 +48,9 @@ pub record IsParentAmong (before : List CodedBand) (t : Table) : Type 0 where
   pub parent : CodedBand
   pub listed : slice_get before (length before - 3) ≡ Some parent
   pub table : t ≡ parent.table
+
+-- the bands of a plane of a residual
+abbrev pub bands_of : CodedResidual → Component → List CodedBand
+bands_of r component.Y = r.y
+bands_of r component.U = r.u
+bands_of r component.V = r.v

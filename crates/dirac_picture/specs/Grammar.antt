@@ -49,7 +49,8 @@ residual s = do
   t ← transform s.width (picture_height s)
   planes s t
 
--- the parse codes of pictures: inter pictures have references
+-- the parse codes of pictures, told by what their fields depend on: inter pictures have references (the units of these
+-- codes are those that dirac_units counts as pictures)
 abbrev pub is_picture : ℕ → Bool
 is_picture code = is_intra code || nat_le 1 (references_of code)
 

@@ -1,6 +1,10 @@
+ghost use Rattle.std.specs.Prelude.{◌≡◌};
+ghost use Rattle.dirac_picture.specs.Bands.{bands_of};
+
 use crate::plane_bands::PlaneBands;
 use dirac_blocks::BlockData;
 use dirac_header::{PictureHeader, Prediction, Transform};
+use dirac_types::Component;
 
 /// How an inter picture is predicted: its parameters, and what each of its blocks is predicted from.
 #[derive(Drop)]
@@ -16,6 +20,19 @@ pub struct CodedResidual {
     pub y: PlaneBands,
     pub u: PlaneBands,
     pub v: PlaneBands,
+}
+
+impl CodedResidual {
+    /// Lends the subbands of a plane.
+    pub fn plane_bands(&self, component: Component) -> &PlaneBands
+        ensures { result.now ≡ bands_of self.now component }
+    {
+        match component {
+            Component::Y => &self.y,
+            Component::U => &self.u,
+            Component::V => &self.v,
+        }
+    }
 }
 
 /// A picture as its payload codes it.

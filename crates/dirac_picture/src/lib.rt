@@ -1,7 +1,8 @@
-//! The payload of a picture: its header, what it is predicted from, its transform parameters and the subbands of its
-//! three planes.
+//! The payload of a picture, read and written: its header, what it is predicted from, its transform parameters and the
+//! subbands of its three planes.
 //!
-//! `specs/Grammar` has the fields in their order, `specs/Fits` what every picture that is read has.
+//! `specs/Grammar` has the fields in their order as they are read, `specs/Written` as they are written, `specs/Fits` what
+//! every picture that is read has.
 #![tactic(auto)]
 
 mod coded;
@@ -11,10 +12,15 @@ mod picture;
 mod plane;
 mod plane_bands;
 mod shared;
+mod texts;
+mod write;
+mod write_plane;
 
 pub use coded::{CodedMotion, CodedPicture, CodedResidual};
 pub use dirac_units::is_intra;
 pub use layouts::layout;
 pub use motion::superblocks_over;
-pub use picture::read_picture;
+pub use picture::{are_listed, read_picture};
 pub use plane_bands::PlaneBands;
+pub use texts::{Texts, text_among, texts_of};
+pub use write::payload_bytes;

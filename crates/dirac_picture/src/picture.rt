@@ -63,7 +63,7 @@ fn read_fields(
     ensures listed { IfOk result (λ p. IsTrue (grammar.are_listed refs.now p.header)) }
 {
     let header = read_header(r, code)?;
-    if !is_listed(refs, header.ref1) || !is_listed(refs, header.ref2) {
+    if !are_listed(refs, &header) {
         return Err(Stop::Refused(Refusal {
             at: 0,
             cause: Cause::MissingReference,
@@ -72,14 +72,11 @@ fn read_fields(
     read_body(alloc, r, code, sequence, header)
 }
 
-/// Whether a reference that a header names is listed.
-fn is_listed(refs: &RefBuffer, number: Option<u32>) -> bool
-    ensures { result ≡ grammar.is_listed refs.now number }
+/// Whether each reference that a header names is listed.
+pub fn are_listed(refs: &RefBuffer, header: &PictureHeader) -> bool
+    ensures { result ≡ grammar.are_listed refs.now header.now }
 {
-    match number {
-        None => true,
-        Some(number) => refs.find(number).is_some(),
-    }
+    refs.is_listed(header.ref1) && refs.is_listed(header.ref2)
 }
 
 /// Reads the fields behind a picture's header.

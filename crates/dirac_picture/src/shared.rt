@@ -9,4 +9,5 @@ fn are_shared() {
     is_shared::<crate::CodedResidual>();
     is_shared::<crate::CodedMotion>();
     is_shared::<crate::CodedPicture>();
+    is_shared::<crate::Texts>();
 }

@@ -1,5 +1,6 @@
 ghost use Rattle.std.specs.Prelude.{◌≡◌, ◌≤◌, [], length};
 ghost use Rattle.std.specs.Option.{option_copied};
+ghost use Rattle.dirac_refs.specs.References as references;
 ghost use Rattle.dirac_refs.specs.References.{append, committed, listed, without};
 
 use crate::bounded::Bounded;
@@ -48,6 +49,16 @@ impl RefBuffer {
             }
         }
         None
+    }
+
+    /// Whether a reference is listed, where a header names one.
+    pub fn is_listed(&self, number: Option<u32>) -> bool
+        ensures { result ≡ references.is_listed self.now number }
+    {
+        match number {
+            None => true,
+            Some(number) => self.find(number).is_some(),
+        }
     }
 
     /// What a coded picture does to the list once it is made: the picture `retire` leaves, then

@@ -1,5 +1,6 @@
 -- From the quantised subbands of a plane to its residual, and from that and what is predicted to its samples.
-use Rattle.std.specs.Prelude.{ℕ, zero, suc, ℤ, ◌+◌, ◌*◌, ◌+ℤ◌, List, [], map, Option, None, Some, slice_get}
+use Rattle.std.specs.Prelude.{◌≡◌, ℕ, zero, suc, ℤ, ◌+◌, ◌*◌, ◌+ℤ◌, List, [], map, Option, None, Some, slice_get}
+use Rattle.std.specs.List.{All}
 use Rattle.std.specs.Simd.Lanes.{zip2}
 use Rattle.dirac_types.specs.declared.formats.Kind.{Kind}
 use Rattle.dirac_types.specs.declared.formats.Kind.TheVariants.{Intra, Inter}
@@ -53,3 +54,7 @@ summed_with values others = zip2 (λ v other. v +ℤ other) values others
 -- a residual plus what is predicted, by rows
 abbrev pub with_prediction : Table → List ℤ → Table
 with_prediction t predicted = record { width = t.width; height = t.height; values = summed_with t.values predicted }
+
+-- samples are from -128 to 127: clipping keeps them
+abbrev pub AreSamples : List ℤ → Type 0
+AreSamples xs = All (λ v. clip v ≡ v) xs

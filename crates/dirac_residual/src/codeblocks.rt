@@ -112,7 +112,7 @@ fn restore_row(
 }
 
 /// Where the codeblocks of this row of a band begin among all.
-fn first_codeblock(height: u32, counts: (u32, u32), y: u32) -> u32
+pub fn first_codeblock(height: u32, counts: (u32, u32), y: u32) -> u32
     requires height { height ≤ LARGEST_TABLE_SIDE }
     requires across { counts.0 ≤ MOST_CODEBLOCKS }
     requires down { (1 ≤ counts.1) × (counts.1 ≤ MOST_CODEBLOCKS) }

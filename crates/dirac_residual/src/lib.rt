@@ -15,6 +15,7 @@ mod restore;
 mod scale;
 
 pub use clip::{clipped, clipped_sum};
+pub use codeblocks::first_codeblock;
 pub use held::Residual;
 pub use laws::{each_place_has_a_codeblock, one_index_restores_all, zero_bands_stand_for_zeros};
 pub use plane::plane_residual;

@@ -30,7 +30,7 @@ use Rattle.dirac_stream.specs.Coded.{IsSource, are_zero_bands, bands_of, coded_o
 use Rattle.dirac_stream.specs.Coding.{AreAtIndexZero, IndexRule, Job, blank, coded_under, job_of, jobs_of, made_under, own_index, refs_after, shown_of}
 use Rattle.dirac_stream.specs.Laws.{AreMade, AreNumbered, GivesIndices, IsWhole, JobsAreKept, SourcesAreKept, SourcesAreKeptUnder}
 use Rattle.dirac_stream.specs.Tables.{TablesAreChosen}
-use Rattle.dirac_stream.specs.Writable.{IsCodable}
+use Rattle.dirac_stream.specs.Codable.{IsCodable}
 use Rattle.dirac_stream.proofs.Coding.{clipped_again, codable}
 use Rattle.dirac_stream.proofs.Lefts.{found_is}
 use Rattle.dirac_stream.proofs.Reading.{jobs_read, source_plane}

@@ -39,6 +39,10 @@ use Rattle.dirac_types.specs.declared.formats.Component.TheVariants as component
 use Rattle.dirac_picture.specs.declared.coded.CodedMotion.{CodedMotion}
 use Rattle.dirac_picture.specs.declared.coded.CodedResidual.{CodedResidual}
 use Rattle.dirac_picture.specs.Grammar.{are_listed, chroma_height, chroma_width, is_intra, is_listed, motion, picture, picture_read, prediction_fields, residual, residual_unless, zero_residual}
+use Rattle.dirac_picture.specs.Writable.{IsWritten}
+use Rattle.dirac_picture.specs.Written.{HasSpelledBlocks, payload_of, with_blocks, with_coefficients, with_flag, with_motion, with_picture, with_residual}
+use Rattle.dirac_picture.proofs.Spelled.{behind_align, fields_spelled, flag_spelled, left_out, motion_spelled, no_flag, no_motion, not_left_out, picture_spelled, whole_starts}
+use Rattle.dirac_picture.proofs.Written.{residual_written}
 use Rattle.dirac_analysis.specs.Fits.{AreDifferences, AreLevelBands}
 use Rattle.dirac_analysis.proofs.Fitting.{planes_fit, samples_small}
 use Rattle.dirac_decode.specs.Content.{IsPicture, height_of, named, plane_of, width_of}
@@ -46,17 +50,13 @@ use Rattle.dirac_plan.specs.declared.planned.Planned.{Planned}
 use Rattle.dirac_stream.specs.Coded.{IsPlane, IsSource, bands_of, coded_with, is_zero_residual, kind_of, left_of, motion_with, residual_of, residual_unless_zero, transform_of}
 use Rattle.dirac_stream.specs.Laws.{JobsAreRead, JobsAreSmall}
 use Rattle.dirac_stream.specs.Tables.{TablesAreChosen}
-use Rattle.dirac_stream.specs.Payload.{HasSpelledBlocks, payload_of, with_blocks, with_coefficients, with_flag, with_motion, with_picture, with_residual}
 use Rattle.dirac_choose.specs.Chosen.{ChosenTablesFit, IsChosen, chosen}
-use Rattle.dirac_stream.specs.Writable.{AreSmall, IsCodable, IsWritten}
-use Rattle.dirac_stream.proofs.Behind.{whole_starts}
+use Rattle.dirac_stream.specs.Codable.{AreSmall, IsCodable}
 use Rattle.dirac_stream.proofs.Coding.{bands_fit, bands_writable, bands_small, codable, is_written}
 use Rattle.dirac_stream.proofs.Headers.{length-bytes_in}
 use Rattle.dirac_stream.proofs.InBytes.{bytes_again}
 use Rattle.dirac_stream.proofs.Lefts.{IsPredicting, differences_small, found_is, named_is, picture_is, predicted_are, samples_are}
-use Rattle.dirac_stream.proofs.Pictures.{behind_align, fields_spelled, flag_spelled, left_out, motion_spelled, no_flag, no_motion, not_left_out, picture_spelled}
-use Rattle.dirac_stream.proofs.Sizes.{sequence_lawful}
-use Rattle.dirac_stream.proofs.Written.{residual_written}
+use Rattle.dirac_decode.proofs.Sizes.{sequence_lawful}
 use Rattle.dirac_plan_laws.specs.Headers.{IsPlanned, header_of}
 
 -- ---- settings

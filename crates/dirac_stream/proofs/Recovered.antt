@@ -14,12 +14,11 @@ use Rattle.dirac_types.specs.Samples.{clip}
 use Rattle.dirac_units.specs.Cut.{IsCut, start}
 use Rattle.dirac_sequence.specs.Written.{sequence_of}
 use Rattle.dirac_picture.specs.Grammar.{chroma_height, chroma_width}
-use Rattle.dirac_decode.specs.Raw.{raws}
+use Rattle.dirac_decode.specs.Raw.{chroma_bytes, luma_bytes, picture_from, pictures_in, raw_length, raws, sample_of, sources, whole_pictures}
 use Rattle.dirac_decode.specs.Shown.{Outcome, IsShown}
 use Rattle.dirac_analysis.specs.Fits.{AreSamples}
 use Rattle.dirac_stream.specs.Coded.{IsSource}
 use Rattle.dirac_stream.specs.Encoding.{IsRecovered, IsRecoveredUnder, first_long, is_short}
-use Rattle.dirac_stream.specs.Raw.{chroma_bytes, luma_bytes, picture_from, pictures_in, raw_length, sample_of, sources, whole_pictures}
 use Rattle.dirac_stream.specs.Coding.{AreAtIndexZero, IndexRule, Made, coding_under, jobs_of, own_index, reconstructions_under}
 use Rattle.dirac_stream.specs.Laws.{AreSourcesUnder, GivesIndices, IsWhole, RawPicturesAreRecovered, RawPicturesAreRecoveredUnder, StreamsShowTheirPictures}
 use Rattle.dirac_stream.specs.Tables.{TablesAreChosen}
@@ -31,7 +30,7 @@ use Rattle.dirac_stream.proofs.Reading.{jobs_read}
 use Rattle.dirac_stream.proofs.Showing.{each_unit}
 use Rattle.dirac_stream.proofs.Sourcing.{jobs_read_under, shown_under, sources_made}
 use Rattle.dirac_stream.proofs.Indices.{own_gives}
-use Rattle.dirac_stream.proofs.RawBytes.{below_drop, below_take, raw_again}
+use Rattle.dirac_decode.proofs.RawBytes.{below_drop, below_take, raw_again}
 use Rattle.dirac_stream.proofs.Sources.{length-pictures_in, numbered_in}
 use Rattle.dirac_plan_laws.specs.Plans.{PlansCanBeCoded}
 

@@ -1,5 +1,5 @@
 -- The coded picture that a planned picture becomes.
-use Rattle.std.specs.Prelude.{◌≡◌, ℕ, ℤ, zero, suc, ◌+◌, ◌-ℤ◌, ◌==◌, ◌&&◌, if◌then◌else◌, Bool, List, [], ◌∷◌, ◌++◌, min, Option, Some, None}
+use Rattle.std.specs.Prelude.{ℕ, ℤ, zero, suc, ◌+◌, ◌-ℤ◌, ◌==◌, ◌&&◌, if◌then◌else◌, Bool, List, [], ◌∷◌, ◌++◌, min, Option, Some, None}
 use Rattle.std.specs.Simd.Lanes.{zip2}
 use Rattle.dirac_types.specs.declared.formats.Kind.{Kind}
 use Rattle.dirac_types.specs.declared.formats.Kind.TheVariants.{Intra, Inter}
@@ -11,7 +11,6 @@ use Rattle.dirac_sequence.specs.Written.{sequence_of}
 use Rattle.dirac_header.specs.declared.header.PictureHeader.{PictureHeader}
 use Rattle.dirac_header.specs.declared.transform.Transform.{Transform}
 use Rattle.dirac_header.specs.Transform.{band_length}
-use Rattle.dirac_header.specs.Written.{prediction_of}
 use Rattle.dirac_blocks.specs.Tables.{BlockTable}
 use Rattle.dirac_coeffs.specs.declared.layout.CodedBand.{CodedBand}
 use Rattle.dirac_types.specs.declared.formats.Component.{Component}
@@ -19,10 +18,11 @@ use Rattle.dirac_types.specs.declared.formats.Component.TheVariants as component
 use Rattle.dirac_picture.specs.declared.coded.CodedMotion.{CodedMotion}
 use Rattle.dirac_picture.specs.declared.coded.CodedPicture.{CodedPicture}
 use Rattle.dirac_picture.specs.declared.coded.CodedResidual.{CodedResidual}
-use Rattle.dirac_picture.specs.Grammar.{chroma_width, chroma_height, is_intra}
+use Rattle.dirac_picture.specs.Grammar.{is_intra}
+pub use Rattle.dirac_picture.specs.Written.{motion_with}
 use Rattle.dirac_analysis.specs.Analysis.{plane_bands}
-use Rattle.dirac_analysis.specs.Fits.{AreSamples}
 use Rattle.dirac_decode.specs.Content.{named, plane_of, predicted_among}
+pub use Rattle.dirac_decode.specs.Raw.{IsPlane, IsSource}
 pub use Rattle.dirac_residual.specs.Zeros.{are_zero_bands}
 use Rattle.dirac_plan.specs.declared.planned.Planned.{Planned}
 pub use Rattle.dirac_plan_laws.specs.Headers.{header_of}
@@ -53,12 +53,7 @@ transform_of t = record {
   mode = mode_of t;
 }
 
--- an inter picture's motion by a block table, with block index and precision of the settings, without global motion,
--- with default weights
-abbrev pub motion_with : Settings → BlockTable → CodedMotion
-motion_with t b = record { prediction = prediction_of t.blocks t.precision; blocks = b }
-
--- the same, if there is a table
+-- the motion by a block table, if there is one
 abbrev pub motion_among : Settings → Option BlockTable → Option CodedMotion
 motion_among t None = None
 motion_among t (Some b) = Some (motion_with t b)
@@ -123,15 +118,3 @@ coded_with t refs q p m = record {
 -- the coded picture of a planned source, with these pictures listed
 abbrev pub coded_of : Settings → List Picture → Planned → Picture → CodedPicture
 coded_of t refs q p = coded_with t refs q p (motion_of t refs q p)
-
--- a plane of this size, its samples from -128 to 127
-pub record IsPlane (width height : ℕ) (t : Table) : Type 0 where
-  pub across : t.width ≡ width
-  pub down : t.height ≡ height
-  pub samples : AreSamples t.values
-
--- a picture that can be coded with these settings
-pub record IsSource (t : Settings) (p : Picture) : Type 0 where
-  pub y : IsPlane t.width (picture_height t) p.y
-  pub u : IsPlane (chroma_width (sequence_of t)) (chroma_height (sequence_of t)) p.u
-  pub v : IsPlane (chroma_width (sequence_of t)) (chroma_height (sequence_of t)) p.v

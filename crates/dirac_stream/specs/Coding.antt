@@ -7,11 +7,11 @@ use Rattle.dirac_sequence.specs.Written.{sequence_of}
 use Rattle.dirac_refs.specs.declared.waiting.Waiting.{Waiting}
 use Rattle.dirac_refs.specs.References.{committed}
 use Rattle.dirac_picture.specs.declared.coded.CodedPicture.{CodedPicture}
+use Rattle.dirac_picture.specs.Written.{payload_of}
 use Rattle.dirac_decode.specs.Content.{rebuilt}
 use Rattle.dirac_decode.specs.StreamState.{as_reference}
 use Rattle.dirac_plan.specs.declared.planned.Planned.{Planned}
 use Rattle.dirac_stream.specs.Coded.{coded_of}
-use Rattle.dirac_stream.specs.Payload.{payload_of}
 use Rattle.dirac_plan.specs.Plan.{plan}
 use Rattle.dirac_choose.specs.Chosen.{at_index}
 pub use Rattle.dirac_plan_laws.specs.Order.{as_waiting, by_number}

@@ -6,12 +6,11 @@ use Rattle.std.specs.Io.KnownBytes.{Appends}
 use Rattle.dirac_io.specs.Writing.{AppendsFront}
 use Rattle.dirac_units.specs.Cut.{IsCut, start}
 use Rattle.dirac_refs.specs.Delivery.{deliver}
-use Rattle.dirac_decode.specs.Raw.{raws}
+use Rattle.dirac_decode.specs.Raw.{left_over, raw_length, raws, sources, whole_pictures}
 use Rattle.dirac_decode.specs.Shown.{Outcome, IsShown}
 use Rattle.dirac_stream.specs.declared.answers.Encoded.{Encoded}
 use Rattle.dirac_stream.specs.declared.answers.Encoded.TheVariants as encoded
 use Rattle.dirac_stream.specs.Coding.{AreAtIndexZero, IndexRule, Made, coding_under, jobs_of, own_index, pushed, reconstructions, reconstructions_under, shown_of}
-use Rattle.dirac_stream.specs.Raw.{left_over, raw_length, sources, whole_pictures}
 use Rattle.dirac_stream.specs.Stream.{header_before, last_length, picture_length, stream_from, stream_of, stream_under, stream_units, units_of, units_under}
 use Rattle.dirac_plan_laws.specs.Order.{by_number}
 

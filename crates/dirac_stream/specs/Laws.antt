@@ -8,14 +8,14 @@ use Rattle.dirac_types.specs.Settings.{IsAccepted}
 use Rattle.dirac_sequence.specs.Written.{sequence_of}
 use Rattle.dirac_refs.specs.Delivery.{flush}
 use Rattle.dirac_picture.specs.Grammar.{are_listed, is_intra, picture_read}
+use Rattle.dirac_picture.specs.Written.{payload_of}
 use Rattle.dirac_decode.specs.Content.{rebuilt}
 use Rattle.dirac_decode.specs.Shown.{Outcome, IsShown}
+use Rattle.dirac_decode.specs.Raw.{sources}
 use Rattle.dirac_stream.specs.Coded.{IsSource, coded_of, motion_of, residual_of}
 use Rattle.dirac_stream.specs.Coding.{AreAtIndexZero, IndexRule, Job, Made, coding, coding_under, jobs_of, made, made_under, pushed, reconstructions, reconstructions_under, refs_after}
 use Rattle.dirac_stream.specs.Encoding.{IsRecovered, IsRecoveredUnder, first_long}
-use Rattle.dirac_stream.specs.Raw.{sources}
-use Rattle.dirac_stream.specs.Payload.{payload_of}
-use Rattle.dirac_stream.specs.Writable.{AreSmall}
+use Rattle.dirac_stream.specs.Codable.{AreSmall}
 use Rattle.dirac_stream.specs.Stream.{IsUnit, picture_length, stream_from, stream_of, stream_under}
 use Rattle.dirac_plan_laws.specs.Headers.{IsPlanned, header_of}
 

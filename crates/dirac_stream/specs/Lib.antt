@@ -1,11 +1,9 @@
 pub mod Coded
-pub mod Payload
 pub mod Coding
 pub mod Stream
 pub mod Fit
-pub mod Raw
 pub mod Encoding
-pub mod Writable
+pub mod Codable
 pub mod Tables
 pub mod Laws
 pub mod Steps

@@ -5,10 +5,9 @@ use Rattle.std.specs.List.{AllByRecursion}
 use Rattle.dirac_types.specs.declared.picture.Picture.{Picture}
 use Rattle.dirac_types.specs.declared.settings.Settings.{Settings}
 use Rattle.dirac_refs.specs.Delivery.{Leaving, flush, pushed_all}
-use Rattle.dirac_decode.specs.Raw.{raws}
+use Rattle.dirac_decode.specs.Raw.{raws, sources}
 use Rattle.dirac_stream.specs.Coding.{IndexRule, Job, Made, coded_under, coding_under, jobs_of, pushed, shown_of}
 use Rattle.dirac_stream.specs.Encoding.{is_short}
-use Rattle.dirac_stream.specs.Raw.{sources}
 use Rattle.dirac_stream.specs.Steps.{Progress}
 use Rattle.dirac_stream.specs.Stream.{last_length, units_of}
 use Rattle.dirac_plan_laws.specs.Order.{by_number}

@@ -4,31 +4,14 @@ use Rattle.std.specs.List.{AllByRecursion}
 use Rattle.dirac_types.specs.declared.picture.Picture.{Picture}
 use Rattle.dirac_types.specs.declared.settings.Settings.{Settings}
 use Rattle.dirac_types.specs.Settings.{IsAccepted}
-use Rattle.dirac_units.specs.declared.codes.TheConstants.{END_OF_SEQUENCE, SEQUENCE_HEADER}
-use Rattle.dirac_units.specs.declared.info.ParseInfo.{ParseInfo}
+use Rattle.dirac_units.specs.declared.codes.TheConstants.{SEQUENCE_HEADER}
 use Rattle.dirac_units.specs.Cut.{UnitText, IsCut, start}
-use Rattle.dirac_units.specs.Writing.{info_bytes}
+pub use Rattle.dirac_units.specs.Writing.{end_info, end_unit, info_for, unit}
 use Rattle.dirac_sequence.specs.Grammar.{sequence_read}
 use Rattle.dirac_sequence.specs.Written.{sequence_of, sequence_payload}
 use Rattle.dirac_picture.specs.Grammar.{is_intra}
 pub use Rattle.dirac_plan_laws.specs.Headers.{IsPictureCode}
 use Rattle.dirac_stream.specs.Coding.{IndexRule, Made, coding_under, own_index}
-
--- a unit's parse info: its next offset is the unit's length
-abbrev pub info_for : ℕ → ℕ → List ℕ → ParseInfo
-info_for code previous payload = record { code = code; next = 13 + length payload; previous = previous }
-
--- a unit
-abbrev pub unit : ℕ → ℕ → List ℕ → List ℕ
-unit code previous payload = info_bytes (info_for code previous payload) ++ payload
-
--- the end unit, with next offset 0
-abbrev pub end_info : ℕ → ParseInfo
-end_info previous = record { code = END_OF_SEQUENCE; next = 0; previous = previous }
-
--- its bytes
-abbrev pub end_unit : ℕ → List ℕ
-end_unit previous = info_bytes (end_info previous)
 
 -- the length of a sequence header's unit
 abbrev pub header_length : Settings → ℕ

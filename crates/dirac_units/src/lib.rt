@@ -1,4 +1,4 @@
-//! Data units: how the bytes of a stream are cut into units, and the first fault of the cutting.
+//! Data units: how the bytes of a stream are cut into units, the first fault of the cutting, and units written.
 #![tactic(auto)]
 
 mod codes;
@@ -20,4 +20,4 @@ pub use law::bytes_have_one_cut;
 pub use unit::{Payload, StreamEnd, Unit, UnitStep};
 pub use unit_place::UnitPlace;
 pub use units::Units;
-pub use write::{infos_are_read_as_written, write_info};
+pub use write::{infos_are_read_as_written, put_end, put_unit, unit_length, write_info};

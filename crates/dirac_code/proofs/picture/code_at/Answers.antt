@@ -6,8 +6,8 @@ use Rattle.dirac_sequence.proofs.Packed.{packed}
 use Rattle.dirac_sequence.specs.Written.{sequence_of}
 use Rattle.dirac_decode.specs.Content.{rebuilt}
 use Rattle.dirac_picture.specs.declared.coded.CodedPicture.{CodedPicture}
+use Rattle.dirac_picture.specs.Written.{payload_of, with_picture}
 use Rattle.dirac_stream.specs.Coded.{motion_among}
-use Rattle.dirac_stream.specs.Payload.{payload_of, with_picture}
 use Rattle.dirac_stream.proofs.Reading.{predicting}
 use Rattle.dirac_code.specs.Asked.{coded_by}
 use Rattle.dirac_code.specs.Prepared.{blocks_in}

@@ -2,21 +2,21 @@ use Rattle.std.proofs.Common.{ap, ◌∙◌}
 use Rattle.dirac_residual.proofs.Maps.{ok_weaker}
 use Rattle.dirac_sequence.specs.Written.{sequence_of}
 use Rattle.dirac_picture.specs.declared.coded.CodedPicture.{CodedPicture}
+use Rattle.dirac_picture.specs.Written.{payload_of}
 use Rattle.dirac_decode.specs.Content.{rebuilt}
 use Rattle.dirac_choose.specs.Chosen.{at_index}
-use Rattle.dirac_code.specs.Prepared.{blocks_in}
-use Rattle.dirac_stream.specs.Payload.{payload_of}
-use Rattle.dirac_encode.proofs.AtIndex.{coded_chosen}
+use Rattle.dirac_code.specs.Asked.{coded_by}
+use Rattle.dirac_code.proofs.Choices.{coded_chosen}
 use Rattle.dirac_encode.proofs.fitting.code_at.Goals as goal
 
 pub returns-clause-payload : goal.returns-clause-payload
 returns-clause-payload c =
     let t = at_index c.args.settings.now c.args.index in
-    let same = coded_chosen t c.args.refs.now c.args.planned.now c.args.source.now (blocks_in c.args.prepared.now) (c.requires.blocks c.args.index) in
+    let same = ap (coded_by t c.args.refs.now c.args.planned.now c.args.source.now) (c.requires.blocks c.args.index) ∙ coded_chosen t c.args.refs.now c.args.planned.now c.args.source.now in
     ok_weaker c.code_prepared.result (λ x e. e ∙ ap (λ (k : CodedPicture). payload_of t k) same) c.code_prepared.ensures.payload
 
 pub returns-clause-shown : goal.returns-clause-shown
 returns-clause-shown c =
     let t = at_index c.args.settings.now c.args.index in
-    let same = coded_chosen t c.args.refs.now c.args.planned.now c.args.source.now (blocks_in c.args.prepared.now) (c.requires.blocks c.args.index) in
+    let same = ap (coded_by t c.args.refs.now c.args.planned.now c.args.source.now) (c.requires.blocks c.args.index) ∙ coded_chosen t c.args.refs.now c.args.planned.now c.args.source.now in
     ok_weaker c.code_prepared.result (λ x e. e ∙ ap (λ (k : CodedPicture). rebuilt (sequence_of t) c.args.refs.now k) same) c.code_prepared.ensures.shown

@@ -1,4 +1,5 @@
 use Rattle.std.proofs.Common.{◌≡◌, ◌<◌, ◌∙◌, refl, sym, ap, subst, arith}
+use Rattle.dirac_decode.specs.Raw.{picture_from}
 use Rattle.dirac_plan.specs.Planning.{Planning, is_closed, with_picture}
 use Rattle.std.specs.Prelude.{IfSome}
 use Rattle.dirac_stream.specs.declared.answers.Encoded.{Encoded}
@@ -6,7 +7,6 @@ use Rattle.dirac_stream.specs.declared.answers.Encoded.TheVariants as encoded
 use Rattle.dirac_stream.specs.Encoding.{AnswersEncode, encoding_under}
 use Rattle.dirac_stream.specs.Fit.{rule_of}
 use Rattle.dirac_stream.proofs.Fitting.{rule_gives}
-use Rattle.dirac_stream.specs.Raw.{picture_from}
 use Rattle.dirac_stream.specs.Steps.{Progress}
 use Rattle.dirac_stream.proofs.Accepted.{most_pictures, raw_some}
 use Rattle.dirac_encode.specs.Going.{so_far}

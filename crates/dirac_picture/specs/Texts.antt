@@ -1,0 +1,27 @@
+-- The bits of the subbands of each plane, written apart.
+use Rattle.std.specs.Prelude.{◌≡◌, Bool, List, [], ◌++◌}
+use Rattle.dirac_types.specs.Bits.{bits_of}
+use Rattle.dirac_types.specs.declared.formats.Component.{Component}
+use Rattle.dirac_types.specs.declared.formats.Component.TheVariants as component
+use Rattle.dirac_bits.specs.Writing.{up_to_byte}
+use Rattle.dirac_sequence.specs.declared.sequence.Sequence.{Sequence}
+use Rattle.dirac_sequence.specs.Sizes.{plane_height, plane_width}
+use Rattle.dirac_picture.specs.declared.coded.CodedResidual.{CodedResidual}
+use Rattle.dirac_picture.specs.declared.texts.Texts.{Texts}
+use Rattle.dirac_picture.specs.Bands.{bands_of}
+use Rattle.dirac_picture.specs.Written.{with_plane}
+
+-- the bits of the bands of a plane, with bits 0 up to the end of the last byte
+abbrev pub text_of : Sequence → CodedResidual → Component → List Bool
+text_of s r component =
+    up_to_byte (with_plane r.transform (plane_width s component) (plane_height s component) (bands_of r component) [])
+
+-- the bytes of all planes
+pub record AreTexts (s : Sequence) (r : CodedResidual) (x : Texts) : Type 0 where
+  pub y : bits_of x.y.items ≡ text_of s r component.Y
+  pub u : bits_of x.u.items ≡ text_of s r component.U
+  pub v : bits_of x.v.items ≡ text_of s r component.V
+
+-- the bits with those of all planes behind them, which begin at a byte
+abbrev pub joined : List Bool → List Bool → List Bool → List Bool → List Bool
+joined bits y u v = ((up_to_byte bits ++ y) ++ u) ++ v
