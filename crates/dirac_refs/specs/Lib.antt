@@ -1,3 +1,4 @@
 pub mod Bounded
 pub mod Delivery
+pub mod Halves
 pub mod References

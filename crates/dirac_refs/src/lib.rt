@@ -2,6 +2,7 @@
 #![tactic(auto)]
 
 mod bounded;
+mod copied;
 mod delivery;
 mod laws;
 mod ref_buffer;
@@ -9,8 +10,9 @@ mod reference;
 mod shared;
 mod waiting;
 
+pub use copied::reference_of;
 pub use delivery::{Delivery, MOST_WAITING, key};
 pub use laws::{least_leaves_first, refs_are_few};
 pub use ref_buffer::{MOST_REFERENCES, RefBuffer};
-pub use reference::reference_of;
+pub use reference::{Halves, MOST_KEPT_SAMPLES, Reference};
 pub use waiting::Waiting;

@@ -1,10 +1,14 @@
 ghost use Rattle.std.specs.Prelude.{◌≡◌, ◌≤◌, [], length};
+ghost use Rattle.std.specs.List.{All};
 ghost use Rattle.std.specs.Option.{option_copied};
+ghost use Rattle.dirac_refs.specs.Halves.{CanBeDoubled};
 ghost use Rattle.dirac_refs.specs.References as references;
 ghost use Rattle.dirac_refs.specs.References.{append, committed, listed, without};
 
 use crate::bounded::Bounded;
+use crate::reference::Reference;
 use dirac_types::Picture;
+use std::alloc::Global;
 use std::marker::Model;
 
 /// The most reference pictures that are listed.
@@ -13,7 +17,7 @@ pub const MOST_REFERENCES: usize = 8;
 /// The reference pictures of a sequence, oldest first: at most eight (reference buffer, Dirac specification).
 #[derive(Drop)]
 pub struct RefBuffer {
-    list: Bounded<Picture, MOST_REFERENCES>,
+    list: Bounded<Reference, MOST_REFERENCES>,
 }
 
 impl Model for RefBuffer {
@@ -42,10 +46,20 @@ impl RefBuffer {
     pub fn find(&self, number: u32) -> Option<&Picture>
         ensures { option_copied result ≡ listed self.now number }
     {
+        match self.find_reference(number) {
+            None => None,
+            Some(reference) => Some(reference.picture()),
+        }
+    }
+
+    /// The listed picture of this number, with its half samples where they are kept; `None` exactly where there is none.
+    pub fn find_reference(&self, number: u32) -> Option<&Reference>
+        ensures { option_copied result ≡ listed self.now number }
+    {
         for place in 0..self.list.len() {
-            let picture = self.list.at(place);
-            if picture.number == number {
-                return Some(picture);
+            let reference = self.list.at(place);
+            if reference.number() == number {
+                return Some(reference);
             }
         }
         None
@@ -58,6 +72,17 @@ impl RefBuffer {
         match number {
             None => true,
             Some(number) => self.find(number).is_some(),
+        }
+    }
+
+    /// Keeps the half samples of the pictures of these numbers, and of no other picture. The list stays as it is.
+    pub fn keep_halves(&mut self, alloc: Global, first: u32, second: Option<u32>)
+        requires { All CanBeDoubled self.old }
+        ensures { self.new ≡ self.old }
+    {
+        for _ in 0..self.list.len() {
+            let reference = self.list.remove(0);
+            self.list.push(kept(alloc, first, second, reference));
         }
     }
 
@@ -86,13 +111,26 @@ impl RefBuffer {
     }
 }
 
+/// A reference with its half samples if it is one of the pictures of these numbers, else without.
+fn kept(alloc: Global, first: u32, second: Option<u32>, reference: Reference) -> Reference
+    requires { CanBeDoubled reference }
+    ensures { result ≡ reference }
+{
+    let number = reference.number();
+    if number == first || Some(number) == second {
+        reference.doubled(alloc)
+    } else {
+        reference.bare()
+    }
+}
+
 /// Takes the pictures of this number out of the list.
-fn leave(list: &mut Bounded<Picture, MOST_REFERENCES>, number: u32)
+fn leave(list: &mut Bounded<Reference, MOST_REFERENCES>, number: u32)
     ensures { list.new ≡ without number list.old }
 {
     let mut place = 0;
     while place < list.len() {
-        if list.at(place).number == number {
+        if list.at(place).number() == number {
             list.remove(place);
         } else {
             place += 1;
@@ -102,7 +140,7 @@ fn leave(list: &mut Bounded<Picture, MOST_REFERENCES>, number: u32)
 
 /// Appends a picture, in place of the oldest where eight are listed.
 #[tactic(auto, using(crate::proofs::Listed::few_append))]
-fn append_last(list: &mut Bounded<Picture, MOST_REFERENCES>, picture: Picture)
+fn append_last(list: &mut Bounded<Reference, MOST_REFERENCES>, picture: Picture)
     requires { length list.old ≤ MOST_REFERENCES }
     ensures at_most_8_references { length list.new ≤ MOST_REFERENCES }
     ensures longer { list.new ≡ append list.old picture }
@@ -110,5 +148,5 @@ fn append_last(list: &mut Bounded<Picture, MOST_REFERENCES>, picture: Picture)
     if list.len() == MOST_REFERENCES {
         list.remove(0);
     }
-    list.push(picture);
+    list.push(Reference::new(picture));
 }

@@ -1,17 +1,125 @@
 ghost use Rattle.std.specs.Prelude.{◌≡◌, IfOk};
-ghost use Rattle.dirac_refs.specs.References.{as_reference};
+ghost use Rattle.std.specs.Option.{ForSome, option_copied};
+ghost use Rattle.dirac_refs.specs.Halves.{AreHalves, IsDoublable};
 
-use dirac_types::{NoMemory, Picture};
-use dirac_units::is_reference;
+use dirac_types::{NoMemory, Picture, Plane};
+use dirac_upconvert::{UpPlane, upconvert};
 use std::alloc::Global;
+use std::marker::Model;
 
-/// A picture once more, where later pictures may refer to one with this parse code.
-pub fn reference_of(alloc: Global, code: u8, picture: &Picture) -> Result<Option<Picture>, NoMemory>
-    ensures { IfOk result (λ r. r ≡ as_reference code picture.now) }
+/// The most samples of a plane whose half samples are kept: those of 2,048 by 1,088. Half samples take four times the
+/// room of their plane, so those of larger pictures are made plane by plane, when they are needed.
+pub const MOST_KEPT_SAMPLES: u32 = 2_228_224;
+
+/// The planes of a picture with their half samples.
+#[derive(Debug, Drop)]
+pub struct Halves {
+    pub y: UpPlane,
+    pub u: UpPlane,
+    pub v: UpPlane,
+}
+
+/// A reference picture, and its half samples while they are kept.
+#[derive(Drop)]
+pub struct Reference {
+    picture: Picture,
+    halves: Option<Halves>,
+}
+
+impl Model for Reference {
+    ghost use Rattle.std.specs.Option.{ForSome};
+    ghost use Rattle.dirac_types.specs.declared.picture.Picture.{Picture};
+    ghost use Rattle.dirac_refs.specs.Halves.{AreHalves};
+
+    ghost Value = { Picture };
+
+    ghost view = { λ r. r.picture };
+
+    ghost invariant = { λ r. ForSome r.halves (AreHalves r.picture) };
+}
+
+/// A plane with its half samples.
+fn doubled(alloc: Global, plane: &Plane) -> Result<UpPlane, NoMemory>
+    requires { IsDoublable plane.now }
+    ensures { IfOk result (λ u. u ≡ Rattle.dirac_refs.specs.Halves.up_of plane.now) }
 {
-    if !is_reference(code) {
-        return Ok(None);
+    upconvert(alloc, plane)
+}
+
+/// All planes of a picture with their half samples.
+fn halves_of(alloc: Global, picture: &Picture) -> Result<Halves, NoMemory>
+    requires y { IsDoublable picture.now.y }
+    requires u { IsDoublable picture.now.u }
+    requires v { IsDoublable picture.now.v }
+    ensures { IfOk result (AreHalves picture.now) }
+{
+    Ok(Halves {
+        y: doubled(alloc, &picture.y)?,
+        u: doubled(alloc, &picture.u)?,
+        v: doubled(alloc, &picture.v)?,
+    })
+}
+
+/// Whether the half samples of a plane take little enough room to be kept.
+fn is_small(plane: &Plane) -> bool {
+    u64::from(plane.width()) * u64::from(plane.height()) <= u64::from(MOST_KEPT_SAMPLES)
+}
+
+impl Reference {
+    /// A reference picture whose half samples aren't made.
+    pub(crate) fn new(picture: Picture) -> Reference
+        ensures { result ≡ picture }
+    {
+        Reference {
+            picture,
+            halves: None,
+        }
     }
-    let copy = picture.try_copy(alloc)?;
-    Ok(Some(copy))
+
+    /// The picture's number in the stream.
+    pub(crate) fn number(&self) -> u32
+        ensures { result ≡ self.now.number }
+    {
+        self.picture.number
+    }
+
+    /// Lends the picture.
+    pub fn picture(&self) -> &Picture
+        ensures { result.now ≡ self.now }
+    {
+        &self.picture
+    }
+
+    /// Lends the picture's half samples, while they are kept.
+    pub fn halves(&self) -> Option<&Halves>
+        ensures { ForSome (option_copied result) (AreHalves self.now) }
+    {
+        self.halves.as_ref()
+    }
+
+    /// The same reference without its half samples.
+    pub(crate) fn bare(self) -> Reference
+        ensures { result ≡ self }
+    {
+        Reference::new(self.picture)
+    }
+
+    /// The same reference with its half samples, where they take little room and memory is there.
+    pub(crate) fn doubled(self, alloc: Global) -> Reference
+        requires y { IsDoublable self.y }
+        requires u { IsDoublable self.u }
+        requires v { IsDoublable self.v }
+        ensures { result ≡ self }
+    {
+        if self.halves.is_some() || !is_small(&self.picture.y) {
+            return self;
+        }
+        match halves_of(alloc, &self.picture) {
+            Err(NoMemory) => self,
+            Ok(halves) => Reference {
+                picture: self.picture,
+                halves: Some(halves),
+            },
+        }
+    }
 }
