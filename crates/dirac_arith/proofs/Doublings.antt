@@ -87,6 +87,38 @@ doubles_by_zeros range some narrow =
     let e : count_leading_zeros 32 (range - 1) - 17 ≡ 14 - top.0 = omega arith in
     rw e (doubles range top.0 narrow top.2 top.3)
 
+-- the place of the upper bit is at most 14, or 15 where the number before the range is above 32767
+pub place_at_most : (range : ℕ) → 1 < range → range ≤ 0xFFFF
+    → 31 - count_leading_zeros 32 (range - 1) ≤ 14 + (range - 1) / 32768
+place_at_most range some narrow =
+    let top = leading_top 32 (range - 1) (omega arith) (omega arith) in
+    elim (cases_lt top.0 15) [
+      | inl small ↦ omega arith
+      | inr large ↦
+          let low = pow-le-pow_right {n = 2} (omega arith) {i = 15} {j = top.0} large in
+          elim (cases_lt top.0 16) [
+            | inl less ↦ omega arith
+            | inr more ↦ let high = pow-le-pow_right {n = 2} (omega arith) {i = 16} {j = top.0} more in absurd (omega arith)
+          ]
+    ]
+
+-- the same by the place of the upper bit
+pub doubles_by_place : (range : ℕ) → 1 < range → range ≤ 0xFFFF
+    → Doubles range (14 + (range - 1) / 32768 - (31 - count_leading_zeros 32 (range - 1)))
+doubles_by_place range some narrow =
+    let top = leading_top 32 (range - 1) (omega arith) (omega arith) in
+    let found = doubles range top.0 narrow top.2 top.3 in
+    elim (cases_lt top.0 15) [
+      | inl small ↦
+          let high = pow-le-pow_right {n = 2} (omega arith) {i = suc top.0} {j = 15} (omega arith) in
+          let e : 14 + (range - 1) / 32768 - (31 - count_leading_zeros 32 (range - 1)) ≡ 14 - top.0 = omega arith in
+          rw e found
+      | inr large ↦
+          let low = pow-le-pow_right {n = 2} (omega arith) {i = 15} {j = top.0} large in
+          let e : 14 + (range - 1) / 32768 - (31 - count_leading_zeros 32 (range - 1)) ≡ 14 - top.0 = omega arith in
+          rw e found
+    ]
+
 -- where the doublings take a range
 pub widens : (range : ℕ) → 1 < range → range ≤ 0xFFFF → Doubles range (doublings_for range)
 widens range some narrow =

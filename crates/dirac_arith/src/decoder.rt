@@ -60,6 +60,7 @@ impl<'a> Decoder<'a> {
     }
 
     /// One decision in a context. A block that begins with sixteen ones, as an empty one does, has none: `CodeWord`.
+    #[inline(always)]
     pub fn decision(&mut self, ctx: u8) -> Result<bool, Cause>
         requires context { ctx < CONTEXTS }
         requires no_overflow { self.old.at.doublings < 2 ^ 62 }
@@ -117,6 +118,7 @@ impl<'a> Decoder<'a> {
     }
 
     // Reads digits until a true follow decision.
+    #[inline(always)]
     fn read_number(&mut self, follow: &[u8], bits: u8) -> Result<u64, Cause>
         requires not_empty { 0 < length follow.now }
         requires follow { AreContexts follow.now }
@@ -177,6 +179,7 @@ impl<'a> Decoder<'a> {
     }
 
     // Reads a magnitude and its sign.
+    #[inline(always)]
     fn read_signed(&mut self, follow: &[u8], bits: u8, sign: u8) -> Result<i64, Cause>
         requires not_empty { 0 < length follow.now }
         requires follow { AreContexts follow.now }

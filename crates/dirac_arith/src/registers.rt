@@ -30,8 +30,31 @@ fn byte_at(block: &[u8], place: usize) -> u8
     block.get(place).copied().unwrap_or(0xFF)
 }
 
+/// Reads bytes until no more fit behind a window with so many bits ahead.
+#[inline(never)]
+fn refilled(block: &[u8], mut window: u64, mut ahead: u32, mut next: usize) -> u64
+    requires narrow { window < 65536 * 2 ^ ahead }
+    requires no_overflow { next < 2 ^ 60 }
+    requires ahead { ahead ≤ 48 }
+    ensures stands { (range low doublings : ℕ) →
+        Stands block.now (record { window = window; range = range; ahead = ahead; next = next }) low doublings →
+        let more = (48 - ahead) / 8 in
+        Stands block.now (record { window = result; range = range; ahead = ahead + 8 * more; next = next + more })
+        low doublings }
+    ensures inside { (range : ℕ) → window < range * 2 ^ ahead → result < range * 2 ^ (ahead + 8 * ((48 - ahead) / 8)) }
+    ensures outside { (range : ℕ) → range * 2 ^ ahead ≤ window → range * 2 ^ (ahead + 8 * ((48 - ahead) / 8)) ≤ result }
+{
+    'reading: while ahead <= 40 {
+        window = window * 256 + u64::from(byte_at(block, next));
+        ahead += 8;
+        next += 1;
+    }
+    window
+}
+
 /// Reads bytes until no more fit behind the window.
-pub fn refill(block: &[u8], mut registers: Registers) -> Registers
+#[inline(always)]
+pub fn refill(block: &[u8], registers: Registers) -> Registers
     requires narrow { registers.window < 65536 * 2 ^ registers.ahead }
     requires no_overflow { registers.next < 2 ^ 60 }
     requires ahead { registers.ahead ≤ 48 }
@@ -45,15 +68,17 @@ pub fn refill(block: &[u8], mut registers: Registers) -> Registers
     ensures outside { (range : ℕ) → range * 2 ^ registers.ahead ≤ registers.window → range * 2 ^ result.ahead
         ≤ result.window }
 {
-    'reading: while registers.ahead <= 40 {
-        registers.window = registers.window * 256 + u64::from(byte_at(block, registers.next));
-        registers.ahead += 8;
-        registers.next += 1;
+    let more = (48 - registers.ahead) / 8;
+    Registers {
+        window: refilled(block, registers.window, registers.ahead, registers.next),
+        range: registers.range,
+        ahead: registers.ahead + 8 * more,
+        next: registers.next + more as usize,
     }
-    registers
 }
 
 /// Reads bytes where fewer bits are ahead than a decision may take.
+#[inline(always)]
 pub fn fill(block: &[u8], registers: Registers) -> Registers
     requires narrow { registers.window < 65536 * 2 ^ registers.ahead }
     requires no_overflow { registers.next < 2 ^ 60 }
@@ -102,17 +127,20 @@ pub fn is_past(registers: Registers) -> bool
     registers.window >= u64::from(registers.range) << registers.ahead
 }
 
-/// The number of doublings that take a range above 0x4000: the count of leading zeros of a 15-bit number.
+/// The number of doublings that take a range above 0x4000: by the place of the upper bit of the number before it.
+#[inline(always)]
 pub fn doublings(range: u32) -> u32
     requires above_32 { 32 < range }
     requires narrow { range ≤ 0xFFFF }
     ensures least { result ≡ doublings_for range }
     ensures at_most_9 { result ≤ 9 }
 {
-    (range - 1).leading_zeros().saturating_sub(17)
+    let most = range - 1;
+    14 + most / 32768 - (31 - most.leading_zeros())
 }
 
 /// Takes one decision at a context of this probability.
+#[inline(always)]
 pub fn decide(registers: Registers, probability: u16) -> Decided
     requires wide { 0x4000 < registers.range }
     requires narrow { registers.range ≤ 0xFFFF }
@@ -136,8 +164,9 @@ pub fn decide(registers: Registers, probability: u16) -> Decided
     ensures inside { result.registers.window < result.registers.range * 2 ^ result.registers.ahead }
 {
     let split = registers.range * u32::from(probability) / 65536;
-    let bound = u64::from(split) << registers.ahead;
-    let truth = registers.window >= bound;
+    let whole = u64::from(split);
+    let bound = whole << registers.ahead;
+    let truth = registers.window >> registers.ahead >= whole;
     let (window, range) = if truth {
         (registers.window - bound, registers.range - split)
     } else {
