@@ -62,7 +62,7 @@ pub fn restore(value: i64, index: u8, kind: Kind) -> i128
 #[inline(always)]
 pub fn restore_narrow(value: i32, factor: u32, offset: u32) -> i32
     requires offset { offset < 2 ^ 27 }
-    requires small { 1 ≤ unsigned_abs value → unsigned_abs value * factor + offset + 2 ≤ MOST_QUARTERS }
+    requires no_overflow { 1 ≤ unsigned_abs value → unsigned_abs value * factor + offset + 2 ≤ MOST_QUARTERS }
     ensures { result ≡ scaled value factor offset }
 {
     let whole = value.unsigned_abs();
@@ -76,7 +76,8 @@ pub fn narrow_limit(index: u8, kind: Kind) -> u64
     requires { IsIndex index }
     ensures fits { (m : ℕ) → m ≤ result → restored_magnitude m index kind ≤ LARGEST_NARROW }
     ensures exact { (m : ℕ) → result < m → LARGEST_NARROW < restored_magnitude m index kind }
-    ensures room { (m : ℕ) → 1 ≤ m → m ≤ result → m * factor_of index + offset_of index kind + 2 ≤ MOST_QUARTERS }
+    ensures no_overflow { (m : ℕ) → 1 ≤ m → m ≤ result
+        → m * factor_of index + offset_of index kind + 2 ≤ MOST_QUARTERS }
     ensures below { result < 2 ^ 12 }
 {
     let taken = offset(index, kind) + 2;
