@@ -11,7 +11,7 @@ pub fn padded(size: u32, depth: u8) -> u32
     requires size { size ≤ LARGEST_TABLE_SIDE }
     requires depth { IsDepth depth }
     ensures value { result ≡ padded_size size depth }
-    ensures whole { result % 2 ^ depth ≡ 0 }
+    ensures divisible { result % 2 ^ depth ≡ 0 }
     ensures at_least { size ≤ result }
     ensures nearest { result < size + 2 ^ depth }
     ensures at_most_8192 { result ≤ LARGEST_TABLE_SIDE }

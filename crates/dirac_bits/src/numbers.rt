@@ -90,7 +90,7 @@ pub fn next_block(bytes: &[u8], first: BitPlace, len: u64) -> Result<(&[u8], Bit
     requires inside { bit_number first ≤ 8 * length bytes.now }
     ensures value { StepsBy (λ part. part.now) bytes.now result (bytes_on len (cursor_at bytes.now first)) }
     ensures lent { IfOk result (λ x. x.0.now ≡ slice_range bytes.now first.byte (first.byte + len)) }
-    ensures whole { IsOk result ↔ (first.byte + len ≤ length bytes.now) }
+    ensures where_held { IsOk result ↔ (first.byte + len ≤ length bytes.now) }
     ensures inside { IfOk result (λ x. bit_number x.1 ≤ 8 * length bytes.now) }
     ensures aligned { IfOk result (λ x. x.1.bit ≡ 0) }
 {

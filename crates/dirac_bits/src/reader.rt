@@ -154,7 +154,7 @@ impl<'a> BitReader<'a> {
         ensures value { Takes (λ part. part.now) result self.old self.new (block_at len self.old) }
         ensures lent { IfOk result (λ part. part.now ≡ slice_range self.old.bytes (place self.old)
             (place self.old + len)) }
-        ensures whole { IsOk result ↔ (place self.old + len ≤ length self.old.bytes) }
+        ensures where_held { IsOk result ↔ (place self.old + len ≤ length self.old.bytes) }
         ensures place_inside { IfErr result (λ e. e.at ≤ length self.old.bytes) }
         ensures kept { self.new.bytes ≡ self.old.bytes }
         ensures aligned { IsAligned self.new }

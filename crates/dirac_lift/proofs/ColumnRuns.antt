@@ -19,3 +19,6 @@ become_run s ss w h xs ys zs first rest = record {
   len = rest.len ∙ first.len;
   each = λ x l. rest.each x l ∙ ap (run ss) (first.each x l);
 }
+
+-- columns that run through a list of steps, the first step and the rest
+pub ruleset columns_run = (safe_first, safe_rest, become_run, become_last)

@@ -155,7 +155,7 @@ fn lift_columns(
 
 /// Synthesis of all columns: Deslauriers-Dubuc (9,7).
 #[inline(never)]
-#[tactic(auto, using(crate::proofs::ColumnRuns::safe_first, crate::proofs::ColumnRuns::safe_rest, crate::proofs::ColumnRuns::become_run, crate::proofs::ColumnRuns::become_last))]
+#[tactic(auto, using(crate::proofs::ColumnRuns::columns_run))]
 fn synth_deslauriers_dubuc_9_7(values: &mut [i128], width: usize, height: usize)
     requires len { length values.old ≡ width * height }
     requires even { height % 2 ≡ 0 }
@@ -168,7 +168,7 @@ fn synth_deslauriers_dubuc_9_7(values: &mut [i128], width: usize, height: usize)
 
 /// Analysis of all columns: Deslauriers-Dubuc (9,7).
 #[inline(never)]
-#[tactic(auto, using(crate::proofs::ColumnRuns::safe_first, crate::proofs::ColumnRuns::safe_rest, crate::proofs::ColumnRuns::become_run, crate::proofs::ColumnRuns::become_last))]
+#[tactic(auto, using(crate::proofs::ColumnRuns::columns_run))]
 fn analyse_deslauriers_dubuc_9_7(values: &mut [i128], width: usize, height: usize)
     requires len { length values.old ≡ width * height }
     requires even { height % 2 ≡ 0 }
@@ -181,7 +181,7 @@ fn analyse_deslauriers_dubuc_9_7(values: &mut [i128], width: usize, height: usiz
 
 /// Synthesis of all columns: LeGall (5,3).
 #[inline(never)]
-#[tactic(auto, using(crate::proofs::ColumnRuns::safe_first, crate::proofs::ColumnRuns::safe_rest, crate::proofs::ColumnRuns::become_run, crate::proofs::ColumnRuns::become_last))]
+#[tactic(auto, using(crate::proofs::ColumnRuns::columns_run))]
 fn synth_legall_5_3(values: &mut [i128], width: usize, height: usize)
     requires len { length values.old ≡ width * height }
     requires even { height % 2 ≡ 0 }
@@ -194,7 +194,7 @@ fn synth_legall_5_3(values: &mut [i128], width: usize, height: usize)
 
 /// Analysis of all columns: LeGall (5,3).
 #[inline(never)]
-#[tactic(auto, using(crate::proofs::ColumnRuns::safe_first, crate::proofs::ColumnRuns::safe_rest, crate::proofs::ColumnRuns::become_run, crate::proofs::ColumnRuns::become_last))]
+#[tactic(auto, using(crate::proofs::ColumnRuns::columns_run))]
 fn analyse_legall_5_3(values: &mut [i128], width: usize, height: usize)
     requires len { length values.old ≡ width * height }
     requires even { height % 2 ≡ 0 }
@@ -207,7 +207,7 @@ fn analyse_legall_5_3(values: &mut [i128], width: usize, height: usize)
 
 /// Synthesis of all columns: Deslauriers-Dubuc (13,7).
 #[inline(never)]
-#[tactic(auto, using(crate::proofs::ColumnRuns::safe_first, crate::proofs::ColumnRuns::safe_rest, crate::proofs::ColumnRuns::become_run, crate::proofs::ColumnRuns::become_last))]
+#[tactic(auto, using(crate::proofs::ColumnRuns::columns_run))]
 fn synth_deslauriers_dubuc_13_7(values: &mut [i128], width: usize, height: usize)
     requires len { length values.old ≡ width * height }
     requires even { height % 2 ≡ 0 }
@@ -220,7 +220,7 @@ fn synth_deslauriers_dubuc_13_7(values: &mut [i128], width: usize, height: usize
 
 /// Analysis of all columns: Deslauriers-Dubuc (13,7).
 #[inline(never)]
-#[tactic(auto, using(crate::proofs::ColumnRuns::safe_first, crate::proofs::ColumnRuns::safe_rest, crate::proofs::ColumnRuns::become_run, crate::proofs::ColumnRuns::become_last))]
+#[tactic(auto, using(crate::proofs::ColumnRuns::columns_run))]
 fn analyse_deslauriers_dubuc_13_7(values: &mut [i128], width: usize, height: usize)
     requires len { length values.old ≡ width * height }
     requires even { height % 2 ≡ 0 }
@@ -233,7 +233,7 @@ fn analyse_deslauriers_dubuc_13_7(values: &mut [i128], width: usize, height: usi
 
 /// Synthesis of all columns: Haar.
 #[inline(never)]
-#[tactic(auto, using(crate::proofs::ColumnRuns::safe_first, crate::proofs::ColumnRuns::safe_rest, crate::proofs::ColumnRuns::become_run, crate::proofs::ColumnRuns::become_last))]
+#[tactic(auto, using(crate::proofs::ColumnRuns::columns_run))]
 fn synth_haar(values: &mut [i128], width: usize, height: usize)
     requires len { length values.old ≡ width * height }
     requires even { height % 2 ≡ 0 }
@@ -246,7 +246,7 @@ fn synth_haar(values: &mut [i128], width: usize, height: usize)
 
 /// Analysis of all columns: Haar.
 #[inline(never)]
-#[tactic(auto, using(crate::proofs::ColumnRuns::safe_first, crate::proofs::ColumnRuns::safe_rest, crate::proofs::ColumnRuns::become_run, crate::proofs::ColumnRuns::become_last))]
+#[tactic(auto, using(crate::proofs::ColumnRuns::columns_run))]
 fn analyse_haar(values: &mut [i128], width: usize, height: usize)
     requires len { length values.old ≡ width * height }
     requires even { height % 2 ≡ 0 }
@@ -259,7 +259,7 @@ fn analyse_haar(values: &mut [i128], width: usize, height: usize)
 
 /// Synthesis of all columns: Fidelity.
 #[inline(never)]
-#[tactic(auto, using(crate::proofs::ColumnRuns::safe_first, crate::proofs::ColumnRuns::safe_rest, crate::proofs::ColumnRuns::become_run, crate::proofs::ColumnRuns::become_last))]
+#[tactic(auto, using(crate::proofs::ColumnRuns::columns_run))]
 fn synth_fidelity(values: &mut [i128], width: usize, height: usize)
     requires len { length values.old ≡ width * height }
     requires even { height % 2 ≡ 0 }
@@ -272,7 +272,7 @@ fn synth_fidelity(values: &mut [i128], width: usize, height: usize)
 
 /// Analysis of all columns: Fidelity.
 #[inline(never)]
-#[tactic(auto, using(crate::proofs::ColumnRuns::safe_first, crate::proofs::ColumnRuns::safe_rest, crate::proofs::ColumnRuns::become_run, crate::proofs::ColumnRuns::become_last))]
+#[tactic(auto, using(crate::proofs::ColumnRuns::columns_run))]
 fn analyse_fidelity(values: &mut [i128], width: usize, height: usize)
     requires len { length values.old ≡ width * height }
     requires even { height % 2 ≡ 0 }
@@ -285,7 +285,7 @@ fn analyse_fidelity(values: &mut [i128], width: usize, height: usize)
 
 /// Synthesis of all columns: Daubechies (9,7).
 #[inline(never)]
-#[tactic(auto, using(crate::proofs::ColumnRuns::safe_first, crate::proofs::ColumnRuns::safe_rest, crate::proofs::ColumnRuns::become_run, crate::proofs::ColumnRuns::become_last))]
+#[tactic(auto, using(crate::proofs::ColumnRuns::columns_run))]
 fn synth_daubechies_9_7(values: &mut [i128], width: usize, height: usize)
     requires len { length values.old ≡ width * height }
     requires even { height % 2 ≡ 0 }
@@ -300,7 +300,7 @@ fn synth_daubechies_9_7(values: &mut [i128], width: usize, height: usize)
 
 /// Analysis of all columns: Daubechies (9,7).
 #[inline(never)]
-#[tactic(auto, using(crate::proofs::ColumnRuns::safe_first, crate::proofs::ColumnRuns::safe_rest, crate::proofs::ColumnRuns::become_run, crate::proofs::ColumnRuns::become_last))]
+#[tactic(auto, using(crate::proofs::ColumnRuns::columns_run))]
 fn analyse_daubechies_9_7(values: &mut [i128], width: usize, height: usize)
     requires len { length values.old ≡ width * height }
     requires even { height % 2 ≡ 0 }

@@ -4,4 +4,6 @@
 
 mod quantiser;
 
-pub use quantiser::{MOST_QUARTERS, factor, narrow_limit, offset, reduce, restore, restore_narrow};
+pub use quantiser::{
+    MOST_QUARTERS, factor, narrow_limit, offset, reduce, reduce_by, restore, restore_narrow,
+};

@@ -1,6 +1,7 @@
-ghost use Rattle.std.specs.Prelude.{◌≡◌, ℕ, ◌^◌, ◌*◌, ◌+◌, ◌<◌, ◌≤◌, ◌-◌, unsigned_abs};
+ghost use Rattle.std.specs.Prelude.{◌≡◌, ℕ, ◌^◌, ◌*◌, ◌/◌, ◌+◌, ◌<◌, ◌≤◌, ◌-◌, unsigned_abs};
 ghost use Rattle.dirac_types.specs.Limits.{IsIndex};
 ghost use Rattle.dirac_quant.specs.Quantiser.{factor_of, offset_of, restored, restored_magnitude, reduced, scaled};
+ghost use Rattle.dirac_quant.specs.Quantiser.{with_sign_of};
 
 use dirac_types::{Kind, LARGEST_NARROW};
 
@@ -62,7 +63,7 @@ pub fn restore(value: i64, index: u8, kind: Kind) -> i128
 #[inline(always)]
 pub fn restore_narrow(value: i32, factor: u32, offset: u32) -> i32
     requires offset { offset < 2 ^ 27 }
-    requires small { 1 ≤ unsigned_abs value → unsigned_abs value * factor + offset + 2 ≤ MOST_QUARTERS }
+    requires no_overflow { 1 ≤ unsigned_abs value → unsigned_abs value * factor + offset + 2 ≤ MOST_QUARTERS }
     ensures { result ≡ scaled value factor offset }
 {
     let whole = value.unsigned_abs();
@@ -76,20 +77,33 @@ pub fn narrow_limit(index: u8, kind: Kind) -> u64
     requires { IsIndex index }
     ensures fits { (m : ℕ) → m ≤ result → restored_magnitude m index kind ≤ LARGEST_NARROW }
     ensures exact { (m : ℕ) → result < m → LARGEST_NARROW < restored_magnitude m index kind }
-    ensures room { (m : ℕ) → 1 ≤ m → m ≤ result → m * factor_of index + offset_of index kind + 2 ≤ MOST_QUARTERS }
+    ensures no_overflow { (m : ℕ) → 1 ≤ m → m ≤ result
+        → m * factor_of index + offset_of index kind + 2 ≤ MOST_QUARTERS }
     ensures below { result < 2 ^ 12 }
 {
     let taken = offset(index, kind) + 2;
     MOST_QUARTERS.saturating_sub(taken) / factor(index)
 }
 
-/// The number that codes a coefficient: its magnitude in steps, rounded towards zero, with its sign.
+/// The number that codes a coefficient, by the factor of an index: its magnitude in steps, rounded towards zero, with
+/// its sign.
+#[inline(always)]
+pub fn reduce_by(value: i64, factor: u64) -> i64
+    requires value { unsigned_abs value ≤ 2 ^ 39 - 2 }
+    requires factor { 4 ≤ factor }
+    ensures value { result ≡ with_sign_of value (4 * unsigned_abs value / factor) }
+    ensures no_larger { unsigned_abs result ≤ unsigned_abs value }
+{
+    let reduced = (4 * value.unsigned_abs() / factor) as i64;
+    if value < 0 { -reduced } else { reduced }
+}
+
+/// The number that codes a coefficient at an index.
 pub fn reduce(value: i64, index: u8) -> i64
     requires value { unsigned_abs value ≤ 2 ^ 39 - 2 }
     requires index { IsIndex index }
     ensures value { result ≡ reduced value index }
     ensures no_larger { unsigned_abs result ≤ unsigned_abs value }
 {
-    let reduced = (4 * value.unsigned_abs() / factor(index)) as i64;
-    if value < 0 { -reduced } else { reduced }
+    reduce_by(value, factor(index))
 }

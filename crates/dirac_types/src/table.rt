@@ -161,7 +161,7 @@ impl Table<i32> {
     /// The plane in 32 bits; none where a magnitude is above 4,095.
     pub fn try_of(alloc: Global, plane: &Wide) -> Result<Option<Narrow>, NoMemory>
         ensures value { IfOk result (λ narrow. IfSome narrow (λ t. t ≡ plane.now)) }
-        ensures some { IfOk result (λ narrow. IsSome narrow ↔ All (λ v. unsigned_abs v ≤ LARGEST_NARROW)
+        ensures where_narrow { IfOk result (λ narrow. IsSome narrow ↔ All (λ v. unsigned_abs v ≤ LARGEST_NARROW)
             plane.now.values) }
     {
         if !are_narrow(plane.values.as_slice()) {

@@ -9,8 +9,8 @@ returns-clause-fits c m l = limit_fits m (factor_of c.args.index) (offset_of c.a
 pub returns-clause-exact : goal.returns-clause-exact
 returns-clause-exact c m l = limit_exact m (factor_of c.args.index) (offset_of c.args.index c.args.kind) _ (rw (c.saturating_sub.ensures, c.offset-taken.ensures.value, c.factor.ensures.value) refl) (omega arith) l
 
-pub returns-clause-room : goal.returns-clause-room
-returns-clause-room c m one l = limit_room m (factor_of c.args.index) (offset_of c.args.index c.args.kind) _ (rw (c.saturating_sub.ensures, c.offset-taken.ensures.value, c.factor.ensures.value) refl) (omega arith) one l
+pub returns-clause-no_overflow : goal.returns-clause-no_overflow
+returns-clause-no_overflow c m one l = limit_room m (factor_of c.args.index) (offset_of c.args.index c.args.kind) _ (rw (c.saturating_sub.ensures, c.offset-taken.ensures.value, c.factor.ensures.value) refl) (omega arith) one l
 
 pub returns-clause-below : goal.returns-clause-below
 returns-clause-below c = limit_below (factor_of c.args.index) (offset_of c.args.index c.args.kind) _ (rw (c.saturating_sub.ensures, c.offset-taken.ensures.value, c.factor.ensures.value) refl) (omega arith)
