@@ -49,7 +49,7 @@ pub fn decode_stream_by<
     write_pictures(make, &mut decoder, &mut row, source, out)
 }
 
-/// Writes the pictures of a stream that a new decoder gives; `row` is a buffer for one row.
+/// Writes the pictures of a stream that a new decoder gives; `row` is a buffer for the bytes of a plane.
 fn write_pictures<
     S: Source,
     K: Sink,

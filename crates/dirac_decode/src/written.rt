@@ -7,55 +7,46 @@ ghost use Rattle.dirac_decode.specs.Raw.{byte_of, plane_bytes, raw};
 use dirac_io::{Put, Sink, put_all};
 use dirac_types::{NoMemory, Picture, Plane};
 
-/// Writes a raw picture: the rows of Y from top to bottom, then U, then V, a byte a sample. `row` is a
-/// buffer for one row, whatever it holds.
-pub fn put_picture<K: Sink>(out: &mut K, picture: &Picture, row: &mut Vec<u8>) -> Put
+/// Writes a raw picture: the rows of Y from top to bottom, then U, then V, a byte a sample. `bytes` is a
+/// buffer for the bytes of a plane, whatever it holds.
+pub fn put_picture<K: Sink>(out: &mut K, picture: &Picture, bytes: &mut Vec<u8>) -> Put
     ensures all { result ≡ Put.All → Appends (K.taken out.old) (K.taken out.new) (raw picture.now) }
     ensures front { AppendsFront (K.taken out.old) (K.taken out.new) (raw picture.now) }
     ensures failed { result ≡ Put.Failed → Rose (K.faults out.old) (K.faults out.new) }
     ensures count { K.faults out.old ≤ K.faults out.new }
 {
-    match put_plane(out, &picture.y, row) {
+    match put_plane(out, &picture.y, bytes) {
         Put::All => {}
         Put::Failed => return Put::Failed,
         Put::NoMemory => return Put::NoMemory,
     }
-    match put_plane(out, &picture.u, row) {
+    match put_plane(out, &picture.u, bytes) {
         Put::All => {}
         Put::Failed => return Put::Failed,
         Put::NoMemory => return Put::NoMemory,
     }
-    put_plane(out, &picture.v, row)
+    put_plane(out, &picture.v, bytes)
 }
 
-/// Writes the rows of a plane.
-fn put_plane<K: Sink>(out: &mut K, plane: &Plane, row: &mut Vec<u8>) -> Put
+/// Writes a plane, all its rows at once.
+fn put_plane<K: Sink>(out: &mut K, plane: &Plane, bytes: &mut Vec<u8>) -> Put
     ensures all { result ≡ Put.All → Appends (K.taken out.old) (K.taken out.new) (plane_bytes plane.now) }
     ensures front { AppendsFront (K.taken out.old) (K.taken out.new) (plane_bytes plane.now) }
     ensures failed { result ≡ Put.Failed → Rose (K.faults out.old) (K.faults out.new) }
     ensures count { K.faults out.old ≤ K.faults out.new }
 {
-    let height = plane.height();
-    'rows: for y in 0..height {
-        match fill_row(row, plane.row(y)) {
-            Ok(()) => {}
-            Err(NoMemory) => return Put::NoMemory,
-        }
-        match put_all(out, row.as_slice()) {
-            Put::All => {}
-            Put::Failed => return Put::Failed,
-            Put::NoMemory => return Put::NoMemory,
-        }
+    match fill_bytes(bytes, plane.values()) {
+        Ok(()) => put_all(out, bytes.as_slice()),
+        Err(NoMemory) => Put::NoMemory,
     }
-    Put::All
 }
 
-/// Fills the buffer with the bytes of a row of samples.
-fn fill_row(row: &mut Vec<u8>, samples: &[i16]) -> Result<(), NoMemory>
-    ensures { IfOk result (λ _. row.new.items ≡ map byte_of samples.now) }
+/// Fills the buffer with the bytes of samples.
+fn fill_bytes(bytes: &mut Vec<u8>, samples: &[i16]) -> Result<(), NoMemory>
+    ensures { IfOk result (λ _. bytes.new.items ≡ map byte_of samples.now) }
 {
-    row.resize(samples.len(), 0)?;
-    put_bytes(samples, row.as_mut_slice());
+    bytes.resize(samples.len(), 0)?;
+    put_bytes(samples, bytes.as_mut_slice());
     Ok(())
 }
 
