@@ -27,6 +27,8 @@ ENCODINGS = [
     ({"depth": 1, "index": 0, "gop": 12, "between": 2}, 672),
     ({"depth": 2, "precision": 3, "gop": 9, "between": 3}, 960),
     ({"depth": 1, "precision": 0, "chroma": 0, "between": 1}, 960),
+    ({"depth": 1, "codeblocks": 3, "finer": 9, "gop": 4}, 480),
+    ({"depth": 1, "fields": 1, "between": 3, "gop": 9}, 912),
 ]
 
 

@@ -1,5 +1,5 @@
 use crate::ended::Ended;
-use crate::tests::{DECODE, PARDECODE, SMALL, STREAM, decoded, header, joined};
+use crate::tests::{DECODE, SMALL, STREAM, decoded, header, joined};
 use crate::tries::{Left, pieces, tried};
 use crate::words::Words;
 use dirac_types::{BadSetting, Name};
@@ -390,21 +390,22 @@ fn decodes_what_it_encodes(rt: HostRuntime) -> Result<(), Fail> {
     round_trips(&rt, alloc, &shape_of((12, 10), 2, 12, 3, 360))
 }
 
-// Pictures of 40 rows, which have a short last slice, from one reference and from two.
+// Pictures of 40 rows, which have a short last slice, from one reference and from two, by one worker and by more.
 #[test]
 fn pardecodes_what_it_encodes(rt: HostRuntime) -> Result<(), Fail> {
     let alloc = rt.alloc();
     let tally = "pictures=8 references=3\n";
-    for (chroma, bytes, more) in [
-        (2, 9600, "--references=2"),
-        (1, 12_800, "--references=1"),
-        (0, 19_200, "--references=2"),
+    for (chroma, bytes, more, workers) in [
+        (2, 9600, "--references=2", "--workers=1"),
+        (1, 12_800, "--references=1", "--workers=3"),
+        (0, 19_200, "--references=2", "--workers=64"),
     ] {
         let mut words = shape_words(alloc, &shape_of((20, 40), chroma, 12, 2, bytes), 1, 2)?;
         words.push(more)?;
         let raw = noise(alloc, bytes)?;
         let coded = coded_back(&rt, alloc, &words, raw.as_slice(), false, tally)?;
-        let shown = decoded(&rt, alloc, &PARDECODE, coded.out.taken(), &pieces(4096))?;
+        let words = ["pardecode", workers];
+        let shown = decoded(&rt, alloc, &words, coded.out.taken(), &pieces(4096))?;
         assert_eq!(rt; shown.ended, Ended::Done);
         assert_eq!(rt; shown.out.taken(), coded.side.taken());
         assert_eq!(rt; shown.side.taken(), tally.as_bytes());

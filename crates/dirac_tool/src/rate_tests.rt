@@ -1,4 +1,4 @@
-use crate::encode_tests::{GREY, PLAIN, SIZES, encodes};
+use crate::encode_tests::{GREY, PLAIN, SIZES, codes_back, encodes, noise};
 use crate::ended::Ended;
 use crate::tests::{SMALL, STREAM, header, joined};
 use crate::words::{Words, recon_path};
@@ -100,6 +100,23 @@ fn fits_grey_pictures_at_the_default(rt: HostRuntime) -> Result<(), Fail> {
         let words = rate_words(alloc, &SIZES, &[more])?;
         let raw = &GREY[..raw.min(GREY.len())];
         encodes(&rt, alloc, &words, raw, answer, &STREAM, &GREY[..192])?;
+    }
+    Ok(())
+}
+
+// Fourteen pictures in a group, from one reference and from two.
+#[test]
+fn decodes_what_was_fitted(rt: HostRuntime) -> Result<(), Fail> {
+    let alloc = rt.alloc();
+    let tally = "pictures=14 references=3\n";
+    for more in ["--references=2", "--references=1"] {
+        let words = rate_words(
+            alloc,
+            &SIZES,
+            &["--gop=14", "--between=3", "--budget=120", more],
+        )?;
+        let raw = noise(alloc, 1344)?;
+        codes_back(&rt, alloc, &words, raw.as_slice(), false, tally)?;
     }
     Ok(())
 }

@@ -5,7 +5,7 @@ use crate::shape_streams::{
     SHAPES_OF_ONE_420, SHAPES_OF_ONE_422, SHAPES_OF_ONE_444, SHAPES_OF_TWO_420, SHAPES_OF_TWO_422,
     SHAPES_OF_TWO_444,
 };
-use crate::tests::{STREAM, header};
+use crate::tests::{STREAM, header, joined};
 use crate::tries::{Left, pieces, tried, words_of};
 use std::alloc::Global;
 use std::process::Abort;
@@ -116,6 +116,24 @@ fn thousand_units(alloc: Global) -> Result<(Vec<u8>, String), Fail> {
     Ok((bytes, lines))
 }
 
+// Decodes what encoding left, three times behind itself, cut as a whole and joined: it shows what was said beside it.
+fn shows_the_same<R: Abort + Threads + Sync>(
+    rt: &R,
+    alloc: Global,
+    coded: &Left,
+) -> Result<(), Fail> {
+    let stream = coded.out.taken();
+    let shown = coded.side.taken();
+    let streams = joined(alloc, &[stream, stream, stream])?;
+    let pictures = joined(alloc, &[shown, shown, shown])?;
+    for word in ["cut", "join"] {
+        let edited = done(rt, alloc, &[word], streams.as_slice())?;
+        let decoded = done(rt, alloc, &["decode"], edited.out.taken())?;
+        assert_eq!(rt; decoded.out.taken(), pictures.as_slice());
+    }
+    Ok(())
+}
+
 // Raw pictures without order, of so many bytes together, encoded with settings: a sum of the stream, and of what is
 // shown, by the plain encoder in bench/reference.
 #[test]
@@ -152,6 +170,26 @@ fn finds_memory_for_many_units_and_pictures(rt: HostRuntime) -> Result<(), Fail>
             0x502A5F39,
             0x72EA99F0,
         ),
+        // codeblocks of several indices, in chroma some without samples
+        (
+            "--depth=1",
+            "--codeblocks=3",
+            "--finer=9",
+            "--gop=4",
+            480,
+            0xC910B63D,
+            0x6447F607,
+        ),
+        // fields with three frames between anchors, the last one alone
+        (
+            "--depth=1",
+            "--fields=1",
+            "--between=3",
+            "--gop=9",
+            912,
+            0xAC272788,
+            0xB717EBD2,
+        ),
     ] {
         let words = [
             "encode",
@@ -166,6 +204,7 @@ fn finds_memory_for_many_units_and_pictures(rt: HostRuntime) -> Result<(), Fail>
         let left = done(&rt, alloc, &words, raw.as_slice())?;
         assert_eq!(rt; sum_of(left.out.taken()), sum);
         assert_eq!(rt; sum_of(left.side.taken()), shown);
+        shows_the_same(&rt, alloc, &left)?;
     }
     Ok(())
 }
