@@ -1,5 +1,5 @@
 -- Reading the bands of a plane, one after another.
-use Rattle.std.proofs.Common.{◌≡◌, ℕ, zero, suc, ◌-◌, ◌<◌, List, [], ◌∷◌, ◌++◌, length, refl, ◌∙◌, arith, Ok, Err}
+use Rattle.std.proofs.Common.{◌≡◌, ℕ, zero, suc, ◌-◌, ◌<◌, List, [], ◌∷◌, ◌++◌, length, refl, ◌∙◌, arith, subst, Result, Ok, Err}
 use Rattle.dirac_types.specs.declared.faults.Refusal.{Refusal}
 use Rattle.dirac_types.specs.declared.faults.Stop.{Stop}
 use Rattle.dirac_types.specs.declared.faults.Stop.TheVariants as stop
@@ -38,6 +38,13 @@ pub band_stops : (t : Transform) (width height : ℕ) (before : List CodedBand) 
     → ReadsOrStops (Err s) e (read (bands_behind t width height before more) c)
 band_stops t width height before more c d e (stop.Refused refusal) some is = band_refused t width height before more c refusal some is
 band_stops t width height before more c d e stop.NoMemory some is = tt
+
+-- by another name of what is read
+pub band_stops_all : (t : Transform) (width height : ℕ) (before : List CodedBand) (more : ℕ) (c d : Cursor) (s : Stop) (x : Result (List CodedBand × Cursor) Refusal) → 0 < more
+    → read (bands_behind t width height before more) c ≡ x
+    → ReadsOrStops (Err s) d (read (band (layout_of t width height (length before)) (parent_values before)) c) → ReadsOrStops {X = List CodedBand} (Err s) d x
+band_stops_all t width height before more c d s x some same is =
+    subst (λ (y : Result (List CodedBand × Cursor) Refusal). ReadsOrStops {X = List CodedBand} (Err s) d y) same (band_stops t width height before more c d d s some is)
 
 -- no more bands
 pub all_bands : (t : Transform) (width height : ℕ) (before : List CodedBand) (c : Cursor) → read (bands_behind t width height before 0) c ≡ Ok (before, c)

@@ -18,8 +18,8 @@ use std::alloc::Global;
 pub fn superblocks_over(size: u32, separation: u32) -> u32
     requires at_least_1 { 1 ≤ size }
     requires at_most_4096 { size ≤ LARGEST_SIDE }
-    requires separation { 1 ≤ separation }
-    requires short { separation ≤ 64 }
+    requires separation_at_least_1 { 1 ≤ separation }
+    requires separation_at_most_64 { separation ≤ 64 }
     ensures value { result ≡ grammar.superblocks_over size separation }
     ensures at_least_1_result { 1 ≤ result }
     ensures at_most_1024 { result ≤ 1024 }

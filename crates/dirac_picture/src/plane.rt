@@ -71,12 +71,8 @@ pub(crate) fn read_plane_bands(
     let mut bands = PlaneBands::new(alloc);
     let count = 3 * u32::from(transform.depth) + 1;
     'bands: for n in 0..count {
-        match read_next(alloc, r, transform, width, height, &bands) {
-            Err(stop) => return Err(stop),
-            Ok(band) => {
-                bands.push(band)?;
-            }
-        }
+        let band = read_next(alloc, r, transform, width, height, &bands)?;
+        bands.push(band)?;
     }
     Ok(bands)
 }
