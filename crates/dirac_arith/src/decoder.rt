@@ -151,6 +151,7 @@ impl<'a> Decoder<'a> {
     }
 
     /// A signed number: its magnitude as `number` reads it, and where it isn't 0 its sign in a context of its own.
+    #[inline(always)]
     pub fn signed(&mut self, follow: &[u8], bits: u8, sign: u8) -> Result<i64, Cause>
         requires not_empty { 0 < length follow.now }
         requires follow { AreContexts follow.now }

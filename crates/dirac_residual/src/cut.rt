@@ -1,4 +1,4 @@
-ghost use Rattle.std.specs.Prelude.{◌≡◌, ◌≤◌, length, take, IfOk};
+ghost use Rattle.std.specs.Prelude.{◌≡◌, ◌*◌, ◌≤◌, true, length, take, IfOk};
 ghost use Rattle.dirac_residual.specs.Residual.{cut};
 
 use crate::held::{Held, Residual};
@@ -31,13 +31,47 @@ fn cut_narrow(alloc: Global, table: &Narrow, width: u32, height: u32) -> Result<
     Ok(part)
 }
 
-/// The first `width` columns and `height` rows of a table, in the form that it is held in.
-pub fn cut_to(
+/// How many columns and rows a table has.
+fn size_of(table: &Residual) -> (u32, u32)
+    ensures across { result.0 ≡ table.now.width }
+    ensures down { result.1 ≡ table.now.height }
+    ensures whole { length table.now.values ≡ table.now.width * table.now.height }
+{
+    match table.held() {
+        Held::Narrow(table) => (table.width(), table.height()),
+        Held::Wide(table) => (table.width(), table.height()),
+    }
+}
+
+/// Whether a table has just these columns and rows.
+fn is_whole(table: &Residual, width: u32, height: u32) -> bool
+    ensures across { result ≡ true → table.now.width ≡ width }
+    ensures down { result ≡ true → table.now.height ≡ height }
+    ensures whole { length table.now.values ≡ table.now.width * table.now.height }
+{
+    let (across, down) = size_of(table);
+    across == width && down == height
+}
+
+/// The first `width` columns and `height` rows of a table: itself where it has no others.
+pub fn cut_off(
     alloc: Global,
-    table: &Residual,
+    table: Residual,
     width: u32,
     height: u32,
 ) -> Result<Residual, NoMemory>
+    requires across { (1 ≤ width) × (width ≤ table.width) × (width ≤ LARGEST_TABLE_SIDE) }
+    requires down { (1 ≤ height) × (height ≤ table.height) × (height ≤ LARGEST_TABLE_SIDE) }
+    ensures { IfOk result (λ t. t ≡ cut width height table) }
+{
+    if is_whole(&table, width, height) {
+        return Ok(table);
+    }
+    cut_to(alloc, &table, width, height)
+}
+
+/// The first `width` columns and `height` rows of a table, in the form that it is held in.
+fn cut_to(alloc: Global, table: &Residual, width: u32, height: u32) -> Result<Residual, NoMemory>
     requires across { (1 ≤ width) × (width ≤ table.now.width) × (width ≤ LARGEST_TABLE_SIDE) }
     requires down { (1 ≤ height) × (height ≤ table.now.height) × (height ≤ LARGEST_TABLE_SIDE) }
     ensures { IfOk result (λ t. t ≡ cut width height table.now) }

@@ -27,7 +27,11 @@ pub fn is_narrow(values: &[i32]) -> bool
 fn are_at_most(coded: &[i64], most: u64) -> bool
     ensures { result ≡ true → All (λ v. unsigned_abs v ≤ most) coded.now }
 {
-    coded.iter().all(|v| v.unsigned_abs() <= most)
+    let mut all = true;
+    for n in 0..coded.len() {
+        all &= coded[n].unsigned_abs() <= most;
+    }
+    all
 }
 
 /// Whether all coefficients of a band are at most 4,095 in magnitude.

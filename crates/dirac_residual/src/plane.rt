@@ -1,11 +1,14 @@
-ghost use Rattle.std.specs.Prelude.{◌≡◌, ℕ, ◌+◌, ◌-◌, ◌*◌, ◌^◌, ◌<◌, ◌≤◌, length, unsigned_abs, IfOk};
+ghost use Rattle.std.specs.Prelude.{◌≡◌, ℕ, true, ◌+◌, ◌-◌, ◌*◌, ◌^◌, ◌<◌, ◌≤◌, length, unsigned_abs, IfOk};
+ghost use Rattle.std.specs.Prelude.{slice_get, Some};
 ghost use Rattle.std.specs.List.{All};
 ghost use Rattle.dirac_types.specs.Limits.{IsDepth, IsIndex, IsWavelet};
+ghost use Rattle.dirac_coeffs.specs.declared.layout.CodedBand.{CodedBand as TheBand};
+ghost use Rattle.dirac_lift.specs.Zeros.{AreZeros};
 ghost use Rattle.dirac_residual.specs.Codeblocks.{HasIndices, restored_band};
 ghost use Rattle.dirac_residual.specs.Fits.{AreBandsOf};
 ghost use Rattle.dirac_residual.specs.Residual.{residual, summed};
 
-use crate::cut::cut_to;
+use crate::cut::cut_off;
 use crate::held::Residual;
 use crate::levels::{Synthesis, next_level};
 use crate::restore::restore_band;
@@ -48,6 +51,31 @@ fn narrowed(alloc: Global, low: Wide) -> Result<Residual, NoMemory>
     }
 }
 
+/// Whether all values are zeros. Each is looked at, so that several are compared at once.
+fn are_zeros(values: &[i64]) -> bool
+    ensures { result ≡ true → AreZeros values.now }
+{
+    let mut zeros = true;
+    for n in 0..values.len() {
+        zeros &= values[n] == 0;
+    }
+    zeros
+}
+
+/// Whether all bands have zeros alone.
+fn have_zeros_alone(bands: &[CodedBand]) -> bool
+    ensures { result ≡ true → (n : ℕ) (band : TheBand) → slice_get bands.now n ≡ Some band →
+        AreZeros band.table.values }
+{
+    for n in 0..bands.len() {
+        let band = &bands[n];
+        if !are_zeros(band.table.values()) {
+            return false;
+        }
+    }
+    true
+}
+
 /// The residual of a plane of `width` by `height` samples from its subbands, which stand in the order LL, then HL, LH
 /// and HH of levels 1 to the transform's depth: they are restored, in an intra picture LL is summed up, each level is
 /// synthesised from the lowest on, and what was padded is cut off (inverse wavelet transform, Dirac specification).
@@ -68,6 +96,9 @@ pub fn plane_residual(
     ensures value { IfOk result (λ t. t ≡ residual transform.now kind bands.now width height) }
     ensures bound { IfOk result (λ t. All (λ v. unsigned_abs v ≤ 2 ^ 108) t.values) }
 {
+    if have_zeros_alone(bands) {
+        return Residual::try_zeros(alloc, width, height);
+    }
     let lowest = lowest_band(alloc, &bands[0], transform.counts.at(0), kind)?;
     let mut low = narrowed(alloc, lowest)?;
     for n in 0..transform.depth as usize {
@@ -86,5 +117,5 @@ pub fn plane_residual(
         )?;
         low = next;
     }
-    cut_to(alloc, &low, width, height)
+    cut_off(alloc, low, width, height)
 }

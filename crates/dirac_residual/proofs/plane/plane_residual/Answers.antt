@@ -9,6 +9,7 @@ use Rattle.dirac_residual.proofs.Bounds.{cut_bound}
 use Rattle.dirac_residual.proofs.LevelLemmas.{counts_given, first_level, more_levels, summed_width, summed_height}
 use Rattle.dirac_residual.proofs.Maps.{got_band, ok_weaker}
 use Rattle.dirac_residual.proofs.Sizes.{lowest_length, level_length, quotient_bound, size_within, next_length, entry_bound, end_bound, bound_more, bound_least}
+use Rattle.dirac_residual.proofs.ZeroBands.{zeros_bound, zeros_stand_in}
 use Rattle.dirac_residual.proofs.plane.plane_residual.Goals as goal
 
 pub lowest_band-requires-clause-across : goal.lowest_band-requires-clause-across
@@ -133,16 +134,16 @@ loop-n-preserved c =
           (c.in_ok-next.ensures.growth (2 ^ 77 * 73 ^ c.loop-n.n) (bound_least c.loop-n.n) c.loop-n.invariant.bound);
     }
 
-pub cut_to-requires-clause-across : goal.cut_to-requires-clause-across
-cut_to-requires-clause-across c =
+pub cut_off-requires-clause-across : goal.cut_off-requires-clause-across
+cut_off-requires-clause-across c =
     let last : c.loop-n.n ≡ c.args.transform.now.depth = omega arith in (
       c.requires.across.0,
       omega (arith, c.loop-n.invariant.across, ap (λ n. lowest_size c.args.width c.args.transform.now.depth * 2 ^ n) last, size_within c.args.width c.args.transform.now.depth),
       c.requires.across.1,
     )
 
-pub cut_to-requires-clause-down : goal.cut_to-requires-clause-down
-cut_to-requires-clause-down c =
+pub cut_off-requires-clause-down : goal.cut_off-requires-clause-down
+cut_off-requires-clause-down c =
     let last : c.loop-n.n ≡ c.args.transform.now.depth = omega arith in (
       c.requires.down.0,
       omega (arith, c.loop-n.invariant.down, ap (λ n. lowest_size c.args.height c.args.transform.now.depth * 2 ^ n) last, size_within c.args.height c.args.transform.now.depth),
@@ -151,7 +152,16 @@ cut_to-requires-clause-down c =
 
 pub returns-clause-bound : goal.returns-clause-bound
 returns-clause-bound c =
-    ok_weaker c.cut_to.result
+    ok_weaker c.cut_off.result
     (λ t e. rw e (cut_bound (2 ^ 108) c.args.width c.args.height c.loop-n.low
     (all_weaker (2 ^ 77 * 73 ^ c.loop-n.n) (2 ^ 108) c.loop-n.low.values (end_bound c.loop-n.n (omega (arith, c.requires.depth.1))) c.loop-n.invariant.bound)))
-    c.cut_to.ensures
+    c.cut_off.ensures
+
+pub returns-then-have_zeros_alone-clause-value : goal.returns-then-have_zeros_alone-clause-value
+returns-then-have_zeros_alone-clause-value c =
+    let zeros = c.have_zeros_alone.ensures c.if-have_zeros_alone.true in
+    ok_weaker c.try_zeros.result (λ t e. e ∙ sym (zeros_stand_in c.args.transform.now c.args.kind c.args.bands.now c.args.width c.args.height zeros)) c.try_zeros.ensures
+
+pub returns-then-have_zeros_alone-clause-bound : goal.returns-then-have_zeros_alone-clause-bound
+returns-then-have_zeros_alone-clause-bound c =
+    ok_weaker c.try_zeros.result (λ t e. rw e (zeros_bound c.args.width c.args.height)) c.try_zeros.ensures
