@@ -116,7 +116,7 @@ fn thousand_units(alloc: Global) -> Result<(Vec<u8>, String), Fail> {
     Ok((bytes, lines))
 }
 
-// Decodes what encoding left, cut as a whole and joined with itself: it shows what was said beside it, once and twice.
+// Decodes what encoding left, three times behind itself, cut as a whole and joined: it shows what was said beside it.
 fn shows_the_same<R: Abort + Threads + Sync>(
     rt: &R,
     alloc: Global,
@@ -124,14 +124,13 @@ fn shows_the_same<R: Abort + Threads + Sync>(
 ) -> Result<(), Fail> {
     let stream = coded.out.taken();
     let shown = coded.side.taken();
-    let cut = done(rt, alloc, &["cut"], stream)?;
-    let once = done(rt, alloc, &["decode"], cut.out.taken())?;
-    assert_eq!(rt; once.out.taken(), shown);
-    let two = joined(alloc, &[stream, stream])?;
-    let join = done(rt, alloc, &["join"], two.as_slice())?;
-    let twice = done(rt, alloc, &["decode"], join.out.taken())?;
-    let both = joined(alloc, &[shown, shown])?;
-    assert_eq!(rt; twice.out.taken(), both.as_slice());
+    let streams = joined(alloc, &[stream, stream, stream])?;
+    let pictures = joined(alloc, &[shown, shown, shown])?;
+    for word in ["cut", "join"] {
+        let edited = done(rt, alloc, &[word], streams.as_slice())?;
+        let decoded = done(rt, alloc, &["decode"], edited.out.taken())?;
+        assert_eq!(rt; decoded.out.taken(), pictures.as_slice());
+    }
     Ok(())
 }
 
@@ -208,4 +207,43 @@ fn finds_memory_for_many_units_and_pictures(rt: HostRuntime) -> Result<(), Fail>
         shows_the_same(&rt, alloc, &left)?;
     }
     Ok(())
+}
+
+// A hundred grey pictures, encoded with a word for each setting.
+#[test]
+fn finds_memory_for_many_words(rt: HostRuntime) -> Result<(), Fail> {
+    let alloc = rt.alloc();
+    let words = [
+        "encode",
+        "--base=0",
+        "--chroma=2",
+        "--width=8",
+        "--height=8",
+        "--rate=1",
+        "--signal=1",
+        "--fields=0",
+        "--profile=0",
+        "--level=0",
+        "--wavelet=0",
+        "--depth=1",
+        "--index=0",
+        "--codeblocks=1",
+        "--finer=0",
+        "--blocks=2",
+        "--precision=2",
+        "--references=2",
+        "--gop=12",
+        "--between=3",
+        "--range=16",
+        "--pyramid=4",
+        "--bias=4",
+        "--workers=2",
+        "--pictures=100",
+        "--unit_bytes=65536",
+        "--recon=a",
+    ];
+    let raw = vec![in alloc; 0x80u8; 9600]?;
+    let left = done(&rt, alloc, &words, raw.as_slice())?;
+    assert_eq!(rt; left.side.taken(), raw.as_slice());
+    shows_the_same(&rt, alloc, &left)
 }
