@@ -208,3 +208,42 @@ fn finds_memory_for_many_units_and_pictures(rt: HostRuntime) -> Result<(), Fail>
     }
     Ok(())
 }
+
+// A hundred grey pictures, encoded with a word for each setting.
+#[test]
+fn finds_memory_for_many_words(rt: HostRuntime) -> Result<(), Fail> {
+    let alloc = rt.alloc();
+    let words = [
+        "encode",
+        "--base=0",
+        "--chroma=2",
+        "--width=8",
+        "--height=8",
+        "--rate=1",
+        "--signal=1",
+        "--fields=0",
+        "--profile=0",
+        "--level=0",
+        "--wavelet=0",
+        "--depth=1",
+        "--index=0",
+        "--codeblocks=1",
+        "--finer=0",
+        "--blocks=2",
+        "--precision=2",
+        "--references=2",
+        "--gop=12",
+        "--between=3",
+        "--range=16",
+        "--pyramid=4",
+        "--bias=4",
+        "--workers=2",
+        "--pictures=100",
+        "--unit_bytes=65536",
+        "--recon=a",
+    ];
+    let raw = vec![in alloc; 0x80u8; 9600]?;
+    let left = done(&rt, alloc, &words, raw.as_slice())?;
+    assert_eq!(rt; left.side.taken(), raw.as_slice());
+    shows_the_same(&rt, alloc, &left)
+}
