@@ -13,7 +13,8 @@ use Rattle.dirac_coeffs.specs.Written.{all_below}
 use Rattle.dirac_coeffs.proofs.Edges.{edge_most}
 use Rattle.dirac_residual.specs.Codeblocks.{codeblock_of}
 use Rattle.dirac_residual.proofs.ByCodeblock.{only}
-use Rattle.dirac_analysis.specs.Coded.{chosen_at, chosen_index, each_passes, index_behind, is_flat, is_parted, is_skipped, is_small, reduced_at, reduced_table}
+use Rattle.dirac_coeffs.specs.Layouts.{is_parted}
+use Rattle.dirac_analysis.specs.Coded.{chosen_at, chosen_index, each_passes, index_behind, is_flat, is_skipped, is_small, reduced_at, reduced_table}
 
 -- ---- tests of all values of a codeblock
 

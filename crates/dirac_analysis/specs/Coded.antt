@@ -1,14 +1,14 @@
 -- How the codeblocks of a subband are quantised: a flat one, whose coefficients are all small, by a lower index than
 -- the band's. So many codeblocks go across and down, and they are counted by rows.
-use Rattle.std.specs.Prelude.{ℕ, ℤ, zero, suc, ◌+◌, ◌-◌, ◌*◌, ◌/◌, ◌%◌, ◌==◌, nat_lt, unsigned_abs, if◌then◌else◌}
-use Rattle.std.specs.Prelude.{Bool, not, ◌&&◌, List, map, replicate}
+use Rattle.std.specs.Prelude.{ℕ, ℤ, zero, suc, ◌+◌, ◌-◌, ◌*◌, ◌/◌, ◌%◌, nat_lt, unsigned_abs, if◌then◌else◌, Bool, ◌&&◌}
+use Rattle.std.specs.Prelude.{List, map, replicate}
 use Rattle.std.specs.List.{range_with_len}
 use Rattle.dirac_types.specs.Table.{Table, table_at, table_of}
 use Rattle.dirac_quant.specs.Quantiser.{reduced}
 use Rattle.dirac_bands.specs.Geometry.{edge_of}
 use Rattle.dirac_coeffs.specs.declared.layout.CodedBand.{CodedBand}
 use Rattle.dirac_coeffs.specs.Contexts.{is_zero}
-use Rattle.dirac_coeffs.specs.Layouts.{span_of}
+use Rattle.dirac_coeffs.specs.Layouts.{is_parted, span_of}
 use Rattle.dirac_coeffs.specs.Written.{all_below, is_zero_band}
 use Rattle.dirac_residual.specs.Codeblocks.{codeblock_of}
 use Rattle.dirac_analysis.specs.declared.choosing.TheConstants.{FLAT_BELOW}
@@ -47,10 +47,6 @@ reduced_at counts finer index t x y =
 -- the numbers of all coefficients
 abbrev pub reduced_table : ℕ × ℕ → ℕ → ℕ → Table → Table
 reduced_table counts finer index t = table_of t.width t.height (reduced_at counts finer index t)
-
--- whether each codeblock has a zero flag: where there is more than one
-abbrev pub is_parted : ℕ × ℕ → Bool
-is_parted counts = not (counts.0 == 1 && counts.1 == 1)
 
 -- whether the codeblock in place c is skipped: it has a zero flag, which is true where its numbers are zeros
 abbrev pub is_skipped : ℕ × ℕ → Table → ℕ → Bool

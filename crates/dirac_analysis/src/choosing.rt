@@ -9,7 +9,7 @@ ghost use Rattle.dirac_analysis.specs.Coded as spec;
 ghost use Rattle.dirac_analysis.specs.Fits.{IsQuantisable};
 
 use dirac_bands::edge;
-use dirac_coeffs::Indices;
+use dirac_coeffs::{Indices, is_parted};
 use dirac_quant::factor;
 use dirac_types::{MOST_CODEBLOCKS, NoMemory, Wide};
 use std::alloc::Global;
@@ -100,14 +100,6 @@ fn codeblock_peak(table: &Wide, counts: (u32, u32), c: u32) -> u64
         largest = row_peak(table.row(y), left, right, largest);
     }
     largest
-}
-
-/// Whether each codeblock has a zero flag.
-fn is_parted(counts: (u32, u32)) -> bool
-    ensures { result ≡ spec.is_parted counts }
-{
-    let (across, down) = counts;
-    !(across == 1 && down == 1)
 }
 
 /// The index that a codeblock is quantised with whose greatest magnitude this is.

@@ -8,20 +8,18 @@ ghost use Rattle.dirac_coeffs.specs.Written.{is_zero_band};
 ghost use Rattle.dirac_analysis.specs.Coded.{coded_by_one};
 
 use dirac_coeffs::{CodedBand, Indices};
-use dirac_quant::factor;
+use dirac_quant::{factor, reduce_by};
 use dirac_types::{BandTable, LARGEST_TABLE_SIDE, MOST_CODEBLOCKS, NoMemory, Wide};
 use std::alloc::Global;
 
-/// The number that codes a coefficient, by the factor of an index.
+/// The number that codes a coefficient below 2^38, by the factor of an index.
 #[inline(always)]
-fn reduce_by(value: i128, factor: u64) -> i64
+fn reduce_wide(value: i128, factor: u64) -> i64
     requires value { unsigned_abs value < 2 ^ 38 }
     requires factor { 4 ≤ factor }
     ensures { result ≡ with_sign_of value (4 * unsigned_abs value / factor) }
 {
-    let value = value as i64;
-    let reduced = (4 * value.unsigned_abs() / factor) as i64;
-    if value < 0 { -reduced } else { reduced }
+    reduce_by(value as i64, factor)
 }
 
 /// Writes the numbers that code a part of the values at this index; those before it stay.
@@ -36,7 +34,7 @@ pub(crate) fn reduce_part(values: &[i128], index: u8, start: usize, end: usize, 
 {
     let factor = factor(index);
     for x in start..end {
-        line[x] = reduce_by(values[x], factor);
+        line[x] = reduce_wide(values[x], factor);
     }
 }
 

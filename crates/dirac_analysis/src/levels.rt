@@ -68,7 +68,7 @@ pub(crate) fn analyse_levels(
     requires depth { depth ≤ 4 }
     requires across { plane.width ≤ LARGEST_TABLE_SIDE }
     requires down { plane.height ≤ LARGEST_TABLE_SIDE }
-    requires whole { IsDivisible depth plane }
+    requires divisible { IsDivisible depth plane }
     requires magnitudes_bounded { All (λ v. unsigned_abs v ≤ grown (4 - depth)) plane.values }
     ensures value { IfOk result (λ a. a ≡ analysis_of kind wavelet plane depth) }
     ensures fits { IfOk result (AreQuantisable depth) }

@@ -1,4 +1,5 @@
-ghost use Rattle.std.specs.Prelude.{◌≡◌, ℕ, ◌-◌, ◌≤◌, ◌<◌, length, min, slice_index, unsigned_abs, IfOk, slice_index_or, pos};
+ghost use Rattle.std.specs.Prelude.{◌≡◌, ℕ, ◌-◌, ◌≤◌, ◌<◌, length, min, slice_index, unsigned_abs, IfOk};
+ghost use Rattle.std.specs.Prelude.{slice_index_or, pos};
 ghost use Rattle.std.specs.List.{All};
 ghost use Rattle.dirac_types.specs.Limits.{IsEncodedDepth};
 ghost use Rattle.dirac_analysis.specs.Analysis.{padded as padded_table};

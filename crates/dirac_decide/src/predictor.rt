@@ -1,11 +1,13 @@
-ghost use Rattle.std.specs.Prelude.{◌≡◌, ℕ, ℤ, pos, negsuc, ◌≤ℤ◌, ◌+◌, ◌*◌, ◌^◌, ◌<◌, ◌≤◌, ◌+ℤ◌, unsigned_abs, length, slice_index_or};
+ghost use Rattle.std.specs.Prelude.{◌≡◌, ℕ, ℤ, pos, negsuc, ◌≤ℤ◌, ◌+◌, ◌*◌, ◌^◌, ◌<◌, ◌≤◌, ◌+ℤ◌, unsigned_abs, length};
+ghost use Rattle.std.specs.Prelude.{slice_index_or};
 ghost use Rattle.std.specs.Int.{int_shr};
 ghost use Rattle.std.specs.List.{All};
 ghost use Rattle.dirac_vectors.specs.Neighbours.{IsShort};
 ghost use Rattle.dirac_vectors.specs.Predictions.{IsShortVector};
 ghost use Rattle.dirac_upconvert.specs.HalfSamples.{IsSample};
 ghost use Rattle.dirac_decide.specs.Modes.{mean_of_two};
-ghost use Rattle.dirac_decide.specs.Predictors.{IsPredictor, RowHolds, RowIs, both_samples, mean_in, moved_samples, predicted};
+ghost use Rattle.dirac_decide.specs.Predictors.{IsPredictor, RowHolds, RowIs, both_samples, mean_in, moved_samples};
+ghost use Rattle.dirac_decide.specs.Predictors.{predicted};
 
 use dirac_types::Vector;
 use dirac_upconvert::UpPlane;

@@ -54,7 +54,7 @@ fn taken(
     requires at_most_2 { split ≤ 2 }
     requires best { best_split (given inputs.now) sx sy ≡ split }
     requires units { UnitsChosen (given inputs.now) sx sy split (4 ^ split) units.now }
-    requires room { IsRoom (given inputs.now) split units.now }
+    requires units_fit { IsRoom (given inputs.now) split units.now }
     ensures { IfOk result (IsBestSplit (given inputs.now) sx sy) }
 {
     let units = Vec::from_slice(alloc, units)?;

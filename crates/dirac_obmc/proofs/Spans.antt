@@ -14,7 +14,7 @@ pub span_is : (block count len separation least most start end place : ℕ) → 
 span_is block count len separation least most start end place o inside es ee ep = record {
   from = omega (arith, es);
   to = omega (arith, ee);
-  few = omega (arith, es, ee);
+  within_block = omega (arith, es, ee);
   before = λ x a b. share_before block count len separation x (omega (arith, es, a, b));
   behind = λ x a b. share_behind block count len separation x (omega (arith, ee, a, b, o.least));
   listed = λ some. omega (arith, some, row_fits block len count len inside (omega arith), es, ee, ep, o.least);

@@ -24,7 +24,7 @@ pub record IsLines (m : Compensation) (l : Lines) : Type 0 where
 pub record IsSpan (block count len separation least most : ℕ) (s : Span) : Type 0 where
   pub from : least ≤ s.start
   pub to : s.end ≤ most
-  pub few : s.end - s.start ≤ len
+  pub within_block : s.end - s.start ≤ len
   pub before : (x : ℕ) → least ≤ x → x < s.start → share block count len separation x ≡ 0
   pub behind : (x : ℕ) → s.end ≤ x → x < most → share block count len separation x ≡ 0
   pub listed : s.start < s.end → s.weights + (s.end - s.start) ≤ count * len

@@ -122,8 +122,8 @@ fn predict_block(
     requires columns { across.start < motion.now.width }
     requires rows { (down.start < down.end) × (down.end ≤ motion.now.height) }
     requires few_rows { down.end - down.start ≤ y_length (given motion.now) }
-    requires room { IsRoom (x_length (given motion.now)) (y_length (given motion.now)) room.old }
-    ensures room { IsRoom (x_length (given motion.now)) (y_length (given motion.now)) room.new }
+    requires room_fits { IsRoom (x_length (given motion.now)) (y_length (given motion.now)) room.old }
+    ensures room_fits { IsRoom (x_length (given motion.now)) (y_length (given motion.now)) room.new }
     ensures values { AreValues (given motion.now) i j across.start down.start (down.end - down.start) room.new }
 {
     let block = motion.blocks.at(i, j);
@@ -160,10 +160,10 @@ fn add_block(
     requires lines { IsLines (given motion.now) lines }
     requires across { i < blocks_across (given motion.now) }
     requires down { j < blocks_down (given motion.now) }
-    requires room { IsRoom (x_length (given motion.now)) (y_length (given motion.now)) room.old }
+    requires room_fits { IsRoom (x_length (given motion.now)) (y_length (given motion.now)) room.old }
     requires len { length sums.old ≡ motion.now.width * (lines.end - lines.first) }
     requires sums { All (λ v. unsigned_abs v ≤ 2 ^ 22) sums.old }
-    ensures room { IsRoom (x_length (given motion.now)) (y_length (given motion.now)) room.new }
+    ensures room_fits { IsRoom (x_length (given motion.now)) (y_length (given motion.now)) room.new }
     ensures sums { Adds (added_at (given motion.now) lines.entry.first j i) (motion.now.width * (lines.entry.end
         - lines.entry.first)) sums.old sums.new }
 {
@@ -201,10 +201,10 @@ fn add_blocks(
     requires columns { IsColumns (given motion.now) columns }
     requires lines { IsLines (given motion.now) lines }
     requires down { j < blocks_down (given motion.now) }
-    requires room { IsRoom (x_length (given motion.now)) (y_length (given motion.now)) room.old }
+    requires room_fits { IsRoom (x_length (given motion.now)) (y_length (given motion.now)) room.old }
     requires len { length sums.old ≡ motion.now.width * (lines.end - lines.first) }
     requires sums { All (λ v. unsigned_abs v ≤ 2 ^ 21) sums.old }
-    ensures room { IsRoom (x_length (given motion.now)) (y_length (given motion.now)) room.new }
+    ensures room_fits { IsRoom (x_length (given motion.now)) (y_length (given motion.now)) room.new }
     ensures sums { Adds (λ p. total (λ i. added_at (given motion.now) lines.entry.first j i p) (blocks_across (given
         motion.now))) (motion.now.width * (lines.entry.end - lines.entry.first)) sums.old sums.new }
 {
@@ -251,10 +251,10 @@ fn add_rows(
     requires sound { IsSound (given motion.now) }
     requires columns { IsColumns (given motion.now) columns }
     requires lines { IsLines (given motion.now) lines }
-    requires room { IsRoom (x_length (given motion.now)) (y_length (given motion.now)) room.old }
+    requires room_fits { IsRoom (x_length (given motion.now)) (y_length (given motion.now)) room.old }
     requires len { length sums.old ≡ motion.now.width * (lines.end - lines.first) }
     requires sums { (p : ℕ) → slice_index_or sums.old p (pos 0) ≡ pos 0 }
-    ensures room { IsRoom (x_length (given motion.now)) (y_length (given motion.now)) room.new }
+    ensures room_fits { IsRoom (x_length (given motion.now)) (y_length (given motion.now)) room.new }
     ensures value { (p : ℕ) → p < length sums.old → slice_index_or sums.new p (pos 0)
         ≡ blended (given motion.now) (p % motion.now.width) (lines.entry.first + p / motion.now.width) }
     ensures magnitudes_at_most_2_21 { All (λ v. unsigned_abs v ≤ 2 ^ 21) sums.new }
@@ -276,7 +276,7 @@ pub fn predict_lines(
     requires sound { IsSound (given motion.now) }
     requires columns { IsColumns (given motion.now) columns }
     requires lines { IsLines (given motion.now) lines }
-    requires room { IsRoom (x_length (given motion.now)) (y_length (given motion.now)) room.old }
+    requires room_fits { IsRoom (x_length (given motion.now)) (y_length (given motion.now)) room.old }
     requires len { length out.old ≡ motion.now.width * (lines.end - lines.first) }
     requires out { (p : ℕ) → slice_index_or out.old p (pos 0) ≡ pos 0 }
     ensures { (p : ℕ) → p < length out.old → slice_index_or out.new p (pos 0)

@@ -1,6 +1,7 @@
 //! The planned picture at a place in coding order, worked out from the place alone.
 
-ghost use Rattle.std.specs.Prelude.{◌≡◌, ◌<◌, ◌≤◌, ◌+◌, ◌-◌, ◌*◌, ◌/◌, ◌%◌, slice_get, option_map, nat_le, if◌then◌else◌, Some, None, IfSome};
+ghost use Rattle.std.specs.Prelude.{◌≡◌, ◌<◌, ◌≤◌, ◌+◌, ◌-◌, ◌*◌, ◌/◌, ◌%◌, slice_get, option_map, nat_le};
+ghost use Rattle.std.specs.Prelude.{if◌then◌else◌, Some, None, IfSome};
 ghost use Rattle.dirac_types.specs.Settings.{IsAccepted};
 ghost use Rattle.dirac_plan.specs.declared.planned.Planned.{Planned};
 ghost use Rattle.dirac_plan.specs.Plan as plans;
@@ -111,7 +112,7 @@ fn frame_item(count: u32, settings: &Settings, place: u32) -> Planned
 fn last_place(count: u32, settings: &Settings) -> u32
     requires settings { IsAccepted settings.now }
     requires in_range { count ≤ 2147483647 }
-    requires some { 0 < count }
+    requires at_least_1 { 0 < count }
     ensures { option_map frames.planned_number (slice_get (plans.frames_plan count settings.now) result)
         ≡ Some (count - 1) }
 {

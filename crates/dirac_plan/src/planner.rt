@@ -1,6 +1,7 @@
 //! The order in which pictures are coded while they still come.
 
-ghost use Rattle.std.specs.Prelude.{◌≡◌, ◌<◌, ◌≤◌, ◌+◌, ◌↔◌, true, false, length, take, drop, ◌++◌, slice_get, [], Some, OnOk, IfOk, IfErr, IsErr, IsNone, IfNone, IfSome};
+ghost use Rattle.std.specs.Prelude.{◌≡◌, ◌<◌, ◌≤◌, ◌+◌, ◌↔◌, true, false, length, take, drop, ◌++◌, slice_get, []};
+ghost use Rattle.std.specs.Prelude.{Some, OnOk, IfOk, IfErr, IsErr, IsNone, IfNone, IfSome};
 ghost use Rattle.std.specs.List.{remove};
 ghost use Rattle.circular_buffer.specs.Buffer.{buffer};
 ghost use Rattle.dirac_types.specs.Settings.{IsAccepted};

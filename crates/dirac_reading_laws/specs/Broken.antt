@@ -1,6 +1,7 @@
 -- Where a header breaks: the fields before are spelled by the bits, and the next one isn't, or a rule refuses them at
 -- the place that the grammar names.
-use Rattle.std.specs.Prelude.{◌≡◌, ◌⊎◌, ℕ, zero, suc, ℤ, ◌+◌, ◌-◌, ◌*◌, ◌<◌, ◌≤◌, ◌^◌, Bool, true, false, List, [], ◌∷◌, length, unsigned_abs}
+use Rattle.std.specs.Prelude.{◌≡◌, ◌⊎◌, ℕ, zero, suc, ℤ, ◌+◌, ◌-◌, ◌*◌, ◌<◌, ◌≤◌, ◌^◌, Bool, true, false, List, [], ◌∷◌}
+use Rattle.std.specs.Prelude.{length, unsigned_abs}
 use Rattle.std.specs.List.{AllByRecursion}
 use Rattle.dirac_types.specs.declared.limits.TheConstants.{MOST_DIGITS}
 use Rattle.dirac_types.specs.declared.faults.Cause.{Cause}
@@ -9,7 +10,8 @@ use Rattle.dirac_types.specs.declared.faults.Refusal.{Refusal}
 use Rattle.dirac_types.specs.Bits.{bits_of}
 use Rattle.dirac_types.specs.Numbers.{followed, literal, sint, uint}
 use Rattle.dirac_bits.specs.Cursor.{Cursor, place, aligned, bits_left, Passes}
-use Rattle.dirac_bits.specs.Syntax.{Syntax, done, flag_then, uint_then, sint_then, literal_then, block_then, align_then, here_then, refuse}
+use Rattle.dirac_bits.specs.Syntax.{Syntax, done, flag_then, uint_then, sint_then, literal_then, block_then, align_then}
+use Rattle.dirac_bits.specs.Syntax.{here_then, refuse}
 
 -- where so many digits may still follow, these bits are no number's end: they end before a follow bit or before its
 -- digit, or a follow bit 0 stands where no digit may follow

@@ -1,4 +1,6 @@
-ghost use Rattle.dirac_reading_laws.specs.Laws.{BreaksWithOneRefusal, EachShowsAnOutcome, IsRefusedWhereBroken, IsSpelledOrBreaks, NoneSpelledBreaks, SpellsOneValue, StreamsShowOneOutcome};
+ghost use Rattle.dirac_reading_laws.specs.Laws.{BreaksWithOneRefusal, EachShowsAnOutcome, IsRefusedWhereBroken};
+ghost use Rattle.dirac_reading_laws.specs.Laws.{IsSpelledOrBreaks, NoneSpelledBreaks, SpellsOneValue};
+ghost use Rattle.dirac_reading_laws.specs.Laws.{StreamsShowOneOutcome};
 
 /// A header is refused exactly where the fields before are spelled by the bits and the next one breaks off or breaks
 /// its rule: a field that breaks off at the byte of its first bit, a broken rule at the place that the grammar names.
@@ -18,6 +20,6 @@ pub fn headers_are_spelled_or_break<T>()
 
 /// Each list of bytes shows an outcome, and no other.
 pub fn a_stream_shows_one_outcome()
-    ensures one { StreamsShowOneOutcome }
-    ensures some { EachShowsAnOutcome }
+    ensures at_most_one { StreamsShowOneOutcome }
+    ensures at_least_one { EachShowsAnOutcome }
 {}

@@ -94,7 +94,7 @@ pub fn upconvert(alloc: Global, plane: &Plane) -> Result<UpPlane, NoMemory>
       height = plane.now.height;
       table = half plane.now;
     }) }
-    ensures whole { IfOk result (λ u. (x y : ℤ) → sub_sample u 0 x y ≡ clamped_at plane.now x y) }
+    ensures whole_positions { IfOk result (λ u. (x y : ℤ) → sub_sample u 0 x y ≡ clamped_at plane.now x y) }
 {
     let width = plane.width();
     let height = plane.height();
@@ -186,7 +186,7 @@ impl UpPlane {
         requires precision { precision ≤ 3 }
         requires x { unsigned_abs x < 2 ^ 31 }
         requires y { unsigned_abs y < 2 ^ 31 }
-        requires some { 1 ≤ width }
+        requires at_least_1 { 1 ≤ width }
         requires whole_rows { length out.old % width ≡ 0 }
         requires at_most_4096 { length out.old ≤ LARGEST_SIDE }
         ensures value { (n : ℕ) → n < length out.old → slice_index_or out.new n (pos 0)

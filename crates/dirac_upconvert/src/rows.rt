@@ -194,7 +194,7 @@ fn put_between(
     requires under { All IsSample under.now }
     requires inside { at + 2 * length lanes.old ≤ length above.now }
     requires same { length under.now ≡ length above.now }
-    requires room { first + length lanes.old ≤ length out.old }
+    requires lanes_inside { first + length lanes.old ≤ length out.old }
     ensures { PutFrom first (length lanes.old) (λ k. between_at rests.bits rests.right rests.below above.now under.now
         (at + 2 * k)) out.old out.new }
 {
@@ -435,7 +435,7 @@ pub fn rows_of_parts(
     requires down { unsigned_abs down ≤ 2 ^ 34 }
     requires right { IsRest rests.bits rests.right }
     requires below { IsRest rests.bits rests.below }
-    requires some { 1 ≤ width }
+    requires at_least_1 { 1 ≤ width }
     requires whole_rows { length out.old % width ≡ 0 }
     requires at_most_4096 { length out.old ≤ LARGEST_SIDE }
     ensures { ArePartsByRows table.now rests.bits across down rests.right rests.below width out.new }

@@ -15,10 +15,10 @@ pub returns-then-depth-eq0-clause-fits : goal.returns-then-depth-eq0-clause-fits
 returns-then-depth-eq0-clause-fits t c = rw c.if-depth-eq0.true (none_quantisable c.new.result c.lowest_band-lowest.result c.new.ensures c.lowest_band-lowest.ensures.fits)
 
 pub split_level-requires-clause-across : goal.split_level-requires-clause-across
-split_level-requires-clause-across t c = ((sizes_even c.args.depth (c.args.depth - 1) c.args.plane (omega (arith, c.if-depth-eq0.false)) c.requires.whole).0, c.requires.across)
+split_level-requires-clause-across t c = ((sizes_even c.args.depth (c.args.depth - 1) c.args.plane (omega (arith, c.if-depth-eq0.false)) c.requires.divisible).0, c.requires.across)
 
 pub split_level-requires-clause-down : goal.split_level-requires-clause-down
-split_level-requires-clause-down t c = ((sizes_even c.args.depth (c.args.depth - 1) c.args.plane (omega (arith, c.if-depth-eq0.false)) c.requires.whole).1, c.requires.down)
+split_level-requires-clause-down t c = ((sizes_even c.args.depth (c.args.depth - 1) c.args.plane (omega (arith, c.if-depth-eq0.false)) c.requires.divisible).1, c.requires.down)
 
 pub split_level-requires-clause-magnitudes_at_most_2_29 : goal.split_level-requires-clause-magnitudes_at_most_2_29
 split_level-requires-clause-magnitudes_at_most_2_29 t c = small_above (4 - c.args.depth) c.args.plane.values (omega (arith, c.if-depth-eq0.false)) c.requires.magnitudes_bounded
@@ -26,7 +26,7 @@ split_level-requires-clause-magnitudes_at_most_2_29 t c = small_above (4 - c.arg
 pub analyse_levels-requires : goal.analyse_levels-requires
 analyse_levels-requires t c =
     let next : c.args.depth ≡ suc (c.args.depth - 1) = omega (arith, c.if-depth-eq0.false) in
-    let low = low_ready c.args.wavelet c.args.depth (c.args.depth - 1) c.args.plane c.in_ok-ll.field-0.ll c.requires.wavelet next c.requires.depth c.in_ok-ll.ensures.ll c.requires.across c.requires.down c.requires.whole c.requires.magnitudes_bounded in
+    let low = low_ready c.args.wavelet c.args.depth (c.args.depth - 1) c.args.plane c.in_ok-ll.field-0.ll c.requires.wavelet next c.requires.depth c.in_ok-ll.ensures.ll c.requires.across c.requires.down c.requires.divisible c.requires.magnitudes_bounded in
     (omega (arith, c.decreases, next), (c.requires.wavelet, (omega (arith, c.requires.depth), low)))
 
 pub returns-clause-value : goal.returns-clause-value

@@ -6,8 +6,8 @@ use Rattle.dirac_analysis.proofs.Fitting.{padded_small}
 use Rattle.dirac_analysis.proofs.OneLevel.{padded_divisible}
 use Rattle.dirac_analysis.proofs.plane.analyse.Goals as goal
 
-pub analyse_levels-requires-clause-whole : goal.analyse_levels-requires-clause-whole
-analyse_levels-requires-clause-whole c = rw c.in_ok-table.ensures (padded_divisible c.args.transform.now.depth c.args.plane.now)
+pub analyse_levels-requires-clause-divisible : goal.analyse_levels-requires-clause-divisible
+analyse_levels-requires-clause-divisible c = rw c.in_ok-table.ensures (padded_divisible c.args.transform.now.depth c.args.plane.now)
 
 pub analyse_levels-requires-clause-magnitudes_bounded : goal.analyse_levels-requires-clause-magnitudes_bounded
 analyse_levels-requires-clause-magnitudes_bounded c =

@@ -14,13 +14,13 @@ use Rattle.dirac_decide.proofs.splits.split_below.Goals as goal
 pub returns-then-cost-limit-clause-told : goal.returns-then-cost-limit-clause-told
 unfolding split_cost
 returns-then-cost-limit-clause-told c =
-    sum_early c.args.limit c.loop-k.cost _ c.loop-k.k (4 ^ c.args.split) c.loop-k.invariant.cost (omega (arith, c.loop-k.invariant.room.len)) (omega arith)
+    sum_early c.args.limit c.loop-k.cost _ c.loop-k.k (4 ^ c.args.split) c.loop-k.invariant.cost (omega (arith, c.loop-k.invariant.units_fit.len)) (omega arith)
 
 pub returns-then-cost-limit-clause-at_most_2_33 : goal.returns-then-cost-limit-clause-at_most_2_33
-returns-then-cost-limit-clause-at_most_2_33 c = omega (arith, few_units c.args.split c.requires.split, c.loop-k.invariant.room.len, c.loop-k.invariant.at_most)
+returns-then-cost-limit-clause-at_most_2_33 c = omega (arith, few_units c.args.split c.requires.split, c.loop-k.invariant.units_fit.len, c.loop-k.invariant.at_most)
 
 pub overflow_cast-k : goal.overflow_cast-k
-overflow_cast-k c = omega (arith, few_units c.args.split c.requires.split, c.loop-k.invariant.room.len)
+overflow_cast-k c = omega (arith, few_units c.args.split c.requires.split, c.loop-k.invariant.units_fit.len)
 
 pub loop-k-preserved : goal.loop-k-preserved
 loop-k-preserved c =
@@ -31,9 +31,9 @@ loop-k-preserved c =
     let cost : c.choose-choice.result.cost ≡ f k = ap (λ (x : Choice). x.cost) is in
     let inside : k < length c.loop-k.units = omega arith in
     record {
-      room = record {
-        len = length-set c.loop-k.units k _ ∙ c.loop-k.invariant.room.len;
-        blocks = All-set (IsBlock (refs_of (given n).second)) c.loop-k.units k _ c.choose-choice.ensures.block c.loop-k.invariant.room.blocks;
+      units_fit = record {
+        len = length-set c.loop-k.units k _ ∙ c.loop-k.invariant.units_fit.len;
+        blocks = All-set (IsBlock (refs_of (given n).second)) c.loop-k.units k _ c.choose-choice.ensures.block c.loop-k.invariant.units_fit.blocks;
       };
       at_most = omega (arith, c.choose-choice.ensures.at_most_2_29, c.loop-k.invariant.at_most);
       cost = omega (arith, sum_more f k, cost, c.loop-k.invariant.cost);
@@ -45,8 +45,8 @@ unfolding split_cost
 returns-clause-told c =
     let n = c.args.inputs.now in
     let f : ℕ → ℕ = λ i. (choice_of (given n) (unit_in c.args.split c.args.sx c.args.sy i)).cost in
-    let all : c.loop-k.k ≡ 4 ^ c.args.split = omega (arith, c.loop-k.invariant.room.len) in
+    let all : c.loop-k.k ≡ 4 ^ c.args.split = omega (arith, c.loop-k.invariant.units_fit.len) in
     told_whole c.args.limit (sum_below f (4 ^ c.args.split)) c.loop-k.cost (c.loop-k.invariant.cost ∙ ap (sum_below f) all)
 
 pub returns-clause-at_most_2_33 : goal.returns-clause-at_most_2_33
-returns-clause-at_most_2_33 c = omega (arith, few_units c.args.split c.requires.split, c.loop-k.invariant.room.len, c.loop-k.invariant.at_most)
+returns-clause-at_most_2_33 c = omega (arith, few_units c.args.split c.requires.split, c.loop-k.invariant.units_fit.len, c.loop-k.invariant.at_most)

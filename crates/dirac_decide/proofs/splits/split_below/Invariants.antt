@@ -8,7 +8,7 @@ use Rattle.dirac_decide.proofs.splits.split_below.Given as goal
 
 abbrev pub invariant-loop-k : goal.invariant-loop-k
 invariant-loop-k l = record {
-  room : IsRoom (given l.inputs) l.split l.units;
+  units_fit : IsRoom (given l.inputs) l.split l.units;
   at_most : l.cost ≤ 536870912 * l.k;
   cost : l.cost ≡ sum_below (λ k. (choice_of (given l.inputs) (unit_in l.split l.sx l.sy k)).cost) l.k;
   chosen : UnitsChosen (given l.inputs) l.sx l.sy l.split l.k l.units;

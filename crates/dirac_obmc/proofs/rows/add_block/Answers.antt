@@ -15,9 +15,9 @@ add_part-requires-clause-part c =
       rows = rows;
       some_columns = omega arith;
       some_rows = omega arith;
-      fits = omega (arith, columns.few, c.predict_block.ensures.room.fits);
+      fits = omega (arith, columns.within_block, c.predict_block.ensures.room_fits.fits);
       whole =
-          omega (arith, room_rows _ _ (c.held-down.result.end - c.held-down.result.start) c.predict_block.new.room c.predict_block.ensures.room rows.few, c.predict_block.ensures.room.values, ap length c.as_slice.ensures.value);
+          omega (arith, room_rows _ _ (c.held-down.result.end - c.held-down.result.start) c.predict_block.new.room c.predict_block.ensures.room_fits rows.within_block, c.predict_block.ensures.room_fits.values, ap length c.as_slice.ensures.value);
       values = λ r k a b. ap (λ vs. get_or vs (r * c.predict_block.new.room.width + k) (pos 0)) c.as_slice.ensures.value ∙ c.predict_block.ensures.values r k a b;
     }
 

@@ -8,7 +8,7 @@ use Rattle.dirac_obmc.proofs.StripLemmas.{column_inside, row_inside}
 use Rattle.dirac_obmc.proofs.rows.add_blocks.Goals as goal
 
 pub loop-i-init : goal.loop-i-init
-loop-i-init c = record { room = c.requires.room; sums = adds_none _ _ _ (λ p l. refl) }
+loop-i-init c = record { room_fits = c.requires.room_fits; sums = adds_none _ _ _ (λ p l. refl) }
 
 pub add_block-requires-clause-sums : goal.add_block-requires-clause-sums
 add_block-requires-clause-sums c =
@@ -20,7 +20,7 @@ add_block-requires-clause-sums c =
 
 pub loop-i-preserved : goal.loop-i-preserved
 loop-i-preserved c = record {
-  room = c.add_block.ensures.room;
+  room_fits = c.add_block.ensures.room_fits;
   sums =
       adds_more (λ p i. added_at (given c.args.motion.now) c.args.lines.first c.args.j i p) c.loop-i.i _ _ _ _ _ c.loop-i.invariant.sums c.add_block.ensures.sums refl;
 }

@@ -7,6 +7,6 @@ use Rattle.dirac_obmc.proofs.rows.add_blocks.Given as goal
 
 abbrev pub invariant-loop-i : goal.invariant-loop-i
 invariant-loop-i l = record {
-  room : IsRoom (x_length (given l.motion)) (y_length (given l.motion)) l.room;
+  room_fits : IsRoom (x_length (given l.motion)) (y_length (given l.motion)) l.room;
   sums : Adds (λ p. total (λ i. added_at (given l.motion) l.lines.first l.j i p) l.i) (l.motion.width * (l.lines.end - l.lines.first)) l.initial.sums l.sums;
 }

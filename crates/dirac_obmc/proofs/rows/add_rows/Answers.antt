@@ -14,7 +14,7 @@ loop-j-init c =
     let lines = c.args.lines in
     record {
       within = first_within m lines.blocks lines.first _ c.requires.lines.direction (omega (arith, c.requires.lines.some, c.requires.lines.inside)) c.first_row-j.ensures;
-      room = c.requires.room;
+      room_fits = c.requires.room_fits;
       sums =
           adds_none _ _ _
           (λ p l. nothing_above m lines.blocks (lines.first + p / m.width) _ (p % m.width) c.requires.lines.direction (λ j k. omega (arith, c.first_row-j.ensures j k)));
@@ -34,7 +34,7 @@ add_blocks-requires-clause-sums c =
 pub loop-j-preserved : goal.loop-j-preserved
 loop-j-preserved c = record {
   within = omega (arith, c.requires.lines.direction.count_is, c.end_row-j-end.ensures.within);
-  room = c.add_blocks.ensures.room;
+  room_fits = c.add_blocks.ensures.room_fits;
   sums =
       adds_more (λ p j. total (λ i. added_at (given c.args.motion.now) c.args.lines.first j i p) (blocks_across (given c.args.motion.now))) c.loop-j.j _ _ _ _ _ c.loop-j.invariant.sums c.add_blocks.ensures.sums refl;
 }

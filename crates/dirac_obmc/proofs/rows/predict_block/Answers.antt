@@ -12,22 +12,22 @@ block_front-requires-clause-window c =
     record {
       x = omega (arith, c.requires.columns, c.requires.motion.most_across);
       y = omega (arith, c.requires.rows.0, c.requires.rows.1, c.requires.motion.most_down);
-      some = c.requires.room.some;
-      whole_rows = whole_rows _ n w refl c.requires.room.some;
-      at_most_4096 = omega (arith, mul-le n w 64 64 (omega (arith, c.requires.few_rows, c.requires.room.few_rows)) c.requires.room.at_most_64);
+      some = c.requires.room_fits.some;
+      whole_rows = whole_rows _ n w refl c.requires.room_fits.some;
+      at_most_4096 = omega (arith, mul-le n w 64 64 (omega (arith, c.requires.few_rows, c.requires.room_fits.few_rows)) c.requires.room_fits.at_most_64);
     }
 
 pub block_front-requires-clause-first : goal.block_front-requires-clause-first
 block_front-requires-clause-first c =
-    omega (arith, room_rows _ _ (c.args.down.end - c.args.down.start) c.args.room.now c.requires.room c.requires.few_rows, c.requires.room.first, c.as_mut_slice.ensures.len)
+    omega (arith, room_rows _ _ (c.args.down.end - c.args.down.start) c.args.room.now c.requires.room_fits c.requires.few_rows, c.requires.room_fits.first, c.as_mut_slice.ensures.len)
 
 pub block_front-requires-clause-second : goal.block_front-requires-clause-second
 block_front-requires-clause-second c =
-    omega (arith, room_rows _ _ (c.args.down.end - c.args.down.start) c.args.room.now c.requires.room c.requires.few_rows, c.requires.room.second, c.as_mut_slice-2.ensures.len)
+    omega (arith, room_rows _ _ (c.args.down.end - c.args.down.start) c.args.room.now c.requires.room_fits c.requires.few_rows, c.requires.room_fits.second, c.as_mut_slice-2.ensures.len)
 
 pub block_front-requires-clause-out : goal.block_front-requires-clause-out
 block_front-requires-clause-out c =
-    omega (arith, room_rows _ _ (c.args.down.end - c.args.down.start) c.args.room.now c.requires.room c.requires.few_rows, c.requires.room.values, c.as_mut_slice-3.ensures.len)
+    omega (arith, room_rows _ _ (c.args.down.end - c.args.down.start) c.args.room.now c.requires.room_fits c.requires.few_rows, c.requires.room_fits.values, c.as_mut_slice-3.ensures.len)
 
 pub returns-clause-values : goal.returns-clause-values
 returns-clause-values c =

@@ -1,8 +1,8 @@
 use Rattle.dirac_reading_laws.proofs.Outcomes.{one_outcome, some_outcome}
 use Rattle.dirac_reading_laws.proofs.laws.a_stream_shows_one_outcome.Goals as goal
 
-pub returns-clause-one : goal.returns-clause-one
-returns-clause-one c = one_outcome
+pub returns-clause-at_most_one : goal.returns-clause-at_most_one
+returns-clause-at_most_one c = one_outcome
 
-pub returns-clause-some : goal.returns-clause-some
-returns-clause-some c = some_outcome
+pub returns-clause-at_least_one : goal.returns-clause-at_least_one
+returns-clause-at_least_one c = some_outcome

@@ -31,8 +31,8 @@ returns-clause-value c =
     rows_all _ c.loop-y.table _ _ c.loop-y.y c.loop-y.invariant.across c.loop-y.invariant.down (omega arith) (omega arith) c.loop-y.invariant.rows in
     up_is c.args.plane.now c.loop-y.table _ _ table c.width-width.ensures.value c.height-height.ensures.value
 
-pub returns-clause-whole : goal.returns-clause-whole
-returns-clause-whole c x y =
+pub returns-clause-whole_positions : goal.returns-clause-whole_positions
+returns-clause-whole_positions c x y =
     let table : c.loop-y.table ≡ half c.args.plane.now =
     rows_all _ c.loop-y.table _ _ c.loop-y.y c.loop-y.invariant.across c.loop-y.invariant.down (omega arith) (omega arith) c.loop-y.invariant.rows in
     ap (λ t. clamped_at t (pos 2 *ℤ x) (pos 2 *ℤ y)) table ∙ whole_samples c.args.plane.now (omega arith) (omega arith) x y
