@@ -1,4 +1,5 @@
 pub mod Passing
+pub mod Doubling
 pub mod Fitting
 pub mod Leading
 pub mod Streaming

@@ -9,7 +9,7 @@ use Rattle.dirac_types.specs.Table.{Table}
 use Rattle.dirac_sequence.specs.declared.sequence.Sequence.{Sequence}
 use Rattle.dirac_sequence.specs.Sizes.{chroma_height, chroma_width, picture_height, plane_height, plane_width}
 use Rattle.dirac_header.specs.declared.header.PictureHeader.{PictureHeader}
-use Rattle.dirac_upconvert.specs.HalfSamples.{IsSample, half}
+use Rattle.dirac_upconvert.specs.HalfSamples.{IsSample}
 use Rattle.dirac_upconvert.specs.SubSamples.{Up}
 use Rattle.dirac_types.specs.declared.formats.Component.{Component}
 use Rattle.dirac_types.specs.declared.formats.Component.TheVariants as component
@@ -21,6 +21,7 @@ use Rattle.dirac_picture.specs.declared.coded.CodedResidual.{CodedResidual}
 pub use Rattle.dirac_picture.specs.Bands.{bands_of}
 use Rattle.dirac_picture.specs.Grammar.{are_listed}
 use Rattle.dirac_residual.specs.Residual.{residual, clipped, with_prediction}
+pub use Rattle.dirac_refs.specs.Halves.{up_of}
 pub use Rattle.dirac_residual.specs.Zeros.{zeros}
 
 -- the columns of a plane
@@ -47,10 +48,6 @@ residual_among s kind component (Some r) =
 abbrev pub named : List Picture → Option ℕ → Option Picture
 named refs None = None
 named refs (Some number) = listed refs number
-
--- a plane with its half samples
-abbrev pub up_of : Table → Up
-up_of t = record { width = t.width; height = t.height; table = half t }
 
 -- what a plane is predicted from, with these upconverted references
 abbrev pub compensated : Sequence → CodedMotion → Up → Option Up → Component → Compensation

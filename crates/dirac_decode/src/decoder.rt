@@ -57,6 +57,15 @@ impl Decoder {
         }
     }
 
+    /// A decoder before the first unit that keeps half samples of references, for `rebuild`.
+    pub(crate) fn keeping(alloc: Global) -> Decoder
+        ensures { result ≡ begun }
+    {
+        let mut decoder = Decoder::new(alloc);
+        decoder.state.keep_halves();
+        decoder
+    }
+
     /// How many pictures were given so far, and the greatest length that the list of references had so far.
     pub fn tally(&self) -> Tally
         ensures value { result ≡ tally self.now }
@@ -86,6 +95,7 @@ impl Decoder {
         ensures no_overflow { self.new.units.unit_place.at + length self.new.units.ahead + S.left source.new
             ≤ self.old.units.unit_place.at + length self.old.units.ahead + S.left source.old }
     {
+        self.state.keep_halves();
         self.next_picture_by(&rebuild, source)
     }
 

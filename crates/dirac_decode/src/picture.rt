@@ -3,6 +3,7 @@ ghost use Rattle.std.specs.List.{All};
 ghost use Rattle.std.specs.Option.{ForSome, option_copied};
 ghost use Rattle.dirac_types.specs.declared.formats.Kind.TheVariants.{Inter};
 ghost use Rattle.dirac_sequence.specs.Lawful.{IsSequence};
+ghost use Rattle.dirac_refs.specs.Halves.{CanBeDoubled};
 ghost use Rattle.dirac_picture.specs.Fits.{FitsSequence, IsMotion, IsResidual, NamesReferences};
 ghost use Rattle.dirac_picture.specs.Grammar.{is_picture, picture_read};
 ghost use Rattle.dirac_residual.specs.Residual.{clipped as clipped_table, with_prediction};
@@ -12,11 +13,11 @@ ghost use Rattle.dirac_decode.specs.Predicting.{inter_picture, inter_plane, intr
 ghost use Rattle.dirac_decode.specs.Rebuilding.{Rebuilds};
 ghost use Rattle.dirac_decode.specs.Taking.{IfStopped, IsRebuilt};
 
-use crate::compensate::{named, predict_from};
+use crate::compensate::{named_reference, predict_from_references};
 use crate::planes::residual_of;
 use dirac_obmc::Component;
 use dirac_picture::{CodedMotion, CodedPicture, CodedResidual, read_picture};
-use dirac_refs::{RefBuffer, reference_of};
+use dirac_refs::{RefBuffer, Reference, reference_of};
 use dirac_residual::{clipped, clipped_sum};
 use dirac_sequence::Sequence;
 use dirac_types::{Kind, NoMemory, Picture, Plane, Stop};
@@ -63,8 +64,8 @@ fn inter_samples(
     coded: &CodedPicture,
     motion: &CodedMotion,
     sequence: &Sequence,
-    first: &Picture,
-    second: Option<&Picture>,
+    first: &Reference,
+    second: Option<&Reference>,
     component: Component,
 ) -> Result<Plane, NoMemory>
     requires sequence { IsSequence sequence.now }
@@ -76,7 +77,7 @@ fn inter_samples(
     ensures value { IfOk result (λ t. t ≡ inter_plane sequence.now (Some first.now) (option_copied second.entry)
         motion.now coded.now.residual component) }
 {
-    let predicted = predict_from(
+    let predicted = predict_from_references(
         alloc, coded.code, sequence, motion, first, second, component,
     )?;
     predicted_samples(
@@ -94,8 +95,8 @@ fn rebuild_from(
     coded: &CodedPicture,
     motion: &CodedMotion,
     sequence: &Sequence,
-    first: &Picture,
-    second: Option<&Picture>,
+    first: &Reference,
+    second: Option<&Reference>,
 ) -> Result<Picture, NoMemory>
     requires sequence { IsSequence sequence.now }
     requires motion { IsMotion coded.now.code sequence.now motion.now }
@@ -133,8 +134,8 @@ fn rebuild_inter(
     requires fits { IfSome coded.now.residual (IsResidual sequence.now) }
     ensures { IfOk result (λ p. p ≡ rebuilt sequence.now refs.now coded.now) }
 {
-    let second = named(refs, coded.header.ref2);
-    match named(refs, coded.header.ref1) {
+    let second = named_reference(refs, coded.header.ref2);
+    match named_reference(refs, coded.header.ref1) {
         None => unreachable!(),
         Some(first) => rebuild_from(alloc, coded, motion, sequence, first, second),
     }
@@ -224,7 +225,22 @@ fn rebuilt_by<F: Fn(Global, &CodedPicture, &Sequence, &RefBuffer) -> Result<Pict
     Ok(picture)
 }
 
-/// Reads a picture's payload and rebuilds the picture.
+/// Where half samples are kept, keeps those of the pictures that a coded picture refers to, and of no other; an intra
+/// picture changes nothing.
+fn keep_halves(keeps: bool, alloc: Global, coded: &CodedPicture, refs: &mut RefBuffer)
+    requires { All CanBeDoubled refs.old }
+    ensures { refs.new ≡ refs.old }
+{
+    if !keeps {
+        return;
+    }
+    if let Some(first) = coded.header.ref1 {
+        refs.keep_halves(alloc, first, coded.header.ref2);
+    }
+}
+
+/// Reads a picture's payload and rebuilds the picture. Where half samples are kept, those of its references are made
+/// before.
 pub(crate) fn make_picture<
     F: Fn(Global, &CodedPicture, &Sequence, &RefBuffer) -> Result<Picture, NoMemory>,
 >(
@@ -233,17 +249,20 @@ pub(crate) fn make_picture<
     payload: &[u8],
     code: u8,
     sequence: &Sequence,
-    refs: &RefBuffer,
+    keeps: bool,
+    refs: &mut RefBuffer,
 ) -> Result<Rebuilt, Stop>
     requires rebuilds { Rebuilds (F.pre make.now) (F.post make.now) }
     requires code { IsTrue (is_picture code) }
     requires sequence { IsSequence sequence.now }
-    requires refs { All (IsPicture sequence.now) refs.now }
-    ensures value { IsRebuilt result (picture_read code sequence.now refs.now payload.now) sequence.now refs.now }
+    requires refs { All (IsPicture sequence.now) refs.old }
+    ensures value { IsRebuilt result (picture_read code sequence.now refs.old payload.now) sequence.now refs.old }
     ensures fits { IfOk result (λ r. IsPicture sequence.now r.picture) }
     ensures place_inside { IfErr result (λ e. IfStopped e (λ r. r.at ≤ length payload.now)) }
+    ensures kept { refs.new ≡ refs.old }
 {
     let coded = read_picture(alloc, payload, code, sequence, refs)?;
+    keep_halves(keeps, alloc, &coded, refs);
     let picture = rebuilt_by(make, alloc, &coded, sequence, refs)?;
     let reference = reference_of(alloc, coded.code, &picture)?;
     Ok(Rebuilt {

@@ -23,6 +23,7 @@ pub(crate) struct State {
     refs: RefBuffer,
     waits: Delivery,
     most: u8,
+    keeps: bool,
 }
 
 impl Model for State {
@@ -55,7 +56,15 @@ impl State {
             refs: RefBuffer::new(),
             waits: Delivery::new(),
             most: 0,
+            keeps: false,
         }
+    }
+
+    /// From now on the half samples of references are kept, for a call that rebuilds pictures by them.
+    pub(crate) fn keep_halves(&mut self)
+        ensures { self.new ≡ self.old }
+    {
+        self.keeps = true;
     }
 
     /// The greatest length that a list of references had.
@@ -158,7 +167,15 @@ impl State {
                 cause: Cause::NoSequence,
             }));
         };
-        match make_picture(make, alloc, payload, code, &opened.sequence, &self.refs) {
+        match make_picture(
+            make,
+            alloc,
+            payload,
+            code,
+            &opened.sequence,
+            self.keeps,
+            &mut self.refs,
+        ) {
             Err(Stop::Refused(refusal)) => Err(Stop::Refused(behind_parse_info(refusal))),
             Err(Stop::NoMemory) => Err(Stop::NoMemory),
             Ok(made) => Ok(self.show(made)),

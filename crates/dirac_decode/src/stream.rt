@@ -26,7 +26,9 @@ pub fn decode_stream<S: Source, K: Sink>(alloc: Global, source: &mut S, out: &mu
     ensures reads { S.faults source.old ≤ S.faults source.new }
     ensures writes { K.faults out.old ≤ K.faults out.new }
 {
-    decode_stream_by(&rebuild, alloc, source, out)
+    let mut decoder = Decoder::keeping(alloc);
+    let mut row = Vec::new(alloc);
+    write_pictures(&rebuild, &mut decoder, &mut row, source, out)
 }
 
 /// Decodes a whole stream, as `decode_stream`, where pictures are rebuilt by `make`.

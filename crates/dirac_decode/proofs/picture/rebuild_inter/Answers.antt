@@ -5,5 +5,5 @@ use Rattle.dirac_decode.proofs.picture.rebuild_inter.Goals as goal
 
 pub returns : goal.returns
 returns c =
-    inter_found c.args.sequence.now c.args.refs.now c.args.coded.now c.args.motion.now c.in-Some.first.now (option_copied c.named-second.result) c.rebuild_from.result
-    c.requires.inter (sym c.named.ensures ∙ ap option_copied c.in-Some.is) c.named-second.ensures c.rebuild_from.ensures
+    inter_found c.args.sequence.now c.args.refs.now c.args.coded.now c.args.motion.now c.in-Some.first.now (option_copied c.named_reference-second.result) c.rebuild_from.result
+    c.requires.inter (sym c.named_reference.ensures ∙ ap option_copied c.in-Some.is) c.named_reference-second.ensures c.rebuild_from.ensures
