@@ -22,7 +22,7 @@ ghost use Rattle.dirac_code.specs.Asked.{HasBlocks, IsCoding, coded_by};
 ghost use Rattle.dirac_code.specs.Prepared.{IsPrepared, blocks_in};
 ghost use Rattle.dirac_code.specs.Texts.{AreTexts};
 
-use crate::making::coded_picture;
+use crate::making::{Asked, coded_picture};
 use crate::payload::write_picture;
 use crate::prepared::{Prepared, prepare};
 use crate::showing::Finished;
@@ -91,7 +91,13 @@ pub(crate) fn code_at<W: Workers>(
         (motion_among settings.now (blocks_in prepared.now))) }
 {
     let sequence = sequence_of(settings);
-    let coded = coded_picture(workers, alloc, settings, planned, source, refs, prepared)?;
+    let asked = Asked {
+        settings,
+        refs,
+        planned,
+        source,
+    };
+    let coded = coded_picture(workers, alloc, asked, prepared)?;
     let compensated = &prepared.compensated;
     let finished = workers.finish(alloc, &sequence, refs, &coded, compensated)?;
     let Finished { texts, shown } = finished;
@@ -154,7 +160,8 @@ pub fn code_with_blocks(
     requires found { are_listed refs.now (header_of planned.now) ≡ true }
     requires blocks { HasBlocks settings.now planned.now.code (option_copied blocks) }
     ensures payload { IfOk result (λ c. c.payload.items
-        ≡ payload_of settings.now (coded_by settings.now refs.now planned.now source.now (option_copied blocks.entry))) }
+        ≡ payload_of settings.now
+        (coded_by settings.now refs.now planned.now source.now (option_copied blocks.entry))) }
     // What is shown is what a decoder rebuilds from it.
     ensures shown { IfOk result (λ c. c.shown
         ≡ rebuilt (sequence_for settings.now) refs.now
