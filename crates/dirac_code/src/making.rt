@@ -16,6 +16,15 @@ use dirac_refs::RefBuffer;
 use dirac_types::{Kind, NoMemory, Picture, Settings};
 use std::alloc::Global;
 
+/// What is asked to be coded: a planned picture, its source, the pictures that are listed before it, and the settings.
+#[derive(Clone, Copy)]
+pub(crate) struct Asked<'a> {
+    pub(crate) settings: &'a Settings,
+    pub(crate) refs: &'a RefBuffer,
+    pub(crate) planned: &'a Planned,
+    pub(crate) source: &'a Picture,
+}
+
 /// The header of a planned picture.
 fn header_of(planned: &Planned) -> PictureHeader
     ensures { result ≡ coding.header_of planned.now }
@@ -32,21 +41,20 @@ fn header_of(planned: &Planned) -> PictureHeader
 fn coded_intra<W: Workers>(
     workers: &W,
     alloc: Global,
-    settings: &Settings,
-    planned: &Planned,
-    source: &Picture,
-    refs: &RefBuffer,
+    asked: Asked<'_>,
     prepared: &Prepared,
 ) -> Result<CodedPicture, NoMemory>
     requires shared { W.are_shared workers.now }
-    requires prepared { IsPrepared settings.now refs.now planned.now source.now prepared.now }
+    requires prepared { IsPrepared asked.settings.now asked.refs.now asked.planned.now asked.source.now
+        prepared.now }
     requires intra { prepared.now.compensated ≡ None }
-    ensures { IfOk result (λ c. c ≡ coding.coded_with settings.now refs.now planned.now source.now None) }
+    ensures { IfOk result (λ c. c ≡ coding.coded_with asked.entry.settings.now asked.entry.refs.now
+        asked.entry.planned.now asked.entry.source.now None) }
 {
-    let residual = workers.quantise(alloc, settings, Kind::Intra, &prepared.left)?;
+    let residual = workers.quantise(alloc, asked.settings, Kind::Intra, &prepared.left)?;
     Ok(CodedPicture {
-        code: planned.code,
-        header: header_of(planned),
+        code: asked.planned.code,
+        header: header_of(asked.planned),
         motion: None,
         residual: Some(residual),
     })
@@ -56,24 +64,22 @@ fn coded_intra<W: Workers>(
 fn coded_inter<W: Workers>(
     workers: &W,
     alloc: Global,
-    settings: &Settings,
-    planned: &Planned,
-    source: &Picture,
-    refs: &RefBuffer,
+    asked: Asked<'_>,
     prepared: &Prepared,
     compensated: &Compensated,
 ) -> Result<CodedPicture, NoMemory>
     requires shared { W.are_shared workers.now }
-    requires prepared { IsPrepared settings.now refs.now planned.now source.now prepared.now }
+    requires prepared { IsPrepared asked.settings.now asked.refs.now asked.planned.now asked.source.now
+        prepared.now }
     requires inter { prepared.now.compensated ≡ Some compensated.now }
-    ensures { IfOk result (λ c. c
-        ≡ coded_by settings.now refs.now planned.now source.now (Some compensated.now.motion.blocks)) }
+    ensures { IfOk result (λ c. c ≡ coded_by asked.entry.settings.now asked.entry.refs.now asked.entry.planned.now
+        asked.entry.source.now (Some compensated.now.motion.blocks)) }
 {
-    let motion = motion_of(alloc, settings, &compensated.motion.blocks)?;
-    let residual = workers.quantise(alloc, settings, Kind::Inter, &prepared.left)?;
+    let motion = motion_of(alloc, asked.settings, &compensated.motion.blocks)?;
+    let residual = workers.quantise(alloc, asked.settings, Kind::Inter, &prepared.left)?;
     Ok(CodedPicture {
-        code: planned.code,
-        header: header_of(planned),
+        code: asked.planned.code,
+        header: header_of(asked.planned),
         motion: Some(motion),
         residual: unless_zero(residual),
     })
@@ -83,27 +89,17 @@ fn coded_inter<W: Workers>(
 pub(crate) fn coded_picture<W: Workers>(
     workers: &W,
     alloc: Global,
-    settings: &Settings,
-    planned: &Planned,
-    source: &Picture,
-    refs: &RefBuffer,
+    asked: Asked<'_>,
     prepared: &Prepared,
 ) -> Result<CodedPicture, NoMemory>
     requires shared { W.are_shared workers.now }
-    requires prepared { IsPrepared settings.now refs.now planned.now source.now prepared.now }
-    ensures { IfOk result (λ c. c ≡ coded_by settings.now refs.now planned.now source.now (blocks_in prepared.now)) }
+    requires prepared { IsPrepared asked.settings.now asked.refs.now asked.planned.now asked.source.now
+        prepared.now }
+    ensures { IfOk result (λ c. c ≡ coded_by asked.entry.settings.now asked.entry.refs.now asked.entry.planned.now
+        asked.entry.source.now (blocks_in prepared.now)) }
 {
     match &prepared.compensated {
-        None => coded_intra(workers, alloc, settings, planned, source, refs, prepared),
-        Some(compensated) => coded_inter(
-            workers,
-            alloc,
-            settings,
-            planned,
-            source,
-            refs,
-            prepared,
-            compensated,
-        ),
+        None => coded_intra(workers, alloc, asked, prepared),
+        Some(compensated) => coded_inter(workers, alloc, asked, prepared, compensated),
     }
 }

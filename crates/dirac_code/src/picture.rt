@@ -16,7 +16,7 @@ ghost use Rattle.dirac_choose.specs.Chosen.{at_index};
 ghost use Rattle.dirac_code.specs.Asked.{HasBlocks, IsCoding, coded_by};
 ghost use Rattle.dirac_code.specs.Prepared.{IsPrepared, blocks_in};
 
-use crate::making::coded_picture;
+use crate::making::{Asked, coded_picture};
 use crate::prepared::{Prepared, prepare};
 use crate::showing::Finished;
 use crate::workers::{OneWorker, Workers};
@@ -56,7 +56,13 @@ pub(crate) fn code_at<W: Workers>(
         (motion_among settings.now (blocks_in prepared.now))) }
 {
     let sequence = sequence_of(settings);
-    let coded = coded_picture(workers, alloc, settings, planned, source, refs, prepared)?;
+    let asked = Asked {
+        settings,
+        refs,
+        planned,
+        source,
+    };
+    let coded = coded_picture(workers, alloc, asked, prepared)?;
     let compensated = &prepared.compensated;
     let finished = workers.finish(alloc, &sequence, refs, &coded, compensated)?;
     let Finished { texts, shown } = finished;
@@ -119,7 +125,8 @@ pub fn code_with_blocks(
     requires found { are_listed refs.now (header_of planned.now) ≡ true }
     requires blocks { HasBlocks settings.now planned.now.code (option_copied blocks) }
     ensures payload { IfOk result (λ c. c.payload.items
-        ≡ payload_of settings.now (coded_by settings.now refs.now planned.now source.now (option_copied blocks.entry))) }
+        ≡ payload_of settings.now
+        (coded_by settings.now refs.now planned.now source.now (option_copied blocks.entry))) }
     // What is shown is what a decoder rebuilds from it.
     ensures shown { IfOk result (λ c. c.shown
         ≡ rebuilt (sequence_for settings.now) refs.now

@@ -4,7 +4,6 @@ ghost use Rattle.std.specs.Prelude.{◌≡◌, false, true, None, Some, IfOk};
 ghost use Rattle.std.specs.List.{AllByRecursion};
 ghost use Rattle.std.specs.Option.{ForSome, option_copied};
 ghost use Rattle.dirac_types.specs.Settings.{IsAccepted};
-ghost use Rattle.dirac_sequence.specs.Written.{sequence_of as sequence_for};
 ghost use Rattle.dirac_picture.specs.Grammar.{are_listed, is_intra};
 ghost use Rattle.dirac_plan_laws.specs.Headers.{IsPlanned, header_of};
 ghost use Rattle.dirac_stream.specs.Coded.{IsSource};
@@ -23,7 +22,7 @@ use dirac_decode::named;
 use dirac_picture::CodedMotion;
 use dirac_plan::Planned;
 use dirac_refs::RefBuffer;
-use dirac_sequence::{Sequence, sequence_of};
+use dirac_sequence::sequence_of;
 use dirac_types::{NoMemory, Picture, Settings};
 use std::alloc::Global;
 
@@ -90,11 +89,9 @@ fn prepare_inter<W: Workers>(
     source: &Picture,
     refs: &RefBuffer,
     settings: &Settings,
-    sequence: &Sequence,
     moving: Moving<'_>,
 ) -> Result<Prepared, NoMemory>
     requires shared { W.are_shared workers.now }
-    requires sequence { sequence.now ≡ sequence_for settings.now }
     requires asked { IsAsked settings.now refs.now planned.now source.now }
     requires whole { IsWhole source.now }
     requires inter { is_intra planned.now.code ≡ false }
@@ -104,8 +101,9 @@ fn prepare_inter<W: Workers>(
     ensures blocks { IfOk result (λ x. blocks_in x ≡ Some moving.entry.blocks.now) }
 {
     let motion = motion_of(alloc, settings, moving.blocks)?;
+    let sequence = sequence_of(settings);
     let references = moving.references;
-    let predictions = workers.predict(alloc, planned.code, sequence, references, &motion)?;
+    let predictions = workers.predict(alloc, planned.code, &sequence, references, &motion)?;
     let left = workers.analyse_rest(alloc, settings, source, &predictions)?;
     let compensated = Compensated {
         motion,
@@ -137,12 +135,7 @@ pub(crate) fn prepare_by<W: Workers>(
     are_whole(source);
     match moving {
         None => prepare_intra(workers, alloc, planned, source, refs, settings),
-        Some(moving) => {
-            let sequence = sequence_of(settings);
-            prepare_inter(
-                workers, alloc, planned, source, refs, settings, &sequence, moving,
-            )
-        }
+        Some(moving) => { prepare_inter(workers, alloc, planned, source, refs, settings, moving) }
     }
 }
 

@@ -202,8 +202,8 @@ fn quantise_one(
 ) -> Result<PlaneBands, NoMemory>
     requires codable { IsCodable settings.now }
     requires fits { AreQuantisable settings.now.depth plane.now }
-    ensures { IfOk result (λ b. b ≡ quantised kind (coding.transform_of settings.now) settings.now.finer settings.now.index
-        plane.now) }
+    ensures { IfOk result (λ b. b ≡ quantised kind (coding.transform_of settings.now) settings.now.finer
+        settings.now.index plane.now) }
 {
     let transform = transform_of(settings);
     let finer = settings.finer as u8;
@@ -237,8 +237,8 @@ fn quantise_component(
 ) -> Result<PlaneBands, NoMemory>
     requires codable { IsCodable settings.now }
     requires fits { AreQuantisablePlanes settings.now.depth planes.now }
-    ensures { IfOk result (λ b. b ≡ quantised kind (coding.transform_of settings.now) settings.now.finer settings.now.index
-        (analysis_of planes.now component)) }
+    ensures { IfOk result (λ b. b ≡ quantised kind (coding.transform_of settings.now) settings.now.finer
+        settings.now.index (analysis_of planes.now component)) }
 {
     match component {
         Component::Y => quantise_one(alloc, settings, kind, &planes.y),

@@ -1,5 +1,5 @@
 -- The sequence of settings that a header can have, and the size of its pictures.
-use Rattle.std.proofs.Common.{◌≡◌, ℕ, refl, eqb-true}
+use Rattle.std.proofs.Common.{◌≡◌, refl, eqb-true}
 use Rattle.dirac_types.specs.Sizes.{picture_height}
 use Rattle.dirac_types.specs.declared.settings.Settings.{Settings}
 use Rattle.dirac_sequence.specs.Lawful.{IsSequence, IsSize}

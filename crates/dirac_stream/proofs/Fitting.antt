@@ -1,16 +1,14 @@
 -- The least index by which a unit fits a budget.
-use Rattle.std.proofs.Common.{◌≡◌, ℕ, zero, suc, ◌+◌, ◌-◌, ◌*◌, ◌<◌, ◌≤◌, Bool, true, false, List, [], ◌∷◌, refl, sym, ap, ◌∙◌, subst, arith, Option, None, Some, inl, inr}
+use Rattle.std.proofs.Common.{◌≡◌, ℕ, zero, suc, ◌+◌, ◌-◌, ◌*◌, ◌<◌, ◌≤◌, Bool, true, false, List, [], ◌∷◌, refl, subst, arith, Option, None, Some, inl, inr}
 use Rattle.std.specs.Prelude.{nat_le, cond, ◌⊎◌}
 use Rattle.std.specs.List.{find, range_with_len}
-use Rattle.std.proofs.lemmas.Bool.{le-leb, leb-true, lt-leb}
+use Rattle.std.proofs.lemmas.Bool.{leb-true}
 use Rattle.dirac_types.specs.declared.picture.Picture.{Picture}
 use Rattle.dirac_types.specs.declared.settings.Settings.{Settings}
 use Rattle.dirac_types.specs.Settings.{IsAccepted}
-use Rattle.dirac_choose.specs.Chosen.{at_index}
-use Rattle.dirac_stream.specs.Coding.{Job, made, made_under, refs_after}
-use Rattle.dirac_stream.specs.Fit.{AllFitOrNone, BudgetsAreKept, FitsOrNone, IsLeast, fit, indices_from, least_fitting, length_at, or_last, rule_of}
+use Rattle.dirac_stream.specs.Coding.{Job, made_under, refs_after}
+use Rattle.dirac_stream.specs.Fit.{BudgetsAreKept, FitsOrNone, IsLeast, fit, least_fitting, length_at, or_last, rule_of}
 use Rattle.dirac_stream.specs.Laws.{GivesIndices}
-use Rattle.dirac_stream.specs.Stream.{picture_length}
 use Rattle.dirac_stream.proofs.Coding.{codable}
 use Rattle.dirac_stream.proofs.Indices.{own_gives}
 

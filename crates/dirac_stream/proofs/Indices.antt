@@ -1,5 +1,5 @@
 -- Settings with another quantiser index, and rules for the indices of pictures.
-use Rattle.std.proofs.Common.{◌≡◌, ℕ, ◌<◌, ◌≤◌, ◌^◌, List, [], ◌∷◌, refl, arith}
+use Rattle.std.proofs.Common.{◌≡◌, ℕ, List, [], ◌∷◌, refl, arith}
 use Rattle.std.specs.List.{AllByRecursion}
 use Rattle.dirac_types.specs.Limits.{IsIndex}
 use Rattle.dirac_types.specs.declared.picture.Picture.{Picture}

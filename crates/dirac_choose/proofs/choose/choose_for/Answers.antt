@@ -1,4 +1,4 @@
-use Rattle.std.proofs.Common.{◌≡◌, Option, Some, ap, sym, subst, ◌∙◌}
+use Rattle.std.proofs.Common.{Option, Some, ap, sym, subst, ◌∙◌}
 use Rattle.std.specs.Option.{ForSome, option_copied}
 use Rattle.dirac_types.specs.declared.picture.Picture.{Picture}
 use Rattle.dirac_sequence.specs.Written.{sequence_of}
