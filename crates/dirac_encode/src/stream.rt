@@ -4,7 +4,8 @@ ghost use Rattle.std.specs.Prelude.{◌≡◌, ◌≤◌, ℕ, length, IfSome, I
 ghost use Rattle.std.specs.Io.KnownBytes.{IsAtEnd};
 ghost use Rattle.dirac_io.specs.Faults.{Rose};
 ghost use Rattle.dirac_types.specs.Settings.{IsAccepted};
-ghost use Rattle.dirac_stream.specs.Encoding.{AnswersEncode, EndsStream, IsRecovered, IsRecoveredUnder, encoding, encoding_under};
+ghost use Rattle.dirac_stream.specs.Encoding.{AnswersEncode, EndsStream, IsRecovered, IsRecoveredUnder, encoding};
+ghost use Rattle.dirac_stream.specs.Encoding.{encoding_under};
 ghost use Rattle.dirac_stream.specs.Fit.{rule_of};
 
 use crate::coder::Coder;

@@ -48,7 +48,7 @@ returns-in-Err-clause-encoded g c =
     let first = g.S.Source.held c.args.source.now in
     let ends = part_ends f t first c.pictures.planner (so_far c.pictures.coding) (g.S.Source.held c.pictures.source) (g.S.Source.held c.fill.new.source) (g.K.Sink.taken c.args.out.now) (g.K.Sink.taken c.pictures.out) (g.N.Sink.taken c.args.side.now) (g.N.Sink.taken c.pictures.side)
     c.fill.new.buf c.in-Ended.n c.pictures.invariant.runs (c.in-Ended.ensures.part c.in-Ended.n refl) (c.in-Ended.ensures.end c.in-Ended.n refl)
-    (omega (arith, c.in-Ended.ensures.short c.in-Ended.n refl, c.fill.ensures.size)) (c.fill.ensures.size ∙ c.pictures.invariant.size) c.pictures.invariant.in_range in
+    (omega (arith, c.in-Ended.ensures.below_size c.in-Ended.n refl, c.fill.ensures.size)) (c.fill.ensures.size ∙ c.pictures.invariant.size) c.pictures.invariant.in_range in
     end_stops c.plans_can_be_coded.ensures f t first c.pictures.planner (so_far c.pictures.coding) _ c.in-Err.answer (g.K.Sink.taken c.args.out.now) (g.K.Sink.taken c.pictures.out) (g.K.Sink.taken c.put_planned.new.out)
     (g.N.Sink.taken c.args.side.now) (g.N.Sink.taken c.pictures.side) (g.N.Sink.taken c.put_planned.new.side) c.requires.accepted ends c.in-Err.ensures.stopped
 
@@ -67,7 +67,7 @@ returns-in-Err-put_last-clause-encoded g c =
     let first = g.S.Source.held c.args.source.now in
     let ends = part_ends f t first c.pictures.planner (so_far c.pictures.coding) (g.S.Source.held c.pictures.source) (g.S.Source.held c.fill.new.source) (g.K.Sink.taken c.args.out.now) (g.K.Sink.taken c.pictures.out) (g.N.Sink.taken c.args.side.now) (g.N.Sink.taken c.pictures.side)
     c.fill.new.buf c.in-Ended.n c.pictures.invariant.runs (c.in-Ended.ensures.part c.in-Ended.n refl) (c.in-Ended.ensures.end c.in-Ended.n refl)
-    (omega (arith, c.in-Ended.ensures.short c.in-Ended.n refl, c.fill.ensures.size)) (c.fill.ensures.size ∙ c.pictures.invariant.size) c.pictures.invariant.in_range in
+    (omega (arith, c.in-Ended.ensures.below_size c.in-Ended.n refl, c.fill.ensures.size)) (c.fill.ensures.size ∙ c.pictures.invariant.size) c.pictures.invariant.in_range in
     end_early c.plans_can_be_coded.ensures f t first c.pictures.planner c.put_planned.new.planner (so_far c.pictures.coding) (so_far c.put_planned.new.coding) _ c.in-Err-put_last.fault
     (g.K.Sink.taken c.args.out.now) (g.K.Sink.taken c.pictures.out) (g.K.Sink.taken c.put_planned.new.out) (g.K.Sink.taken c.put_last.new.out)
     (g.N.Sink.taken c.args.side.now) (g.N.Sink.taken c.pictures.side) (g.N.Sink.taken c.put_planned.new.side) (g.N.Sink.taken c.put_last.new.side)
@@ -88,7 +88,7 @@ returns-in-Ended-clause-encoded g c =
     let first = g.S.Source.held c.args.source.now in
     let ends = part_ends f t first c.pictures.planner (so_far c.pictures.coding) (g.S.Source.held c.pictures.source) (g.S.Source.held c.fill.new.source) (g.K.Sink.taken c.args.out.now) (g.K.Sink.taken c.pictures.out) (g.N.Sink.taken c.args.side.now) (g.N.Sink.taken c.pictures.side)
     c.fill.new.buf c.in-Ended.n c.pictures.invariant.runs (c.in-Ended.ensures.part c.in-Ended.n refl) (c.in-Ended.ensures.end c.in-Ended.n refl)
-    (omega (arith, c.in-Ended.ensures.short c.in-Ended.n refl, c.fill.ensures.size)) (c.fill.ensures.size ∙ c.pictures.invariant.size) c.pictures.invariant.in_range in
+    (omega (arith, c.in-Ended.ensures.below_size c.in-Ended.n refl, c.fill.ensures.size)) (c.fill.ensures.size ∙ c.pictures.invariant.size) c.pictures.invariant.in_range in
     let is = part_ended c.plans_can_be_coded.ensures f t first c.pictures.planner c.put_planned.new.planner (so_far c.pictures.coding) (so_far c.put_planned.new.coding) c.in-Ended.n
     (g.K.Sink.taken c.args.out.now) (g.K.Sink.taken c.pictures.out) (g.K.Sink.taken c.put_planned.new.out) (g.K.Sink.taken c.put_last.new.out)
     (g.N.Sink.taken c.args.side.now) (g.N.Sink.taken c.pictures.side) (g.N.Sink.taken c.put_planned.new.side) (g.N.Sink.taken c.put_last.new.side)
@@ -102,7 +102,7 @@ returns-in-Ended-clause-recovered g c =
     let first = g.S.Source.held c.args.source.now in
     let ends = part_ends f t first c.pictures.planner (so_far c.pictures.coding) (g.S.Source.held c.pictures.source) (g.S.Source.held c.fill.new.source) (g.K.Sink.taken c.args.out.now) (g.K.Sink.taken c.pictures.out) (g.N.Sink.taken c.args.side.now) (g.N.Sink.taken c.pictures.side)
     c.fill.new.buf c.in-Ended.n c.pictures.invariant.runs (c.in-Ended.ensures.part c.in-Ended.n refl) (c.in-Ended.ensures.end c.in-Ended.n refl)
-    (omega (arith, c.in-Ended.ensures.short c.in-Ended.n refl, c.fill.ensures.size)) (c.fill.ensures.size ∙ c.pictures.invariant.size) c.pictures.invariant.in_range in
+    (omega (arith, c.in-Ended.ensures.below_size c.in-Ended.n refl, c.fill.ensures.size)) (c.fill.ensures.size ∙ c.pictures.invariant.size) c.pictures.invariant.in_range in
     ends_recovered c.streams_show_their_pictures.ensures.shown c.streams_show_their_pictures.ensures.cut c.plans_can_be_coded.ensures c.streams_show_their_pictures.ensures.tables f (rule_gives c.args.coder.now.budget) t first c.pictures.planner c.put_planned.new.planner (so_far c.pictures.coding) (so_far c.put_planned.new.coding) _ c.behind_whole.result
     (g.K.Sink.taken c.args.out.now) (g.K.Sink.taken c.pictures.out) (g.K.Sink.taken c.put_planned.new.out) (g.N.Sink.taken c.args.side.now) (g.N.Sink.taken c.pictures.side) (g.N.Sink.taken c.put_planned.new.side)
     c.requires.accepted (omega (arith, c.pictures.invariant.in_range)) ends c.in_default.ensures.led (c.in_default.ensures.all_given refl) c.in_default.ensures.accepted

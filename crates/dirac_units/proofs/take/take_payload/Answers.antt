@@ -8,7 +8,7 @@ pub returns-in-Ended-clause-cut : goal.returns-in-Ended-clause-cut
 returns-in-Ended-clause-cut g c =
     let n = c.in-Ended.n in
     let room : length (take c.min.result c.pieces.buf) ≡ c.min.result = length-take-le c.min.result c.pieces.buf (omega (arith, c.min.ensures, c.min.array_long)) in
-    let short = c.in-Ended.ensures.short n refl in
+    let short = c.in-Ended.ensures.below_size n refl in
     let fits : n < c.min.result = omega (arith, short, room) in
     piece_cut c.args.unit_place c.args.count (c.args.count - c.pieces.rest) n (13 + (c.args.count - c.pieces.rest) + n) c.args.keep c.pieces.payload.items (take n c.fill.new.buf)
     (g.S.Source.held c.args.source.now) (g.S.Source.held c.pieces.source) (g.S.Source.held c.fill.new.source) c.fault.result c.pieces.invariant.taken
