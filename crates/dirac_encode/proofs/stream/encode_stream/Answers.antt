@@ -1,0 +1,16 @@
+use Rattle.std.proofs.Common.{ℕ, List, Option, None, Some}
+use Rattle.std.specs.Prelude.{IfSome}
+use Rattle.dirac_types.specs.declared.settings.Settings.{Settings}
+use Rattle.dirac_stream.specs.declared.answers.Encoded.{Encoded}
+use Rattle.dirac_stream.specs.Coding.{own_index}
+use Rattle.dirac_stream.specs.Encoding.{EndsStream, IsRecovered, IsRecoveredUnder}
+use Rattle.dirac_stream.proofs.Recovered.{own_recovered}
+use Rattle.dirac_encode.proofs.stream.encode_stream.Goals as goal
+
+-- with the settings' index
+recovered_by_own : (held : Option (List ℕ)) (t : Settings) (answer : Encoded) → IfSome held (λ bytes. EndsStream answer → IsRecoveredUnder own_index t bytes) → IfSome held (λ bytes. EndsStream answer → IsRecovered t bytes)
+recovered_by_own None t answer is = is
+recovered_by_own (Some bytes) t answer is = λ ends. own_recovered t bytes (is ends)
+
+pub returns-clause-recovered : goal.returns-clause-recovered
+returns-clause-recovered g c = recovered_by_own _ c.args.settings.now c.encode_by.result c.encode_by.ensures.recovered
