@@ -1,4 +1,4 @@
-ghost use Rattle.std.specs.Prelude.{◌≡◌, ◌*◌, ◌≤◌, true, length, take, IfOk};
+ghost use Rattle.std.specs.Prelude.{◌≡◌, ◌≤◌, IfOk};
 ghost use Rattle.dirac_residual.specs.Residual.{cut};
 
 use crate::held::{Held, Residual};
@@ -31,29 +31,17 @@ fn cut_narrow(alloc: Global, table: &Narrow, width: u32, height: u32) -> Result<
     Ok(part)
 }
 
-/// How many columns and rows a table has.
-fn size_of(table: &Residual) -> (u32, u32)
-    ensures across { result.0 ≡ table.now.width }
-    ensures down { result.1 ≡ table.now.height }
-    ensures whole { length table.now.values ≡ table.now.width * table.now.height }
+/// How many columns a table has.
+fn width_of(table: &Residual) -> u32
+    ensures { result ≡ table.now.width }
 {
     match table.held() {
-        Held::Narrow(table) => (table.width(), table.height()),
-        Held::Wide(table) => (table.width(), table.height()),
+        Held::Narrow(table) => table.width(),
+        Held::Wide(table) => table.width(),
     }
 }
 
-/// Whether a table has just these columns and rows.
-fn is_whole(table: &Residual, width: u32, height: u32) -> bool
-    ensures across { result ≡ true → table.now.width ≡ width }
-    ensures down { result ≡ true → table.now.height ≡ height }
-    ensures whole { length table.now.values ≡ table.now.width * table.now.height }
-{
-    let (across, down) = size_of(table);
-    across == width && down == height
-}
-
-/// The first `width` columns and `height` rows of a table: itself where it has no others.
+/// The first `width` columns and `height` rows of a table: its own values where it has no other columns.
 pub fn cut_off(
     alloc: Global,
     table: Residual,
@@ -64,8 +52,8 @@ pub fn cut_off(
     requires down { (1 ≤ height) × (height ≤ table.height) × (height ≤ LARGEST_TABLE_SIDE) }
     ensures { IfOk result (λ t. t ≡ cut width height table) }
 {
-    if is_whole(&table, width, height) {
-        return Ok(table);
+    if width_of(&table) == width {
+        return Ok(table.first_rows(height));
     }
     cut_to(alloc, &table, width, height)
 }

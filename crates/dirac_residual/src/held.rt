@@ -1,4 +1,4 @@
-ghost use Rattle.std.specs.Prelude.{◌≡◌, ◌≤◌, IfOk};
+ghost use Rattle.std.specs.Prelude.{◌≡◌, ◌*◌, ◌≤◌, length, take, IfOk};
 
 use dirac_types::{LARGEST_TABLE_SIDE, Narrow, NoMemory, Wide};
 use std::alloc::Global;
@@ -41,6 +41,16 @@ impl Residual {
         })
     }
 
+    /// These values, in 32 bits where all magnitudes are at most 4,095.
+    pub(crate) fn try_of(alloc: Global, values: Wide) -> Result<Residual, NoMemory>
+        ensures { IfOk result (λ t. t ≡ values) }
+    {
+        match Narrow::try_of(alloc, &values)? {
+            Some(narrow) => Ok(Residual::of_narrow(narrow)),
+            None => Ok(Residual::of_wide(values)),
+        }
+    }
+
     /// What is held in 32 bits.
     pub(crate) fn of_narrow(values: Narrow) -> Residual
         ensures { result ≡ values }
@@ -56,6 +66,22 @@ impl Residual {
     {
         Residual {
             held: Held::Wide(values),
+        }
+    }
+
+    /// What is held of its first `height` rows.
+    pub(crate) fn first_rows(self, height: u32) -> Residual
+        requires { (1 ≤ height) × (height ≤ self.height) }
+        ensures value { result ≡ record {
+          width = self.width;
+          height = height;
+          values = take (self.width * height) self.values;
+        } }
+        ensures whole { length self.values ≡ self.width * self.height }
+    {
+        match self.held {
+            Held::Narrow(values) => Residual::of_narrow(values.first_rows(height)),
+            Held::Wide(values) => Residual::of_wide(values.first_rows(height)),
         }
     }
 

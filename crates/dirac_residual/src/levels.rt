@@ -77,7 +77,7 @@ fn level_of_narrow(
     }
     let wide = low.try_wide(alloc)?;
     let next = wide_level(alloc, wavelet, kind, &wide, hl, lh, hh)?;
-    Ok(Residual::of_wide(next))
+    Residual::try_of(alloc, next)
 }
 
 /// The LL band of the next level, where the codeblocks of each band have its index.
@@ -106,7 +106,7 @@ fn next_by_one(
         Held::Narrow(low) => level_of_narrow(alloc, wavelet, kind, low, hl, lh, hh),
         Held::Wide(low) => {
             let next = wide_level(alloc, wavelet, kind, low, hl, lh, hh)?;
-            Ok(Residual::of_wide(next))
+            Residual::try_of(alloc, next)
         }
     }
 }
@@ -174,11 +174,11 @@ fn next_by_codeblocks(
         Held::Narrow(low) => {
             let wide = low.try_wide(alloc)?;
             let next = wide_by_codeblocks(alloc, by, &wide, hl, lh, hh)?;
-            Ok(Residual::of_wide(next))
+            Residual::try_of(alloc, next)
         }
         Held::Wide(low) => {
             let next = wide_by_codeblocks(alloc, by, low, hl, lh, hh)?;
-            Ok(Residual::of_wide(next))
+            Residual::try_of(alloc, next)
         }
     }
 }

@@ -15,7 +15,7 @@ use crate::restore::restore_band;
 use dirac_bands::dc_add;
 use dirac_coeffs::CodedBand;
 use dirac_header::Transform;
-use dirac_types::{Kind, LARGEST_SIDE, LARGEST_TABLE_SIDE, Narrow, NoMemory, Wide};
+use dirac_types::{Kind, LARGEST_SIDE, LARGEST_TABLE_SIDE, NoMemory, Wide};
 use std::alloc::Global;
 
 /// The LL band of level 0, whose values an intra picture codes as differences from their predictions.
@@ -39,16 +39,6 @@ fn lowest_band(
         Kind::Inter => {}
     }
     Ok(low)
-}
-
-/// An LL band in 32 bits, where all magnitudes are at most 4,095.
-fn narrowed(alloc: Global, low: Wide) -> Result<Residual, NoMemory>
-    ensures { IfOk result (λ t. t ≡ low) }
-{
-    match Narrow::try_of(alloc, &low)? {
-        Some(narrow) => Ok(Residual::of_narrow(narrow)),
-        None => Ok(Residual::of_wide(low)),
-    }
 }
 
 /// Whether all values are zeros. Each is looked at, so that several are compared at once.
@@ -100,7 +90,7 @@ pub fn plane_residual(
         return Residual::try_zeros(alloc, width, height);
     }
     let lowest = lowest_band(alloc, &bands[0], transform.counts.at(0), kind)?;
-    let mut low = narrowed(alloc, lowest)?;
+    let mut low = Residual::try_of(alloc, lowest)?;
     for n in 0..transform.depth as usize {
         let by = Synthesis {
             wavelet: transform.wavelet,

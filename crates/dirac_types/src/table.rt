@@ -1,4 +1,4 @@
-ghost use Rattle.std.specs.Prelude.{◌≡◌, ◌+◌, ◌*◌, ◌<◌, ◌≤◌, length, replicate, unsigned_abs, IfOk, IfSome, IsSome, IsTrue, ◌↔◌};
+ghost use Rattle.std.specs.Prelude.{◌≡◌, ◌+◌, ◌*◌, ◌<◌, ◌≤◌, length, replicate, take, unsigned_abs, IfOk, IfSome, IsSome, IsTrue, ◌↔◌};
 ghost use Rattle.std.specs.List.{All};
 ghost use Rattle.std.specs.Borrow.{sem};
 ghost use Rattle.dirac_types.specs.Table.{Cells, cell_at, clamped_at, clamped_to, row_of, with_row, with_value, with_values};
@@ -117,6 +117,25 @@ impl<T: Element> Table<T> {
         let start = y as usize * self.width as usize;
         let end = start + self.width as usize;
         self.values.slice_mut(start..end)
+    }
+
+    /// Its first `height` rows.
+    pub fn first_rows(self, height: u32) -> Table<T>
+        requires { (1 ≤ height) × (height ≤ self.height) }
+        ensures value { result ≡ record {
+          width = self.width;
+          height = height;
+          values = take (self.width * height) self.values;
+        } }
+        ensures whole { length self.values ≡ self.width * self.height }
+    {
+        let mut values = self.values;
+        values.truncate(self.width as usize * height as usize);
+        Table {
+            width: self.width,
+            height,
+            values,
+        }
     }
 
     /// Lends all values, by rows.
