@@ -18,7 +18,7 @@ use Rattle.dirac_analysis.specs.Analysis.{Analysis}
 abbrev pub AreDifferences : List ℤ → Type 0
 AreDifferences xs = All (λ v. unsigned_abs v ≤ 255) xs
 
--- how large the values of a plane are at most after so many levels
+-- how large the values of a plane are at most after that many levels
 unfoldable pub grown : ℕ → ℕ
 grown zero = 255
 grown (suc levels) = 128 * grown levels + 32
@@ -38,8 +38,8 @@ pub record IsLaidOut (counts : ℕ × ℕ) (w h : ℕ) (layout : BandLayout) : T
   pub across : layout.across ≡ counts.0
   pub down : layout.down ≡ counts.1
 
--- a coded band of these sizes, with an index for each of so many codeblocks across and down: a skipped one has that of
--- the one before it, and where none is quantised finer, all have the band's; a band of zeros has index 0 throughout
+-- a coded band of these sizes, with an index for each of that many codeblocks across and down: a skipped one has that
+-- of the one before it, and where none is quantised finer, all have the band's; a band of zeros has index 0 throughout
 pub record IsLevelBand (counts : ℕ × ℕ) (finer width height : ℕ) (b : CodedBand) : Type 0 where
   pub index : IsIndex b.index
   pub count : length b.indices ≡ counts.0 * counts.1
@@ -66,7 +66,7 @@ pub record IsQuantisable (t : Table) : Type 0 where
   pub down : t.height ≤ LARGEST_TABLE_SIDE
   pub small : All (λ v. unsigned_abs v < 2 ^ 38) t.values
 
--- an analysed plane of such tables, of so many levels
+-- an analysed plane of such tables, of that many levels
 pub record AreQuantisable (depth : ℕ) (a : Analysis) : Type 0 where
   pub count : length a.higher ≡ 3 * depth
   pub lowest : IsQuantisable a.lowest

@@ -10,7 +10,7 @@ use dirac_types::{MOST_CODEBLOCKS, NoMemory, Wide};
 use std::alloc::Global;
 
 /// A table of coefficients coded at this quantiser index, its flat codeblocks at one that is lower by `finer`, but at
-/// least 0; so many codeblocks go across and down. In a band of zeros all indices are 0.
+/// least 0; that many codeblocks go across and down. In a band of zeros all indices are 0.
 pub fn code_band(
     alloc: Global,
     table: &Wide,

@@ -61,8 +61,8 @@ pub(crate) fn are_all_zeros(values: &[i64]) -> bool
     values.iter().all(|value| is_zero(*value))
 }
 
-/// A table of coefficients coded at this quantiser index, which each of its codeblocks has, so many across and down; a
-/// band of zeros has index 0.
+/// A table of coefficients coded at this quantiser index, which each of its codeblocks has, that many across and down;
+/// a band of zeros has index 0.
 pub(crate) fn code_by_one(
     alloc: Global,
     table: &Wide,

@@ -67,7 +67,7 @@ fn reduce_codeblocks(
 }
 
 /// A table of coefficients coded at this quantiser index, its flat codeblocks at one that is lower by `finer`, but at
-/// least 0; so many codeblocks go across and down. In a band of zeros all indices are 0.
+/// least 0; that many codeblocks go across and down. In a band of zeros all indices are 0.
 pub(crate) fn code_finer(
     alloc: Global,
     table: &Wide,

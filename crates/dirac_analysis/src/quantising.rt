@@ -34,8 +34,8 @@ fn single(alloc: Global, band: CodedBand) -> Result<PlaneBands, NoMemory>
 }
 
 /// The subbands of an analysed plane, quantised at `index`, but each flat codeblock, whose coefficients all have
-/// magnitudes below `FLAT_BELOW`, at one that is lower by `finer`, but no less than 0. An intra picture's LL is coded at
-/// index 0.
+/// magnitudes below `FLAT_BELOW`, at one that is lower by `finer`, but no less than 0. An intra picture's LL is coded
+/// at index 0.
 pub fn quantise_plane(
     alloc: Global,
     kind: Kind,

@@ -1,6 +1,7 @@
 -- What a block reads to, decision by decision: a decision is true where the front of the block lies in the part of the
 -- interval that true keeps. Each step gives its value and the reading behind it, or why there is none.
-use Rattle.std.specs.Prelude.{◌≡◌, ℕ, zero, suc, ℤ, pos, ◌+◌, ◌-◌, ◌*◌, ◌==◌, if◌then◌else◌, Bool, true, List, Result, Ok, Err}
+use Rattle.std.specs.Prelude.{◌≡◌, ℕ, zero, suc, ℤ, pos, ◌+◌, ◌-◌, ◌*◌, ◌==◌, if◌then◌else◌, Bool, true, List, Result}
+use Rattle.std.specs.Prelude.{Ok, Err}
 use Rattle.dirac_types.specs.declared.limits.TheConstants.{MOST_DIGITS}
 use Rattle.dirac_types.specs.declared.faults.Cause.{Cause}
 use Rattle.dirac_types.specs.declared.faults.Cause.TheVariants.{CodeWord, NumberTooLong}
@@ -34,8 +35,8 @@ unfoldable pub decided : ℕ → Reading → Result (Bool × Reading) Cause
 decided context r =
     if front r.block 16 == 0xFFFF then Err CodeWord else Ok (truth_of context r, after r (context, truth_of context r))
 
--- a number, its digits so far making `value`, where so many more may follow: digit number i is next, behind its follow
--- decision
+-- a number, its digits so far making `value`, where that many more may follow: digit number i is next, behind its
+-- follow decision
 unfoldable pub number_from_digit : List ℕ → ℕ → ℕ → ℕ → ℕ → Reading → Result (ℕ × Reading) Cause
 number_from_digit follow bits i zero value r = do
   last ← decided (follow_at follow i) r

@@ -1,5 +1,6 @@
 -- The exact interval of a list of decisions. Its low end is never masked.
-use Rattle.std.specs.Prelude.{ℕ, zero, suc, ◌+◌, ◌-◌, ◌*◌, ◌/◌, ◌^◌, ◌<◌, Bool, true, false, nat_lt, if◌then◌else◌, List, [], ◌∷◌, slice_index, slice_set, replicate}
+use Rattle.std.specs.Prelude.{ℕ, zero, suc, ◌+◌, ◌-◌, ◌*◌, ◌/◌, ◌^◌, ◌<◌, Bool, true, false, nat_lt, if◌then◌else◌}
+use Rattle.std.specs.Prelude.{List, [], ◌∷◌, slice_index, slice_set, replicate}
 use Rattle.std.specs.List.{AllByRecursion}
 use Rattle.dirac_arith.specs.declared.contexts.TheConstants.{CONTEXTS}
 use Rattle.dirac_arith.specs.StepTable.{step_of}
@@ -8,7 +9,7 @@ use Rattle.dirac_arith.specs.StepTable.{step_of}
 abbrev pub Decision : Type 0
 Decision = ℕ × Bool
 
--- an interval from `low`, `range` wide, after so many doublings, with the probability of each context
+-- an interval from `low`, `range` wide, after that many doublings, with the probability of each context
 pub record Interval : Type 0 where
   pub low : ℕ
   pub range : ℕ

@@ -1,5 +1,6 @@
 -- What holds of all blocks and decisions.
-use Rattle.std.specs.Prelude.{◌≡◌, ◌≢◌, ◌↔◌, ◌⊎◌, ◌-◌, ◌^◌, ◌<◌, ℕ, ℤ, Bool, true, false, List, [], ◌∷◌, ◌++◌, length, map, nat_abs, Ok, Err}
+use Rattle.std.specs.Prelude.{◌≡◌, ◌≢◌, ◌↔◌, ◌⊎◌, ◌-◌, ◌^◌, ◌<◌, ℕ, ℤ, Bool, true, false, List, [], ◌∷◌, ◌++◌, length}
+use Rattle.std.specs.Prelude.{map, nat_abs, Ok, Err}
 use Rattle.dirac_types.specs.declared.limits.TheConstants.{MOST_DIGITS}
 use Rattle.dirac_types.specs.Numbers.{uint, sint}
 use Rattle.dirac_arith.specs.Interval.{Decision, InContexts}

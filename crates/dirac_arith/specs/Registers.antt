@@ -4,7 +4,7 @@ use Rattle.dirac_arith.specs.declared.contexts.TheConstants.{CONTEXTS}
 use Rattle.dirac_arith.specs.declared.registers.Registers.{Registers}
 use Rattle.dirac_arith.specs.Front.{front}
 
--- the registers stand for this low end after so many doublings: the window is the code less low, and bits read ahead
+-- the registers stand for this low end after that many doublings: the window is the code less low, and bits read ahead
 pub record Stands (block : List ℕ) (r : Registers) (low doublings : ℕ) : Type 0 where
   pub code : front block (8 * r.next) ≡ low * 2 ^ r.ahead + r.window
   pub bits : 8 * r.next ≡ 16 + doublings + r.ahead

@@ -1,5 +1,6 @@
 -- How decisions spell a number: its digits each behind a false follow decision, then a true one.
-use Rattle.std.specs.Prelude.{ℕ, zero, suc, ℤ, pos, negsuc, ◌+◌, ◌-◌, min, Bool, true, false, List, [], ◌∷◌, ◌++◌, length, slice_index, nat_lt, IsTrue}
+use Rattle.std.specs.Prelude.{ℕ, zero, suc, ℤ, pos, negsuc, ◌+◌, ◌-◌, min, Bool, true, false, List, [], ◌∷◌, ◌++◌}
+use Rattle.std.specs.Prelude.{length, slice_index, nat_lt, IsTrue}
 use Rattle.std.specs.List.{list_all}
 use Rattle.dirac_arith.specs.declared.contexts.TheConstants.{CONTEXTS}
 use Rattle.dirac_types.specs.Numbers.{digits_of}

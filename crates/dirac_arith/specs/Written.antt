@@ -2,7 +2,7 @@
 use Rattle.std.specs.Prelude.{ℕ, zero, suc, ◌+◌, ◌-◌, ◌*◌, ◌/◌, ◌%◌, ◌^◌, List, [], ◌∷◌}
 use Rattle.dirac_arith.specs.Interval.{Decision, Interval, interval_of}
 
--- so many bytes that hold a number, the most significant first
+-- that many bytes that hold a number, the most significant first
 unfoldable pub bytes_of : ℕ → ℕ → List ℕ
 bytes_of zero n = []
 bytes_of (suc m) n = n / 2 ^ (8 * m) % 256 ∷ bytes_of m n

@@ -1,5 +1,6 @@
 //! Arithmetic decoding of one block.
-ghost use Rattle.std.specs.Prelude.{◌≡◌, ◌≢◌, ◌↔◌, ◌+◌, ◌-◌, ◌*◌, ◌/◌, ◌^◌, ◌<◌, ◌≤◌, ◌⊎◌, ℕ, ℤ, nat_abs, Bool, false, List, length, slice_index, IfOk, IfErr, OnErr, Ok, Err};
+ghost use Rattle.std.specs.Prelude.{◌≡◌, ◌≢◌, ◌↔◌, ◌+◌, ◌-◌, ◌*◌, ◌/◌, ◌^◌, ◌<◌, ◌≤◌, ◌⊎◌, ℕ, ℤ, nat_abs, Bool, false};
+ghost use Rattle.std.specs.Prelude.{List, length, slice_index, IfOk, IfErr, OnErr, Ok, Err};
 ghost use Rattle.dirac_arith.specs.Carried.{Lies};
 ghost use Rattle.dirac_arith.specs.Deciding.{Gives, decided, number_read, signed_read};
 ghost use Rattle.dirac_arith.specs.Front.{front};

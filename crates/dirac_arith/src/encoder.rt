@@ -1,6 +1,8 @@
 //! Arithmetic encoding of one block.
-ghost use Rattle.std.specs.Prelude.{◌≡◌, ◌+◌, ◌-◌, ◌*◌, ◌/◌, ◌^◌, ◌<◌, ◌≤◌, ℕ, ℤ, nat_abs, Bool, List, length, slice_index, IfOk, OnOk, OnErr};
-ghost use Rattle.dirac_arith.specs.Interval.{Decision, InContexts, doublings_for, narrowed, narrowed_by, whole, interval_of};
+ghost use Rattle.std.specs.Prelude.{◌≡◌, ◌+◌, ◌-◌, ◌*◌, ◌/◌, ◌^◌, ◌<◌, ◌≤◌, ℕ, ℤ, nat_abs, Bool, List, length};
+ghost use Rattle.std.specs.Prelude.{slice_index, IfOk, OnOk, OnErr};
+ghost use Rattle.dirac_arith.specs.Interval.{Decision, InContexts, doublings_for, narrowed, narrowed_by, whole};
+ghost use Rattle.dirac_arith.specs.Interval.{interval_of};
 ghost use Rattle.dirac_arith.specs.Registers.{part_of, lift_of};
 ghost use Rattle.dirac_arith.specs.Spelling.{AreContexts, signed_spelling, spelling};
 ghost use Rattle.dirac_arith.specs.Written.{flush};

@@ -1,5 +1,9 @@
 //! Laws of blocks and decisions, each as the contract of a function that does nothing.
-ghost use Rattle.dirac_arith.specs.Laws.{FlushedIsCarried, CarriesOneTruth, CarriesOneOfEqualLength, CarriesOneNumber, CarriesOneSigned, TruthsAreBits, SignedTruthsAreBits, ReadingComposes, CarriesSomeTruth, CarriesSomeNumber, CarriesSomeSigned, DecisionIsRead, NumberIsRead, LongNumberIsRefused, SignedIsRead, LongSignedIsRefused, OnesReadToNothing};
+ghost use Rattle.dirac_arith.specs.Laws.{FlushedIsCarried, CarriesOneTruth, CarriesOneOfEqualLength, CarriesOneNumber};
+ghost use Rattle.dirac_arith.specs.Laws.{CarriesOneSigned, TruthsAreBits, SignedTruthsAreBits, ReadingComposes};
+ghost use Rattle.dirac_arith.specs.Laws.{CarriesSomeTruth, CarriesSomeNumber, CarriesSomeSigned, DecisionIsRead};
+ghost use Rattle.dirac_arith.specs.Laws.{NumberIsRead, LongNumberIsRefused, SignedIsRead, LongSignedIsRefused};
+ghost use Rattle.dirac_arith.specs.Laws.{OnesReadToNothing};
 
 /// Of two lists of decisions that first differ in one truth at the same context a block carries at most one.
 pub fn block_carries_one_truth()

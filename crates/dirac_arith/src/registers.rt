@@ -30,7 +30,7 @@ fn byte_at(block: &[u8], place: usize) -> u8
     block.get(place).copied().unwrap_or(0xFF)
 }
 
-/// Reads bytes until no more fit behind a window with so many bits ahead.
+/// Reads bytes until no more fit behind a window with that many bits ahead.
 #[inline(never)]
 fn refilled(block: &[u8], mut window: u64, mut ahead: u32, mut next: usize) -> u64
     requires narrow { window < 65536 * 2 ^ ahead }

@@ -1,5 +1,6 @@
 //! The low end of an encoder's interval: written bytes, and a register of bits that wait behind them.
-ghost use Rattle.std.specs.Prelude.{◌≡◌, ◌+◌, ◌-◌, ◌*◌, ◌/◌, ◌^◌, ◌<◌, ◌≤◌, ℕ, List, length, OnOk, IsTrue, ◌↔◌, ◌%◌, true};
+ghost use Rattle.std.specs.Prelude.{◌≡◌, ◌+◌, ◌-◌, ◌*◌, ◌/◌, ◌^◌, ◌<◌, ◌≤◌, ℕ, List, length, OnOk, IsTrue, ◌↔◌, ◌%◌};
+ghost use Rattle.std.specs.Prelude.{true};
 ghost use Rattle.dirac_arith.specs.Tail.{bytes_from};
 ghost use Rattle.dirac_arith.specs.Written.{bytes_of};
 

@@ -27,7 +27,7 @@ ReadsOrStops (Ok x) new read = read ≡ Ok (x, new)
 ReadsOrStops (Err (stop.Refused r)) new read = read ≡ Err r
 ReadsOrStops (Err stop.NoMemory) new read = ⊤
 
--- a refusal is within so many bytes
+-- a refusal is within that many bytes
 abbrev pub IsEarly : ℕ → Stop → Type 0
 IsEarly len (stop.Refused r) = r.at ≤ len
 IsEarly len stop.NoMemory = ⊤

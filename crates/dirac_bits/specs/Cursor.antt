@@ -17,7 +17,7 @@ start bytes = record { bytes = bytes; at = 0 }
 abbrev pub place : Cursor → ℕ
 place c = c.at / 8
 
--- so many bits further on
+-- that many bits further on
 abbrev pub skip : ℕ → Cursor → Cursor
 skip n c = record { bytes = c.bytes; at = c.at + n }
 

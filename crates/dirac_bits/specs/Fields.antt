@@ -1,5 +1,6 @@
 -- The fields of the bitstream, read: a value and the place behind it, or why there is none.
-use Rattle.std.specs.Prelude.{ℕ, zero, suc, ℤ, pos, ◌+◌, ◌-◌, ◌*◌, ◌==◌, if◌then◌else◌, Bool, List, [], ◌∷◌, Result, Ok, Err}
+use Rattle.std.specs.Prelude.{ℕ, zero, suc, ℤ, pos, ◌+◌, ◌-◌, ◌*◌, ◌==◌, if◌then◌else◌, Bool, List, [], ◌∷◌, Result, Ok}
+use Rattle.std.specs.Prelude.{Err}
 use Rattle.dirac_types.specs.declared.limits.TheConstants.{MOST_DIGITS}
 use Rattle.dirac_types.specs.declared.faults.Cause.{Cause}
 use Rattle.dirac_types.specs.declared.faults.Cause.TheVariants.{NumberTooLong}
@@ -9,7 +10,7 @@ use Rattle.dirac_types.specs.Chain.{◌>>=◌}
 use Rattle.dirac_types.specs.Numbers.{signed_value}
 use Rattle.dirac_bits.specs.Cursor.{Cursor, place, bit_next}
 
--- a number, its digits so far making `value`, where so many more may follow: a follow bit 1 ends it
+-- a number, its digits so far making `value`, where that many more may follow: a follow bit 1 ends it
 unfoldable pub number_on : ℕ → ℕ → Cursor → Result (ℕ × Cursor) Cause
 number_on zero value c = do
   follow ← bit_next c
@@ -31,7 +32,7 @@ sign_on n = if n.0 == 0 then Ok (pos 0, n.1) else (bit_next n.1 >>= with_sign n.
 abbrev pub signed_on : Cursor → Result (ℤ × Cursor) Cause
 signed_on c = number_on MOST_DIGITS 1 c >>= sign_on
 
--- so many bits
+-- that many bits
 unfoldable pub bits_on : ℕ → Cursor → Result (List Bool × Cursor) Cause
 bits_on zero c = Ok ([], c)
 bits_on (suc n) c = do
@@ -68,7 +69,7 @@ literal_on c = bits_on 32 c >>= number_of
 unfoldable pub literal_at : Cursor → Result (ℕ × Cursor) Refusal
 literal_at c = from c (literal_on c)
 
--- so many bytes, each the number of eight bits
+-- that many bytes, each the number of eight bits
 unfoldable pub bytes_on : ℕ → Cursor → Result (List ℕ × Cursor) Cause
 bytes_on zero c = Ok ([], c)
 bytes_on (suc n) c = do
@@ -76,6 +77,6 @@ bytes_on (suc n) c = do
   more ← bytes_on n bits.1
   Ok (number_from 0 bits.0 ∷ more.0, more.1)
 
--- a block of so many bytes
+-- a block of that many bytes
 unfoldable pub block_at : ℕ → Cursor → Result (List ℕ × Cursor) Refusal
 block_at len c = from c (bytes_on len c)

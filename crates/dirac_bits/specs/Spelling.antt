@@ -3,7 +3,8 @@ use Rattle.std.specs.Prelude.{◌≡◌, ℕ, ℤ, ◌+◌, ◌*◌, ◌/◌, �
 use Rattle.std.specs.List.{AllByRecursion}
 use Rattle.dirac_types.specs.Bits.{bits_of}
 use Rattle.dirac_types.specs.Numbers as numbers
-use Rattle.dirac_bits.specs.Syntax.{Syntax, done, flag_then, uint_then, sint_then, literal_then, block_then, align_then, here_then, refuse}
+use Rattle.dirac_bits.specs.Syntax.{Syntax, done, flag_then, uint_then, sint_then, literal_then, block_then, align_then}
+use Rattle.dirac_bits.specs.Syntax.{here_then, refuse}
 
 -- the bits are the header's fields one after another, the first of them bit k of the bytes; the bits of a gap are free
 abbrev pub Spells : {A : Type 0} → Syntax A → A → ℕ → List Bool → Type 0

@@ -48,7 +48,7 @@ sint = sint_then (λ z. done z)
 abbrev pub literal : Syntax ℕ
 literal = literal_then (λ n. done n)
 
--- a block of so many bytes
+-- a block of that many bytes
 abbrev pub block : ℕ → Syntax (List ℕ)
 block len = block_then len (λ bytes. done bytes)
 

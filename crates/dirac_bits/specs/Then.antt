@@ -3,7 +3,8 @@ use Rattle.std.specs.Prelude.{◌≡◌, refl, Result, Ok, Err}
 use Rattle.dirac_types.specs.Chain.{◌>>=◌ as ◌>>◌}
 use Rattle.dirac_bits.specs.Cursor.{Cursor, place, aligned}
 use Rattle.dirac_bits.specs.Fields.{flag_at, uint_at, sint_at, literal_at, block_at}
-use Rattle.dirac_bits.specs.Syntax.{Syntax, done, flag_then, uint_then, sint_then, literal_then, block_then, align_then, here_then, refuse, ◌>>=◌, read}
+use Rattle.dirac_bits.specs.Syntax.{Syntax, done, flag_then, uint_then, sint_then, literal_then, block_then, align_then}
+use Rattle.dirac_bits.specs.Syntax.{here_then, refuse, ◌>>=◌, read}
 
 -- a step whose next steps are two in turn
 step_then : {A B C E : Type 0} (r : Result A E) (g : A → Result B E) (h : B → Result C E) (k : A → Result C E)

@@ -1,7 +1,8 @@
 -- Bits that are written.
-use Rattle.std.specs.Prelude.{◌≡◌, ℕ, zero, suc, ◌-◌, ◌/◌, ◌%◌, ◌==◌, Bool, false, List, [], ◌∷◌, ◌++◌, length, replicate}
+use Rattle.std.specs.Prelude.{◌≡◌, ℕ, zero, suc, ◌-◌, ◌/◌, ◌%◌, ◌==◌, Bool, false, List, [], ◌∷◌, ◌++◌, length}
+use Rattle.std.specs.Prelude.{replicate}
 
--- the lowest bits of a number, so many, the most significant of them first
+-- the lowest bits of a number, that many, the most significant of them first
 unfoldable pub bits_below : ℕ → ℕ → List Bool
 bits_below zero n = []
 bits_below (suc count) n = bits_below count (n / 2) ++ (n % 2 == 1) ∷ []

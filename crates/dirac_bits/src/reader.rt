@@ -1,4 +1,5 @@
-ghost use Rattle.std.specs.Prelude.{◌≡◌, ℕ, ℤ, ◌+◌, ◌*◌, ◌<◌, ◌≤◌, ◌^◌, List, length, IfOk, IfErr, IsOk, ◌↔◌, slice_range, unsigned_abs};
+ghost use Rattle.std.specs.Prelude.{◌≡◌, ℕ, ℤ, ◌+◌, ◌*◌, ◌<◌, ◌≤◌, ◌^◌, List, length, IfOk, IfErr, IsOk, ◌↔◌};
+ghost use Rattle.std.specs.Prelude.{slice_range, unsigned_abs};
 ghost use Rattle.dirac_bits.specs.Cursor.{place, aligned, start, IsAligned};
 ghost use Rattle.dirac_bits.specs.Fields.{flag_at, uint_at, sint_at, literal_at, block_at};
 ghost use Rattle.dirac_bits.specs.Syntax.{between, field, read};

@@ -7,14 +7,14 @@ use Rattle.dirac_bits.specs.Syntax.{Syntax, done, uint, align, block, read, ◌>
 use Rattle.dirac_blocks.specs.Decisions.{Numbers, AreSplitNumbers, block_decisions}
 use Rattle.dirac_blocks.specs.Tables.{BlockTable, IsBlockTable}
 
--- a length and, from the next byte on, a block of so many bytes
+-- a length and, from the next byte on, a block of that many bytes
 abbrev pub one_block : Syntax (List ℕ)
 one_block = do
   len ← uint
   gap ← align
   block len
 
--- so many blocks, each behind its length
+-- that many blocks, each behind its length
 unfoldable pub some_blocks : ℕ → Syntax (List (List ℕ))
 some_blocks zero = done []
 some_blocks (suc n) = do
@@ -22,7 +22,7 @@ some_blocks (suc n) = do
   more ← some_blocks n
   done (first ∷ more)
 
--- so many blocks from the next byte on
+-- that many blocks from the next byte on
 abbrev pub raw_blocks : ℕ → Syntax (List (List ℕ))
 raw_blocks n = do
   gap ← align

@@ -1,8 +1,11 @@
 -- The decisions that a block table is coded by, told from the finished table: nine lists with two references, seven
 -- with one. Predictions are read off the values of the whole, and nothing is said of the order in which a reader fills
 -- them in.
-use Rattle.std.specs.Prelude.{◌≡◌, ℕ, zero, suc, ℤ, ◌+◌, ◌-◌, ◌-ℤ◌, ◌*◌, ◌%◌, ◌^◌, ◌<◌, ◌==◌, Bool, true, false, not, ◌||◌, if◌then◌else◌, List, [], ◌∷◌, ◌++◌, Option, Some, None, option_map}
-use Rattle.dirac_arith.specs.declared.contexts.TheConstants.{DC_DIGITS, DC_FOLLOW, DC_SIGN, REFERENCE_1, REFERENCE_2, SPLIT_DIGITS, SPLIT_FOLLOW, VECTOR_DIGITS, VECTOR_FOLLOW, VECTOR_SIGN}
+use Rattle.std.specs.Prelude.{◌≡◌, ℕ, zero, suc, ℤ, ◌+◌, ◌-◌, ◌-ℤ◌, ◌*◌, ◌%◌, ◌^◌, ◌<◌, ◌==◌, Bool, true, false, not}
+use Rattle.std.specs.Prelude.{◌||◌, if◌then◌else◌, List, [], ◌∷◌, ◌++◌, Option, Some, None, option_map}
+use Rattle.dirac_arith.specs.declared.contexts.TheConstants.{DC_DIGITS, DC_FOLLOW, DC_SIGN, REFERENCE_1, REFERENCE_2}
+use Rattle.dirac_arith.specs.declared.contexts.TheConstants.{SPLIT_DIGITS, SPLIT_FOLLOW, VECTOR_DIGITS, VECTOR_FOLLOW}
+use Rattle.dirac_arith.specs.declared.contexts.TheConstants.{VECTOR_SIGN}
 use Rattle.dirac_types.specs.declared.formats.Vector.{Vector}
 use Rattle.dirac_arith.specs.Interval.{Decision}
 use Rattle.dirac_arith.specs.Spelling.{spelling, signed_spelling}
@@ -103,7 +106,7 @@ unfoldable pub unit_row : UnitPart → ℕ → ℕ → ℕ → ℕ → List Deci
 unit_row part size i j zero = []
 unit_row part size i j (suc n) = unit_row part size i j n ++ part (i + n * size) j
 
--- n rows of so many units each, from block i of row j on
+-- n rows of that many units each, from block i of row j on
 unfoldable pub unit_rows : UnitPart → ℕ → ℕ → ℕ → ℕ → ℕ → List Decision
 unit_rows part size across i j zero = []
 unit_rows part size across i j (suc n) = unit_rows part size across i j n ++ unit_row part size i (j + n * size) across

@@ -1,8 +1,11 @@
 -- A block table in a payload (motion data, Dirac specification, section 12): for each of its lists a length and an
 -- arithmetic block, which is read over the table that the lists before gave. Superblocks are read by rows, the units
 -- of one by rows, and what a unit has holds for all its blocks.
-use Rattle.std.specs.Prelude.{ℕ, zero, suc, ℤ, pos, negsuc, ◌+◌, ◌+ℤ◌, ◌*◌, ◌%◌, ◌^◌, ◌==◌, int_le, if◌then◌else◌, Bool, true, false, not, ◌||◌, ◌&&◌, List, replicate, slice_set, Result, Ok, Err}
-use Rattle.dirac_arith.specs.declared.contexts.TheConstants.{DC_DIGITS, DC_FOLLOW, DC_SIGN, REFERENCE_1, REFERENCE_2, SPLIT_DIGITS, SPLIT_FOLLOW, VECTOR_DIGITS, VECTOR_FOLLOW, VECTOR_SIGN}
+use Rattle.std.specs.Prelude.{ℕ, zero, suc, ℤ, pos, negsuc, ◌+◌, ◌+ℤ◌, ◌*◌, ◌%◌, ◌^◌, ◌==◌, int_le, if◌then◌else◌, Bool}
+use Rattle.std.specs.Prelude.{true, false, not, ◌||◌, ◌&&◌, List, replicate, slice_set, Result, Ok, Err}
+use Rattle.dirac_arith.specs.declared.contexts.TheConstants.{DC_DIGITS, DC_FOLLOW, DC_SIGN, REFERENCE_1, REFERENCE_2}
+use Rattle.dirac_arith.specs.declared.contexts.TheConstants.{SPLIT_DIGITS, SPLIT_FOLLOW, VECTOR_DIGITS, VECTOR_FOLLOW}
+use Rattle.dirac_arith.specs.declared.contexts.TheConstants.{VECTOR_SIGN}
 use Rattle.dirac_types.specs.declared.faults.Cause.{Cause}
 use Rattle.dirac_types.specs.declared.faults.Cause.TheVariants.{VectorRange, DcRange}
 use Rattle.dirac_types.specs.Chain.{◌>>=◌ as ◌>>◌}
@@ -68,7 +71,7 @@ unfoldable pub row_filled : List Block → ℕ → Block → ℕ → List Block
 row_filled blocks start b zero = blocks
 row_filled blocks start b (suc n) = slice_set (row_filled blocks start b n) (start + n) b
 
--- n rows of so many blocks are b, from column i of row j on
+-- n rows of that many blocks are b, from column i of row j on
 unfoldable pub rows_filled : ℕ → List Block → ℕ → ℕ → ℕ → Block → ℕ → List Block
 rows_filled width blocks size i j b zero = blocks
 rows_filled width blocks size i j b (suc n) =
@@ -166,7 +169,7 @@ unit_step part size i j x =
 abbrev pub unit_row_step : ListKind → ℕ → ℕ → ℕ → ℕ → Step
 unit_row_step part size i j n x = repeated (λ u. unit_step part size (i + u * size) j) n x
 
--- n rows of so many units each
+-- n rows of that many units each
 abbrev pub unit_rows_step : ListKind → ℕ → ℕ → ℕ → ℕ → ℕ → Step
 unit_rows_step part size across i j n x = repeated (λ v. unit_row_step part size i (j + v * size) across) n x
 

@@ -9,7 +9,8 @@ use Rattle.dirac_types.specs.declared.formats.Component.TheVariants as component
 use Rattle.dirac_blocks.specs.declared.parts.ListKind.{ListKind}
 use Rattle.dirac_blocks.specs.declared.parts.ListKind.TheVariants as part
 use Rattle.dirac_blocks.specs.Tables.{BlockTable}
-use Rattle.dirac_blocks.specs.Decisions.{ref1_at, ref2_at, v1_at, v2_at, dc_y_at, dc_u_at, dc_v_at, mode_part, vector_part, dc_part}
+use Rattle.dirac_blocks.specs.Decisions.{ref1_at, ref2_at, v1_at, v2_at, dc_y_at, dc_u_at, dc_v_at, mode_part}
+use Rattle.dirac_blocks.specs.Decisions.{vector_part, dc_part}
 
 -- whether a block uses a reference
 abbrev pub use_at : Reference → BlockTable → ℕ → ℕ → Option Bool

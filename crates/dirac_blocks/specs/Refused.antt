@@ -1,7 +1,9 @@
 -- Why a list is refused, told of a table that is known up to some unit.
-use Rattle.std.specs.Prelude.{◌≡◌, ℕ, ℤ, ◌+◌, ◌-◌, ◌+ℤ◌, ◌*◌, ◌%◌, ◌^◌, ◌<◌, Bool, false, if◌then◌else◌, List, ◌++◌, length, nat_abs, Option, Some, None}
+use Rattle.std.specs.Prelude.{◌≡◌, ℕ, ℤ, ◌+◌, ◌-◌, ◌+ℤ◌, ◌*◌, ◌%◌, ◌^◌, ◌<◌, Bool, false, if◌then◌else◌, List, ◌++◌}
+use Rattle.std.specs.Prelude.{length, nat_abs, Option, Some, None}
 use Rattle.dirac_types.specs.declared.limits.TheConstants.{MOST_DIGITS}
-use Rattle.dirac_arith.specs.declared.contexts.TheConstants.{DC_DIGITS, DC_FOLLOW, DC_SIGN, SPLIT_DIGITS, SPLIT_FOLLOW, VECTOR_DIGITS, VECTOR_FOLLOW, VECTOR_SIGN}
+use Rattle.dirac_arith.specs.declared.contexts.TheConstants.{DC_DIGITS, DC_FOLLOW, DC_SIGN, SPLIT_DIGITS, SPLIT_FOLLOW}
+use Rattle.dirac_arith.specs.declared.contexts.TheConstants.{VECTOR_DIGITS, VECTOR_FOLLOW, VECTOR_SIGN}
 use Rattle.dirac_types.specs.declared.faults.Cause.{Cause}
 use Rattle.dirac_types.specs.declared.faults.Cause.TheVariants.{NumberTooLong, VectorRange, DcRange}
 use Rattle.dirac_arith.specs.Carried.{Carries}
@@ -11,7 +13,8 @@ use Rattle.dirac_vectors.specs.Predictions.{vector_of, dc_of}
 use Rattle.dirac_blocks.specs.declared.parts.ListKind.{ListKind}
 use Rattle.dirac_blocks.specs.declared.parts.ListKind.TheVariants as parts
 use Rattle.dirac_blocks.specs.Carried.{IsWithPart}
-use Rattle.dirac_blocks.specs.Decisions.{Numbers, predicted, predicted_split, split_row, split_rows, unit_row, unit_rows, superblock_row, superblock_rows}
+use Rattle.dirac_blocks.specs.Decisions.{Numbers, predicted, predicted_split, split_row, split_rows, unit_row}
+use Rattle.dirac_blocks.specs.Decisions.{unit_rows, superblock_row, superblock_rows}
 use Rattle.dirac_blocks.specs.Grammar.{is_dc, is_short, uses}
 use Rattle.dirac_blocks.specs.Parts.{vector_at, dc_at, part_at}
 use Rattle.dirac_blocks.specs.Reached.{SameBlocks}

@@ -1,6 +1,8 @@
 -- Block tables as contracts see them, and what every one of them keeps.
-use Rattle.std.specs.Prelude.{◌≡◌, ℕ, pos, ◌+◌, ◌*◌, ◌/◌, ◌^◌, ◌<◌, ◌≤◌, true, false, ◌||◌, List, length, slice_index_or}
+use Rattle.std.specs.Prelude.{◌≡◌, ℕ, pos, ◌+◌, ◌*◌, ◌/◌, ◌^◌, ◌<◌, ◌≤◌, true, false, ◌||◌, List, length}
+use Rattle.std.specs.Prelude.{slice_index_or}
 use Rattle.std.specs.List.{All}
+use Rattle.dirac_types.specs.declared.limits.TheConstants.{MOST_SUPERBLOCKS}
 use Rattle.dirac_types.specs.declared.formats.Vector.{Vector}
 use Rattle.dirac_vectors.specs.Neighbours.{IsShort}
 use Rattle.dirac_vectors.specs.Predictions.{IsShortVector}
@@ -46,7 +48,7 @@ first_of split i = i / unit_size split * unit_size split
 abbrev pub unit_of : ℕ → ℕ → ℕ → ℕ
 unit_of split i j = j / unit_size split * 2 ^ split + i / unit_size split
 
--- a block of a picture with so many references: values of 16 bits, and 0 where a value isn't used
+-- a block of a picture with that many references: values of 16 bits, and 0 where a value isn't used
 pub record IsBlock (refs : ℕ) (b : Block) : Type 0 where
   pub second : refs ≡ 1 → b.ref2 ≡ false
   pub v1 : IsShortVector b.v1
@@ -61,9 +63,9 @@ pub record IsBlock (refs : ℕ) (b : Block) : Type 0 where
 -- the sizes of a block table, in superblocks, and its number of references
 pub record IsSize (across down refs : ℕ) : Type 0 where
   pub some_across : 1 ≤ across
-  pub most_across : across ≤ 1024
+  pub most_across : across ≤ MOST_SUPERBLOCKS
   pub some_down : 1 ≤ down
-  pub most_down : down ≤ 1024
+  pub most_down : down ≤ MOST_SUPERBLOCKS
   pub some_refs : 1 ≤ refs
   pub most_refs : refs ≤ 2
 

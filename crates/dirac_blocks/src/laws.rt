@@ -1,5 +1,7 @@
 //! What holds of all block tables, each as the contract of a function that does nothing.
-ghost use Rattle.dirac_blocks.specs.Laws.{CarriedIsRead, CarriedSplitsAreRead, ReadIsCarried, ReadSplitsAreCarried, RefusedIsBroken, BrokenIsRefused, OnesAreRefused, OnesRefuseSplits, RefusedSplitsAreBroken, BrokenSplitsAreRefused};
+ghost use Rattle.dirac_blocks.specs.Laws.{CarriedIsRead, CarriedSplitsAreRead, ReadIsCarried, ReadSplitsAreCarried};
+ghost use Rattle.dirac_blocks.specs.Laws.{RefusedIsBroken, BrokenIsRefused, OnesAreRefused, OnesRefuseSplits};
+ghost use Rattle.dirac_blocks.specs.Laws.{RefusedSplitsAreBroken, BrokenSplitsAreRefused};
 
 /// A list is read from the block that carries it.
 pub fn carried_lists_are_read()

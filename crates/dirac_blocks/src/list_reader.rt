@@ -1,6 +1,7 @@
 ghost use Rattle.std.specs.Prelude.{◌≡◌, ◌≤◌, length, IfErr};
 ghost use Rattle.dirac_bits.specs.Syntax.{read};
-ghost use Rattle.dirac_blocks.specs.Grammar.{dcs_listed, listed, lists_of, second_listed, splits_step, units_step, values_listed, vectors_listed};
+ghost use Rattle.dirac_blocks.specs.Grammar.{dcs_listed, listed, lists_of, second_listed, splits_step, units_step};
+ghost use Rattle.dirac_blocks.specs.Grammar.{values_listed, vectors_listed};
 ghost use Rattle.dirac_blocks.specs.Reached.{AllGrey, Lists, SameBlocks, SameShape, SameSize};
 
 use crate::parts::{ListKind, Reference};

@@ -5,7 +5,7 @@ ghost use Rattle.dirac_blocks.specs.Reached.{AllGrey, Moves, SameBlocks, progres
 use crate::neighbours::predict_split_at;
 use crate::table::BlockData;
 use dirac_arith::{Decoder, SPLIT_DIGITS, SPLIT_FOLLOW};
-use dirac_types::Cause;
+use dirac_types::{Cause, MOST_SUPERBLOCKS};
 
 /// Reads how superblock `sx` of row `sy` is split: the sum modulo 3 of a number and the prediction.
 #[tactic(auto, unfolding(crate::specs::Grammar::split_step))]
@@ -43,7 +43,7 @@ fn read_split_row(
 ) -> Result<(), Cause>
     requires column { count ≤ table.old.across }
     requires row { sy < table.old.down }
-    requires at_most_1024 { table.old.across ≤ 1024 }
+    requires at_most_1024 { table.old.across ≤ MOST_SUPERBLOCKS }
     requires grey { AllGrey table.old.blocks }
     requires no_overflow { decoder.old.at.doublings < 2 ^ 60 }
     ensures value { Moves result table.new decoder.new
@@ -66,8 +66,8 @@ fn read_split_rows(
 ) -> Result<(), Cause>
     requires column { across ≤ table.old.across }
     requires row { count ≤ table.old.down }
-    requires most_across { table.old.across ≤ 1024 }
-    requires most_down { table.old.down ≤ 1024 }
+    requires most_across { table.old.across ≤ MOST_SUPERBLOCKS }
+    requires most_down { table.old.down ≤ MOST_SUPERBLOCKS }
     requires grey { AllGrey table.old.blocks }
     requires at_the_start { decoder.old.at.doublings ≡ 0 }
     ensures value { Moves result table.new decoder.new (repeated (λ sy. repeated (split_step sy) across) count

@@ -46,7 +46,7 @@ impl Model for BlockData {
 }
 
 impl BlockData {
-    /// A table of `across` by `down` superblocks for so many references: no superblock is split, and all blocks
+    /// A table of `across` by `down` superblocks for that many references: no superblock is split, and all blocks
     /// are DC blocks of value 0.
     pub fn try_new(alloc: Global, across: u32, down: u32, refs: u8) -> Result<BlockData, NoMemory>
         requires { IsSize across down refs }

@@ -8,7 +8,7 @@ use crate::superblock::{unit_blocks, units_across};
 use crate::table::BlockData;
 use crate::unit_writer::write_unit;
 use dirac_arith::Encoder;
-use dirac_types::NoMemory;
+use dirac_types::{MOST_SUPERBLOCKS, NoMemory};
 
 /// Writes `count` units of a row, from block `i` of row `j` on.
 fn write_unit_row(
@@ -23,7 +23,7 @@ fn write_unit_row(
     requires size { 1 ≤ size }
     requires column { i + count * size ≤ 4 * table.now.across }
     requires row { j < 4 * table.now.down }
-    requires at_most_1024 { table.now.across ≤ 1024 }
+    requires at_most_1024 { table.now.across ≤ MOST_SUPERBLOCKS }
     ensures { OnOk result (encoder.new ≡ narrowed_by encoder.old (unit_row (part_at part table.now) size i j count)) }
 {
     'units: for n in 0..count {
@@ -45,8 +45,8 @@ fn write_unit_rows(
     requires size { 1 ≤ size }
     requires column { i + across * size ≤ 4 * table.now.across }
     requires row { j + across * size ≤ 4 * table.now.down }
-    requires most_across { table.now.across ≤ 1024 }
-    requires most_down { table.now.down ≤ 1024 }
+    requires most_across { table.now.across ≤ MOST_SUPERBLOCKS }
+    requires most_down { table.now.down ≤ MOST_SUPERBLOCKS }
     ensures { OnOk result (encoder.new ≡ narrowed_by encoder.old
         (unit_rows (part_at part table.now) size across i j across)) }
 {
@@ -66,8 +66,8 @@ fn write_superblock(
 ) -> Result<(), NoMemory>
     requires column { sx < table.now.across }
     requires row { sy < table.now.down }
-    requires most_across { table.now.across ≤ 1024 }
-    requires most_down { table.now.down ≤ 1024 }
+    requires most_across { table.now.across ≤ MOST_SUPERBLOCKS }
+    requires most_down { table.now.down ≤ MOST_SUPERBLOCKS }
     ensures { OnOk result (encoder.new ≡ narrowed_by encoder.old
         (superblock_part (part_at part table.now) table.now sx sy)) }
 {
@@ -87,8 +87,8 @@ fn write_superblock_row(
 ) -> Result<(), NoMemory>
     requires column { count ≤ table.now.across }
     requires row { sy < table.now.down }
-    requires most_across { table.now.across ≤ 1024 }
-    requires most_down { table.now.down ≤ 1024 }
+    requires most_across { table.now.across ≤ MOST_SUPERBLOCKS }
+    requires most_down { table.now.down ≤ MOST_SUPERBLOCKS }
     ensures { OnOk result (encoder.new ≡ narrowed_by encoder.old
         (superblock_row (part_at part table.now) table.now sy count)) }
 {
@@ -108,8 +108,8 @@ pub fn write_superblock_rows(
 ) -> Result<(), NoMemory>
     requires column { across ≡ table.now.across }
     requires row { count ≤ table.now.down }
-    requires most_across { table.now.across ≤ 1024 }
-    requires most_down { table.now.down ≤ 1024 }
+    requires most_across { table.now.across ≤ MOST_SUPERBLOCKS }
+    requires most_down { table.now.down ≤ MOST_SUPERBLOCKS }
     ensures { OnOk result (encoder.new ≡ narrowed_by encoder.old
         (superblock_rows (part_at part table.now) table.now count)) }
 {

@@ -2,7 +2,8 @@ ghost use Rattle.std.specs.Prelude.{◌≡◌, ℤ, ◌+◌, ◌*◌, ◌<◌, �
 ghost use Rattle.dirac_arith.specs.Deciding.{Gives};
 ghost use Rattle.dirac_arith.specs.Spelling.{AreContexts};
 ghost use Rattle.dirac_vectors.specs.Neighbours.{IsShort};
-ghost use Rattle.dirac_blocks.specs.Grammar.{block_using, component_read, is_dc, is_short, mode_read, second_use_read, unit_read, uses, value_read, with_across, with_dc, with_down};
+ghost use Rattle.dirac_blocks.specs.Grammar.{block_using, component_read, is_dc, is_short, mode_read, second_use_read};
+ghost use Rattle.dirac_blocks.specs.Grammar.{unit_read, uses, value_read, with_across, with_dc, with_down};
 ghost use Rattle.dirac_blocks.specs.Tables.{IsBlock};
 
 use crate::block::Block;

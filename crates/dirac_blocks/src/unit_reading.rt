@@ -1,5 +1,6 @@
 ghost use Rattle.std.specs.Prelude.{◌≡◌, ℕ, ◌+◌, ◌*◌, ◌^◌, ◌<◌, ◌≤◌};
-ghost use Rattle.dirac_blocks.specs.Grammar.{repeated, superblock_step, unit_row_step, unit_rows_step, unit_step, units_step};
+ghost use Rattle.dirac_blocks.specs.Grammar.{repeated, superblock_step, unit_row_step, unit_rows_step, unit_step};
+ghost use Rattle.dirac_blocks.specs.Grammar.{units_step};
 ghost use Rattle.dirac_blocks.specs.Reached.{IsUnit, Moves, SameShape, progress};
 
 use crate::parts::ListKind;
@@ -7,7 +8,7 @@ use crate::superblock::{unit_blocks, units_across};
 use crate::table::BlockData;
 use crate::unit_reader::read_unit_block;
 use dirac_arith::Decoder;
-use dirac_types::Cause;
+use dirac_types::{Cause, MOST_SUPERBLOCKS};
 
 /// Reads what this list tells of a unit of `size` by `size` blocks, from block `i` of row `j` on.
 #[tactic(auto, unfolding(crate::specs::Grammar::unit_step))]
@@ -50,7 +51,7 @@ fn read_unit_row(
     requires size { 1 ≤ size }
     requires column { i + count * size ≤ 4 * table.old.across }
     requires row { j < 4 * table.old.down }
-    requires at_most_1024 { table.old.across ≤ 1024 }
+    requires at_most_1024 { table.old.across ≤ MOST_SUPERBLOCKS }
     requires no_overflow { decoder.old.at.doublings < 2 ^ 59 }
     requires at_most_4 { count ≤ 4 }
     ensures value { Moves result table.new decoder.new (unit_row_step part size i j count
@@ -78,8 +79,8 @@ fn read_unit_rows(
     requires size { 1 ≤ size }
     requires column { i + across * size ≤ 4 * table.old.across }
     requires row { j + across * size ≤ 4 * table.old.down }
-    requires most_across { table.old.across ≤ 1024 }
-    requires most_down { table.old.down ≤ 1024 }
+    requires most_across { table.old.across ≤ MOST_SUPERBLOCKS }
+    requires most_down { table.old.down ≤ MOST_SUPERBLOCKS }
     requires no_overflow { decoder.old.at.doublings < 2 ^ 58 }
     requires at_most_4 { across ≤ 4 }
     ensures value { Moves result table.new decoder.new (unit_rows_step part size across i j across
@@ -104,8 +105,8 @@ fn read_superblock(
 ) -> Result<(), Cause>
     requires column { sx < table.old.across }
     requires row { sy < table.old.down }
-    requires most_across { table.old.across ≤ 1024 }
-    requires most_down { table.old.down ≤ 1024 }
+    requires most_across { table.old.across ≤ MOST_SUPERBLOCKS }
+    requires most_down { table.old.down ≤ MOST_SUPERBLOCKS }
     requires no_overflow { decoder.old.at.doublings < 2 ^ 57 }
     ensures value { Moves result table.new decoder.new (superblock_step part sy sx (progress table.old decoder.old)) }
     ensures shape { SameShape table.old table.new }
@@ -127,8 +128,8 @@ fn read_superblock_row(
 ) -> Result<(), Cause>
     requires column { count ≤ table.old.across }
     requires row { sy < table.old.down }
-    requires most_across { table.old.across ≤ 1024 }
-    requires most_down { table.old.down ≤ 1024 }
+    requires most_across { table.old.across ≤ MOST_SUPERBLOCKS }
+    requires most_down { table.old.down ≤ MOST_SUPERBLOCKS }
     requires no_overflow { decoder.old.at.doublings < 2 ^ 56 }
     ensures value { Moves result table.new decoder.new (repeated (superblock_step part sy) count
         (progress table.old decoder.old)) }
@@ -151,8 +152,8 @@ fn read_superblock_rows(
 ) -> Result<(), Cause>
     requires column { across ≤ table.old.across }
     requires row { count ≤ table.old.down }
-    requires most_across { table.old.across ≤ 1024 }
-    requires most_down { table.old.down ≤ 1024 }
+    requires most_across { table.old.across ≤ MOST_SUPERBLOCKS }
+    requires most_down { table.old.down ≤ MOST_SUPERBLOCKS }
     requires at_the_start { decoder.old.at.doublings ≡ 0 }
     ensures value { Moves result table.new decoder.new (repeated (λ sy. repeated (superblock_step part sy) across) count
         (progress table.old decoder.old)) }

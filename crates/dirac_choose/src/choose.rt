@@ -4,7 +4,8 @@ ghost use Rattle.dirac_types.specs.Settings.{IsAccepted};
 ghost use Rattle.dirac_sequence.specs.Written.{sequence_of};
 ghost use Rattle.dirac_picture.specs.Grammar.{is_intra as is_intra_code};
 ghost use Rattle.dirac_decode.specs.Content.{IsPicture};
-ghost use Rattle.dirac_choose.specs.Chosen.{IsChoosing, IsChosen, IsChosenAtEachIndex, blocks_from, chosen, chosen_unless_intra};
+ghost use Rattle.dirac_choose.specs.Chosen.{IsChoosing, IsChosen, IsChosenAtEachIndex, blocks_from, chosen};
+ghost use Rattle.dirac_choose.specs.Chosen.{chosen_unless_intra};
 ghost use Rattle.dirac_choose.specs.Lent.{AreLent, IsReference, first_of, second_of};
 
 use crate::lent::{Lumas, Reference, References};

@@ -28,7 +28,7 @@ analysis_of a component.Y = a.y
 analysis_of a component.U = a.u
 analysis_of a component.V = a.v
 
--- planes of so many levels that can be quantised
+-- planes of that many levels that can be quantised
 pub record AreQuantisablePlanes (depth : ℕ) (a : AnalysedPlanes) : Type 0 where
   pub y : AreQuantisable depth a.y
   pub u : AreQuantisable depth a.u

@@ -118,7 +118,7 @@ pub(crate) fn finish(
     Ok(Finished { texts, shown })
 }
 
-/// The bytes of a coded picture's bands, by so many workers.
+/// The bytes of a coded picture's bands, by that many workers.
 fn texts_by<R: Threads + Sync>(
     rt: &R,
     workers: u32,

@@ -2,6 +2,7 @@
 use Rattle.std.specs.Prelude.{◌≡◌, ℕ, ◌≤◌, Option}
 use Rattle.std.specs.List.{All}
 use Rattle.std.specs.Option.{ForSome}
+use Rattle.dirac_types.specs.declared.limits.TheConstants.{MOST_SUPERBLOCKS}
 use Rattle.dirac_types.specs.Table.{Table}
 use Rattle.dirac_types.specs.declared.settings.Settings.{Settings}
 use Rattle.dirac_types.specs.declared.picture.Picture.{Picture}
@@ -37,10 +38,10 @@ pub record Deciding : Type 0 where
 
 -- the sizes of a field, in superblocks
 pub record IsFieldSize (f : Vectors) : Type 0 where
-  pub most_across : f.across ≤ 1024
-  pub most_down : f.down ≤ 1024
+  pub most_across : f.across ≤ MOST_SUPERBLOCKS
+  pub most_down : f.down ≤ MOST_SUPERBLOCKS
 
--- a reference with a vector of 16 bits for each block of so many superblocks
+-- a reference with a vector of 16 bits for each block of that many superblocks
 pub record IsView (across down : ℕ) (r : View) : Type 0 where
   pub same_across : r.field.across ≡ across
   pub same_down : r.field.down ≡ down

@@ -65,7 +65,7 @@ pub record IsChromaSource (w : Window) : Type 0 where
   pub columns : 2 ≤ w.columns
   pub rows : 2 ≤ w.rows
 
--- a unit inside a table of so many superblocks
+-- a unit inside a table of that many superblocks
 pub record IsPredictionUnit (across down : ℕ) (u : PredictionUnit) : Type 0 where
   pub size : (1 ≤ u.size) × (u.size ≤ 4)
   pub inside_across : u.i + u.size ≤ 4 * across

@@ -1,6 +1,7 @@
 -- Room for what is decided.
 use Rattle.std.specs.Prelude.{◌≡◌, ℕ, ◌<◌, ◌≤◌, ◌^◌, List, length}
 use Rattle.std.specs.List.{All}
+use Rattle.dirac_types.specs.declared.limits.TheConstants.{MOST_SUPERBLOCKS}
 use Rattle.dirac_blocks.specs.declared.block.Block.{Block}
 use Rattle.dirac_blocks.specs.Tables.{BlockTable, IsBlock}
 use Rattle.dirac_decide.specs.Deciding.{Deciding}
@@ -13,8 +14,8 @@ pub record IsRoom (d : Deciding) (split : ℕ) (units : List Block) : Type 0 whe
 
 -- superblock sx of row sy is one of those that are decided
 pub record IsSuperblock (d : Deciding) (sx sy : ℕ) : Type 0 where
-  pub across : (sx < d.across) × (d.across ≤ 1024)
-  pub down : (sy < d.down) × (d.down ≤ 1024)
+  pub across : (sx < d.across) × (d.across ≤ MOST_SUPERBLOCKS)
+  pub down : (sy < d.down) × (d.down ≤ MOST_SUPERBLOCKS)
 
 -- a table of the sizes that are decided
 pub record IsTableFor (d : Deciding) (t : BlockTable) : Type 0 where

@@ -41,7 +41,7 @@ fn cost_below(
     cost
 }
 
-/// What so many bits cost.
+/// What that many bits cost.
 pub fn price(bias: u32, bits: u32) -> u64
     requires bias { bias ≤ 255 }
     requires bits { bits ≤ 520 }

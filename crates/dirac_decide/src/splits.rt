@@ -11,12 +11,13 @@ use crate::inputs::Inputs;
 use crate::modes::choose;
 use crate::prediction_unit::PredictionUnit;
 use dirac_blocks::{Block, unit_blocks, units_across};
+use dirac_types::MOST_SUPERBLOCKS;
 
 /// Unit `k`, by rows, of superblock `sx` of row `sy`.
 fn unit_in(split: u8, sx: u32, sy: u32, k: u32) -> PredictionUnit
     requires split { split ≤ 2 }
-    requires sx { sx < 1024 }
-    requires sy { sy < 1024 }
+    requires sx { sx < MOST_SUPERBLOCKS }
+    requires sy { sy < MOST_SUPERBLOCKS }
     requires inside { k < 4 ^ split }
     ensures value { result ≡ splits.unit_in split sx sy k }
     ensures unit { IsPredictionUnit (sx + 1) (sy + 1) result }

@@ -10,7 +10,7 @@ use crate::inputs::Inputs;
 use crate::room::room;
 use crate::splits::split_below;
 use dirac_blocks::Block;
-use dirac_types::NoMemory;
+use dirac_types::{MOST_SUPERBLOCKS, NoMemory};
 use std::alloc::Global;
 
 /// The best split of a superblock, and the blocks of its units, by rows.
@@ -103,8 +103,8 @@ fn decide_superblock(
 /// Decides the superblocks of row `sy`. No other row is read.
 pub fn decide_row(alloc: Global, inputs: &Inputs<'_>, sy: u32) -> Result<Vec<BestSplit>, NoMemory>
     requires inputs { IsDeciding (given inputs.now) }
-    requires across { inputs.now.across ≤ 1024 }
-    requires down { (sy < inputs.now.down) × (inputs.now.down ≤ 1024) }
+    requires across { inputs.now.across ≤ MOST_SUPERBLOCKS }
+    requires down { (sy < inputs.now.down) × (inputs.now.down ≤ MOST_SUPERBLOCKS) }
     ensures { IfOk result (λ v. IsBestRow (given inputs.now) sy v.items) }
 {
     let mut undivided = room(alloc, inputs, 0)?;

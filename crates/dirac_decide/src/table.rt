@@ -18,7 +18,7 @@ use dirac_header::block_grid;
 use dirac_io::OpenGate;
 use dirac_rows::map_rows;
 use dirac_sequence::{ratio_across, ratio_down, sequence_of};
-use dirac_types::{NoMemory, Picture, Settings};
+use dirac_types::{MOST_SUPERBLOCKS, NoMemory, Picture, Settings};
 use std::alloc::Global;
 use std::marker::Sync;
 use std::thread::Threads;
@@ -54,8 +54,8 @@ fn put_best(inputs: &Inputs<'_>, sx: u32, sy: u32, best: &BestSplit, table: &mut
 
 /// Writes what was decided for row `sy`.
 fn put_row(inputs: &Inputs<'_>, sy: u32, row: &[BestSplit], table: &mut BlockData)
-    requires across { inputs.now.across ≤ 1024 }
-    requires down { (sy < inputs.now.down) × (inputs.now.down ≤ 1024) }
+    requires across { inputs.now.across ≤ MOST_SUPERBLOCKS }
+    requires down { (sy < inputs.now.down) × (inputs.now.down ≤ MOST_SUPERBLOCKS) }
     requires row { IsBestRow (given inputs.now) sy row.now }
     requires table { DecidedTo (given inputs.now) 0 sy table.old }
     ensures { DecidedTo (given inputs.now) 0 (sy + 1) table.new }
@@ -76,8 +76,8 @@ fn row_at<'a>(inputs: &Inputs<'_>, rows: &'a [Vec<BestSplit>], sy: u32) -> &'a V
 
 /// Writes what was decided for all rows.
 fn put_rows(inputs: &Inputs<'_>, rows: &[Vec<BestSplit>], table: &mut BlockData)
-    requires across { inputs.now.across ≤ 1024 }
-    requires down { inputs.now.down ≤ 1024 }
+    requires across { inputs.now.across ≤ MOST_SUPERBLOCKS }
+    requires down { inputs.now.down ≤ MOST_SUPERBLOCKS }
     requires rows { AnswerRows (λ r v. IsBestRow (given inputs.now) r v.items) inputs.now.down rows.now }
     requires table { IsTableFor (given inputs.now) table.old }
     ensures table { IsDecided (given inputs.now) table.new }
@@ -94,8 +94,8 @@ fn table_of(
     rows: &[Vec<BestSplit>],
 ) -> Result<BlockData, NoMemory>
     requires inputs { deciding.IsDeciding (given inputs.now) }
-    requires across { (1 ≤ inputs.now.across) × (inputs.now.across ≤ 1024) }
-    requires down { (1 ≤ inputs.now.down) × (inputs.now.down ≤ 1024) }
+    requires across { (1 ≤ inputs.now.across) × (inputs.now.across ≤ MOST_SUPERBLOCKS) }
+    requires down { (1 ≤ inputs.now.down) × (inputs.now.down ≤ MOST_SUPERBLOCKS) }
     requires rows { AnswerRows (λ r v. IsBestRow (given inputs.now) r v.items) inputs.now.down rows.now }
     ensures table { IfOk result (λ t. t ≡ decided (given inputs.now)) }
     ensures lawful { IfOk result IsBlockTable }
@@ -110,8 +110,8 @@ fn table_of(
 /// What is decided for each row, one after the other.
 fn rows_of(alloc: Global, inputs: &Inputs<'_>) -> Result<Vec<Vec<BestSplit>>, NoMemory>
     requires inputs { deciding.IsDeciding (given inputs.now) }
-    requires across { inputs.now.across ≤ 1024 }
-    requires down { inputs.now.down ≤ 1024 }
+    requires across { inputs.now.across ≤ MOST_SUPERBLOCKS }
+    requires down { inputs.now.down ≤ MOST_SUPERBLOCKS }
     ensures { IfOk result (λ v. AnswerRows (λ r v. IsBestRow (given inputs.now) r v.items) inputs.now.down v.items) }
 {
     let mut rows = Vec::new(alloc);
@@ -122,7 +122,7 @@ fn rows_of(alloc: Global, inputs: &Inputs<'_>) -> Result<Vec<Vec<BestSplit>>, No
     Ok(rows)
 }
 
-/// What is decided for each row, which so many workers share.
+/// What is decided for each row, which that many workers share.
 fn rows_by_workers<R: Threads + Sync>(
     rt: &R,
     alloc: Global,
@@ -130,14 +130,14 @@ fn rows_by_workers<R: Threads + Sync>(
     workers: u32,
 ) -> Result<Vec<Vec<BestSplit>>, NoMemory>
     requires inputs { deciding.IsDeciding (given inputs.now) }
-    requires across { inputs.now.across ≤ 1024 }
-    requires down { inputs.now.down ≤ 1024 }
+    requires across { inputs.now.across ≤ MOST_SUPERBLOCKS }
+    requires down { inputs.now.down ≤ MOST_SUPERBLOCKS }
     requires workers { (1 ≤ workers) × (workers ≤ 64) }
     ensures { IfOk result (λ v. AnswerRows (λ r v. IsBestRow (given inputs.now) r v.items) inputs.now.down v.items) }
 {
     let work = |sy: u32| -> Result<Vec<BestSplit>, NoMemory>
-        requires { deciding.IsDeciding (given inputs.now) × (inputs.now.across ≤ 1024)
-            × (sy < inputs.now.down) × (inputs.now.down ≤ 1024) }
+        requires { deciding.IsDeciding (given inputs.now) × (inputs.now.across ≤ MOST_SUPERBLOCKS)
+            × (sy < inputs.now.down) × (inputs.now.down ≤ MOST_SUPERBLOCKS) }
         ensures { IfOk result (λ v. IsBestRow (given inputs.entry.now) sy v.items) }
     { decide_row(alloc, inputs, sy) };
     map_rows(rt, alloc, inputs.down, workers, &OpenGate, &work)
@@ -174,8 +174,8 @@ fn inputs_of<'a>(
     requires second { ForSome (views_of second) (deciding.IsSearched settings.now source.now) }
     ensures value { decided (given result) ≡ decided_from settings.now source.now first.entry second.entry }
     ensures deciding { deciding.IsDeciding (given result) }
-    ensures across { (1 ≤ result.across) × (result.across ≤ 1024) }
-    ensures down { (1 ≤ result.down) × (result.down ≤ 1024) }
+    ensures across { (1 ≤ result.across) × (result.across ≤ MOST_SUPERBLOCKS) }
+    ensures down { (1 ≤ result.down) × (result.down ≤ MOST_SUPERBLOCKS) }
 {
     field_size(first);
     second_field_size(second);

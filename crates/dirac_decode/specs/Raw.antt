@@ -1,5 +1,6 @@
 -- Raw pictures: the rows of Y, then of U, then of V, a byte a sample.
-use Rattle.std.specs.Prelude.{◌≡◌, ℕ, zero, suc, ℤ, pos, ◌+◌, ◌*◌, ◌/◌, ◌%◌, ◌+ℤ◌, ◌-ℤ◌, unsigned_abs, List, [], ◌∷◌, ◌++◌, length, map, min, take, drop}
+use Rattle.std.specs.Prelude.{◌≡◌, ℕ, zero, suc, ℤ, pos, ◌+◌, ◌*◌, ◌/◌, ◌%◌, ◌+ℤ◌, ◌-ℤ◌, unsigned_abs, List, [], ◌∷◌}
+use Rattle.std.specs.Prelude.{◌++◌, length, map, min, take, drop}
 use Rattle.std.specs.Int.{int_rem_euclid}
 use Rattle.std.specs.List.{flat_map}
 use Rattle.dirac_types.specs.declared.picture.Picture.{Picture}
@@ -78,7 +79,7 @@ whole_pictures t bytes = length bytes / raw_length t
 abbrev pub left_over : Settings → List ℕ → ℕ
 left_over t bytes = length bytes % raw_length t
 
--- so many raw pictures, one after another; their numbers rise from this one on
+-- that many raw pictures, one after another; their numbers rise from this one on
 unfoldable pub pictures_in : Settings → ℕ → ℕ → List ℕ → List Picture
 pictures_in t zero number bytes = []
 pictures_in t (suc count) number bytes =

@@ -1,5 +1,6 @@
 -- The content of a stream, unit by unit: the open sequence, its references, the pictures that wait.
-use Rattle.std.specs.Prelude.{ℕ, ◌+◌, ◌==◌, nat_eq, ◌&&◌, if◌then◌else◌, Bool, List, [], ◌∷◌, ◌++◌, length, max, Option, None, Some, Result, Ok, Err}
+use Rattle.std.specs.Prelude.{ℕ, ◌+◌, ◌==◌, nat_eq, ◌&&◌, if◌then◌else◌, Bool, List, [], ◌∷◌, ◌++◌, length, max, Option}
+use Rattle.std.specs.Prelude.{None, Some, Result, Ok, Err}
 use Rattle.std.specs.List.{starts_with}
 use Rattle.dirac_types.specs.declared.faults.Cause.TheVariants.{NoSequence, SequenceChanged}
 use Rattle.dirac_types.specs.declared.faults.Refusal.{Refusal}

@@ -7,7 +7,8 @@ ghost use Rattle.dirac_sequence.specs.Lawful.{IsSequence};
 ghost use Rattle.dirac_picture.specs.Fits.{IsPlaneSize};
 ghost use Rattle.dirac_picture.specs.Grammar.{chroma_height, chroma_width};
 ghost use Rattle.dirac_residual.specs.Residual.{AreSamples, clip};
-ghost use Rattle.dirac_decode.specs.Raw.{IsSource, picture_from, picture_in, plane_from, raw as raw_of, raw_length as length_of, sample_of};
+ghost use Rattle.dirac_decode.specs.Raw.{IsSource, picture_from, picture_in, plane_from, raw as raw_of};
+ghost use Rattle.dirac_decode.specs.Raw.{raw_length as length_of, sample_of};
 
 use dirac_sequence::{Sequence, sequence_of};
 use dirac_types::{Component, LARGEST_SIDE, NoMemory, Picture, Plane, Settings};

@@ -1,7 +1,8 @@
 ghost use Rattle.std.specs.Prelude.{◌≡◌, ℕ, ◌+◌, ◌<◌, ◌≤◌, ◌^◌, length, IfErr, IsTrue, Ok, Option};
 ghost use Rattle.dirac_picture.specs.Grammar.{is_picture};
 ghost use Rattle.dirac_decode.specs.Rebuilding.{Rebuilds};
-ghost use Rattle.dirac_decode.specs.StreamState.{as_reference, begun, header_step, in_unit, is_same as same_header, first_or as first_of, unit_step, passed, picture_step, shows};
+ghost use Rattle.dirac_decode.specs.StreamState.{as_reference, begun, header_step, in_unit, is_same as same_header};
+ghost use Rattle.dirac_decode.specs.StreamState.{first_or as first_of, unit_step, passed, picture_step, shows};
 ghost use Rattle.dirac_decode.specs.Taking.{Fewer, IfStopped, IsOfOpen, IsPopped, IsTook, Steps};
 
 use crate::opened::Opened;

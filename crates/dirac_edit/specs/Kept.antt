@@ -5,7 +5,8 @@ use Rattle.dirac_units.specs.declared.codes.TheConstants.{END_OF_SEQUENCE, SEQUE
 use Rattle.dirac_units.specs.Cut.{UnitText}
 use Rattle.dirac_units.specs.Info.{is_picture}
 use Rattle.dirac_edit_laws.specs.Cut.{is_between}
-use Rattle.dirac_edit_laws.specs.Texts.{PictureText, SequenceText, closed_off, opened_by, picture_text, points_with, with_picture}
+use Rattle.dirac_edit_laws.specs.Texts.{PictureText, SequenceText, closed_off, opened_by, picture_text, points_with}
+use Rattle.dirac_edit_laws.specs.Texts.{with_picture}
 use Rattle.dirac_edit.specs.declared.bounds.Part.{Part}
 
 -- the pictures of a part, or all

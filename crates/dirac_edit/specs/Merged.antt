@@ -1,6 +1,7 @@
 -- Sequences joined as they are written, one behind another.
 -- Inner: for the proofs of this crate.
-use Rattle.std.specs.Prelude.{ℕ, ℤ, ◌+◌, ◌-◌, ◌%◌, ◌^◌, max, nat_le, ◌&&◌, if◌then◌else◌, Bool, List, [], ◌∷◌, ◌++◌, length, drop, map, Option, None, Some}
+use Rattle.std.specs.Prelude.{ℕ, ℤ, ◌+◌, ◌-◌, ◌%◌, ◌^◌, max, nat_le, ◌&&◌, if◌then◌else◌, Bool, List, [], ◌∷◌, ◌++◌}
+use Rattle.std.specs.Prelude.{length, drop, map, Option, None, Some}
 use Rattle.std.specs.Int.{to_be_bytes, w32}
 use borrow.Author.Differences.{up, down}
 use Rattle.dirac_units.specs.declared.codes.TheConstants.{SEQUENCE_HEADER}

@@ -13,7 +13,7 @@ pub(crate) struct Part {
 }
 
 impl Part {
-    /// Whether a picture is of the part, where there are so many points up to it, itself among them.
+    /// Whether a picture is of the part, where there are that many points up to it, itself among them.
     pub(crate) fn has(&self, points: u64) -> bool
         ensures { result ≡ (nat_lt self.now.from points && nat_le points self.now.to) }
     {
@@ -35,7 +35,7 @@ pub(crate) fn points_of(units: &[HeldUnit<'_>]) -> u64
     points
 }
 
-/// Which number is no point of a stream with so many points, or ends no part that begins at `from`.
+/// Which number is no point of a stream with that many points, or ends no part that begins at `from`.
 pub(crate) fn wrong_point(from: u64, to: Option<u64>, points: u64) -> Option<u64>
     ensures { result ≡ wrong_among from to points }
 {

@@ -1,6 +1,7 @@
 //! Sequences, written one behind another: those whose keys leave room are appended to the one before them.
 
-ghost use Rattle.std.specs.Prelude.{◌≡◌, ◌≤◌, ◌<◌, ◌+◌, ◌++◌, ◌^◌, length, map, None, Some, MatchOption, false, true, is_none};
+ghost use Rattle.std.specs.Prelude.{◌≡◌, ◌≤◌, ◌<◌, ◌+◌, ◌++◌, ◌^◌, length, map, None, Some, MatchOption, false, true};
+ghost use Rattle.std.specs.Prelude.{is_none};
 ghost use Rattle.std.specs.Int.{to_be_bytes, w32};
 ghost use Rattle.std.specs.Io.KnownBytes.{Appends};
 ghost use Rattle.dirac_io.specs.Faults.{Rose};
@@ -8,7 +9,8 @@ ghost use Rattle.dirac_io.specs.Writing.{AppendsFront};
 ghost use Rattle.dirac_decode.specs.StreamState.{is_same as same_header};
 ghost use Rattle.dirac_stream.specs.Stream.{end_unit, unit};
 ghost use Rattle.dirac_edit_laws.specs.Joined.{bare, bytes_or_bare, first_number, joined};
-ghost use Rattle.dirac_edit.specs.Merged.{added, behind, length_behind, may_follow, moved_on, own_bytes, own_length, shift_onto, units_behind, way_onto};
+ghost use Rattle.dirac_edit.specs.Merged.{added, behind, length_behind, may_follow, moved_on, own_bytes, own_length};
+ghost use Rattle.dirac_edit.specs.Merged.{shift_onto, units_behind, way_onto};
 
 use crate::keys::{Keys, keys_of};
 use crate::numbers::{behind_number, number_in};

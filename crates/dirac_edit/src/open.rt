@@ -1,5 +1,6 @@
 ghost use Rattle.std.specs.Prelude.{◌≡◌, [], IfOk, None, Some, if◌then◌else◌};
-ghost use Rattle.dirac_edit.specs.Open.{dot as one_sample, first_open as first_open_of, first_open_among, header_in, list_with, numbered as numbered_as};
+ghost use Rattle.dirac_edit.specs.Open.{dot as one_sample, first_open as first_open_of, first_open_among, header_in};
+ghost use Rattle.dirac_edit.specs.Open.{list_with, numbered as numbered_as};
 
 use crate::sequence::{HeldPicture, HeldSequence};
 use dirac_bits::BitReader;

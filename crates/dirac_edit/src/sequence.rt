@@ -29,7 +29,7 @@ impl<'a> Model for HeldPicture<'a> {
 impl<'a> HeldPicture<'a> {
     ghost use Rattle.dirac_edit_laws.specs.Texts.{picture_text};
 
-    /// The picture of a unit with this index, up to which there are so many points.
+    /// The picture of a unit with this index, up to which there are that many points.
     pub(crate) fn of(index: u64, points: u64, unit: &HeldUnit<'a>) -> HeldPicture<'a>
         ensures { result ≡ picture_text index points unit.now }
     {

@@ -559,9 +559,9 @@ encoded_by written plans law t pictures a m e is count =
     let wide : a * group_pictures t + group_pictures t ≤ (a + suc m) * group_pictures t = omega arith in
     let many : 0 < length (all_rebuilt i a ys) = omega (arith, rebuilt_length ys i a, length-map ys shown_of, length_shown t pictures refs second, length_part t n a (suc m) some (omega (arith, count)), inside, some_pictures t some) in
     let begin : first_in ps ≡ Some (a * group_pictures t) = first_made t pictures refs second ∙ part_first t n a m in
-    let own = own_order ps (a * group_pictures t) (min n ((a + suc m) * group_pictures t)) parts.second (omega (arith, is.few)) begin in
+    let own = own_order ps (a * group_pictures t) (min n ((a + suc m) * group_pictures t)) parts.second (omega (arith, is.below_2_31)) begin in
     let shown : in_order (map picture_in (all_rebuilt i a ys)) ≡ of_groups t a (a + suc m) (reconstructions t pictures) =
-    ap in_order (pictures_made ys i a) ∙ sym own ∙ sym (groups_slice plans t pictures a (suc m) e is.accepted is.few some count low) in
+    ap in_order (pictures_made ys i a) ∙ sym own ∙ sym (groups_slice plans t pictures a (suc m) e is.accepted is.below_2_31 some count low) in
     part_stands written (stream_units t pictures) T a (a + suc m) (all_rebuilt i a ys) (of_groups t a (a + suc m) (reconstructions t pictures)) one read fits part many closed shown
 
 pub encoded_cuts : IsReadAsWritten → PlansCanBeCoded → JobsAreRead → EncodedCutsShowTheirGroups

@@ -1,5 +1,6 @@
 -- A part of a stream, from one point up to another, as a stream of its own.
-use Rattle.std.specs.Prelude.{ℕ, nat_le, nat_lt, ◌&&◌, ◌||◌, if◌then◌else◌, Bool, List, [], ◌∷◌, map, Option, None, Some}
+use Rattle.std.specs.Prelude.{ℕ, nat_le, nat_lt, ◌&&◌, ◌||◌, if◌then◌else◌, Bool, List, [], ◌∷◌, map, Option, None}
+use Rattle.std.specs.Prelude.{Some}
 use Rattle.std.specs.List.{filter, flat_map}
 use Rattle.dirac_types.specs.declared.picture.Picture.{Picture}
 use Rattle.dirac_units.specs.Cut.{UnitText}
@@ -18,7 +19,7 @@ abbrev pub wrong_end : ℕ → Option ℕ → ℕ → Option ℕ
 wrong_end from None points = None
 wrong_end from (Some to) points = if nat_le to from || nat_lt points to then Some to else None
 
--- the first of two points that isn't there, among so many: the first must be below their number
+-- the first of two points that isn't there, among that many: the first must be below their number
 abbrev pub wrong_point : ℕ → Option ℕ → ℕ → Option ℕ
 wrong_point from to points = if nat_le points from then Some from else wrong_end from to points
 

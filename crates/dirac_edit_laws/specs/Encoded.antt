@@ -11,7 +11,7 @@ use Rattle.dirac_edit_laws.specs.Cut.{cut_bytes, open_cut}
 use Rattle.dirac_edit_laws.specs.Laws.{ShowsJust}
 use Rattle.dirac_edit_laws.specs.Texts.{points_of}
 
--- how many frames so many pictures are: themselves, or where they are fields half as many, a last one alone being one
+-- how many frames that many pictures are: themselves, or where they are fields half as many, a last one alone being one
 abbrev pub frame_count : Settings → ℕ → ℕ
 frame_count t pictures = if t.fields == 0 then pictures else (pictures + 1) / 2
 

@@ -1,5 +1,6 @@
 -- Sequences joined: where keys leave room, one is appended to the one before it, and its pictures get new numbers.
-use Rattle.std.specs.Prelude.{ℕ, ℤ, pos, ◌+◌, ◌-◌, ◌%◌, ◌^◌, ◌+ℤ◌, ◌-ℤ◌, int_le, ◌&&◌, if◌then◌else◌, Bool, List, [], ◌∷◌, ◌++◌, length, take, drop, map}
+use Rattle.std.specs.Prelude.{ℕ, ℤ, pos, ◌+◌, ◌-◌, ◌%◌, ◌^◌, ◌+ℤ◌, ◌-ℤ◌, int_le, ◌&&◌, if◌then◌else◌, Bool, List, []}
+use Rattle.std.specs.Prelude.{◌∷◌, ◌++◌, length, take, drop, map}
 use Rattle.std.specs.Int.{cast_unsigned, from_be_bytes, int_max, int_min, to_be_bytes, w32}
 use Rattle.dirac_units.specs.declared.codes.TheConstants.{SEQUENCE_HEADER}
 use Rattle.dirac_units.specs.Cut.{UnitText}

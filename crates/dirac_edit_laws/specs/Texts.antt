@@ -43,11 +43,11 @@ abbrev pub closed_off : Option SequenceText → List SequenceText
 closed_off None = []
 closed_off (Some s) = s ∷ []
 
--- the unit of a picture, behind so many units and with so many points up to it
+-- the unit of a picture, behind that many units and with that many points up to it
 abbrev pub picture_text : ℕ → ℕ → UnitText → PictureText
 picture_text index points u = record { index = index; points = points; code = u.info.code; payload = u.payload }
 
--- the sequences of these units, behind so many units and points, with this sequence open
+-- the sequences of these units, behind that many units and points, with this sequence open
 unfoldable pub sequences_from : ℕ → ℕ → Option SequenceText → List UnitText → List SequenceText
 sequences_from index points now [] = closed_off now
 sequences_from index points now (u ∷ units) =

@@ -2,11 +2,14 @@
 
 ghost use Rattle.dirac_edit_laws.specs.Alike.{ClosedPicturesAreAlike, PicturesOfPartsAreOfTheWhole};
 ghost use Rattle.dirac_edit_laws.specs.Encoded.{EncodedCutsShowTheirGroups, EncodedStreamsHaveAPointAGroup};
-ghost use Rattle.dirac_edit_laws.specs.Laws.{ClosedPartsShowTheWhole, CutsShowTheirParts, JoinedStreamsShowTheSame, PartsBeginAnywhere, UnitsShowTheirSequences};
+ghost use Rattle.dirac_edit_laws.specs.Laws.{ClosedPartsShowTheWhole, CutsShowTheirParts, JoinedStreamsShowTheSame};
+ghost use Rattle.dirac_edit_laws.specs.Laws.{PartsBeginAnywhere, UnitsShowTheirSequences};
 ghost use Rattle.dirac_edit_laws.specs.Later.{GreaterKeysLeaveLater};
 ghost use Rattle.dirac_edit_laws.specs.Numbers.{NumbersHaveTheirKeys};
 ghost use Rattle.dirac_edit_laws.specs.Restricted.{PartsKeepTheirLists};
-ghost use Rattle.dirac_edit_laws.specs.Rows.{AHeaderIsJoined, AnEndIsJoined, GreyIsCut, GreyIsJoined, TheFirstPointIsCut, TheLastPointIsCut, TheSecondIsRenumbered, TwoPointsStand};
+ghost use Rattle.dirac_edit_laws.specs.Rows.{AHeaderIsJoined, AnEndIsJoined, GreyIsCut, GreyIsJoined};
+ghost use Rattle.dirac_edit_laws.specs.Rows.{TheFirstPointIsCut, TheLastPointIsCut, TheSecondIsRenumbered};
+ghost use Rattle.dirac_edit_laws.specs.Rows.{TwoPointsStand};
 
 use dirac_plan_laws::plans_can_be_coded;
 use dirac_stream::streams_show_their_pictures;

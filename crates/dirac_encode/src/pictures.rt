@@ -29,7 +29,7 @@ fn are_bytes(bytes: &[u8])
     ensures { AllByRecursion (λ b. b < 2 ^ 8) bytes.now }
 {}
 
-/// The answer where so many bytes are left over whole pictures.
+/// The answer where that many bytes are left over whole pictures.
 fn behind_whole(left_over: usize) -> Encoded
     ensures { result ≡ behind left_over }
 {

@@ -1,5 +1,6 @@
 -- Generated pictures, as raw bytes: moving slopes, the same at every run.
-use Rattle.std.specs.Prelude.{if◌then◌else◌, ℕ, zero, suc, ◌+◌, ◌*◌, ◌/◌, ◌%◌, List, [], ◌++◌, map, take, drop, bytes_eq}
+use Rattle.std.specs.Prelude.{if◌then◌else◌, ℕ, zero, suc, ◌+◌, ◌*◌, ◌/◌, ◌%◌, List, [], ◌++◌, map, take, drop}
+use Rattle.std.specs.Prelude.{bytes_eq}
 use Rattle.std.specs.List.{range_with_len}
 use Rattle.dirac_types.specs.declared.settings.Settings.{Settings}
 use Rattle.dirac_types.specs.declared.formats.Component.TheVariants as component
@@ -9,7 +10,7 @@ use Rattle.dirac_types.specs.Sizes.{picture_height, plane_height, plane_width}
 abbrev pub generated_byte : ℕ → ℕ → ℕ → ℕ → ℕ
 generated_byte number plane x y = (3 * (x + 2 * number) + 5 * (y + number) + 40 * plane) % 256
 
--- so many bytes of a plane by rows of this width
+-- that many bytes of a plane by rows of this width
 abbrev pub generated_rows : ℕ → ℕ → ℕ → ℕ → List ℕ
 generated_rows number plane width count =
     map (λ place. generated_byte number plane (place % width) (place / width)) (range_with_len 0 count)
@@ -39,12 +40,12 @@ generated t number =
     ++ (generated_rows number 1 (chroma_across t) (chroma_count t)
     ++ generated_rows number 2 (chroma_across t) (chroma_count t))
 
--- so many pictures, one after another; their numbers rise from this one on
+-- that many pictures, one after another; their numbers rise from this one on
 abbrev pub generated_from : Settings → ℕ → ℕ → List ℕ
 generated_from t zero number = []
 generated_from t (suc count) number = generated t number ++ generated_from t count (number + 1)
 
--- how many of so many raw pictures, one after another, are the generated ones whose numbers rise from this one on
+-- how many of that many raw pictures, one after another, are the generated ones whose numbers rise from this one on
 abbrev pub exact_from : Settings → ℕ → ℕ → List ℕ → ℕ
 exact_from t zero number bytes = 0
 exact_from t (suc count) number bytes =

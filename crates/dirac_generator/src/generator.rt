@@ -41,7 +41,7 @@ impl Model for Generator {
 }
 
 impl Generator {
-    /// The first so many pictures, from number 0 on.
+    /// The first pictures of that number, from 0 on.
     pub fn try_new(alloc: Global, settings: &Settings, count: u32) -> Result<Generator, NoMemory>
         requires accepted { IsAccepted settings.now }
         requires count { count ≤ 1000 }

@@ -125,7 +125,7 @@ codeblocks_spelled width height depth counts mode k size levels some few fit =
 fields_spelled : (width height : ℕ) (t : Transform) (k : ℕ) → IsTransform t → width < 2 ^ 32 → height < 2 ^ 32 → FitFrom width height t.depth 0 t.counts → Spells (transform width height) t k (transform_bits t)
 unfolding transform
 fields_spelled width height t k is columns rows fit =
-    let size : IsSize width height t.depth = record { columns = columns; rows = rows; some = is.some; few = is.few } in
+    let size : IsSize width height t.depth = record { columns = columns; rows = rows; some = is.at_least_1; few = is.at_most_5 } in
     let blocks : Partition = record { counts = t.counts; mode = t.mode } in
     let make : ℕ → ℕ → Partition → Syntax Transform = λ wavelet depth b. done (record { wavelet = wavelet; depth = depth; counts = b.counts; mode = b.mode }) in
     let second : ℕ → ℕ → Syntax Transform = λ wavelet depth. codeblocks width height depth >>= make wavelet depth in
@@ -136,7 +136,7 @@ fields_spelled width height t k is columns rows fit =
     let all = codeblocks_spelled width height t.depth t.counts t.mode k2 size is.levels is.counts is.mode fit in
     let last : Spells (second t.wavelet t.depth) t k2 behind =
     spells_last (codeblocks width height t.depth) (make t.wavelet t.depth) blocks t k2 behind all (refl, refl) in
-    let depth = field_spelled Depth (between 1 5) t.depth k1 (omega (arith, is.few)) (between_is 1 5 t.depth is.some is.few) in
+    let depth = field_spelled Depth (between 1 5) t.depth k1 (omega (arith, is.at_most_5)) (between_is 1 5 t.depth is.at_least_1 is.at_most_5) in
     let two : Spells (first t.wavelet) t k1 (uint t.depth ++ behind) =
     spells_then (field Depth (between 1 5)) (second t.wavelet) t.depth t k1 (uint t.depth) behind depth last in
     let wavelet = field_spelled Wavelet (between 0 6) t.wavelet k (omega (arith, is.wavelet)) (between_is 0 6 t.wavelet (omega arith) is.wavelet) in

@@ -14,7 +14,7 @@ level_counts width height depth level = do
   down ← field Codeblocks (between 1 (band_length height depth level))
   done (across, down)
 
--- the counts of the levels from 0 on: those of the levels before, and so many more
+-- the counts of the levels from 0 on: those of the levels before, and that many more
 unfoldable pub counts_behind : ℕ → ℕ → ℕ → List (ℕ × ℕ) → ℕ → Syntax (List (ℕ × ℕ))
 counts_behind width height depth before zero = done before
 counts_behind width height depth before (suc more) = do

@@ -1,5 +1,7 @@
 -- How headers and parameters are written.
-use Rattle.std.specs.Prelude.{◌≡◌, ℕ, ℤ, pos, ◌+◌, ◌-◌, ◌-ℤ◌, ◌%◌, ◌^◌, nat_lt, nat_le, if◌then◌else◌, Bool, List, [], ◌∷◌, ◌++◌, length, Option, Some, None, is_some, IsTrue, ◌≢◌, ⊤, IfSome, ◌<◌, ◌≤◌, ◌||◌, false}
+use Rattle.std.specs.Prelude.{◌≡◌, ℕ, ℤ, pos, ◌+◌, ◌-◌, ◌-ℤ◌, ◌%◌, ◌^◌, nat_lt, nat_le, if◌then◌else◌, Bool, List, []}
+use Rattle.std.specs.Prelude.{◌∷◌, ◌++◌, length, Option, Some, None, is_some, IsTrue, ◌≢◌, ⊤, IfSome, ◌<◌, ◌≤◌, ◌||◌}
+use Rattle.std.specs.Prelude.{false}
 use Rattle.std.specs.List.{AllByRecursion}
 use Rattle.dirac_types.specs.Limits.{IsWavelet}
 use Rattle.dirac_types.specs.declared.formats.Chroma.{Chroma}
@@ -93,8 +95,8 @@ transform_bits t = numbers.uint t.wavelet ++ numbers.uint t.depth ++ codeblock_b
 -- transform parameters that can be written
 pub record IsTransform (t : Transform) : Type 0 where
   pub wavelet : IsWavelet t.wavelet
-  pub some : 1 ≤ t.depth
-  pub few : t.depth ≤ 5
+  pub at_least_1 : 1 ≤ t.depth
+  pub at_most_5 : t.depth ≤ 5
   pub levels : length t.counts ≡ t.depth + 1
   pub counts : AllByRecursion (λ c. (1 ≤ c.0) × (1 ≤ c.1)) t.counts
   pub mode : t.mode ≤ 1

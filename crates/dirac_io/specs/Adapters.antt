@@ -14,7 +14,7 @@ pub record Writes (W : Type 0) : Type 0 where
   pub writer : W
   pub faults : ℕ
 
--- what may still be given after so many bytes, as a number below 2^63
+-- what may still be given after that many bytes, as a number below 2^63
 abbrev pub left_after : ℕ → ℕ
 left_after given = 2 ^ 63 - 1 - given
 

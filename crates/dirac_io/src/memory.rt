@@ -12,7 +12,7 @@ use crate::{Got, Sink, Source, Took};
 use std::alloc::Global;
 use std::marker::Model;
 
-/// A source over bytes in memory, which gives at most so many bytes a read and fails at the calls
+/// A source over bytes in memory, which gives at most that many bytes a read and fails at the calls
 /// that it is told, counted from 0.
 #[derive(Drop)]
 pub struct MemSource {
@@ -93,7 +93,7 @@ impl Source for MemSource {
     }
 }
 
-/// A sink over bytes in memory, which takes at most so many bytes a write and fails at the calls
+/// A sink over bytes in memory, which takes at most that many bytes a write and fails at the calls
 /// that it is told, counted from 0.
 #[derive(Drop)]
 pub struct MemSink {

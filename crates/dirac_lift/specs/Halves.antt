@@ -1,6 +1,7 @@
 -- Lifting where the even places of lines stand in one list and the odd ones in another. A list holds one half of each
 -- of w lines: the value of pair n of line x at place n * w + x. With w = 1 it's one half of a single line.
-use Rattle.std.specs.Prelude.{◌≡◌, ℕ, ℤ, pos, ◌+◌, ◌-◌, ◌*◌, ◌^◌, ◌<◌, ◌≤◌, List, length, slice_index_or, unsigned_abs, ◌/◌, ◌%◌, ◌==◌, if◌then◌else◌}
+use Rattle.std.specs.Prelude.{◌≡◌, ℕ, ℤ, pos, ◌+◌, ◌-◌, ◌*◌, ◌^◌, ◌<◌, ◌≤◌, List, length, slice_index_or, unsigned_abs}
+use Rattle.std.specs.Prelude.{◌/◌, ◌%◌, ◌==◌, if◌then◌else◌}
 use Rattle.std.specs.List.{All, sum_by}
 use Rattle.dirac_types.specs.Table.{Table, table_of}
 use Rattle.dirac_lift.specs.Lifting.{Step, moved, other, own, pair_read, rounded, weighted}

@@ -1,5 +1,6 @@
 -- The seven wavelets as lists of lifting steps, laid out as in the standard.
-use Rattle.std.specs.Prelude.{ℕ, ℤ, pos, neg_ℤ, Bool, true, false, ◌+◌, ◌*◌, ◌==◌, ◌-ℤ◌, ◌++◌, unsigned_abs, List, [], ◌∷◌, if◌then◌else◌}
+use Rattle.std.specs.Prelude.{ℕ, ℤ, pos, neg_ℤ, Bool, true, false, ◌+◌, ◌*◌, ◌==◌, ◌-ℤ◌, ◌++◌, unsigned_abs, List, []}
+use Rattle.std.specs.Prelude.{◌∷◌, if◌then◌else◌}
 use Rattle.dirac_lift.specs.Lifting.{Step, lift, opposite}
 
 -- Each step is told by its shift, by the standard's D, at which the index of its taps begins, and by its taps. An even

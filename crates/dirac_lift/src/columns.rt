@@ -1,11 +1,13 @@
-ghost use Rattle.std.specs.Prelude.{◌≡◌, ℕ, pos, ◌+◌, ◌-◌, ◌*◌, ◌/◌, ◌%◌, ◌^◌, ◌<◌, ◌≤◌, unsigned_abs, length, slice_index_or, slice_set};
+ghost use Rattle.std.specs.Prelude.{◌≡◌, ℕ, pos, ◌+◌, ◌-◌, ◌*◌, ◌/◌, ◌%◌, ◌^◌, ◌<◌, ◌≤◌, unsigned_abs, length};
+ghost use Rattle.std.specs.Prelude.{slice_index_or, slice_set};
 ghost use Rattle.std.specs.List.{sum_by};
 ghost use Rattle.dirac_types.specs.Limits.{IsWavelet};
 ghost use Rattle.dirac_lift.specs.Changes.{is_minus, parity_of};
 ghost use Rattle.dirac_lift.specs.Level.{column};
 ghost use Rattle.dirac_lift.specs.Lifting.{PlacesWithin, lift, new_at, own, value_read, weighted};
 ghost use Rattle.dirac_lift.specs.Places.{ColumnsBecome, ColumnsSafe, ColumnsSmall};
-ghost use Rattle.dirac_lift.specs.Wavelets.{daubechies_9_7, deslauriers_dubuc_13_7, deslauriers_dubuc_9_7, fidelity, haar, legall_5_3, run, steps_of, taken_back};
+ghost use Rattle.dirac_lift.specs.Wavelets.{daubechies_9_7, deslauriers_dubuc_13_7, deslauriers_dubuc_9_7, fidelity};
+ghost use Rattle.dirac_lift.specs.Wavelets.{haar, legall_5_3, run, steps_of, taken_back};
 
 use crate::step::Change::{EvenMinus, EvenPlus, OddMinus, OddPlus};
 use crate::step::{Change, Step, moved_value, multiply_add, rounded_sum};

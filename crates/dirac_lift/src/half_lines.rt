@@ -4,7 +4,8 @@ ghost use Rattle.dirac_types.specs.Limits.{IsWavelet};
 ghost use Rattle.dirac_lift.specs.Halves.{AreHalves};
 ghost use Rattle.dirac_lift.specs.Level.{ended};
 ghost use Rattle.dirac_lift.specs.HalfRuns.{AreNarrow, HalvesRun};
-ghost use Rattle.dirac_lift.specs.Wavelets.{daubechies_9_7, deslauriers_dubuc_13_7, deslauriers_dubuc_9_7, fidelity, haar, legall_5_3, steps_of, synth};
+ghost use Rattle.dirac_lift.specs.Wavelets.{daubechies_9_7, deslauriers_dubuc_13_7, deslauriers_dubuc_9_7, fidelity};
+ghost use Rattle.dirac_lift.specs.Wavelets.{haar, legall_5_3, steps_of, synth};
 
 use crate::half_ends::put_line;
 use crate::halves::lift_half;

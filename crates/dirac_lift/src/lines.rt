@@ -2,7 +2,9 @@ ghost use Rattle.std.specs.Prelude.{◌≡◌, ℕ, ◌%◌, ◌^◌, ◌≤◌,
 ghost use Rattle.std.specs.List.{All};
 ghost use Rattle.dirac_types.specs.Limits.{IsWavelet};
 ghost use Rattle.dirac_lift.specs.Safety.{Safe};
-ghost use Rattle.dirac_lift.specs.Wavelets.{analyse, analyse_bound, daubechies_9_7, deslauriers_dubuc_13_7, deslauriers_dubuc_9_7, fidelity, haar, legall_5_3, run, steps_of, synth, synth_bound, taken_back};
+ghost use Rattle.dirac_lift.specs.Wavelets.{analyse, analyse_bound, daubechies_9_7, deslauriers_dubuc_13_7};
+ghost use Rattle.dirac_lift.specs.Wavelets.{deslauriers_dubuc_9_7, fidelity, haar, legall_5_3, run, steps_of, synth};
+ghost use Rattle.dirac_lift.specs.Wavelets.{synth_bound, taken_back};
 
 use crate::step::Change::{EvenMinus, EvenPlus, OddMinus, OddPlus};
 use crate::step::lift_in_place;

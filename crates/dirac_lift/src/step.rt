@@ -1,7 +1,9 @@
-ghost use Rattle.std.specs.Prelude.{◌≡◌, ℕ, pos, ◌+◌, ◌-◌, ◌*◌, ◌/◌, ◌%◌, ◌^◌, ◌<◌, ◌≤◌, ◌+ℤ◌, ◌*ℤ◌, unsigned_abs, length, slice_index_or, slice_set};
+ghost use Rattle.std.specs.Prelude.{◌≡◌, ℕ, pos, ◌+◌, ◌-◌, ◌*◌, ◌/◌, ◌%◌, ◌^◌, ◌<◌, ◌≤◌, ◌+ℤ◌, ◌*ℤ◌, unsigned_abs};
+ghost use Rattle.std.specs.Prelude.{length, slice_index_or, slice_set};
 ghost use Rattle.std.specs.List.{sum_by};
 ghost use Rattle.dirac_lift.specs.Changes.{is_minus, parity_of};
-ghost use Rattle.dirac_lift.specs.Lifting.{PlacesWithin, lift, moved, new_at, other, own, pair_read, rounded, value_read, weighted};
+ghost use Rattle.dirac_lift.specs.Lifting.{PlacesWithin, lift, moved, new_at, other, own, pair_read, rounded};
+ghost use Rattle.dirac_lift.specs.Lifting.{value_read, weighted};
 
 /// What a lifting step does: it changes the even or the odd places of a line, by taking or adding a rounded
 /// weighted sum of the others.

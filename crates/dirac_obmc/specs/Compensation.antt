@@ -1,5 +1,6 @@
 -- What the blocks of a plane predict: overlapped block motion compensation, Dirac specification.
-use Rattle.std.specs.Prelude.{◌≡◌, ℕ, zero, suc, ℤ, pos, ◌+◌, ◌-◌, ◌*◌, ◌/◌, ◌^◌, ◌<◌, ◌≤◌, ◌+ℤ◌, ◌*ℤ◌, false, if◌then◌else◌, Option, Some, None, IsSome, IsTrue, unsigned_abs}
+use Rattle.std.specs.Prelude.{◌≡◌, ℕ, zero, suc, ℤ, pos, ◌+◌, ◌-◌, ◌*◌, ◌/◌, ◌^◌, ◌<◌, ◌≤◌, ◌+ℤ◌, ◌*ℤ◌, false}
+use Rattle.std.specs.Prelude.{if◌then◌else◌, Option, Some, None, IsSome, IsTrue, unsigned_abs}
 use Rattle.std.specs.Int.{int_div_euclid, int_shr}
 use Rattle.std.specs.Option.{ForSome}
 use Rattle.dirac_types.specs.declared.limits.TheConstants.{LARGEST_SIDE}
@@ -27,7 +28,7 @@ pub record Compensation : Type 0 where
   pub width : ℕ
   pub height : ℕ
 
--- how many luma samples a sample of this part stands for, in a direction where a chroma sample stands for so many
+-- how many luma samples a sample of this part stands for, in a direction where a chroma sample stands for that many
 abbrev pub ratio_of : Component → ℕ → ℕ
 ratio_of component.Y ratio = 1
 ratio_of component.U ratio = ratio

@@ -7,10 +7,11 @@ use Rattle.dirac_blocks.specs.Tables.{IsBlockTable}
 use Rattle.dirac_upconvert.specs.HalfSamples.{IsSample}
 use Rattle.dirac_obmc.specs.declared.rows.Columns.{Columns}
 use Rattle.dirac_obmc.specs.declared.direction.Direction.{Direction}
-use Rattle.dirac_obmc.specs.Compensation.{Compensation, blocks_across, blocks_down, x_length, x_separation, y_length, y_separation}
+use Rattle.dirac_obmc.specs.Compensation.{Compensation, blocks_across, blocks_down, x_length, x_separation, y_length}
+use Rattle.dirac_obmc.specs.Compensation.{y_separation}
 use Rattle.dirac_obmc.specs.Weights.{IsOverlap, weight_at}
 
--- blocks of this number, length and separation, which cover so many places
+-- blocks of this number, length and separation, which cover that many places
 pub record IsDirection (count length separation size : ℕ) (d : Direction) : Type 0 where
   pub count_is : d.count ≡ count
   pub length_is : d.length ≡ length

@@ -5,7 +5,8 @@ use Rattle.std.specs.Option.{ForSome}
 use Rattle.dirac_header.specs.declared.prediction.Prediction.{Prediction}
 use Rattle.dirac_blocks.specs.Tables.{block_at}
 use Rattle.dirac_upconvert.specs.HalfSamples.{IsSample}
-use Rattle.dirac_obmc.specs.Compensation.{Compensation, IsMotion, blocks_across, blocks_down, dc_of, predicted_at, predicted_plane}
+use Rattle.dirac_obmc.specs.Compensation.{Compensation, IsMotion, blocks_across, blocks_down, dc_of, predicted_at}
+use Rattle.dirac_obmc.specs.Compensation.{predicted_plane}
 
 -- the weights of a picture that writes none: both references count alike
 pub record HasDefaultWeights (p : Prediction) : Type 0 where

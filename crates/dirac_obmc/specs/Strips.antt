@@ -1,11 +1,13 @@
 -- Some rows of a plane as one list, and what its blocks add to them.
-use Rattle.std.specs.Prelude.{◌≡◌, ℕ, ℤ, pos, ◌+◌, ◌-◌, ◌*◌, ◌/◌, ◌%◌, ◌<◌, ◌≤◌, List, length, slice_index, slice_index_or, vec_len}
+use Rattle.std.specs.Prelude.{◌≡◌, ℕ, ℤ, pos, ◌+◌, ◌-◌, ◌*◌, ◌/◌, ◌%◌, ◌<◌, ◌≤◌, List, length, slice_index}
+use Rattle.std.specs.Prelude.{slice_index_or, vec_len}
 use Rattle.dirac_blocks.specs.Tables.{block_at}
 use Rattle.dirac_obmc.specs.declared.room.BlockRoom.{BlockRoom}
 use Rattle.dirac_obmc.specs.declared.rows.Lines.{Lines}
 use Rattle.dirac_obmc.specs.declared.rows.Part.{Part}
 use Rattle.dirac_obmc.specs.declared.rows.Span.{Span}
-use Rattle.dirac_obmc.specs.Compensation.{Compensation, blocks_across, blocks_down, predicts, term, x_length, x_separation, y_length, y_separation}
+use Rattle.dirac_obmc.specs.Compensation.{Compensation, blocks_across, blocks_down, predicts, term, x_length}
+use Rattle.dirac_obmc.specs.Compensation.{x_separation, y_length, y_separation}
 use Rattle.dirac_obmc.specs.Directions.{IsDown, IsWeights}
 use Rattle.dirac_obmc.specs.Weights.{share}
 
@@ -44,7 +46,7 @@ pub record IsPart (m : Compensation) (first end : ℕ) (p : Part) : Type 0 where
   pub values : (r k : ℕ) → r < p.down.end - p.down.start → k < p.width → slice_index_or p.values.now (r * p.width + k)
       (pos 0) ≡ predicts m (block_at m.blocks p.i p.j) (p.across.start + k) (p.down.start + r)
 
--- room for blocks of so many columns and rows
+-- room for blocks of that many columns and rows
 pub record IsRoom (columns rows : ℕ) (r : BlockRoom) : Type 0 where
   pub fits : columns ≤ r.width
   pub some : 1 ≤ r.width
@@ -54,7 +56,7 @@ pub record IsRoom (columns rows : ℕ) (r : BlockRoom) : Type 0 where
   pub second : vec_len r.second ≡ r.width * rows
   pub values : vec_len r.values ≡ r.width * rows
 
--- room that holds what block i of row j predicts in so many rows from a column and a row on
+-- room that holds what block i of row j predicts in that many rows from a column and a row on
 abbrev pub AreValues : Compensation → ℕ → ℕ → ℕ → ℕ → ℕ → BlockRoom → Type 0
 AreValues m i j x y rows room =
     (r k : ℕ) → r < rows → k < room.width → slice_index_or room.values.items (r * room.width + k) (pos 0)

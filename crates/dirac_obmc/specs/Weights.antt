@@ -1,5 +1,6 @@
 -- How much a block counts at a sample of its plane: overlapped blocks, Dirac specification.
-use Rattle.std.specs.Prelude.{◌≡◌, ℕ, zero, suc, ◌+◌, ◌-◌, ◌*◌, ◌/◌, ◌%◌, ◌≤◌, ◌==◌, nat_lt, nat_le, ◌&&◌, if◌then◌else◌, Bool}
+use Rattle.std.specs.Prelude.{◌≡◌, ℕ, zero, suc, ◌+◌, ◌-◌, ◌*◌, ◌/◌, ◌%◌, ◌≤◌, ◌==◌, nat_lt, nat_le, ◌&&◌}
+use Rattle.std.specs.Prelude.{if◌then◌else◌, Bool}
 
 -- how far a block reaches beyond its own part, on either side
 abbrev pub margin : ℕ → ℕ → ℕ
@@ -12,7 +13,7 @@ ramp margin t =
     then (if t == 0 then 3 else 5)
     else 1 + (6 * t + margin - 1) / (2 * margin - 1)
 
--- the weight at place t of a block, where so many blocks stand side by side: the first of these lines that applies
+-- the weight at place t of a block, where that many blocks stand side by side: the first of these lines that applies
 unfoldable pub weight_at : ℕ → ℕ → ℕ → ℕ → ℕ → ℕ
 weight_at block count length separation t =
     if block == 0 && nat_lt (2 * t) length then 8

@@ -3,7 +3,7 @@ use Rattle.std.specs.Prelude.{◌≡◌, ℕ, ◌%◌, ◌≤◌}
 use Rattle.dirac_types.specs.declared.limits.TheConstants.{LARGEST_SIDE}
 use Rattle.dirac_obmc.specs.declared.values.Window.{Window}
 
--- a window of so many places
+-- a window of that many places
 pub record IsWindow (len : ℕ) (w : Window) : Type 0 where
   pub x : w.x ≤ LARGEST_SIDE
   pub y : w.y ≤ LARGEST_SIDE

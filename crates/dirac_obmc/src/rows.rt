@@ -1,7 +1,9 @@
-ghost use Rattle.std.specs.Prelude.{◌≡◌, ℕ, pos, ◌+◌, ◌-◌, ◌*◌, ◌/◌, ◌%◌, ◌^◌, ◌<◌, ◌≤◌, unsigned_abs, length, slice_index_or};
+ghost use Rattle.std.specs.Prelude.{◌≡◌, ℕ, pos, ◌+◌, ◌-◌, ◌*◌, ◌/◌, ◌%◌, ◌^◌, ◌<◌, ◌≤◌, unsigned_abs, length};
+ghost use Rattle.std.specs.Prelude.{slice_index_or};
 ghost use Rattle.std.specs.List.{All};
 ghost use Rattle.dirac_obmc.specs.Adding.{Adds};
-ghost use Rattle.dirac_obmc.specs.Compensation.{IsMotion, blended, blocks_across, blocks_down, predicted_at, total, x_length, y_length};
+ghost use Rattle.dirac_obmc.specs.Compensation.{IsMotion, blended, blocks_across, blocks_down, predicted_at, total};
+ghost use Rattle.dirac_obmc.specs.Compensation.{x_length, y_length};
 ghost use Rattle.dirac_obmc.specs.Directions.{IsColumns, IsSound};
 ghost use Rattle.dirac_obmc.specs.Given.{given};
 ghost use Rattle.dirac_obmc.specs.Strips.{AreValues, IsLines, IsPart, IsRoom, IsSpan, added_at};
@@ -107,7 +109,7 @@ fn add_part(
     }
 }
 
-/// Writes what block `i` of row `j` predicts in so many columns and rows.
+/// Writes what block `i` of row `j` predicts in that many columns and rows.
 fn predict_block(
     motion: &Motion<'_>,
     i: u32,

@@ -1,4 +1,5 @@
-ghost use Rattle.std.specs.Prelude.{◌≡◌, ℕ, pos, ◌+◌, ◌*◌, ◌/◌, ◌%◌, ◌^◌, ◌<◌, ◌≤◌, ◌+ℤ◌, ◌*ℤ◌, unsigned_abs, length, slice_index_or};
+ghost use Rattle.std.specs.Prelude.{◌≡◌, ℕ, pos, ◌+◌, ◌*◌, ◌/◌, ◌%◌, ◌^◌, ◌<◌, ◌≤◌, ◌+ℤ◌, ◌*ℤ◌, unsigned_abs, length};
+ghost use Rattle.std.specs.Prelude.{slice_index_or};
 ghost use Rattle.std.specs.Int.{int_div_euclid};
 ghost use Rattle.std.specs.List.{All};
 ghost use Rattle.dirac_vectors.specs.Neighbours.{IsShort};
@@ -6,7 +7,8 @@ ghost use Rattle.dirac_vectors.specs.Predictions.{IsShortVector};
 ghost use Rattle.dirac_blocks.specs.Tables.{IsBlock};
 ghost use Rattle.dirac_upconvert.specs.HalfSamples.{IsSample};
 ghost use Rattle.dirac_upconvert.specs.SubSamples.{rounded};
-ghost use Rattle.dirac_obmc.specs.Compensation.{IsMotion, dc_of, from_one, from_two, moved_sample, predicts, second_sample};
+ghost use Rattle.dirac_obmc.specs.Compensation.{IsMotion, dc_of, from_one, from_two, moved_sample, predicts};
+ghost use Rattle.dirac_obmc.specs.Compensation.{second_sample};
 ghost use Rattle.dirac_obmc.specs.Given.{given};
 ghost use Rattle.dirac_obmc.specs.Windows.{IsWindow};
 

@@ -1,6 +1,7 @@
 ghost use Rattle.std.specs.Prelude.{◌≡◌, ℕ, ℤ, ◌*◌, ◌/◌, ◌%◌, ◌<◌, ◌≤◌, IfOk, replicate};
 ghost use Rattle.dirac_obmc.specs.Weights.{IsOverlap, share, sum_below, weight_at};
-ghost use Rattle.dirac_obmc.specs.Compensation.{Compensation, IsFlat, IsMotion, blocks_across, blocks_down, predicted_at, weight_of};
+ghost use Rattle.dirac_obmc.specs.Compensation.{Compensation, IsFlat, IsMotion, blocks_across, blocks_down};
+ghost use Rattle.dirac_obmc.specs.Compensation.{predicted_at, weight_of};
 ghost use Rattle.dirac_obmc.specs.Directions.{IsWeights};
 
 use crate::direction::Direction;

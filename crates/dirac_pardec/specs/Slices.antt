@@ -10,7 +10,7 @@ reach height k = if nat_lt (16 * k) height then 16 * k else height
 abbrev pub slice_of : ℕ → ℕ → (ℕ → ℕ → ℤ) → ℕ → Table
 slice_of width height f k = table_of width (reach height (k + 1) - 16 * k) (λ x y. f x (16 * k + y))
 
--- from item `first` on so many items are the slices of a table
+-- from item `first` on that many items are the slices of a table
 abbrev pub AreSlices : ℕ → ℕ → (ℕ → ℕ → ℤ) → ℕ → ℕ → List Table → Type 0
 AreSlices width height f first count items =
     (k : ℕ) (d : Table) → k < count → slice_index_or items (first + k) d ≡ slice_of width height f k

@@ -92,7 +92,7 @@ pub(crate) fn place_of(sequence: &Sequence, row: u32) -> SlicePlace
     }
 }
 
-/// The first row behind a slice of a plane of so many rows.
+/// The first row behind a slice of a plane of that many rows.
 pub(crate) fn end_of(height: u32, slice: u32) -> u32
     requires at_most_4096 { height ≤ 4096 }
     requires inside { 16 * slice < height }

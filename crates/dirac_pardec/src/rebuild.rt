@@ -83,7 +83,7 @@ fn made_by_rows<R: Threads + Sync, G: RowGate>(
     }
 }
 
-/// The picture that a coded picture stands for, made by so many workers: its residual planes, the upconverted planes
+/// The picture that a coded picture stands for, made by that many workers: its residual planes, the upconverted planes
 /// of its references, and slices of 16 rows of its predictions. Each worker passes the gate before it works on one.
 pub fn rebuild_rows<R: Threads + Sync, G: RowGate>(
     rt: &R,

@@ -17,7 +17,7 @@ use std::alloc::Global;
 use std::marker::Sync;
 use std::thread::Threads;
 
-/// Decodes a whole stream, as `decode_stream`, its pictures rebuilt by so many workers as `rebuild_rows` does.
+/// Decodes a whole stream, as `decode_stream`, its pictures rebuilt by that many workers as `rebuild_rows` does.
 pub fn decode_rows<R: Threads + Sync, S: Source, K: Sink, G: RowGate>(
     rt: &R,
     alloc: Global,

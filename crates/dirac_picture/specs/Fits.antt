@@ -21,7 +21,7 @@ use Rattle.dirac_picture.specs.declared.coded.CodedResidual.{CodedResidual}
 use Rattle.dirac_picture.specs.Bands.{band_count, counts_at, layout_of}
 use Rattle.dirac_picture.specs.Grammar.{is_intra, superblocks_over}
 
--- a count of codeblocks is from 1 to so many
+-- a count of codeblocks is from 1 to that many
 abbrev pub IsCount : ℕ → ℕ → Type 0
 IsCount count most = (1 ≤ count) × (count ≤ most)
 

@@ -24,7 +24,7 @@ use Rattle.dirac_picture.specs.declared.coded.CodedPicture.{CodedPicture}
 use Rattle.dirac_picture.specs.declared.coded.CodedResidual.{CodedResidual}
 use Rattle.dirac_picture.specs.Bands.{band_count, layout_of, parent_values}
 
--- the bands of a plane of this size: those before, and so many more
+-- the bands of a plane of this size: those before, and that many more
 unfoldable pub bands_behind : Transform → ℕ → ℕ → List CodedBand → ℕ → Syntax (List CodedBand)
 bands_behind t width height before zero = done before
 bands_behind t width height before (suc more) = do
@@ -54,7 +54,7 @@ residual s = do
 abbrev pub is_picture : ℕ → Bool
 is_picture code = is_intra code || nat_le 1 (references_of code)
 
--- how many superblocks cover so many samples; each is four blocks long
+-- how many superblocks cover that many samples; each is four blocks long
 abbrev pub superblocks_over : ℕ → ℕ → ℕ
 superblocks_over size separation = (size + 4 * separation - 1) / (4 * separation)
 

@@ -1,8 +1,8 @@
 //! The payload of a picture, read and written: its header, what it is predicted from, its transform parameters and the
 //! subbands of its three planes.
 //!
-//! `specs/Grammar` has the fields in their order as they are read, `specs/Written` as they are written, `specs/Fits` what
-//! every picture that is read has.
+//! `specs/Grammar` has the fields in their order as they are read, `specs/Written` as they are written, `specs/Fits`
+//! what every picture that is read has.
 #![tactic(auto)]
 
 mod coded;

@@ -10,11 +10,11 @@ use dirac_bits::BitReader;
 use dirac_blocks::read_blocks;
 use dirac_header::read_prediction;
 use dirac_sequence::Sequence;
-use dirac_types::{LARGEST_SIDE, Stop};
+use dirac_types::{LARGEST_SIDE, MOST_SUPERBLOCKS, Stop};
 use dirac_units::{is_intra, references};
 use std::alloc::Global;
 
-/// How many superblocks cover so many luma samples, each four block separations long.
+/// How many superblocks cover that many luma samples, each four block separations long.
 pub fn superblocks_over(size: u32, separation: u32) -> u32
     requires at_least_1 { 1 ≤ size }
     requires at_most_4096 { size ≤ LARGEST_SIDE }
@@ -22,7 +22,7 @@ pub fn superblocks_over(size: u32, separation: u32) -> u32
     requires separation_at_most_64 { separation ≤ 64 }
     ensures value { result ≡ grammar.superblocks_over size separation }
     ensures at_least_1_result { 1 ≤ result }
-    ensures at_most_1024 { result ≤ 1024 }
+    ensures at_most_1024 { result ≤ MOST_SUPERBLOCKS }
 {
     (size + 4 * separation - 1) / (4 * separation)
 }

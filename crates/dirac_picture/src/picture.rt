@@ -7,7 +7,8 @@ ghost use Rattle.dirac_sequence.specs.Sizes.{chroma_height, chroma_width, pictur
 ghost use Rattle.dirac_picture.specs.declared.coded.CodedPicture.{CodedPicture as ThePicture};
 ghost use Rattle.dirac_picture.specs.Answers.{GivesOrStops};
 ghost use Rattle.dirac_picture.specs.Grammar as grammar;
-ghost use Rattle.dirac_picture.specs.Fits.{FitsSequence, IsLayout, IsPlaneSize, HasResidual, IsResidual, IsTransform, NamesReferences};
+ghost use Rattle.dirac_picture.specs.Fits.{FitsSequence, IsLayout, IsPlaneSize, HasResidual, IsResidual, IsTransform};
+ghost use Rattle.dirac_picture.specs.Fits.{NamesReferences};
 
 use crate::coded::{CodedPicture, CodedResidual};
 use crate::motion::read_motion;

@@ -1,6 +1,7 @@
 -- Which pictures are coded, in which order, and what each of them refers to. Groups and anchors count frames. Where
 -- pictures are frames, frame t is picture t; where they are fields, its fields are pictures 2 t and 2 t + 1.
-use Rattle.std.specs.Prelude.{ℕ, zero, suc, ◌+◌, ◌-◌, ◌*◌, ◌/◌, ◌==◌, min, nat_le, nat_lt, ◌&&◌, if◌then◌else◌, List, [], ◌∷◌, map, Option, None, Some, option_map}
+use Rattle.std.specs.Prelude.{ℕ, zero, suc, ◌+◌, ◌-◌, ◌*◌, ◌/◌, ◌==◌, min, nat_le, nat_lt, ◌&&◌, if◌then◌else◌, List}
+use Rattle.std.specs.Prelude.{[], ◌∷◌, map, Option, None, Some, option_map}
 use Rattle.std.specs.List.{flat_map, range_with_len}
 use Rattle.dirac_types.specs.declared.settings.Settings.{Settings}
 use Rattle.dirac_units.specs.declared.codes.TheConstants.{INTER_NON_REFERENCE_1, INTER_NON_REFERENCE_2}

@@ -1,5 +1,6 @@
 -- Planning while pictures still come.
-use Rattle.std.specs.Prelude.{◌≡◌, ℕ, ◌+◌, ◌-◌, ◌*◌, ◌%◌, ◌==◌, ◌≤◌, min, nat_lt, not, ◌||◌, ◌&&◌, if◌then◌else◌, Bool, false, List, [], ◌∷◌, ◌++◌, length, slice_get, Option, None, Some}
+use Rattle.std.specs.Prelude.{◌≡◌, ℕ, ◌+◌, ◌-◌, ◌*◌, ◌%◌, ◌==◌, ◌≤◌, min, nat_lt, not, ◌||◌, ◌&&◌, if◌then◌else◌, Bool}
+use Rattle.std.specs.Prelude.{false, List, [], ◌∷◌, ◌++◌, length, slice_get, Option, None, Some}
 use Rattle.dirac_types.specs.declared.picture.Picture.{Picture}
 use Rattle.dirac_types.specs.declared.settings.Settings.{Settings}
 use Rattle.dirac_units.specs.declared.codes.TheConstants.{INTER_NON_REFERENCE_1, INTER_NON_REFERENCE_2}
@@ -91,7 +92,7 @@ pictures_needed s given =
     if nat_lt (group_offset s given) (frame_pictures s) then 1
     else min (step_pictures s) (group_pictures s - group_offset s given)
 
--- while pictures may still come, so many waiting ones are too few for the next planned one
+-- while pictures may still come, that many waiting ones are too few for the next planned one
 abbrev pub are_too_few : Settings → ℕ → ℕ → Bool → ℕ → Bool
 are_too_few s accepted given ended waiting =
     not ended && not (must_be_taken_first s (slice_get (plan accepted s) given))
@@ -102,7 +103,7 @@ abbrev pub gives_none : Planning → Bool → Bool
 gives_none p ended =
     length p.waiting == 0 || are_too_few p.settings p.accepted p.given ended (length p.waiting)
 
--- a planned picture is the next one in each plan of so many pictures or more
+-- a planned picture is the next one in each plan of that many pictures or more
 abbrev pub IsLasting : Planning → Planned → Type 0
 IsLasting p planned = (m : ℕ) → p.accepted ≤ m → slice_get (plan m p.settings) p.given ≡ Some planned
 

@@ -1,12 +1,13 @@
 -- Which pictures wait in a planner, by their numbers.
-use Rattle.std.specs.Prelude.{◌≡◌, ℕ, zero, suc, ◌+◌, ◌-◌, ◌%◌, ◌==◌, ◌<◌, ◌≤◌, min, nat_lt, if◌then◌else◌, Bool, false, List, ◌++◌, map, length}
+use Rattle.std.specs.Prelude.{◌≡◌, ℕ, zero, suc, ◌+◌, ◌-◌, ◌%◌, ◌==◌, ◌<◌, ◌≤◌, min, nat_lt, if◌then◌else◌, Bool, false}
+use Rattle.std.specs.Prelude.{List, ◌++◌, map, length}
 use Rattle.std.specs.List.{range_with_len}
 use Rattle.dirac_types.specs.declared.picture.Picture.{Picture}
 use Rattle.dirac_types.specs.declared.settings.Settings.{Settings}
 use Rattle.dirac_types.specs.Settings.{IsAccepted}
 use Rattle.dirac_plan.specs.Planning.{frame_pictures, group_offset, group_pictures, step_pictures, waiting_places}
 
--- how far a place stands behind the first of its step, in a group of which a frame has so many pictures and a step so
+-- how far a place stands behind the first of its step, in a group of which a frame has that many pictures and a step that
 -- many: a step is an anchor, and behind it what stands between it and the anchor before it; 0 for the pictures of the
 -- frame that opens the group
 abbrev pub step_offset_in : ℕ → ℕ → ℕ → ℕ
@@ -17,7 +18,7 @@ unfoldable pub step_offset : Settings → ℕ → ℕ
 step_offset s place =
     step_offset_in (frame_pictures s) (step_pictures s) (group_offset s place)
 
--- the number of the anchor of a place's step, in a group of so many pictures; with fields that of its first field
+-- the number of the anchor of a place's step, in a group of that many pictures; with fields that of its first field
 abbrev pub step_anchor : Settings → ℕ → ℕ → ℕ
 step_anchor s len place =
     place - group_offset s place
@@ -40,7 +41,7 @@ whole_anchor_at s place = step_anchor s (group_pictures s) place
 unfoldable pub ahead : ℕ → Settings → ℕ → ℕ
 ahead n s place = min (step_offset s place) (min (frame_pictures s) (n - anchor_at n s place))
 
--- the numbers of the pictures that wait, of n pictures of which so many are given, so many of these of this anchor:
+-- the numbers of the pictures that wait, of n pictures of which that many are given, that many of these of this anchor:
 -- with none of the anchor all from the number given on, else those left before the anchor and those behind its pictures
 abbrev pub left_by : ℕ → ℕ → ℕ → ℕ → List ℕ
 left_by n given anchor zero = range_with_len given (n - given)

@@ -1,5 +1,6 @@
 -- The pyramid of a plane: the plane itself, and above it levels of half the size each.
-use Rattle.std.specs.Prelude.{ℕ, zero, suc, ℤ, pos, ◌+◌, ◌-◌, ◌*◌, ◌/◌, ◌+ℤ◌, min, List, [], ◌∷◌, length, map, slice_index_or}
+use Rattle.std.specs.Prelude.{ℕ, zero, suc, ℤ, pos, ◌+◌, ◌-◌, ◌*◌, ◌/◌, ◌+ℤ◌, min, List, [], ◌∷◌, length, map}
+use Rattle.std.specs.Prelude.{slice_index_or}
 use Rattle.std.specs.Int.{int_shr}
 use Rattle.std.specs.List.{range_with_len}
 use Rattle.dirac_types.specs.Table.{Table, clamped_at, table_of}

@@ -13,7 +13,7 @@ use Rattle.dirac_bits.specs.Cursor.{Cursor, place, aligned, bits_left, Passes}
 use Rattle.dirac_bits.specs.Syntax.{Syntax, done, flag_then, uint_then, sint_then, literal_then, block_then, align_then}
 use Rattle.dirac_bits.specs.Syntax.{here_then, refuse}
 
--- where so many digits may still follow, these bits are no number's end: they end before a follow bit or before its
+-- where that many digits may still follow, these bits are no number's end: they end before a follow bit or before its
 -- digit, or a follow bit 0 stands where no digit may follow
 abbrev pub EndsBadly : List Bool → ℕ → Cause → Type 0
 EndsBadly [] left cause = cause ≡ UnitShort
@@ -22,7 +22,7 @@ EndsBadly (false ∷ []) (suc left) cause = cause ≡ UnitShort
 EndsBadly (false ∷ bit ∷ bits) (suc left) cause = ⊥
 EndsBadly (true ∷ bits) left cause = ⊥
 
--- no number of at most so many digits stands there: behind some digits it ends badly
+-- no number of at most that many digits stands there: behind some digits it ends badly
 pub record BreaksNumber (most : ℕ) (c : Cursor) (cause : Cause) : Type 0 where
   pub digits : List Bool
   pub at_most_that_many : length digits ≤ most

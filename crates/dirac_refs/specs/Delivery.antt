@@ -1,5 +1,6 @@
 -- Delivery: decoded pictures wait until more than four do, and leave by the order of their keys.
-use Rattle.std.specs.Prelude.{ℕ, zero, suc, ℤ, pos, ◌+◌, ◌-◌, ◌%◌, ◌^◌, ◌<◌, ◌≤ℤ◌, ◌<ℤ◌, int_lt, nat_le, if◌then◌else◌, List, [], ◌∷◌, ◌++◌, Option, None, Some, length, slice_get}
+use Rattle.std.specs.Prelude.{ℕ, zero, suc, ℤ, pos, ◌+◌, ◌-◌, ◌%◌, ◌^◌, ◌<◌, ◌≤ℤ◌, ◌<ℤ◌, int_lt, nat_le, if◌then◌else◌}
+use Rattle.std.specs.Prelude.{List, [], ◌∷◌, ◌++◌, Option, None, Some, length, slice_get}
 use Rattle.std.specs.Int.{cast_signed, w32}
 use Rattle.std.specs.List.{remove}
 use Rattle.dirac_types.specs.declared.picture.Picture.{Picture}
@@ -62,7 +63,7 @@ delivered ws =
     if nat_le (length ws) MOST_WAITING then record { waiting = ws; gone = [] }
     else record { waiting = others ws; gone = least ws }
 
--- so many pictures, as they leave one after another
+-- that many pictures, as they leave one after another
 abbrev pub flushed_by : ℕ → List Waiting → List Picture
 flushed_by zero ws = []
 flushed_by (suc n) ws = least ws ++ flushed_by n (others ws)

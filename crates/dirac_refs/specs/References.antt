@@ -1,5 +1,6 @@
 -- The reference pictures of a sequence: a list, oldest first, changed once for each coded picture.
-use Rattle.std.specs.Prelude.{ℕ, ◌==◌, nat_le, not, if◌then◌else◌, Bool, true, List, [], ◌∷◌, ◌++◌, Option, None, Some, is_some, length, drop, ◌≤◌}
+use Rattle.std.specs.Prelude.{ℕ, ◌==◌, nat_le, not, if◌then◌else◌, Bool, true, List, [], ◌∷◌, ◌++◌, Option, None, Some}
+use Rattle.std.specs.Prelude.{is_some, length, drop, ◌≤◌}
 use Rattle.std.specs.List.{filter}
 use Rattle.dirac_types.specs.declared.picture.Picture.{Picture}
 use Rattle.dirac_refs.specs.declared.ref_buffer.TheConstants.{MOST_REFERENCES}

@@ -52,7 +52,8 @@ impl RefBuffer {
         }
     }
 
-    /// The listed picture of this number, with its half samples where they are kept; `None` exactly where there is none.
+    /// The listed picture of this number, with its half samples where they are kept; `None` exactly where there is
+    /// none.
     pub fn find_reference(&self, number: u32) -> Option<&Reference>
         ensures { option_copied result ≡ listed self.now number }
     {

@@ -10,8 +10,8 @@ use Rattle.dirac_bands.specs.Geometry.{edge_of}
 use Rattle.dirac_coeffs.specs.declared.layout.CodedBand.{CodedBand}
 use Rattle.dirac_coeffs.specs.Indices.{index_at}
 
--- the codeblock that column or row x of a band of this size lies in, where there are so many: the last one that begins
--- at x or before
+-- the codeblock that column or row x of a band of this size lies in, where there are that many: the last one that
+-- begins at x or before
 abbrev pub codeblock_of : ℕ → ℕ → ℕ → ℕ
 codeblock_of size count x = (count * (x + 1) - 1) / size
 
@@ -21,8 +21,8 @@ pub record HoldsPlace (size count c x : ℕ) : Type 0 where
   pub from : edge_of size count c ≤ x
   pub to : x < edge_of size count (c + 1)
 
--- the index of the codeblock that column x of row y of a band lies in, whose codeblocks, so many across and down, go by
--- rows
+-- the index of the codeblock that column x of row y of a band lies in, whose codeblocks, that many across and down, go
+-- by rows
 abbrev pub index_in : ℕ × ℕ → CodedBand → ℕ → ℕ → ℕ
 index_in counts b x y =
     index_at b.indices
@@ -33,7 +33,7 @@ abbrev pub restored_band : Kind → ℕ × ℕ → CodedBand → Table
 restored_band kind counts b =
     table_of b.table.width b.table.height (λ x y. restored (table_at b.table x y) (index_in counts b x y) kind)
 
--- a band has an index for each of so many codeblocks across and down
+-- a band has an index for each of that many codeblocks across and down
 pub record HasIndices (counts : ℕ × ℕ) (b : CodedBand) : Type 0 where
   pub across : (1 ≤ counts.0) × (counts.0 ≤ MOST_CODEBLOCKS)
   pub down : (1 ≤ counts.1) × (counts.1 ≤ MOST_CODEBLOCKS)

@@ -14,7 +14,7 @@ use dirac_coeffs::{CodedBand, Indices};
 use dirac_types::{Kind, LARGEST_TABLE_SIDE, MOST_CODEBLOCKS, NoMemory, Wide};
 use std::alloc::Global;
 
-/// Whether all of so many indices are this one.
+/// Whether all of that many indices are this one.
 fn are_all(indices: &Indices, count: u32, index: u8) -> bool
     requires { length indices.now ≡ count }
     ensures { result ≡ true → All (λ i. i ≡ index) indices.now }
@@ -37,7 +37,7 @@ pub fn has_one_index(band: &CodedBand, counts: (u32, u32)) -> bool
     are_all(&band.indices, across * down, band.index)
 }
 
-/// The codeblock, of so many, that a column or row of a band of this size lies in.
+/// The codeblock, of that many, that a column or row of a band of this size lies in.
 fn codeblock(size: u32, count: u32, place: u32) -> u32
     requires size { size ≤ LARGEST_TABLE_SIDE }
     requires count { (1 ≤ count) × (count ≤ MOST_CODEBLOCKS) }

@@ -1,6 +1,7 @@
 //! A level whose coefficients are at most 4,095, in 32 bits from the coded numbers on. The codeblocks of each band have
 //! its index.
-ghost use Rattle.std.specs.Prelude.{◌≡◌, ℕ, pos, true, ◌+◌, ◌*◌, ◌^◌, ◌<◌, ◌≤◌, length, slice_index_or, slice_set, unsigned_abs, IfOk};
+ghost use Rattle.std.specs.Prelude.{◌≡◌, ℕ, pos, true, ◌+◌, ◌*◌, ◌^◌, ◌<◌, ◌≤◌, length, slice_index_or, slice_set};
+ghost use Rattle.std.specs.Prelude.{unsigned_abs, IfOk};
 ghost use Rattle.std.specs.List.{All};
 ghost use Rattle.dirac_types.specs.Limits.{IsIndex, IsWavelet};
 ghost use Rattle.dirac_quant.specs.Quantiser.{scaled};
@@ -23,7 +24,7 @@ pub fn is_narrow(values: &[i32]) -> bool
     values.iter().all(|v| v.unsigned_abs() <= LARGEST_NARROW)
 }
 
-/// Whether all numbers are at most so large in magnitude.
+/// Whether all magnitudes are at most `most`.
 fn are_at_most(coded: &[i64], most: u64) -> bool
     ensures { result ≡ true → All (λ v. unsigned_abs v ≤ most) coded.now }
 {
@@ -77,7 +78,8 @@ fn restore_from(coded: &[i64], scale: Scale, from: usize, line: &mut [i32])
 #[inline(always)]
 fn copy_to_front(values: &[i32], line: &mut [i32])
     requires { length line.old ≡ 2 * length values.now }
-    ensures { (n : ℕ) → n < length values.now → slice_index_or line.new n (pos 0) ≡ slice_index_or values.now n (pos 0) }
+    ensures { (n : ℕ) → n < length values.now → slice_index_or line.new n (pos 0)
+        ≡ slice_index_or values.now n (pos 0) }
 {
     for n in 0..values.len() {
         line[n] = values[n];

@@ -1,4 +1,5 @@
-ghost use Rattle.std.specs.Prelude.{◌≡◌, ◌≢◌, ℕ, pos, ◌+◌, ◌-◌, ◌*◌, ◌%◌, ◌^◌, ◌<◌, ◌≤◌, length, map, slice_index_or, unsigned_abs, IfOk};
+ghost use Rattle.std.specs.Prelude.{◌≡◌, ◌≢◌, ℕ, pos, ◌+◌, ◌-◌, ◌*◌, ◌%◌, ◌^◌, ◌<◌, ◌≤◌, length, map, slice_index_or};
+ghost use Rattle.std.specs.Prelude.{unsigned_abs, IfOk};
 ghost use Rattle.std.specs.List.{All};
 ghost use Rattle.dirac_types.specs.Limits.{IsIndex};
 ghost use Rattle.dirac_quant.specs.Quantiser.{restored};
@@ -57,7 +58,7 @@ fn restore_by_one(alloc: Global, band: &CodedBand, kind: Kind) -> Result<Wide, N
     Ok(plane)
 }
 
-/// The coefficients that a coded band stands for, which has so many codeblocks across and down (inverse quantisation,
+/// The coefficients that a coded band stands for, which has that many codeblocks across and down (inverse quantisation,
 /// Dirac specification).
 pub fn restore_band(
     alloc: Global,

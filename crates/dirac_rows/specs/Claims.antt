@@ -17,7 +17,7 @@ pub record Seated : Type 0 where
   pub given_up : ℕ
   pub had_none : Bool
 
--- a seat that keeps no number, with so many shares
+-- a seat that keeps no number, with that many shares
 abbrev pub new_seat : Claims → ℕ → Seated
 new_seat c shares = record { claims = c; kept = []; shares = shares; given_up = 0; had_none = false }
 

@@ -1,6 +1,8 @@
 -- The vectors that a block may be given at a stage of the search.
-use Rattle.std.specs.Prelude.{◌≡◌, ℕ, ℤ, pos, ◌+◌, ◌-◌, ◌*◌, ◌^◌, ◌<◌, ◌≤◌, nat_lt, ◌+ℤ◌, ◌-ℤ◌, ◌*ℤ◌, unsigned_abs, if◌then◌else◌, Bool, List, [], ◌∷◌, ◌++◌, length, slice_index_or, Option, Some, None}
+use Rattle.std.specs.Prelude.{◌≡◌, ℕ, ℤ, pos, ◌+◌, ◌-◌, ◌*◌, ◌^◌, ◌<◌, ◌≤◌, nat_lt, ◌+ℤ◌, ◌-ℤ◌, ◌*ℤ◌, unsigned_abs}
+use Rattle.std.specs.Prelude.{if◌then◌else◌, Bool, List, [], ◌∷◌, ◌++◌, length, slice_index_or, Option, Some, None}
 use Rattle.std.specs.List.{All, flat_map}
+use Rattle.dirac_types.specs.declared.limits.TheConstants.{MOST_SUPERBLOCKS}
 use Rattle.dirac_types.specs.declared.formats.Vector.{Vector}
 use Rattle.dirac_search.specs.declared.stage.Stage.{Stage}
 use Rattle.dirac_search.specs.declared.stage.Stage.TheVariants as stage
@@ -33,7 +35,7 @@ pub record Vectors : Type 0 where
 
 -- a vector for each of this many blocks
 abbrev pub HasAllBlocks : ℕ → ℕ → List Vector → Type 0
-HasAllBlocks across down vectors = (length vectors ≡ 4 * across * (4 * down)) × (across ≤ 1024) × (down ≤ 1024)
+HasAllBlocks across down vectors = (length vectors ≡ 4 * across * (4 * down)) × (across ≤ MOST_SUPERBLOCKS) × (down ≤ MOST_SUPERBLOCKS)
 
 -- the vector of block i of row j
 abbrev pub vector_at : Vectors → ℕ → ℕ → Vector

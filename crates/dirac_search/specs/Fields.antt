@@ -1,6 +1,7 @@
 -- The best vectors of all blocks, stage by stage.
 use Rattle.std.specs.Prelude.{◌≡◌, ℕ, zero, suc, ◌+◌, ◌-◌, ◌*◌, ◌^◌, ◌<◌, ◌≤◌, List, length, Option, Some, None}
 use Rattle.std.specs.List.{All}
+use Rattle.dirac_types.specs.declared.limits.TheConstants.{MOST_SUPERBLOCKS}
 use Rattle.dirac_types.specs.declared.formats.Vector.{Vector}
 use Rattle.dirac_types.specs.declared.settings.Settings.{Settings}
 use Rattle.dirac_search.specs.declared.stage.Stage.{Stage}
@@ -60,8 +61,8 @@ pub record IsSearch (g : Searched) (s : Settings) : Type 0 where
   pub reference : length g.reference ≡ s.pyramid + 1
   pub x_separation : g.grid.xbsep ≤ 16
   pub y_separation : g.grid.ybsep ≤ 16
-  pub across : g.across ≤ 1024
-  pub down : g.down ≤ 1024
+  pub across : g.across ≤ MOST_SUPERBLOCKS
+  pub down : g.down ≤ MOST_SUPERBLOCKS
 
 -- the vectors of a former stage of this picture
 pub record IsFormerField (g : Searched) (f : Vectors) : Type 0 where

@@ -1,5 +1,6 @@
 -- Sums of absolute differences by the rows of a window.
-use Rattle.std.specs.Prelude.{◌≡◌, ℕ, ℤ, pos, ◌+◌, ◌*◌, ◌^◌, ◌<◌, ◌+ℤ◌, ◌-ℤ◌, unsigned_abs, List, slice_index, slice_index_or}
+use Rattle.std.specs.Prelude.{◌≡◌, ℕ, ℤ, pos, ◌+◌, ◌*◌, ◌^◌, ◌<◌, ◌+ℤ◌, ◌-ℤ◌, unsigned_abs, List, slice_index}
+use Rattle.std.specs.Prelude.{slice_index_or}
 use Rattle.dirac_types.specs.Table.{Table, clamped_at, clamped_to, table_at}
 use Rattle.dirac_types.specs.declared.formats.Vector.{Vector}
 use Rattle.dirac_upconvert.specs.SubSamples.{Up, sub_sample}
@@ -16,7 +17,7 @@ IsRowNearest t y row =
 abbrev pub clamped_row : Table → ℤ → ℤ → ℕ → ℤ
 clamped_row t x y k = clamped_at t (x +ℤ pos k) y
 
--- the sum of absolute differences of so many samples of two such rows
+-- the sum of absolute differences of that many samples of two such rows
 unfoldable pub row_apart : Table → Table → ℤ → ℤ → ℤ → ℤ → ℕ → ℕ
 row_apart source reference x y across down count =
     values_apart (clamped_row source x y) (clamped_row reference across down) count
@@ -31,7 +32,7 @@ abbrev pub sub_row_from : Up → ℕ → ℕ → ℕ → Vector → ℕ → ℤ
 sub_row_from up q x y v k =
     sub_sample up q ((pos (2 ^ q * x) +ℤ v.x) +ℤ pos (2 ^ q * k)) (pos (2 ^ q * y) +ℤ v.y)
 
--- the sum of absolute differences of so many samples of row y of a plane and of those
+-- the sum of absolute differences of that many samples of row y of a plane and of those
 unfoldable pub sub_row_apart : Table → Up → ℕ → ℕ → ℕ → Vector → ℕ → ℕ
 sub_row_apart source up q x y v count = values_apart (row_from source x y) (sub_row_from up q x y v) count
 

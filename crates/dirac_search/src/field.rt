@@ -1,7 +1,7 @@
 ghost use Rattle.std.specs.Prelude.{◌≡◌, ◌+◌, ◌*◌, ◌<◌, ◌≤◌, length};
 ghost use Rattle.dirac_search.specs.Candidates.{Vectors, vector_at};
 
-use dirac_types::Vector;
+use dirac_types::{MOST_SUPERBLOCKS, Vector};
 use std::marker::Model;
 
 /// A vector for each block of a picture, by rows; `across` and `down` count superblocks, of four by four blocks each.
@@ -26,7 +26,7 @@ impl Field {
     /// The field of these vectors, one for each block, by rows.
     pub fn new(across: u32, down: u32, vectors: Vec<Vector>) -> Field
         requires a_vector_for_each_block { length vectors.items ≡ 4 * across * (4 * down) }
-        requires at_most_1024_superblocks { (across ≤ 1024) × (down ≤ 1024) }
+        requires at_most_1024_superblocks { (across ≤ MOST_SUPERBLOCKS) × (down ≤ MOST_SUPERBLOCKS) }
         ensures { result ≡ record { across = across; down = down; vectors = vectors.items } }
     {
         Field {
@@ -39,7 +39,7 @@ impl Field {
     /// The number of superblocks across.
     pub fn across(&self) -> u32
         ensures value { result ≡ self.now.across }
-        ensures at_most_1024 { result ≤ 1024 }
+        ensures at_most_1024 { result ≤ MOST_SUPERBLOCKS }
     {
         self.across
     }
@@ -47,7 +47,7 @@ impl Field {
     /// The number of superblocks down.
     pub fn down(&self) -> u32
         ensures value { result ≡ self.now.down }
-        ensures at_most_1024 { result ≤ 1024 }
+        ensures at_most_1024 { result ≤ MOST_SUPERBLOCKS }
     {
         self.down
     }

@@ -1,6 +1,7 @@
 ghost use Rattle.std.specs.Prelude.{◌≡◌, pos, ◌+◌, ◌*◌, ◌^◌, ◌<◌, ◌≤◌, ◌*ℤ◌, unsigned_abs, true, [], ◌++◌, Some, IfOk};
 ghost use Rattle.std.specs.List.{All};
-ghost use Rattle.dirac_search.specs.Candidates.{HasFormer, IsFormer, IsWithinReach, candidates_of, centre_if, centres, finer_candidates, further_candidates, sub_candidates, twice, vector_at};
+ghost use Rattle.dirac_search.specs.Candidates.{HasFormer, IsFormer, IsWithinReach, candidates_of, centre_if, centres};
+ghost use Rattle.dirac_search.specs.Candidates.{finer_candidates, further_candidates, sub_candidates, twice, vector_at};
 ghost use Rattle.dirac_search.specs.Choices.{ChoosesAs};
 ghost use Rattle.dirac_search.specs.Given.{lent};
 

@@ -4,7 +4,8 @@ ghost use Rattle.dirac_vectors.specs.Predictions.{IsShortVector};
 ghost use Rattle.dirac_search.specs.ByRows.{row_values};
 ghost use Rattle.dirac_search.specs.Candidates.{IsWithinReach};
 ghost use Rattle.dirac_rows.specs.Answers.{AnswerRows};
-ghost use Rattle.dirac_search.specs.Fields.{HasFormerField, IsSearch, IsStage, after_finer, best_of, field, stage_field, superblock_row};
+ghost use Rattle.dirac_search.specs.Fields.{HasFormerField, IsSearch, IsStage, after_finer, best_of, field};
+ghost use Rattle.dirac_search.specs.Fields.{stage_field, superblock_row};
 ghost use Rattle.dirac_search.specs.Given.{given, lent};
 
 use crate::field::Field;

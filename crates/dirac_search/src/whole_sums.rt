@@ -1,4 +1,5 @@
-ghost use Rattle.std.specs.Prelude.{◌≡◌, pos, ◌+◌, ◌*◌, ◌%◌, ◌^◌, ◌<◌, ◌≤◌, ◌+ℤ◌, ◌-ℤ◌, ◌≤ℤ◌, IfSome, IfNone, unsigned_abs, length};
+ghost use Rattle.std.specs.Prelude.{◌≡◌, pos, ◌+◌, ◌*◌, ◌%◌, ◌^◌, ◌<◌, ◌≤◌, ◌+ℤ◌, ◌-ℤ◌, ◌≤ℤ◌, IfSome, IfNone};
+ghost use Rattle.std.specs.Prelude.{unsigned_abs, length};
 ghost use Rattle.dirac_search.specs.Candidates.{IsWithinReach};
 ghost use Rattle.dirac_search.specs.Costs.{IsBlockWindow, Reaches, IsBelow};
 ghost use Rattle.dirac_search.specs.Rows.{clamped_row, row_apart, whole_row_apart, whole_rows};

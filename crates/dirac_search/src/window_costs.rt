@@ -1,7 +1,9 @@
 ghost use Rattle.std.specs.Prelude.{◌≡◌, ◌+◌, ◌*◌, ◌^◌, ◌<◌, ◌≤◌, length, IfSome, IfNone};
 ghost use Rattle.dirac_search.specs.declared.stage.Stage.TheVariants as stage;
 ghost use Rattle.dirac_search.specs.Candidates.{IsWithinReach};
-ghost use Rattle.dirac_search.specs.Costs.{HasLevel, HasPrecision, IsBlockWindow, Reaches, IsBelow, cost_of, distortion, level_of_stage, window_cost, window_of, window_size, window_start};
+ghost use Rattle.dirac_search.specs.Costs.{HasLevel, HasPrecision, IsBlockWindow, Reaches, IsBelow, cost_of};
+ghost use Rattle.dirac_search.specs.Costs.{distortion, level_of_stage, window_cost, window_of, window_size};
+ghost use Rattle.dirac_search.specs.Costs.{window_start};
 ghost use Rattle.dirac_search.specs.Fields.{IsSearch, IsStage};
 ghost use Rattle.dirac_search.specs.Given.{given};
 

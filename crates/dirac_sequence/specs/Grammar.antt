@@ -1,7 +1,10 @@
 -- The sequence header, field after field: sequence header, Dirac specification, section 10.
-use Rattle.std.specs.Prelude.{ℕ, ◌+◌, ◌-◌, ◌*◌, ◌%◌, ◌^◌, false, true, ◌==◌, nat_le, nat_lt, ◌&&◌, if◌then◌else◌, Bool, List, Result}
+use Rattle.std.specs.Prelude.{ℕ, ◌+◌, ◌-◌, ◌*◌, ◌%◌, ◌^◌, false, true, ◌==◌, nat_le, nat_lt, ◌&&◌, if◌then◌else◌, Bool}
+use Rattle.std.specs.Prelude.{List, Result}
 use Rattle.dirac_types.specs.declared.limits.TheConstants.{LARGEST_HEIGHT, LARGEST_WIDTH}
-use Rattle.dirac_types.specs.declared.faults.Cause.TheVariants.{Version, Preset, Size, ChromaFormat, Sampling, RateIndex, AspectIndex, SignalRange as SignalIndex, Depth8, Fields}
+use Rattle.dirac_types.specs.declared.faults.Cause.TheVariants.{Version, Preset, Size, ChromaFormat, Sampling}
+use Rattle.dirac_types.specs.declared.faults.Cause.TheVariants.{RateIndex, AspectIndex, SignalRange as SignalIndex}
+use Rattle.dirac_types.specs.declared.faults.Cause.TheVariants.{Depth8, Fields}
 use Rattle.dirac_types.specs.declared.faults.Refusal.{Refusal}
 use Rattle.dirac_types.specs.declared.formats.Chroma.{Chroma}
 use Rattle.dirac_types.specs.declared.formats.Chroma.TheVariants.{C444, C422, C420}

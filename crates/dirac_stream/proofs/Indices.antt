@@ -37,4 +37,4 @@ pub own_gives : GivesIndices own_index
 own_gives t refs j accepted = (codable t accepted).index
 
 pub sources_under : (t : Settings) (pictures : List Picture) → AreSources t pictures → AreSourcesUnder own_index t pictures
-sources_under t pictures is = record { accepted = is.accepted; few = is.few; each = is.each; short = is.short }
+sources_under t pictures is = record { accepted = is.accepted; below_2_31 = is.below_2_31; each = is.each; short = is.short }

@@ -219,7 +219,7 @@ pub kept_under : PlansCanBeCoded → TablesAreChosen → SourcesAreKeptUnder
 kept_under plans tables f gives t pictures is numbered whole none =
     let n = length pictures in
     let qs = plan n t in
-    let law = plans t n is.accepted (omega (arith, is.few)) in
+    let law = plans t n is.accepted (omega (arith, is.below_2_31)) in
     let all = sources_made plans (jobs_read_under (jobs_read tables)) f gives t pictures is in
     let numbers = each_numbered pictures qs numbered law.below in
     ap (by_number n) (kept_from f gives t pictures [] qs is.accepted is.each whole law.below law.each numbers all.0 none)

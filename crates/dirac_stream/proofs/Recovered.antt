@@ -145,7 +145,7 @@ recovered law cuts plans tables f gives t n bytes accepted some few all is short
     let ps = pictures_in t n 0 bytes in
     let count : length ps ≡ n = length-pictures_in t n 0 bytes in
     let lengths = each_short t (coding_under f t ps) accepted (subst (λ (l : List Picture). first_long t (coding_under f t l) ≡ None) is short) in
-    let sourced : AreSourcesUnder f t ps = record { accepted = accepted; few = omega (arith, count, few, most_pictures t accepted); each = sources_in t n 0 bytes all; short = lengths } in
+    let sourced : AreSourcesUnder f t ps = record { accepted = accepted; below_2_31 = omega (arith, count, few, most_pictures t accepted); each = sources_in t n 0 bytes all; short = lengths } in
     let made = sources_made plans (jobs_read_under (jobs_read tables)) f gives t ps sourced in
     let shows = shown_under law (jobs_read tables) plans f gives t ps sourced in
     record {

@@ -183,7 +183,7 @@ pub sources_made : PlansCanBeCoded → JobsAreReadUnder → (f : IndexRule) → 
 sources_made plans law f gives t pictures is =
     let n = length pictures in
     let qs = plan n t in
-    let is_plan = plans t n is.accepted (omega (arith, is.few)) in (
+    let is_plan = plans t n is.accepted (omega (arith, is.below_2_31)) in (
       all_made law f gives t pictures [] qs is.accepted is.each tt is_plan.below is_plan.each (is_plan.found (map shown_of (coding_under f t pictures)) (are_planned f t pictures [] qs)) is.short,
       begins f t pictures qs is_plan.begins,
     )
@@ -199,7 +199,7 @@ pub shown_under : StreamsShowTheirPictures → JobsAreRead → PlansCanBeCoded �
 shown_under shown reads plans f gives t pictures is =
     let all = sources_made plans (jobs_read_under reads) f gives t pictures is in
     let o = shown t (coding_under f t pictures) is.accepted all.0 all.1 in
-    (o.0, o.1, o.2 ∙ sources_leave plans f t pictures is.accepted is.few, o.3)
+    (o.0, o.1, o.2 ∙ sources_leave plans f t pictures is.accepted is.below_2_31, o.3)
 
 -- with the settings' index
 pub sources_shown : StreamsShowTheirPictures → (TablesAreChosen → JobsAreRead) → PlansCanBeCoded → TablesAreChosen → SourcesShowReconstructions

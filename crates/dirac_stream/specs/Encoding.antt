@@ -1,5 +1,6 @@
 -- What the encoding of raw pictures writes and answers.
-use Rattle.std.specs.Prelude.{◌≡◌, ℕ, ◌*◌, ◌==◌, take, ⊤, nat_le, if◌then◌else◌, Bool, List, [], ◌∷◌, ◌++◌, length, map, Option, None, Some}
+use Rattle.std.specs.Prelude.{◌≡◌, ℕ, ◌*◌, ◌==◌, take, ⊤, nat_le, if◌then◌else◌, Bool, List, [], ◌∷◌, ◌++◌, length, map}
+use Rattle.std.specs.Prelude.{Option, None, Some}
 use Rattle.dirac_types.specs.declared.picture.Picture.{Picture}
 use Rattle.dirac_types.specs.declared.settings.Settings.{Settings}
 use Rattle.std.specs.Io.KnownBytes.{Appends}
@@ -10,8 +11,10 @@ use Rattle.dirac_decode.specs.Raw.{left_over, raw_length, raws, sources, whole_p
 use Rattle.dirac_decode.specs.Shown.{Outcome, IsShown}
 use Rattle.dirac_stream.specs.declared.answers.Encoded.{Encoded}
 use Rattle.dirac_stream.specs.declared.answers.Encoded.TheVariants as encoded
-use Rattle.dirac_stream.specs.Coding.{AreAtIndexZero, IndexRule, Made, coding_under, jobs_of, own_index, pushed, reconstructions, reconstructions_under, shown_of}
-use Rattle.dirac_stream.specs.Stream.{header_before, last_length, picture_length, stream_from, stream_of, stream_under, stream_units, units_of, units_under}
+use Rattle.dirac_stream.specs.Coding.{AreAtIndexZero, IndexRule, Made, coding_under, jobs_of, own_index, pushed}
+use Rattle.dirac_stream.specs.Coding.{reconstructions, reconstructions_under, shown_of}
+use Rattle.dirac_stream.specs.Stream.{header_before, last_length, picture_length, stream_from, stream_of, stream_under}
+use Rattle.dirac_stream.specs.Stream.{stream_units, units_of, units_under}
 use Rattle.dirac_plan_laws.specs.Order.{by_number}
 
 -- the unit of a picture, parse info and payload, is no longer than the settings allow
@@ -52,7 +55,7 @@ encoding_by t answer ms (Some m) = record {
   shown = deliver (pushed (before_long t ms));
 }
 
--- the answer behind whole pictures, where so many bytes are left over
+-- the answer behind whole pictures, where that many bytes are left over
 abbrev pub behind : ℕ → Encoded
 behind n = if n == 0 then encoded.Done else encoded.PartialPicture n
 

@@ -18,8 +18,8 @@ abbrev pub or_last : Option ℕ → ℕ
 or_last None = LARGEST_INDEX
 or_last (Some index) = index
 
--- where these are the lengths of a unit at each index: the first index from this one on at which it has at most so many
--- bytes, and the last where there is none. Lengths need not fall as the index grows
+-- where these are the lengths of a unit at each index: the first index from this one on at which it has at most that
+-- many bytes, and the last where there is none. Lengths need not fall as the index grows
 unfoldable pub least_fitting : (ℕ → ℕ) → ℕ → ℕ → ℕ
 least_fitting lengths budget index = or_last (find (λ i. nat_le (lengths i) budget) (indices_from index))
 
@@ -27,7 +27,7 @@ least_fitting lengths budget index = or_last (find (λ i. nat_le (lengths i) bud
 abbrev pub length_at : Settings → List Picture → Job → ℕ → ℕ
 length_at t refs j index = picture_length (made (at_index t index) refs j)
 
--- each picture has the least index, from the settings' on, whose unit has at most so many bytes
+-- each picture has the least index, from the settings' on, whose unit has at most that many bytes
 abbrev pub fit : ℕ → IndexRule
 fit budget t refs j = least_fitting (length_at t refs j) budget t.index
 

@@ -13,7 +13,8 @@ use Rattle.dirac_decode.specs.Content.{rebuilt}
 use Rattle.dirac_decode.specs.Shown.{Outcome, IsShown}
 use Rattle.dirac_decode.specs.Raw.{sources}
 use Rattle.dirac_stream.specs.Coded.{IsSource, coded_of, motion_of, residual_of}
-use Rattle.dirac_stream.specs.Coding.{AreAtIndexZero, IndexRule, Job, Made, coding, coding_under, jobs_of, made, made_under, pushed, reconstructions, reconstructions_under, refs_after}
+use Rattle.dirac_stream.specs.Coding.{AreAtIndexZero, IndexRule, Job, Made, coding, coding_under, jobs_of, made}
+use Rattle.dirac_stream.specs.Coding.{made_under, pushed, reconstructions, reconstructions_under, refs_after}
 use Rattle.dirac_stream.specs.Encoding.{IsRecovered, IsRecoveredUnder, first_long}
 use Rattle.dirac_stream.specs.Codable.{AreSmall}
 use Rattle.dirac_stream.specs.Stream.{IsUnit, picture_length, stream_from, stream_of, stream_under}
@@ -80,7 +81,7 @@ AreNumbered n (p ∷ pictures) = (p.number ≡ n) × AreNumbered (n + 1) picture
 -- fewer than 2^31 sources of accepted settings, whose units have lengths that their offsets can hold
 pub record AreSources (t : Settings) (pictures : List Picture) : Type 0 where
   pub accepted : IsAccepted t
-  pub few : length pictures < 2 ^ 31
+  pub below_2_31 : length pictures < 2 ^ 31
   pub each : AllByRecursion (IsSource t) pictures
   pub short : AllByRecursion (λ m. picture_length m < 2 ^ 32) (coding t pictures)
 
@@ -119,7 +120,7 @@ JobsAreReadUnder =
 -- fewer than 2^31 sources of accepted settings, whose units under a rule have lengths that their offsets can hold
 pub record AreSourcesUnder (f : IndexRule) (t : Settings) (pictures : List Picture) : Type 0 where
   pub accepted : IsAccepted t
-  pub few : length pictures < 2 ^ 31
+  pub below_2_31 : length pictures < 2 ^ 31
   pub each : AllByRecursion (IsSource t) pictures
   pub short : AllByRecursion (λ m. picture_length m < 2 ^ 32) (coding_under f t pictures)
 

@@ -2,7 +2,10 @@
 
 ghost use Rattle.dirac_stream.specs.Stream.{HeadersAreRead, StreamsAreCut};
 ghost use Rattle.dirac_stream.specs.Fit.{BudgetsAreKept};
-ghost use Rattle.dirac_stream.specs.Laws.{JobsAreKept, JobsAreRead, JobsAreReadUnder, JobsAreSmall, RawPicturesAreRecovered, RawPicturesAreRecoveredUnder, SourcesAreKept, SourcesAreKeptUnder, SourcesShowReconstructions, SourcesShowReconstructionsUnder, StreamsShowTheirPictures};
+ghost use Rattle.dirac_stream.specs.Laws.{JobsAreKept, JobsAreRead, JobsAreReadUnder, JobsAreSmall};
+ghost use Rattle.dirac_stream.specs.Laws.{RawPicturesAreRecovered, RawPicturesAreRecoveredUnder, SourcesAreKept};
+ghost use Rattle.dirac_stream.specs.Laws.{SourcesAreKeptUnder, SourcesShowReconstructions};
+ghost use Rattle.dirac_stream.specs.Laws.{SourcesShowReconstructionsUnder, StreamsShowTheirPictures};
 ghost use Rattle.dirac_stream.specs.Tables.{TablesAreChosen};
 
 use dirac_choose::chosen_tables_fit;

@@ -18,7 +18,7 @@ use Rattle.dirac_tool.specs.declared.ended.Ended.TheVariants as ended
 abbrev pub first_bad_for_make : Settings → ℕ → Option BadSetting
 first_bad_for_make t count = first_bad (table t ++ setting name.Count count 0 1000 1 ∷ [])
 
--- the encoding of the first so many generated pictures
+-- the encoding of the first generated pictures, of that number
 abbrev pub making : Settings → ℕ → Encoding
 making t count = encoding t (generated_from t count 0)
 

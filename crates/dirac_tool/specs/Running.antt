@@ -38,7 +38,7 @@ pub record Lists (old new : Held) (answer : Ended) : Type 0 where
 pub record Decodes (old new : Held) (answer : Ended) : Type 0 where
   pub answers : IsDecodeAnswer answer
   pub decoded : IfSome old.held (λ bytes. IsDecoded bytes answer old.out new.out old.side new.side)
-  pub few : IfSome old.held (TellsFew answer)
+  pub tells_at_most_8_references : IfSome old.held (TellsFew answer)
   pub whole : answer ≡ ended.Done → IsAtEnd new.held
 
 -- `pardecode`: what `decode` leaves, or the number of workers is out of its range, is answered and nothing is read or

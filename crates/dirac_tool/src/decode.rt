@@ -34,7 +34,7 @@ pub fn check_workers(workers: u32) -> Result<(), BadSetting>
     })
 }
 
-// Decodes a stream on the caller's thread, or by so many workers.
+// Decodes a stream on the caller's thread, or by that many workers.
 fn decoded_by<R: Threads + Sync, S: Source, K: Sink, G: RowGate>(
     rt: &R,
     alloc: Global,

@@ -26,7 +26,7 @@ enum Device {
     Side,
 }
 
-// Pieces of so many bytes, where these calls of a device fail.
+// Pieces of that many bytes, where these calls of a device fail.
 fn failing<'a>(device: Device, most: usize, calls: &'a [u64]) -> Outside<'a> {
     match device {
         Device::Source => Outside {

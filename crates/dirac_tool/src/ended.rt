@@ -1,5 +1,6 @@
 ghost use Rattle.std.specs.Prelude.{◌≡◌, IfOk, string_bytes};
-ghost use Rattle.dirac_tool.specs.Ended.{status_of, text_of, fault_text as text_of_fault, bad_setting_text as text_of_bad_setting, after_flushes as ended_after_flushes};
+ghost use Rattle.dirac_tool.specs.Ended.{status_of, text_of, fault_text as text_of_fault};
+ghost use Rattle.dirac_tool.specs.Ended.{bad_setting_text as text_of_bad_setting, after_flushes as ended_after_flushes};
 
 use dirac_types::{BadSetting, Fault, NoMemory};
 use std::alloc::Global;

@@ -51,7 +51,7 @@ impl From<NoMemory> for Unmade {
     }
 }
 
-/// Makes and encodes the first so many generated pictures in memory, and writes one line of what came of it.
+/// Makes and encodes the first generated pictures, `count` of them, in memory, and writes one line of what came of it.
 pub fn make<R: Threads + Sync, K: Sink, G: RowGate>(
     rt: &R,
     alloc: Global,
@@ -78,7 +78,7 @@ pub fn make<R: Threads + Sync, K: Sink, G: RowGate>(
     }
 }
 
-/// Makes and encodes the first so many generated pictures: the line of what came of it.
+/// Makes and encodes the first generated pictures, `count` of them: the line of what came of it.
 fn line_of_made<R: Threads + Sync, G: RowGate>(
     rt: &R,
     alloc: Global,

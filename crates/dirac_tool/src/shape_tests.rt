@@ -134,7 +134,7 @@ fn shows_the_same<R: Abort + Threads + Sync>(
     Ok(())
 }
 
-// Raw pictures without order, of so many bytes together, encoded with settings: a sum of the stream, and of what is
+// Raw pictures without order, of that many bytes together, encoded with settings: a sum of the stream, and of what is
 // shown, by the plain encoder in bench/reference.
 #[test]
 fn finds_memory_for_many_units_and_pictures(rt: HostRuntime) -> Result<(), Fail> {

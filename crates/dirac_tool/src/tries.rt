@@ -20,7 +20,7 @@ pub(crate) struct Outside<'a> {
     pub sides: &'a [u64],
 }
 
-// Pieces of so many bytes, and no call fails.
+// Pieces of that many bytes, and no call fails.
 pub(crate) fn pieces(most: usize) -> Outside<'static> {
     Outside {
         read: most,

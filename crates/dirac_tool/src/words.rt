@@ -1,7 +1,9 @@
-ghost use Rattle.std.specs.Prelude.{◌≡◌, ◌++◌, [], ◌∷◌, OnOk, OnErr, Option, map, string_bytes, option_copied, slice_range, length};
+ghost use Rattle.std.specs.Prelude.{◌≡◌, ◌++◌, [], ◌∷◌, OnOk, OnErr, Option, map, string_bytes, option_copied};
+ghost use Rattle.std.specs.Prelude.{slice_range, length};
 ghost use Rattle.dirac_types.specs.Settings.{first_bad, table, verdict};
 ghost use Rattle.dirac_types.specs.declared.settings.BadSetting.{BadSetting as Bad};
-ghost use Rattle.dirac_tool.specs.Words.{command_read, path_read, path_accepted, cut_read, encode_read, make_read, pardecode_read, rate_read, alone as command_alone};
+ghost use Rattle.dirac_tool.specs.Words.{command_read, path_read, path_accepted, cut_read, encode_read, make_read};
+ghost use Rattle.dirac_tool.specs.Words.{pardecode_read, rate_read, alone as command_alone};
 ghost use Rattle.dirac_tool.specs.Rating.{first_bad_for_rate};
 
 use crate::options::{
@@ -58,13 +60,13 @@ pub enum Command {
     Decode,
     /// Encodes raw pictures to a stream.
     Encode(Settings),
-    /// Encodes so many generated pictures, and tells the sizes and how many come out exactly.
+    /// Encodes that many generated pictures, and tells the sizes and how many come out exactly.
     Make(Settings, u32),
-    /// Decodes a stream as `Decode`, by so many workers.
+    /// Decodes a stream as `Decode`, by that many workers.
     Pardecode(u32),
     /// Cuts a stream from a point up to, and without, another, or to its end.
     Cut(u64, Option<u64>),
-    /// Encodes raw pictures, so that each picture's unit has at most so many bytes.
+    /// Encodes raw pictures, so that each picture's unit has at most that many bytes.
     Rate(Settings, u32),
     /// Joins the sequences of a stream.
     Join,

@@ -1,6 +1,7 @@
 -- The ranges of the numbers by which transforms are told.
 use Rattle.std.specs.Prelude.{ℕ, ◌≤◌}
-use Rattle.dirac_types.specs.declared.limits.TheConstants.{LARGEST_DEPTH, LARGEST_ENCODED_DEPTH, LARGEST_INDEX, LARGEST_WAVELET}
+use Rattle.dirac_types.specs.declared.limits.TheConstants.{LARGEST_DEPTH, LARGEST_ENCODED_DEPTH, LARGEST_INDEX}
+use Rattle.dirac_types.specs.declared.limits.TheConstants.{LARGEST_WAVELET}
 
 -- a wavelet, by its index
 abbrev pub IsWavelet : ℕ → Type 0

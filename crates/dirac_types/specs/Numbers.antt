@@ -1,9 +1,10 @@
 -- How the standard spells numbers: interleaved exp-Golomb, and literals of four bytes.
-use Rattle.std.specs.Prelude.{ℕ, zero, suc, ℤ, pos, negsuc, ◌+◌, ◌/◌, ◌%◌, ◌==◌, nat_lt, if◌then◌else◌, Bool, true, false, List, [], ◌∷◌, ◌++◌}
+use Rattle.std.specs.Prelude.{ℕ, zero, suc, ℤ, pos, negsuc, ◌+◌, ◌/◌, ◌%◌, ◌==◌, nat_lt, if◌then◌else◌, Bool, true}
+use Rattle.std.specs.Prelude.{false, List, [], ◌∷◌, ◌++◌}
 use Rattle.dirac_types.specs.declared.limits.TheConstants.{MOST_DIGITS}
 use Rattle.dirac_types.specs.Bits.{byte_bits}
 
--- the binary digits behind the leading one, at most so many
+-- the binary digits behind the leading one, at most that many
 unfoldable pub digits_within : ℕ → ℕ → List Bool
 digits_within zero n = []
 digits_within (suc most) n = if nat_lt n 2 then [] else digits_within most (n / 2) ++ (n % 2 == 1) ∷ []

@@ -1,7 +1,9 @@
 -- The settings of the encoder: their ranges and defaults, and which of them is out of its range.
-use Rattle.std.specs.Prelude.{◌≡◌, ℕ, ◌≤◌, ◌*◌, ◌%◌, ◌==◌, nat_le, ◌&&◌, if◌then◌else◌, Bool, List, [], ◌∷◌, map, slice_index_or, Option, Some, None, Result, Ok, Err}
+use Rattle.std.specs.Prelude.{◌≡◌, ℕ, ◌≤◌, ◌*◌, ◌%◌, ◌==◌, nat_le, ◌&&◌, if◌then◌else◌, Bool, List, [], ◌∷◌, map}
+use Rattle.std.specs.Prelude.{slice_index_or, Option, Some, None, Result, Ok, Err}
 use Rattle.std.specs.List.{AllByRecursion}
-use Rattle.dirac_types.specs.declared.limits.TheConstants.{LARGEST_ENCODED_DEPTH, LARGEST_HEIGHT, LARGEST_INDEX, LARGEST_WAVELET, LARGEST_WIDTH}
+use Rattle.dirac_types.specs.declared.limits.TheConstants.{LARGEST_ENCODED_DEPTH, LARGEST_HEIGHT, LARGEST_INDEX}
+use Rattle.dirac_types.specs.declared.limits.TheConstants.{LARGEST_WAVELET, LARGEST_WIDTH}
 use Rattle.dirac_types.specs.BaseFormats.{base_formats}
 use Rattle.dirac_types.specs.declared.base_formats.BaseFormat.{BaseFormat}
 use Rattle.dirac_types.specs.declared.formats.Chroma.{Chroma}

@@ -1,5 +1,6 @@
 -- A table of samples or values, as contracts see planes: by rows, from the top.
-use Rattle.std.specs.Prelude.{ℕ, ℤ, ◌+◌, ◌*◌, ◌/◌, ◌%◌, pos, List, length, map, ◌++◌, take, drop, slice_index_or, slice_range, slice_set, unsigned_abs, int_lt, ◌-◌, if◌then◌else◌}
+use Rattle.std.specs.Prelude.{ℕ, ℤ, ◌+◌, ◌*◌, ◌/◌, ◌%◌, pos, List, length, map, ◌++◌, take, drop, slice_index_or}
+use Rattle.std.specs.Prelude.{slice_range, slice_set, unsigned_abs, int_lt, ◌-◌, if◌then◌else◌}
 use Rattle.std.specs.List.{range_with_len}
 
 -- columns, rows, and the values row by row

@@ -22,7 +22,7 @@ pub use formats::{Band, BlockGrid, Chroma, Component, Kind, Vector};
 pub use limits::{
     LARGEST_DEPTH, LARGEST_ENCODED_DEPTH, LARGEST_HEIGHT, LARGEST_INDEX, LARGEST_NARROW,
     LARGEST_SIDE, LARGEST_TABLE_SIDE, LARGEST_WAVELET, LARGEST_WIDTH, MOST_CODEBLOCKS, MOST_DIGITS,
-    MOST_SAMPLES,
+    MOST_SAMPLES, MOST_SUPERBLOCKS,
 };
 pub use memory::NoMemory;
 pub use numbers::with_sign;

@@ -13,6 +13,9 @@ pub const LARGEST_TABLE_SIDE: u32 = 8192;
 /// The most samples of a picture, in all of its planes together.
 pub const MOST_SAMPLES: usize = 28_311_552;
 
+/// The most superblocks of a picture, across and down: each is at least four luma samples wide and high.
+pub const MOST_SUPERBLOCKS: u32 = 1024;
+
 /// The most codeblocks of a subband, across and down.
 pub const MOST_CODEBLOCKS: u32 = 8192;
 

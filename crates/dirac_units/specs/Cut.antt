@@ -24,7 +24,7 @@ abbrev pub after : UnitPlace → ParseInfo → UnitPlace
 after unit_place info =
     record { index = unit_place.index + 1; at = unit_place.at + span_of info; closed = info.code == END_OF_SEQUENCE }
 
--- a fault of the unit that begins there, so many bytes behind its first
+-- a fault of the unit that begins there, that many bytes behind its first
 abbrev pub fault_at : UnitPlace → ℕ → Cause → Fault
 fault_at unit_place at cause = record { unit = unit_place.index; at = unit_place.at + at; cause = cause }
 

@@ -18,7 +18,7 @@ abbrev pub TakesInfo : ParseInfo → Option (List ℕ) → Option (List ℕ) →
 TakesInfo info held held' =
     (bytes : List ℕ) × (length bytes ≡ 13) × (info_read bytes ≡ Ok info) × Consumes held held' bytes
 
--- so many bytes were taken, and where they are kept they are the payload
+-- that many bytes were taken, and where they are kept they are the payload
 abbrev pub TakesPayload : ℕ → Bool → List ℕ → Option (List ℕ) → Option (List ℕ) → Type 0
 TakesPayload count keep payload held held' =
     (bytes : List ℕ) × (length bytes ≡ count) × (payload ≡ (if keep then bytes else [])) × Consumes held held' bytes

@@ -73,7 +73,7 @@ fn take_info<S: Source>(unit_place: UnitPlace, source: &mut S) -> Result<ParseIn
     }
 }
 
-// Takes a payload of so many bytes, in pieces, and no byte beyond it. It grows as the source gives it: no memory is
+// Takes a payload of that many bytes, in pieces, and no byte beyond it. It grows as the source gives it: no memory is
 // taken for bytes that don't come.
 fn take_payload<S: Source>(
     alloc: Global,

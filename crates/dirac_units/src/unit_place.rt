@@ -41,7 +41,7 @@ impl UnitPlace {
         }
     }
 
-    /// A fault of the unit that begins here, so many bytes behind its first.
+    /// A fault of the unit that begins here, that many bytes behind its first.
     pub fn fault(self, at: u64, cause: Cause) -> Fault
         requires { self.at + at < 2 ^ 64 }
         ensures { result ≡ fault_at self at cause }

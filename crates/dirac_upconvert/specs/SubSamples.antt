@@ -1,5 +1,6 @@
 -- Samples at positions counted in parts of a sample.
-use Rattle.std.specs.Prelude.{◌≡◌, ℕ, ℤ, pos, ◌+◌, ◌-◌, ◌*◌, ◌/◌, ◌%◌, ◌^◌, ◌<◌, ◌≤◌, ◌==◌, List, length, slice_index_or, ◌≤ℤ◌, ◌<ℤ◌, ◌+ℤ◌, ◌-ℤ◌, ◌*ℤ◌, if◌then◌else◌}
+use Rattle.std.specs.Prelude.{◌≡◌, ℕ, ℤ, pos, ◌+◌, ◌-◌, ◌*◌, ◌/◌, ◌%◌, ◌^◌, ◌<◌, ◌≤◌, ◌==◌, List, length}
+use Rattle.std.specs.Prelude.{slice_index_or, ◌≤ℤ◌, ◌<ℤ◌, ◌+ℤ◌, ◌-ℤ◌, ◌*ℤ◌, if◌then◌else◌}
 use Rattle.std.specs.Int.{int_shr}
 use Rattle.std.specs.List.{All}
 use Rattle.dirac_types.specs.declared.limits.TheConstants.{LARGEST_SIDE}
@@ -64,7 +65,7 @@ pub record IsRest (bits : ℕ) (rest : ℤ) : Type 0 where
   pub least : pos 0 ≤ℤ rest
   pub most : rest <ℤ pos (2 ^ bits)
 
--- a sum of so many samples
+-- a sum of that many samples
 pub record IsWithin (count : ℕ) (sum : ℤ) : Type 0 where
   pub least : pos 0 ≤ℤ (sum +ℤ pos (128 * count))
   pub most : sum ≤ℤ pos (127 * count)
@@ -93,10 +94,11 @@ AreParts t bits across down right below out =
 -- the sample behind place p of two rows, one above the other
 abbrev pub between_at : ℕ → ℤ → ℤ → List ℤ → List ℤ → ℕ → ℤ
 between_at bits right below above under p =
-    rounded (2 * bits) (four (2 ^ bits) right below (slice_index_or above p (pos 0)) (slice_index_or above (p + 1) (pos 0))
+    rounded (2 * bits) (four (2 ^ bits) right below
+    (slice_index_or above p (pos 0)) (slice_index_or above (p + 1) (pos 0))
     (slice_index_or under p (pos 0)) (slice_index_or under (p + 1) (pos 0)))
 
--- a list in which from place `first` on so many values were written, and none before it
+-- a list in which from place `first` on that many values were written, and none before it
 pub record PutFrom (first count : ℕ) (f : ℕ → ℤ) (before after : List ℤ) : Type 0 where
   pub value : (k : ℕ) → k < count → slice_index_or after (first + k) (pos 0) ≡ f k
   pub kept : (k : ℕ) → k < first → slice_index_or after k (pos 0) ≡ slice_index_or before k (pos 0)
@@ -107,7 +109,7 @@ ArePartsByFour t bits across down right below out =
     (j k : ℕ) → j < 4 → k < 8 → slice_index_or out (8 * j + k) (pos 0) ≡ rounded (2 * bits)
     (bilinear t (2 ^ bits) (across +ℤ pos (2 * k)) (down +ℤ pos (2 * j)) right below)
 
--- the samples behind every second place of every second row, row after row, so many in each row
+-- the samples behind every second place of every second row, row after row, that many in each row
 abbrev pub ArePartsByRows : Table → ℕ → ℤ → ℤ → ℤ → ℤ → ℕ → List ℤ → Type 0
 ArePartsByRows t bits across down right below width out =
     (n : ℕ) → n < length out → slice_index_or out n (pos 0) ≡ rounded (2 * bits)

@@ -1,4 +1,5 @@
-ghost use Rattle.std.specs.Prelude.{◌≡◌, ℕ, pos, ◌+◌, ◌-◌, ◌<◌, ◌≤◌, ◌+ℤ◌, ◌-ℤ◌, ◌*ℤ◌, unsigned_abs, length, slice_index_or};
+ghost use Rattle.std.specs.Prelude.{◌≡◌, ℕ, pos, ◌+◌, ◌-◌, ◌<◌, ◌≤◌, ◌+ℤ◌, ◌-ℤ◌, ◌*ℤ◌, unsigned_abs, length};
+ghost use Rattle.std.specs.Prelude.{slice_index_or};
 ghost use Rattle.std.specs.List.{All};
 ghost use Rattle.std.specs.Int.{int_shr};
 ghost use Rattle.dirac_types.specs.Samples.{clip};

@@ -3,7 +3,8 @@ ghost use Rattle.std.specs.Int.{int_rem_euclid};
 ghost use Rattle.std.specs.List.{All};
 ghost use Rattle.dirac_types.specs.Table.{clamped_at};
 ghost use Rattle.dirac_upconvert.specs.HalfSamples.{IsSample};
-ghost use Rattle.dirac_upconvert.specs.SubSamples.{IsRest, IsWithin, bilinear, mixed, part_sample, place_at, rest_at, rounded};
+ghost use Rattle.dirac_upconvert.specs.SubSamples.{IsRest, IsWithin, bilinear, mixed, part_sample, place_at, rest_at};
+ghost use Rattle.dirac_upconvert.specs.SubSamples.{rounded};
 
 use dirac_types::Plane;
 

@@ -1,8 +1,10 @@
-ghost use Rattle.std.specs.Prelude.{◌≡◌, ℕ, pos, ◌+◌, ◌-◌, ◌*◌, ◌%◌, ◌^◌, ◌<◌, ◌≤◌, ◌+ℤ◌, ◌≤ℤ◌, IsTrue, unsigned_abs, length, slice_index_or};
+ghost use Rattle.std.specs.Prelude.{◌≡◌, ℕ, pos, ◌+◌, ◌-◌, ◌*◌, ◌%◌, ◌^◌, ◌<◌, ◌≤◌, ◌+ℤ◌, ◌≤ℤ◌, IsTrue, unsigned_abs};
+ghost use Rattle.std.specs.Prelude.{length, slice_index_or};
 ghost use Rattle.std.specs.List.{All};
 ghost use Rattle.dirac_types.specs.Table.{clamped_at, clamped_to, table_at};
 ghost use Rattle.dirac_upconvert.specs.HalfSamples.{IsSample};
-ghost use Rattle.dirac_upconvert.specs.SubSamples.{AreParts, ArePartsByRows, ArePlaces, IsRest, IsWithin, PutFrom, between_at, bilinear, four, mixed, place_at, rest_at, rounded};
+ghost use Rattle.dirac_upconvert.specs.SubSamples.{AreParts, ArePartsByRows, ArePlaces, IsRest, IsWithin, PutFrom};
+ghost use Rattle.dirac_upconvert.specs.SubSamples.{between_at, bilinear, four, mixed, place_at, rest_at, rounded};
 
 use crate::parts::{mix, place, rest, rounded_sum, sample};
 use dirac_types::{LARGEST_SIDE, Plane};
@@ -26,7 +28,7 @@ fn beside(place: i64) -> i64
     place + 1
 }
 
-/// Whether so many samples from a place of a row on, and the places behind them, lie inside the row.
+/// Whether that many samples from a place of a row on, and the places behind them, lie inside the row.
 fn is_inside(place: i64, count: usize, width: u32) -> bool
     requires place { unsigned_abs place ≤ 2 ^ 34 }
     requires count { count ≤ LARGEST_SIDE }

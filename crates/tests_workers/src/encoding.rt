@@ -13,7 +13,7 @@ struct Made {
     shown: MemSink,
 }
 
-// Two raw pictures of 8 columns and so many rows, 4:2:0: the second is the first a row lower, and brighter.
+// Two raw pictures of 8 columns and that many rows, 4:2:0: the second is the first a row lower, and brighter.
 fn moving(alloc: Global, height: u32) -> Result<Vec<u8>, NoMemory> {
     let mut raw = Vec::new(alloc);
     for number in 0..2u32 {
