@@ -28,7 +28,7 @@ pub added_fits : (sum tap value : ℤ) → unsigned_abs sum + unsigned_abs tap *
 added_fits sum tap value l = fits_signed_from_abs w32 (sum +ℤ tap *ℤ value) (omega (arith, ints, l, unsigned_abs-mul tap value))
 
 -- half a power of two
-half_small : (k : ℕ) → k ≤ 12 → 2 ^ k / 2 ≤ 2 ^ 11
+pub half_small : (k : ℕ) → k ≤ 12 → 2 ^ k / 2 ≤ 2 ^ 11
 half_small k l = let p : 2 ^ k ≤ 2 ^ 12 = pow_mono {i = k} {j = 12} l in omega (arith, p)
 
 -- the code's rounded sum

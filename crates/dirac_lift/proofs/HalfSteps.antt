@@ -1,5 +1,5 @@
 -- Steps on halves one after another, in 32 bits.
-use Rattle.std.proofs.Common.{◌≡◌, ℕ, ℤ, pos, Bool, true, ◌&&◌, nat_le, ◌+◌, ◌-◌, ◌*◌, ◌/◌, ◌%◌, ◌^◌, ◌<◌, ◌≤◌, unsigned_abs, List, [], ◌∷◌, length, get_or, arith, refl, ap, sym, ◌∙◌}
+use Rattle.std.proofs.Common.{◌≡◌, ℕ, ℤ, pos, Bool, true, false, ◌&&◌, ◌==◌, if◌then◌else◌, nat_le, ◌+◌, ◌-◌, ◌*◌, ◌/◌, ◌%◌, ◌^◌, ◌<◌, ◌≤◌, unsigned_abs, List, [], ◌∷◌, length, get_or, arith, refl, ap, sym, ◌∙◌}
 use Rattle.std.specs.List.{All, sum_by}
 use Rattle.std.proofs.lemmas.Bool.{and_parts, leb-true}
 use Rattle.std.proofs.lemmas.Nat.{pow_pos, div-add-mod', div_below, mod_below}
@@ -62,11 +62,24 @@ narrow_parts s changed read t =
     let b = and_parts (nat_le changed (2 ^ 21)) (nat_le (sum_by unsigned_abs s.taps * read) (2 ^ 31 - 2 ^ 22)) a.1 in
     (leb-true s.shift 12 a.0, leb-true changed (2 ^ 21) b.0, leb-true (sum_by unsigned_abs s.taps * read) (2 ^ 31 - 2 ^ 22) b.1)
 
--- a step of the even places
+-- values that can take all steps are numbers of 32 bits
+after_grows : (b : Bool) (e o g k : ℕ) (r : ℕ × ℕ) → r ≡ (if b then (g, o) else (e, k)) → e ≤ g → o ≤ k → (e ≤ r.0) × (o ≤ r.1)
+after_grows true e o g k r is l m = (omega (arith, l, ap (λ (p : ℕ × ℕ). p.0) is), omega (arith, ap (λ (p : ℕ × ℕ). p.1) is))
+after_grows false e o g k r is l m = (omega (arith, ap (λ (p : ℕ × ℕ). p.0) is), omega (arith, m, ap (λ (p : ℕ × ℕ). p.1) is))
+
+in_32_bits : (ss : List Step) (most : ℕ × ℕ) → stays_narrow ss most ≡ true → (most.0 ≤ 2 ^ 31 - 2 ^ 22) × (most.1 ≤ 2 ^ 31 - 2 ^ 22)
+in_32_bits [] most t =
+    let a = and_parts (nat_le most.0 (2 ^ 31 - 2 ^ 22)) (nat_le most.1 (2 ^ 31 - 2 ^ 22)) t in
+    (leb-true most.0 (2 ^ 31 - 2 ^ 22) a.0, leb-true most.1 (2 ^ 31 - 2 ^ 22) a.1)
+in_32_bits (s ∷ ss) most t =
+    let rest = in_32_bits ss (after_step s most) (and_parts (if s.parity == 0 then is_narrow s most.0 most.1 else (nat_le s.parity 1 && is_narrow s most.1 most.0)) (stays_narrow ss (after_step s most)) t).1 in
+    let more = after_grows (s.parity == 0) most.0 most.1 (grown s most.0 most.1) (grown s most.1 most.0) (after_step s most) refl (omega arith) (omega arith) in
+    (omega (arith, rest.0, more.0), omega (arith, rest.1, more.1))
+
 pub even_readable : (m : Bool) (sh ld : ℕ) (ts : List ℤ) (ss : List Step) (w h : ℕ) (es os : List ℤ) → AreNarrow (even_step m sh ld ts ∷ ss) w h es os → IsReadable ts os
 even_readable m sh ld ts ss w h es os n =
     let s : Step = even_step m sh ld ts in
-    record { bound = n.most.1; within = n.odd_bound; fits = (narrow_parts s n.most.0 n.most.1 (and_parts (is_narrow s n.most.0 n.most.1) (stays_narrow ss (after_step s n.most)) n.test).0).2 }
+    record { bound = n.most.1; within = n.odd_bound; in_32_bits = omega (arith, (in_32_bits (s ∷ ss) n.most n.test).1); fits = (narrow_parts s n.most.0 n.most.1 (and_parts (is_narrow s n.most.0 n.most.1) (stays_narrow ss (after_step s n.most)) n.test).0).2 }
 
 pub even_changed : (m : Bool) (sh ld : ℕ) (ts : List ℤ) (ss : List Step) (w h : ℕ) (es os : List ℤ) → AreNarrow (even_step m sh ld ts ∷ ss) w h es os → All (λ v. unsigned_abs v ≤ 2 ^ 21) es
 even_changed m sh ld ts ss w h es os n =
@@ -100,7 +113,7 @@ even_run m sh ld ts ss w h es os new es2 os2 n l r =
 pub odd_readable : (m : Bool) (sh ld : ℕ) (ts : List ℤ) (ss : List Step) (w h : ℕ) (es os : List ℤ) → AreNarrow (odd_step m sh ld ts ∷ ss) w h es os → IsReadable ts es
 odd_readable m sh ld ts ss w h es os n =
     let s : Step = odd_step m sh ld ts in
-    record { bound = n.most.0; within = n.even_bound; fits = (narrow_parts s n.most.1 n.most.0 (and_parts (is_narrow s n.most.1 n.most.0) (stays_narrow ss (after_step s n.most)) n.test).0).2 }
+    record { bound = n.most.0; within = n.even_bound; in_32_bits = omega (arith, (in_32_bits (s ∷ ss) n.most n.test).0); fits = (narrow_parts s n.most.1 n.most.0 (and_parts (is_narrow s n.most.1 n.most.0) (stays_narrow ss (after_step s n.most)) n.test).0).2 }
 
 pub odd_changed : (m : Bool) (sh ld : ℕ) (ts : List ℤ) (ss : List Step) (w h : ℕ) (es os : List ℤ) → AreNarrow (odd_step m sh ld ts ∷ ss) w h es os → All (λ v. unsigned_abs v ≤ 2 ^ 21) os
 odd_changed m sh ld ts ss w h es os n =

@@ -6,6 +6,8 @@ pub mod HalfLemmas
 pub mod HalfLines
 pub mod HalfPlanes
 pub mod HalfSteps
+pub mod LaneLemmas
+pub mod LaneSteps
 pub mod LevelGrowth
 pub mod LevelLemmas
 pub mod Lifted
@@ -15,6 +17,7 @@ pub mod PairLemmas
 pub mod RowLemmas
 pub mod Runs
 pub mod Signed
+pub mod Strips
 pub mod Undone
 pub mod Weighted
 pub mod ZerosKept

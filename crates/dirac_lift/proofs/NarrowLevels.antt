@@ -1,5 +1,5 @@
 -- A level in place in 32 bits: columns and rows are taken apart, lifted, and written back.
-use Rattle.std.proofs.Common.{◌≡◌, ◌≢◌, ℕ, ℤ, pos, Bool, true, false, if◌then◌else◌, ◌+◌, ◌*◌, ◌/◌, ◌%◌, ◌<◌, ◌≤◌, unsigned_abs, List, length, map, get_or, set, arith, refl, inl, inr, ap, sym, ◌∙◌, subst}
+use Rattle.std.proofs.Common.{◌≡◌, ◌≢◌, ◌⊎◌, ℕ, ℤ, pos, Bool, true, false, if◌then◌else◌, ◌+◌, ◌-◌, ◌*◌, ◌/◌, ◌%◌, ◌<◌, ◌≤◌, unsigned_abs, List, length, map, get_or, set, arith, refl, inl, inr, ap, sym, ◌∙◌, subst}
 use Rattle.std.specs.List.{All}
 use Rattle.std.proofs.lemmas.Bool.{cases_eq, cases_lt}
 use Rattle.std.proofs.lemmas.List.{get_or-set_same, get_or-set_other, length-set, get_or_past, get_or_default, ext_get_or}
@@ -73,81 +73,6 @@ line_narrow k low high line a some n = record {
   test = n.test;
 }
 
--- the pairs below n of column x are written, and nothing else
-pub record PutBelow (w x : ℕ) (low high xs ys : List ℤ) (n : ℕ) : Type 0 where
-  pub len : length ys ≡ length xs
-  pub even : (m : ℕ) → m < n → get_or ys (2 * m * w + x) (pos 0) ≡ get_or low m (pos 0)
-  pub odd : (m : ℕ) → m < n → get_or ys ((2 * m + 1) * w + x) (pos 0) ≡ get_or high m (pos 0)
-  pub others : (y z : ℕ) → z < w → z ≢ x → get_or ys (y * w + z) (pos 0) ≡ get_or xs (y * w + z) (pos 0)
-
-pub put_none : (w x : ℕ) (low high xs : List ℤ) → PutBelow w x low high xs xs 0
-put_none w x low high xs = record {
-  len = refl;
-  even = λ m l. absurd (omega (arith, l));
-  odd = λ m l. absurd (omega (arith, l));
-  others = λ y z l ne. refl;
-}
-
-set_at : (ys : List ℤ) (w x i j : ℕ) (v : ℤ) → x < w → i ≢ j → get_or (set ys (i * w + x) v) (j * w + x) (pos 0) ≡ get_or ys (j * w + x) (pos 0)
-set_at ys w x i j v l ne = get_or-set_other ys (i * w + x) (j * w + x) v (pos 0) (λ f. ne (sym ((same_from_place j x i x w l l f).0)))
-
-set_beside : (ys : List ℤ) (w x z i j : ℕ) (v : ℤ) → x < w → z < w → z ≢ x → get_or (set ys (i * w + x) v) (j * w + z) (pos 0) ≡ get_or ys (j * w + z) (pos 0)
-set_beside ys w x z i j v l k ne = get_or-set_other ys (i * w + x) (j * w + z) v (pos 0) (λ f. ne ((same_from_place j z i x w k l f).1))
-
-pub put_more : (w h x : ℕ) (low high xs ys : List ℤ) (n : ℕ) (a b : ℤ) → PutBelow w x low high xs ys n → x < w → length xs ≡ w * h → 2 * n + 1 < h → a ≡ get_or low n (pos 0) → b ≡ get_or high n (pos 0) → PutBelow w x low high xs (set (set ys (2 * n * w + x) a) ((2 * n + 1) * w + x) b) (n + 1)
-put_more w h x low high xs ys n a b p l len fits ea eb =
-    let first : length (set ys (2 * n * w + x) a) ≡ length xs = length-set ys (2 * n * w + x) a ∙ p.len in
-    record {
-      len = length-set (set ys (2 * n * w + x) a) ((2 * n + 1) * w + x) b ∙ first;
-      even = λ m lt.
-          set_at (set ys (2 * n * w + x) a) w x (2 * n + 1) (2 * m) b l (λ e. omega (arith, e))
-          ∙ elim (cases_eq m n) [
-            | inl here ↦
-                ap (λ i. get_or (set ys (2 * n * w + x) a) (2 * i * w + x) (pos 0)) here
-                ∙ get_or-set_same ys (2 * n * w + x) a (pos 0) (omega (arith, p.len, len, mul-add-lt (2 * n) w x h (omega (arith, fits)) l))
-                ∙ ea ∙ ap (λ i. get_or low i (pos 0)) (sym here)
-            | inr before ↦ set_at ys w x (2 * n) (2 * m) a l (λ e. before (omega (arith, e))) ∙ p.even m (omega (arith, lt, before))
-          ];
-      odd = λ m lt. elim (cases_eq m n) [
-        | inl here ↦
-            ap (λ i. get_or (set (set ys (2 * n * w + x) a) ((2 * n + 1) * w + x) b) ((2 * i + 1) * w + x) (pos 0)) here
-            ∙ get_or-set_same (set ys (2 * n * w + x) a) ((2 * n + 1) * w + x) b (pos 0) (omega (arith, first, len, mul-add-lt (2 * n + 1) w x h fits l))
-            ∙ eb ∙ ap (λ i. get_or high i (pos 0)) (sym here)
-        | inr before ↦
-            set_at (set ys (2 * n * w + x) a) w x (2 * n + 1) (2 * m + 1) b l (λ e. before (omega (arith, e)))
-            ∙ set_at ys w x (2 * n) (2 * m + 1) a l (λ e. omega (arith, e))
-            ∙ p.odd m (omega (arith, lt, before))
-      ];
-      others = λ y z k ne.
-          set_beside (set ys (2 * n * w + x) a) w x z (2 * n + 1) y b l k ne
-          ∙ set_beside ys w x z (2 * n) y a l k ne
-          ∙ p.others y z k ne;
-    }
-
-pub put_all : (w h x : ℕ) (low high xs ys whole : List ℤ) (n : ℕ) → PutBelow w x low high xs ys n → 2 * length low ≡ h → length low ≤ n → AreHalves 0 low high whole → column ys w h x ≡ whole
-put_all w h x low high xs ys whole n p low_len all a =
-    ext_get_or (pos 0) (column ys w h x) whole (length-column ys w h x ∙ sym low_len ∙ sym a.len) (λ i l.
-    let inside : i < h = omega (arith, l, length-column ys w h x) in
-    column_at ys w h x i inside ∙ elim (cases_eq (i % 2) 0) [
-      | inl mine ↦
-          let place : 2 * (i / 2) ≡ i = omega (arith, mine) in
-          let own_place : own 0 (i / 2) ≡ i = omega (arith, mine) in
-          ap (λ j. get_or ys (j * w + x) (pos 0)) (sym place)
-          ∙ p.even (i / 2) (omega (arith, inside, low_len, all, mine))
-          ∙ sym (a.changed (i / 2)) ∙ ap (λ j. get_or whole j (pos 0)) own_place
-      | inr its ↦
-          let place : 2 * (i / 2) + 1 ≡ i = omega (arith, its) in
-          ap (λ j. get_or ys (j * w + x) (pos 0)) (sym place)
-          ∙ p.odd (i / 2) (omega (arith, inside, low_len, all, its))
-          ∙ sym (a.read (i / 2)) ∙ ap (λ j. get_or whole j (pos 0)) place
-    ])
-
-pub put_others : (w h x z : ℕ) (low high xs ys : List ℤ) (n : ℕ) → PutBelow w x low high xs ys n → z < w → z ≢ x → column ys w h z ≡ column xs w h z
-put_others w h x z low high xs ys n p l ne =
-    ext_get_or (pos 0) (column ys w h z) (column xs w h z) (length-column ys w h z ∙ sym (length-column xs w h z)) (λ i k.
-    let inside : i < h = omega (arith, k, length-column ys w h z) in
-    column_at ys w h z i inside ∙ p.others i z l ne ∙ sym (column_at xs w h z i inside))
-
 -- the columns below p are done
 pub record ColumnsRan (k w h : ℕ) (xs ys : List ℤ) (p : ℕ) : Type 0 where
   pub len : length ys ≡ length xs
@@ -157,23 +82,27 @@ pub record ColumnsRan (k w h : ℕ) (xs ys : List ℤ) (p : ℕ) : Type 0 where
 pub ran_none : (k w h : ℕ) (xs : List ℤ) → ColumnsRan k w h xs xs 0
 ran_none k w h xs = record { len = refl; done = λ z l q. absurd (omega (arith, q)); rest = λ z l q. refl }
 
-pub ran_more : (k w h : ℕ) (xs ys zs : List ℤ) (p : ℕ) → ColumnsRan k w h xs ys p → p < w → length zs ≡ length ys → column zs w h p ≡ synth k (column ys w h p) → ((z : ℕ) → z < w → z ≢ p → column zs w h z ≡ column ys w h z) → ColumnsRan k w h xs zs (p + 1)
-ran_more k w h xs ys zs p r l len here others = record {
+pub ran_more : (k w h : ℕ) (xs ys zs : List ℤ) (p c : ℕ) → ColumnsRan k w h xs ys p → p + c ≤ w → length zs ≡ length ys → ((j : ℕ) → j < c → column zs w h (p + j) ≡ synth k (column ys w h (p + j))) → ((z : ℕ) → z < w → (z < p) ⊎ (p + c ≤ z) → column zs w h z ≡ column ys w h z) → ColumnsRan k w h xs zs (p + c)
+ran_more k w h xs ys zs p c r fit len here others = record {
   len = len ∙ r.len;
-  done = λ z lz q. elim (cases_eq z p) [
-    | inl same ↦ ap (column zs w h) same ∙ here ∙ ap (synth k) (r.rest p l (omega arith)) ∙ ap (λ i. synth k (column xs w h i)) (sym same)
-    | inr before ↦ others z lz before ∙ r.done z lz (omega (arith, q, before))
+  done = λ z lz q. elim (cases_lt z p) [
+    | inl before ↦ others z lz (inl before) ∙ r.done z lz before
+    | inr late ↦
+        let place : p + (z - p) ≡ z = omega (arith, late) in
+        ap (column zs w h) (sym place)
+        ∙ here (z - p) (omega (arith, late, q))
+        ∙ ap (synth k) (ap (column ys w h) place ∙ r.rest z lz late)
   ];
-  rest = λ z lz q. others z lz (λ e. omega (arith, e, q)) ∙ r.rest z lz (omega (arith, q));
+  rest = λ z lz q. others z lz (inr q) ∙ r.rest z lz (omega (arith, q));
 }
 
 pub ran_all : (k w h : ℕ) (xs ys : List ℤ) (p : ℕ) → ColumnsRan k w h xs ys p → w ≤ p → ColumnsBecome (synth k) w h xs ys
 ran_all k w h xs ys p r all = record { len = r.len; each = λ x l. r.done x l (omega (arith, l, all)) }
 
 -- the rest of the columns is still small
-pub ran_bound : (k w h : ℕ) (xs ys : List ℤ) (p b : ℕ) → ColumnsRan k w h xs ys p → p < w → All (λ v. unsigned_abs v ≤ b) xs → All (λ v. unsigned_abs v ≤ b) (column ys w h p)
-ran_bound k w h xs ys p b r l all =
-    subst (λ (zs : List ℤ). All (λ v. unsigned_abs v ≤ b) zs) (sym (r.rest p l (omega arith))) (column_bound b xs w h p all)
+pub ran_bound : (k w h : ℕ) (xs ys : List ℤ) (p z b : ℕ) → ColumnsRan k w h xs ys p → z < w → p ≤ z → All (λ v. unsigned_abs v ≤ b) xs → All (λ v. unsigned_abs v ≤ b) (column ys w h z)
+ran_bound k w h xs ys p z b r l late all =
+    subst (λ (zs : List ℤ). All (λ v. unsigned_abs v ≤ b) zs) (sym (r.rest z l late)) (column_bound b xs w h z all)
 
 -- after the columns 32 bits are still enough
 reach_narrow : (w : ℕ) → w ≤ 6 → (stays_narrow (steps_of w) ((reach (steps_of w) 4095 4095).0, (reach (steps_of w) 4095 4095).0) ≡ true) × (stays_narrow (steps_of w) ((reach (steps_of w) 4095 4095).1, (reach (steps_of w) 4095 4095).1) ≡ true)

@@ -26,6 +26,7 @@ pub record HalfLifted (s : Step) (w h : ℕ) (owns reads changed : List ℤ) : T
 pub record IsReadable (taps reads : List ℤ) : Type 0 where
   pub bound : ℕ
   pub within : All (λ v. unsigned_abs v ≤ bound) reads
+  pub in_32_bits : bound < 2 ^ 31
   pub fits : sum_by unsigned_abs taps * bound ≤ 2 ^ 31 - 2 ^ 22
 
 -- the two halves of a line, of which a step changes the first

@@ -1,6 +1,7 @@
 pub mod Changes
 pub mod HalfRuns
 pub mod Halves
+pub mod Lanes
 pub mod Level
 pub mod Lifting
 pub mod Places

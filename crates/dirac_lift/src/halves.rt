@@ -5,6 +5,7 @@ ghost use Rattle.std.specs.List.{All};
 ghost use Rattle.dirac_lift.specs.Halves.{HalfLifted, IsReadable, half_read};
 ghost use Rattle.dirac_lift.specs.Lifting.{moved, rounded, weighted};
 
+use crate::half_lanes::lift_eight;
 use crate::step::Step;
 
 /// One more tap of a weighted sum.
@@ -156,7 +157,7 @@ fn lift_line(own: &mut [i32], other: &[i32], step: Step, taps: &[i32])
     }
 }
 
-/// One lifting step over one half of `width` lines, which reads the other half.
+/// One lifting step over one half of `width` lines, which reads the other half. Eight lines are lifted in lanes.
 #[inline(always)]
 pub fn lift_half(
     own: &mut [i32],
@@ -181,6 +182,8 @@ pub fn lift_half(
 {
     if width == 1 {
         lift_line(own, other, step, taps);
+    } else if width == 8 {
+        lift_eight(own, other, half, step, taps);
     } else {
         lift_lines(own, other, width, half, step, taps);
     }

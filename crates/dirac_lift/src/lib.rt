@@ -4,9 +4,11 @@
 
 mod columns;
 mod half_ends;
+mod half_lanes;
 mod half_levels;
 mod half_lines;
 mod halves;
+mod lanes;
 mod laws;
 mod levels;
 mod lines;

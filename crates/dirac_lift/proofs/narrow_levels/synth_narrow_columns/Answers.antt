@@ -1,16 +1,26 @@
-use Rattle.std.proofs.Common.{arith, refl}
+use Rattle.std.proofs.Common.{◌≡◌, ◌+◌, ◌*◌, ◌/◌, ◌%◌, arith}
 use Rattle.dirac_lift.proofs.NarrowLevels.{ran_none, ran_more, ran_all, ran_bound}
 use Rattle.dirac_lift.proofs.narrow_levels.synth_narrow_columns.Goals as goal
 
-pub loop-x-init : goal.loop-x-init
-loop-x-init c = ran_none _ _ _ _
+pub loop-i-init : goal.loop-i-init
+loop-i-init c = ran_none _ _ _ _
 
-pub synth_column-requires-clause-at_most_4095 : goal.synth_column-requires-clause-at_most_4095
-synth_column-requires-clause-at_most_4095 c = ran_bound _ _ _ _ _ c.loop-x.x 4095 c.loop-x.invariant c.loop-x-test.true c.requires.at_most_4095
+pub synth_strip-requires-clause-at_most_4095 : goal.synth_strip-requires-clause-at_most_4095
+synth_strip-requires-clause-at_most_4095 c j l =
+    ran_bound _ _ _ _ _ (8 * c.loop-i.i) (8 * c.loop-i.i + j) 4095 c.loop-i.invariant (omega arith) (omega arith) c.requires.at_most_4095
 
-pub loop-x-preserved : goal.loop-x-preserved
-loop-x-preserved c =
-    ran_more _ _ _ _ _ _ c.loop-x.x c.loop-x.invariant c.loop-x-test.true (omega arith) c.synth_column.ensures.value c.synth_column.ensures.others
+pub loop-i-preserved : goal.loop-i-preserved
+loop-i-preserved c =
+    let next : 8 * (c.loop-i.i + 1) ≡ 8 * c.loop-i.i + 8 = omega arith in
+    rw next (ran_more _ _ _ _ _ _ (8 * c.loop-i.i) 8 c.loop-i.invariant (omega arith) (omega arith) c.synth_strip.ensures.value c.synth_strip.ensures.others)
 
-pub returns : goal.returns
-returns c = ran_all _ _ _ _ _ c.loop-x.x c.loop-x.invariant (omega arith)
+pub synth_strip-requires-then-left-gt0-clause-at_most_4095 : goal.synth_strip-requires-then-left-gt0-clause-at_most_4095
+synth_strip-requires-then-left-gt0-clause-at_most_4095 c j l =
+    ran_bound _ _ _ _ _ (8 * c.loop-i.i) (8 * (c.args.width / 8) + j) 4095 c.loop-i.invariant (omega arith) (omega arith) c.requires.at_most_4095
+
+pub returns-then-left-gt0 : goal.returns-then-left-gt0
+returns-then-left-gt0 c =
+    let all : c.loop-i.i ≡ c.args.width / 8 = omega arith in
+    ran_all _ _ _ _ _ (8 * (c.args.width / 8) + c.args.width % 8)
+    (ran_more _ _ _ _ _ _ (8 * (c.args.width / 8)) (c.args.width % 8) (rw all at c.loop-i.invariant) (omega arith) (omega arith) c.synth_strip-then-left-gt0.ensures.value c.synth_strip-then-left-gt0.ensures.others)
+    (omega arith)

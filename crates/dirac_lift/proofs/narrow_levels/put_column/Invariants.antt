@@ -1,5 +1,0 @@
-use Rattle.dirac_lift.proofs.NarrowLevels.{PutBelow}
-use Rattle.dirac_lift.proofs.narrow_levels.put_column.Given as goal
-
-abbrev pub invariant-loop-n : goal.invariant-loop-n
-invariant-loop-n l = PutBelow l.width l.x l.low l.high l.fn.values l.values l.n

@@ -1,0 +1,73 @@
+//! Eight values of 32 bits at once.
+ghost use Rattle.std.specs.Prelude.{◌≡◌, ℕ, ℤ, pos, ◌+◌, ◌-◌, ◌*◌, ◌^◌, ◌<◌, ◌≤◌, ◌+ℤ◌, ◌*ℤ◌, unsigned_abs, length};
+ghost use Rattle.std.specs.Prelude.{slice_index_or, FitsSigned};
+ghost use Rattle.std.specs.Int.{int_shr, w32};
+ghost use Rattle.dirac_lift.specs.Lanes.{AreLanes, IsEight, RunPut, lane};
+ghost use Rattle.dirac_lift.specs.Lifting.{moved};
+
+use std::simd::prelude::*;
+
+/// One value in all lanes.
+#[inline(always)]
+pub fn lanes_of(value: i32) -> i32x8
+    ensures { AreLanes (λ j. value) result }
+{
+    i32x8::splat(value)
+}
+
+/// Eight values of a list, from a place on.
+#[inline(always)]
+pub fn lanes_at(values: &[i32], at: usize) -> i32x8
+    requires inside { at + 8 ≤ length values.now }
+    requires fit { (j : ℕ) → j < 8 → FitsSigned w32 (slice_index_or values.now (at + j) (pos 0)) }
+    ensures { AreLanes (λ j. slice_index_or values.now (at + j) (pos 0)) result }
+{
+    i32x8::from_slice(&values[at..])
+}
+
+/// Writes eight values to a list, from a place on.
+#[inline(always)]
+pub fn put_lanes(values: &mut [i32], at: usize, lanes: i32x8)
+    requires inside { at + 8 ≤ length values.old }
+    requires lanes { IsEight lanes }
+    ensures { RunPut at 8 (lane lanes) values.old values.new }
+{
+    lanes.copy_to_slice(&mut values[at..]);
+}
+
+/// One more tap of eight weighted sums.
+#[inline(always)]
+pub fn multiply_add_lanes(sum: i32x8, tap: i32x8, value: i32x8) -> i32x8
+    requires lanes { IsEight sum × IsEight tap × IsEight value }
+    requires fits { (j : ℕ) → j < 8
+        → unsigned_abs (lane sum j) + unsigned_abs (lane tap j) * unsigned_abs (lane value j) ≤ 2 ^ 31 - 2 ^ 22 }
+    ensures { AreLanes (λ j. lane sum j +ℤ lane tap j *ℤ lane value j) result }
+{
+    sum.strict_add(tap.strict_mul(value))
+}
+
+/// Eight sums and what is added to them, shifted down by `bits`.
+#[inline(always)]
+pub fn shifted_lanes(sum: i32x8, half: i32x8, bits: i32x8) -> i32x8
+    requires lanes { IsEight sum × IsEight half × IsEight bits }
+    requires fits { (j : ℕ) → j < 8 → unsigned_abs (lane sum j) + unsigned_abs (lane half j) < 2 ^ 31 }
+    requires bits { (j : ℕ) → j < 8
+        → (lane bits j ≡ pos (unsigned_abs (lane bits j))) × (unsigned_abs (lane bits j) ≤ 12) }
+    ensures { AreLanes (λ j. int_shr (lane sum j +ℤ lane half j) (unsigned_abs (lane bits j))) result }
+{
+    sum.strict_add(half) >> bits
+}
+
+/// Eight values after a change of each.
+#[inline(always)]
+pub fn moved_lanes(value: i32x8, change: i32x8, minus: bool) -> i32x8
+    requires lanes { IsEight value × IsEight change }
+    requires fits { (j : ℕ) → j < 8 → unsigned_abs (lane value j) + unsigned_abs (lane change j) < 2 ^ 31 }
+    ensures { AreLanes (λ j. moved minus (lane value j) (lane change j)) result }
+{
+    if minus {
+        value.strict_sub(change)
+    } else {
+        value.strict_add(change)
+    }
+}
