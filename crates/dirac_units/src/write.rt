@@ -61,8 +61,7 @@ pub fn put_unit<K: Sink>(out: &mut K, code: u8, previous: u32, payload: &[u8]) -
     });
     match put_all(out, &info) {
         Put::All => put_all(out, payload),
-        Put::Failed => Put::Failed,
-        Put::NoMemory => Put::NoMemory,
+        unwritten => unwritten,
     }
 }
 
