@@ -23,7 +23,7 @@ returns-in-All g c =
       count = omega arith;
     }
 
-pub returns-in_default-clause-front : goal.returns-clause-front
+pub returns-in_default-clause-front : goal.returns-in_default-clause-front
 returns-in_default-clause-front g c =
     let payload = c.args.payload.now in
     let info : List ℕ = info_bytes (info_for c.args.code c.args.previous payload) in
