@@ -2,6 +2,8 @@ pub mod BesideRows
 pub mod Bounds
 pub mod ByCodeblock
 pub mod Coefficients
+pub mod Cutting
+pub mod Growing
 pub mod JoinedRows
 pub mod LevelBounds
 pub mod LevelLemmas

@@ -1,10 +1,13 @@
-use Rattle.std.proofs.Common.{arith, refl}
-use Rattle.dirac_types.specs.Table.{table_at}
-use Rattle.dirac_bands.proofs.Undoing.{table_is}
+use Rattle.std.proofs.Common.{◌≡◌, ap, sym, ◌∙◌, arith}
+use Rattle.dirac_types.specs.Table.{Table}
+use Rattle.dirac_residual.specs.Residual.{cut}
+use Rattle.dirac_residual.proofs.Cutting.{first_rows_cut}
 use Rattle.dirac_residual.proofs.cut.cut_off.Goals as goal
 
-pub returns-then-is_whole : goal.returns-then-is_whole
-returns-then-is_whole c =
-    let across = c.is_whole.ensures.across c.if-is_whole.true in
-    let down = c.is_whole.ensures.down c.if-is_whole.true in
-    table_is (table_at c.args.table) c.args.table c.args.width c.args.height across down (omega arith) c.is_whole.ensures.whole (λ x y p q. refl)
+pub returns-then-width_of-width : goal.returns-then-width_of-width
+returns-then-width_of-width c =
+    let t = c.args.table in
+    let across : t.width ≡ c.args.width = sym c.width_of.ensures ∙ c.if-width_of-width.true in
+    c.first_rows.ensures.value
+    ∙ first_rows_cut t c.args.height (omega (arith, c.requires.across, across)) c.requires.down.1 c.first_rows.ensures.whole
+    ∙ ap (λ w. cut w c.args.height t) across

@@ -2,6 +2,7 @@ use Rattle.std.proofs.Common.{◌≡◌, ℕ, ◌+◌, ◌*◌, ◌^◌, ◌≤�
 use Rattle.std.specs.List.{All}
 use Rattle.dirac_types.specs.Table.{Table}
 use Rattle.dirac_residual.specs.Held.{held_table}
+use Rattle.dirac_residual.proofs.Growing.{grows_held}
 use Rattle.dirac_residual.proofs.levels.next_by_one.Goals as goal
 
 pub returns-in-Narrow-clause-growth : goal.returns-in-Narrow-clause-growth
@@ -10,6 +11,7 @@ returns-in-Narrow-clause-growth c =
     subst (λ (t : Table). IfOk c.level_of_narrow.result (λ (next : Table). (b : ℕ) → 2 ^ 64 ≤ b → All (λ v. unsigned_abs v ≤ b) t.values → All (λ v. unsigned_abs v ≤ 72 * b + 40) next.values)) same c.level_of_narrow.ensures.growth
 
 pub returns-in_ok-next-in-Wide-clause-growth : goal.returns-in_ok-next-in-Wide-clause-growth
-returns-in_ok-next-in-Wide-clause-growth c b least all =
+returns-in_ok-next-in-Wide-clause-growth c =
     let same : c.in-Wide.low ≡ c.args.low.now = sym (ap held_table c.in-Wide.is) ∙ c.held.ensures in
-    rw c.of_wide.ensures (c.in_ok-next-in-Wide.ensures.growth b least (subst (λ (t : Table). All (λ v. unsigned_abs v ≤ b) t.values) (sym same) all))
+    grows_held c.args.low.now c.in_ok-next-in-Wide.next c.try_of.result c.try_of.ensures
+    (λ b least all. c.in_ok-next-in-Wide.ensures.growth b least (subst (λ (t : Table). All (λ v. unsigned_abs v ≤ b) t.values) (sym same) all))
