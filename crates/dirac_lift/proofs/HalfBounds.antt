@@ -35,13 +35,16 @@ pub column_alone : (xs : List ℤ) (h : ℕ) → length xs ≡ h → column xs 1
 column_alone xs h e = ext_get_or (pos 0) (column xs 1 h 0) xs (length-column xs 1 h 0 ∙ sym e) (λ i l.
     column_at xs 1 h 0 i (omega (arith, l, length-column xs 1 h 0)) ∙ ap (λ j. get_or xs j (pos 0)) (omega arith))
 
-pub run_alone : (k : ℕ) (es os new_es new_os xs : List ℤ) → HalvesRun (steps_of k) 1 (length es) es os new_es new_os → length os ≡ length es → AreHalves 0 es os xs → AreHalves 0 new_es new_os (run (steps_of k) xs)
-run_alone k es os new_es new_os xs r len a =
+pub ran_alone : (ss : List Step) (es os new_es new_os xs : List ℤ) → HalvesRun ss 1 (length es) es os new_es new_os → length os ≡ length es → AreHalves 0 es os xs → AreHalves 0 new_es new_os (run ss xs)
+ran_alone ss es os new_es new_os xs r len a =
     let before : AreHalves 0 (column es 1 (length es) 0) (column os 1 (length es) 0) xs =
     subst (λ ys. AreHalves 0 ys (column os 1 (length es) 0) xs) (sym (column_alone es (length es) refl)) (subst (λ ys. AreHalves 0 es ys xs) (sym (column_alone os (length es) len)) a) in
-    let after : AreHalves 0 (column new_es 1 (length es) 0) (column new_os 1 (length es) 0) (run (steps_of k) xs) = r.each 0 xs (omega arith) before in
-    subst (λ ys. AreHalves 0 ys new_os (run (steps_of k) xs)) (column_alone new_es (length es) r.evens_len)
-    (subst (λ ys. AreHalves 0 (column new_es 1 (length es) 0) ys (run (steps_of k) xs)) (column_alone new_os (length es) (r.odds_len ∙ len)) after)
+    let after : AreHalves 0 (column new_es 1 (length es) 0) (column new_os 1 (length es) 0) (run ss xs) = r.each 0 xs (omega arith) before in
+    subst (λ ys. AreHalves 0 ys new_os (run ss xs)) (column_alone new_es (length es) r.evens_len)
+    (subst (λ ys. AreHalves 0 (column new_es 1 (length es) 0) ys (run ss xs)) (column_alone new_os (length es) (r.odds_len ∙ len)) after)
+
+pub run_alone : (k : ℕ) (es os new_es new_os xs : List ℤ) → HalvesRun (steps_of k) 1 (length es) es os new_es new_os → length os ≡ length es → AreHalves 0 es os xs → AreHalves 0 new_es new_os (run (steps_of k) xs)
+run_alone k = ran_alone (steps_of k)
 
 -- after all steps values are still small
 ends_narrow : (ss : List Step) (most : ℕ × ℕ) → stays_narrow ss most ≡ true → ((after_steps ss most).0 ≤ 2 ^ 31 - 2 ^ 22) × ((after_steps ss most).1 ≤ 2 ^ 31 - 2 ^ 22)

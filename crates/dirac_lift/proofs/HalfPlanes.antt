@@ -17,33 +17,33 @@ use Rattle.dirac_lift.proofs.ColumnLemmas.{column_at, length-column}
 use Rattle.dirac_lift.proofs.HalfBounds.{rows_narrow}
 use Rattle.dirac_lift.proofs.RowLemmas.{length-row, row_at, row_bound}
 
-place_even : (w m x : ℕ) → x ≡ 2 * m → place_of w x ≡ m
+pub place_even : (w m x : ℕ) → x ≡ 2 * m → place_of w x ≡ m
 place_even w m x e =
     let rem : x % 2 ≡ 0 = omega (arith, e) in
     let quot : x / 2 ≡ m = omega (arith, e) in
     rw (eq-eqb (x % 2) 0 rem) quot
 
-place_odd : (w m x : ℕ) → x ≡ 2 * m + 1 → place_of w x ≡ w / 2 + m
+pub place_odd : (w m x : ℕ) → x ≡ 2 * m + 1 → place_of w x ≡ w / 2 + m
 place_odd w m x e =
     let rem : x % 2 ≢ 0 = λ z. omega (arith, e, z) in
     let quot : x / 2 ≡ m = omega (arith, e) in
     rw (ne_eqb (x % 2) 0 rem) (ap (λ i. w / 2 + i) quot)
 
-place_in : (w x : ℕ) → x < w → w % 2 ≡ 0 → place_of w x < w
+pub place_in : (w x : ℕ) → x < w → w % 2 ≡ 0 → place_of w x < w
 place_in w x l even = elim (cases_eq (x % 2) 0) [
   | inl none ↦ rw (eq-eqb (x % 2) 0 none) (omega (arith, l))
   | inr one ↦ rw (ne_eqb (x % 2) 0 one) (omega (arith, l, even, one))
 ]
 
 -- the values of such a plane
-even_place : (w h : ℕ) (es os : List ℤ) (x n : ℕ) → x < w → n < h → get_or (from_halves w h es os).values ((2 * n) * w + x) (pos 0) ≡ get_or es (n * w + place_of w x) (pos 0)
+pub even_place : (w h : ℕ) (es os : List ℤ) (x n : ℕ) → x < w → n < h → get_or (from_halves w h es os).values ((2 * n) * w + x) (pos 0) ≡ get_or es (n * w + place_of w x) (pos 0)
 even_place w h es os x n l k =
     let rem : (2 * n) % 2 ≡ 0 = omega arith in
     let quot : (2 * n) / 2 ≡ n = omega arith in
     filled_at (λ x y. get_or (if y % 2 == 0 then es else os) (y / 2 * w + place_of w x) (pos 0)) w (2 * h) x (2 * n) l (omega (arith, k))
     ∙ rw (eq-eqb ((2 * n) % 2) 0 rem, quot) refl
 
-odd_place : (w h : ℕ) (es os : List ℤ) (x n : ℕ) → x < w → n < h → get_or (from_halves w h es os).values ((2 * n + 1) * w + x) (pos 0) ≡ get_or os (n * w + place_of w x) (pos 0)
+pub odd_place : (w h : ℕ) (es os : List ℤ) (x n : ℕ) → x < w → n < h → get_or (from_halves w h es os).values ((2 * n + 1) * w + x) (pos 0) ≡ get_or os (n * w + place_of w x) (pos 0)
 odd_place w h es os x n l k =
     let rem : (2 * n + 1) % 2 ≢ 0 = λ z. omega (arith, z) in
     let quot : (2 * n + 1) / 2 ≡ n = omega arith in
@@ -51,7 +51,7 @@ odd_place w h es os x n l k =
     ∙ rw (ne_eqb ((2 * n + 1) % 2) 0 rem, quot) refl
 
 -- its columns, by their halves
-column_halves : (w h : ℕ) (es os : List ℤ) (x : ℕ) → x < w → AreHalves 0 (column es w h (place_of w x)) (column os w h (place_of w x)) (column (from_halves w h es os).values w (2 * h) x)
+pub column_halves : (w h : ℕ) (es os : List ℤ) (x : ℕ) → x < w → AreHalves 0 (column es w h (place_of w x)) (column os w h (place_of w x)) (column (from_halves w h es os).values w (2 * h) x)
 column_halves w h es os x l =
     let ps = (from_halves w h es os).values in
     let p = place_of w x in

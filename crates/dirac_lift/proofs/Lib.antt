@@ -1,6 +1,7 @@
 pub mod ColumnLemmas
 pub mod ColumnRuns
 pub mod Growth
+pub mod HalfAnalysis
 pub mod HalfBounds
 pub mod HalfLemmas
 pub mod HalfLines

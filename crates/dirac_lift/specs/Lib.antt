@@ -1,4 +1,5 @@
 pub mod Changes
+pub mod HalfRows
 pub mod HalfRuns
 pub mod Halves
 pub mod Lanes

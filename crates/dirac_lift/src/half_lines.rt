@@ -13,11 +13,11 @@ use crate::step::Step;
 use dirac_types::LARGEST_NARROW;
 
 /// The taps of the longer lifting steps in 32 bits.
-const DESLAURIERS_DUBUC: [i32; 4] = [-1, 9, 9, -1];
+pub const DESLAURIERS_DUBUC: [i32; 4] = [-1, 9, 9, -1];
 
-const FIDELITY_ODD: [i32; 8] = [-2, 10, -25, 81, 81, -25, 10, -2];
+pub const FIDELITY_ODD: [i32; 8] = [-2, 10, -25, 81, 81, -25, 10, -2];
 
-const FIDELITY_EVEN: [i32; 8] = [-8, 21, -46, 161, 161, -46, 21, -8];
+pub const FIDELITY_EVEN: [i32; 8] = [-8, 21, -46, 161, 161, -46, 21, -8];
 
 /// Synthesis of `width` lines from their halves: Deslauriers-Dubuc (9,7).
 #[inline(always)]

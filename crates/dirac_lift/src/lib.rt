@@ -3,10 +3,12 @@
 //! The wavelet transforms as lifting steps in place.
 
 mod columns;
+mod half_analysis;
 mod half_ends;
 mod half_lanes;
 mod half_levels;
 mod half_lines;
+mod half_rows;
 mod halves;
 mod lanes;
 mod laws;
@@ -17,6 +19,7 @@ mod step;
 mod tables;
 
 pub use half_levels::synth_halves_level;
+pub use half_rows::{HalfRows, analyse_halves_level};
 pub use laws::zeros_stay_zeros;
 pub use levels::{analyse_level, synth_level};
 pub use lines::{analyse_line, synth_line};
