@@ -16,5 +16,5 @@ pub use filling::{Filled, fill};
 pub use memory::{MemSink, MemSource};
 pub use null::NullSink;
 pub use row_gate::{OpenGate, RowGate};
-pub use sink::{Put, Sink, Took, put_all};
+pub use sink::{Put, Sink, Took, Unwritten, put_all};
 pub use source::{Got, Source};

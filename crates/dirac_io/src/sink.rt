@@ -1,4 +1,4 @@
-ghost use Rattle.std.specs.Prelude.{◌≡◌, ℕ, ◌<◌, ◌≤◌, ◌^◌, List, Option, length};
+ghost use Rattle.std.specs.Prelude.{◌≡◌, ℕ, ◌<◌, ◌≤◌, ◌^◌, List, Option, OnOk, Err, length};
 ghost use Rattle.std.specs.Io.KnownBytes.{Keeps, Appends};
 ghost use Rattle.dirac_io.specs.Faults.{Rose};
 ghost use Rattle.dirac_io.specs.Writing.{IfTaken, TakesFront, AppendsFront};
@@ -44,6 +44,30 @@ pub enum Put {
     Failed,
     /// A write found no memory. A front of the piece was taken.
     NoMemory,
+}
+
+/// Why a piece wasn't taken whole: a front of it was.
+#[derive(Clone, Copy, Debug, PartialEq, Eq, Drop)]
+pub enum Unwritten {
+    /// A write failed.
+    Failed,
+    /// A write found no memory.
+    NoMemory,
+}
+
+impl Put {
+    /// The same as a `Result`, for `?`.
+    pub fn done(self) -> Result<(), Unwritten>
+        ensures all { OnOk result (self ≡ Put.All) }
+        ensures failed { result ≡ Err Unwritten.Failed → self ≡ Put.Failed }
+        ensures no_memory { result ≡ Err Unwritten.NoMemory → self ≡ Put.NoMemory }
+    {
+        match self {
+            Put::All => Ok(()),
+            Put::Failed => Err(Unwritten::Failed),
+            Put::NoMemory => Err(Unwritten::NoMemory),
+        }
+    }
 }
 
 /// Writes a whole piece, in as many writes as the sink wants. A piece may be empty. It stops at the
