@@ -4,7 +4,8 @@ ghost use Rattle.std.specs.List.{All};
 ghost use Rattle.dirac_types.specs.Limits.{IsWavelet};
 ghost use Rattle.dirac_lift.specs.Halves.{AreHalves};
 ghost use Rattle.dirac_lift.specs.HalfRuns.{AreNarrow, HalvesRun};
-ghost use Rattle.dirac_lift.specs.Wavelets.{analyse, analyse_bound, daubechies_9_7, deslauriers_dubuc_13_7, deslauriers_dubuc_9_7, fidelity, haar, legall_5_3, steps_of, taken_back};
+ghost use Rattle.dirac_lift.specs.Wavelets.{analyse, analyse_bound, daubechies_9_7, deslauriers_dubuc_13_7};
+ghost use Rattle.dirac_lift.specs.Wavelets.{deslauriers_dubuc_9_7, fidelity, haar, legall_5_3, steps_of, taken_back};
 
 use crate::half_lines::{DESLAURIERS_DUBUC, FIDELITY_EVEN, FIDELITY_ODD};
 use crate::halves::lift_half;

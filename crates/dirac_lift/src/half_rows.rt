@@ -1,6 +1,7 @@
 //! The analysis of a level in 32 bits, which leaves the even and the odd rows in tables of their own, and in each row
 //! the even columns before the odd ones.
-ghost use Rattle.std.specs.Prelude.{◌≡◌, pos, ◌+◌, ◌*◌, ◌/◌, ◌%◌, ◌<◌, ◌≤◌, ◌+ℤ◌, if◌then◌else◌, length, take, drop, slice_index_or, slice_set, unsigned_abs, IfOk};
+ghost use Rattle.std.specs.Prelude.{◌≡◌, pos, ◌+◌, ◌*◌, ◌/◌, ◌%◌, ◌<◌, ◌≤◌, ◌+ℤ◌, if◌then◌else◌, length, take, drop};
+ghost use Rattle.std.specs.Prelude.{slice_index_or, slice_set, unsigned_abs, IfOk};
 ghost use Rattle.std.specs.List.{All};
 ghost use Rattle.dirac_types.specs.Limits.{IsWavelet};
 ghost use Rattle.dirac_lift.specs.HalfRows.{analysed_rows};
