@@ -1,6 +1,7 @@
-ghost use Rattle.std.specs.Prelude.{◌≡◌, ◌<◌, ◌≤◌, ◌^◌, false, length, true};
+ghost use Rattle.std.specs.Prelude.{◌≡◌, ◌+◌, ◌-◌, ◌<◌, ◌≤◌, ◌^◌, false, length, true};
 ghost use Rattle.std.specs.Io.KnownBytes.{Keeps};
 ghost use Rattle.dirac_io.specs.Faults.{Rose, clipped, clipped_fits, one_more};
+ghost use Rattle.dirac_io.specs.Reading.{GivesFront, IfBytes, MeetsEnd};
 ghost use Rattle.dirac_io.specs.Writing.{IfTaken, TakesFront};
 ghost use Rattle.dirac_io.specs.Adapters.{left_after, left_after_fits};
 
@@ -54,7 +55,23 @@ impl<R: Read> Source for ReaderSource<R> {
 
     ghost faults_fit = { λ s. clipped_fits s.faults };
 
-    fn read(&mut self, buf: &mut [u8]) -> Got {
+    fn read(&mut self, buf: &mut [u8]) -> Got
+        requires { 0 < length buf.old }
+        ensures bytes { IfBytes result (λ n. GivesFront n buf.new (R.remaining self.old.reader)
+            (R.remaining self.new.reader) (left_after self.old.given) (left_after self.new.given)) }
+        ensures end { result ≡ Got.End → MeetsEnd (R.remaining self.old.reader) (R.remaining self.new.reader)
+            (clipped self.old.faults) (clipped self.new.faults) (left_after self.old.given)
+            (left_after self.new.given) }
+        ensures failed { result ≡ Got.Failed → Rose (clipped self.old.faults) (clipped self.new.faults) }
+        ensures kept { result ≡ Got.Failed → Keeps (R.remaining self.old.reader) (R.remaining self.new.reader) }
+        ensures count { clipped self.old.faults ≤ clipped self.new.faults }
+        ensures left { left_after self.new.given ≤ left_after self.old.given }
+        ensures uncounted { IfBytes result (λ _. self.new.faults ≡ self.old.faults) }
+        ensures counted { result ≡ Got.Failed → self.new.faults ≡ one_more self.old.faults }
+        // Behind 2^63 - 1 bytes each read fails.
+        ensures given { IfBytes result (λ n. self.new.given ≡ self.old.given + n) }
+        ensures spent { self.old.given ≡ 2 ^ 63 - 1 → result ≡ Got.Failed }
+    {
         if self.given >= MOST {
             self.faults = self.faults.saturating_add(1);
             return Got::Failed;

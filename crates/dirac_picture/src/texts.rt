@@ -1,6 +1,6 @@
 //! The subbands of each plane, written apart. A band begins at a byte, so these texts are joined as they stand.
 
-ghost use Rattle.std.specs.Prelude.{◌≡◌, [], IfOk, IfSome};
+ghost use Rattle.std.specs.Prelude.{◌≡◌, [], IfOk, IfSome, None};
 ghost use Rattle.dirac_types.specs.Bits.{bits_of};
 ghost use Rattle.dirac_bits.specs.Writing.{up_to_byte};
 ghost use Rattle.dirac_sequence.specs.Lawful.{IsSequence};
@@ -74,7 +74,8 @@ pub fn text_among(
 ) -> Result<Vec<u8>, NoMemory>
     requires sequence { IsSequence sequence.now }
     requires written { IfSome residual.now (IsWritten sequence.now) }
-    ensures { IfOk result (λ v. IfSome residual.now (λ r. bits_of v.items ≡ text_of sequence.now r component)) }
+    ensures value { IfOk result (λ v. IfSome residual.now (λ r. bits_of v.items ≡ text_of sequence.now r component)) }
+    ensures none { residual.now ≡ None → IfOk result (λ v. v.items ≡ []) }
 {
     match residual {
         None => Ok(Vec::new(alloc)),
@@ -90,7 +91,8 @@ pub fn texts_of(
 ) -> Result<Texts, NoMemory>
     requires sequence { IsSequence sequence.now }
     requires written { IfSome residual.now (IsWritten sequence.now) }
-    ensures { IfOk result (λ x. IfSome residual.now (λ r. AreTexts sequence.now r x)) }
+    ensures value { IfOk result (λ x. IfSome residual.now (λ r. AreTexts sequence.now r x)) }
+    ensures none { residual.now ≡ None → IfOk result (λ x. (x.y.items ≡ []) × (x.u.items ≡ []) × (x.v.items ≡ [])) }
 {
     let y = text_among(alloc, sequence, residual, Component::Y)?;
     let u = text_among(alloc, sequence, residual, Component::U)?;
