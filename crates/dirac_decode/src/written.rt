@@ -17,13 +17,11 @@ pub fn put_picture<K: Sink>(out: &mut K, picture: &Picture, bytes: &mut Vec<u8>)
 {
     match put_plane(out, &picture.y, bytes) {
         Put::All => {}
-        Put::Failed => return Put::Failed,
-        Put::NoMemory => return Put::NoMemory,
+        unwritten => return unwritten,
     }
     match put_plane(out, &picture.u, bytes) {
         Put::All => {}
-        Put::Failed => return Put::Failed,
-        Put::NoMemory => return Put::NoMemory,
+        unwritten => return unwritten,
     }
     put_plane(out, &picture.v, bytes)
 }

@@ -3,25 +3,15 @@ use Rattle.dirac_decode.specs.Raw.{plane_bytes}
 use Rattle.dirac_decode.proofs.Rows.{behind_front, front_then}
 use Rattle.dirac_decode.proofs.written.put_picture.Goals as goal
 
-pub returns-in-Failed-clause-front : goal.returns-in-Failed-clause-front
-returns-in-Failed-clause-front g c =
-    front_then (g.K.Sink.taken c.args.out.now) (g.K.Sink.taken c.put_plane.new.out) (plane_bytes c.args.picture.now.y) (plane_bytes c.args.picture.now.u ++ plane_bytes c.args.picture.now.v) c.in-Failed.ensures.front
+pub returns-in_default-clause-front : goal.returns-in_default-clause-front
+returns-in_default-clause-front g c =
+    front_then (g.K.Sink.taken c.args.out.now) (g.K.Sink.taken c.put_plane.new.out) (plane_bytes c.args.picture.now.y) (plane_bytes c.args.picture.now.u ++ plane_bytes c.args.picture.now.v) c.put_plane.ensures.front
 
-pub returns-in-NoMemory-clause-front : goal.returns-in-NoMemory-clause-front
-returns-in-NoMemory-clause-front g c =
-    front_then (g.K.Sink.taken c.args.out.now) (g.K.Sink.taken c.put_plane.new.out) (plane_bytes c.args.picture.now.y) (plane_bytes c.args.picture.now.u ++ plane_bytes c.args.picture.now.v) c.in-NoMemory.ensures.front
-
-pub returns-in-Failed-put_plane-clause-front : goal.returns-in-Failed-put_plane-clause-front
-returns-in-Failed-put_plane-clause-front g c =
+pub returns-in_default-put_plane-clause-front : goal.returns-in_default-put_plane-clause-front
+returns-in_default-put_plane-clause-front g c =
     behind_front (g.K.Sink.taken c.args.out.now) (g.K.Sink.taken c.put_plane.new.out) (g.K.Sink.taken c.put_plane-2.new.out) (plane_bytes c.args.picture.now.y) (plane_bytes c.args.picture.now.u ++ plane_bytes c.args.picture.now.v)
     (c.in-All.ensures.all refl)
-    (front_then (g.K.Sink.taken c.put_plane.new.out) (g.K.Sink.taken c.put_plane-2.new.out) (plane_bytes c.args.picture.now.u) (plane_bytes c.args.picture.now.v) c.in-Failed-put_plane.ensures.front)
-
-pub returns-in-NoMemory-put_plane-clause-front : goal.returns-in-NoMemory-put_plane-clause-front
-returns-in-NoMemory-put_plane-clause-front g c =
-    behind_front (g.K.Sink.taken c.args.out.now) (g.K.Sink.taken c.put_plane.new.out) (g.K.Sink.taken c.put_plane-2.new.out) (plane_bytes c.args.picture.now.y) (plane_bytes c.args.picture.now.u ++ plane_bytes c.args.picture.now.v)
-    (c.in-All.ensures.all refl)
-    (front_then (g.K.Sink.taken c.put_plane.new.out) (g.K.Sink.taken c.put_plane-2.new.out) (plane_bytes c.args.picture.now.u) (plane_bytes c.args.picture.now.v) c.in-NoMemory-put_plane.ensures.front)
+    (front_then (g.K.Sink.taken c.put_plane.new.out) (g.K.Sink.taken c.put_plane-2.new.out) (plane_bytes c.args.picture.now.u) (plane_bytes c.args.picture.now.v) c.put_plane-2.ensures.front)
 
 pub returns-clause-front : goal.returns-clause-front
 returns-clause-front g c =
