@@ -1,8 +1,10 @@
 -- What a cut answers, of whatever is known of its input.
-use Rattle.std.proofs.Common.{◌≡◌, ◌∙◌, ℕ, List, [], Option, None, Some, refl, sym, ap, subst}
-use Rattle.std.specs.Prelude.{IfSome}
+use Rattle.std.proofs.Common.{◌≡◌, ◌∙◌, ℕ, List, [], Option, None, Some, Result, Ok, Err, refl, sym, ap, subst}
+use Rattle.std.specs.Prelude.{IfSome, OnOk}
 use Rattle.std.specs.Io.KnownBytes.{Appends}
 use Rattle.std.proofs.KnownBytes.{Appends-nil, Keeps-refl}
+use Rattle.dirac_io.specs.declared.sink.Unwritten.{Unwritten}
+use Rattle.dirac_io.specs.declared.sink.Unwritten.TheVariants as unwritten
 use Rattle.dirac_io.specs.Writing.{AppendsFront}
 use Rattle.dirac_units.specs.Cut.{EachHasACut, start}
 use Rattle.dirac_decode.specs.StreamState.{begun}
@@ -13,7 +15,7 @@ use Rattle.dirac_edit_laws.specs.Units.{sequences_bytes}
 use Rattle.dirac_edit.specs.declared.answers.Edited.{Edited}
 use Rattle.dirac_edit.specs.declared.answers.Edited.TheVariants as edited
 use Rattle.dirac_edit.specs.Edits.{AnswersEdit, IsCutBy, ShowsPart, cut_refusal, unless_refused}
-use Rattle.dirac_edit.specs.Steps.{IsPart, RefusesCut, StopsReading}
+use Rattle.dirac_edit.specs.Steps.{IsPart, RefusesCut, StopsReading, ended_as}
 
 -- something is shown by all bytes
 pub some_shown : EachHasACut → (bytes : List ℕ) → (o : Outcome) × IsShown bytes o
@@ -65,33 +67,32 @@ cut_refused (Some h) out bytes bytes' from to answer all same r = subst (λ (bs 
 text_is : (bytes : List ℕ) (from : ℕ) (to : Option ℕ) (part part' : List SequenceText) → (p : IsPart bytes from to part) → part' ≡ part → sequences_bytes 0 (with_pictures part') ≡ cut_bytes p.stream.units from (end_point to (points_of p.stream.units))
 text_is bytes from to part part' p same = ap (λ ss. sequences_bytes 0 (with_pictures ss)) same ∙ ap (sequences_bytes 0) p.same
 
-pub cut_done : (held out out' : Option (List ℕ)) (bytes bytes' : List ℕ) (from : ℕ) (to : Option ℕ) (part part' : List SequenceText) → IfSome held (λ h. bytes ≡ h) → bytes' ≡ bytes → IsPart bytes' from to part → part' ≡ part
-    → Appends out out' (sequences_bytes 0 (with_pictures part')) → IfSome held (λ h. IsCutBy h from to edited.Done out out')
-cut_done None out out' bytes bytes' from to part part' all same p parts written = tt
-cut_done (Some h) out out' bytes bytes' from to part part' all same p parts written =
-    subst (λ (bs : List ℕ). IsCutBy bs from to edited.Done out out') (same ∙ all)
-    (p.outcome, p.stream, (p.allowed, subst (λ (bs : List ℕ). Appends out out' bs) (text_is bytes' from to part part' p parts) written))
+-- the writing ended, however it did
+written_as : (w : Result (Unit {0}) Unwritten) (refusal : Option Edited) (bytes : List ℕ) (out out' : Option (List ℕ)) → refusal ≡ None → OnOk w (Appends out out' bytes) → AppendsFront out out' bytes
+    → AnswersEdit (ended_as w) refusal bytes out out'
+written_as (Ok x) refusal bytes out out' none all front = (none, all)
+written_as (Err unwritten.Failed) refusal bytes out out' none all front = (none, front)
+written_as (Err unwritten.NoMemory) refusal bytes out out' none all front = subst (λ (r : Option Edited). AppendsFront out out' (unless_refused r bytes)) (sym none) front
+
+pub ended_by : (answer : Edited) (w : Result (Unit {0}) Unwritten) (refusal : Option Edited) (bytes : List ℕ) (out out' : Option (List ℕ)) → answer ≡ ended_as w → refusal ≡ None → OnOk w (Appends out out' bytes)
+    → AppendsFront out out' bytes → AnswersEdit answer refusal bytes out out'
+ended_by answer w refusal bytes out out' is none all front = subst (λ (a : Edited). AnswersEdit a refusal bytes out out') (sym is) (written_as w refusal bytes out out' none all front)
+
+pub cut_written : (held out out' : Option (List ℕ)) (bytes bytes' : List ℕ) (from : ℕ) (to : Option ℕ) (part part' : List SequenceText) (answer : Edited) (w : Result (Unit {0}) Unwritten) → IfSome held (λ h. bytes ≡ h)
+    → bytes' ≡ bytes → IsPart bytes' from to part → part' ≡ part → answer ≡ ended_as w → OnOk w (Appends out out' (sequences_bytes 0 (with_pictures part')))
+    → AppendsFront out out' (sequences_bytes 0 (with_pictures part')) → IfSome held (λ h. IsCutBy h from to answer out out')
+cut_written None out out' bytes bytes' from to part part' answer w all same p parts is written front = tt
+cut_written (Some h) out out' bytes bytes' from to part part' answer w all same p parts is written front =
+    let units = p.stream.units in
+    let text = text_is bytes' from to part part' p parts in
+    subst (λ (bs : List ℕ). IsCutBy bs from to answer out out') (same ∙ all) (
+      p.outcome,
+      p.stream,
+      ended_by answer w (cut_refusal p.outcome.end units from to) (cut_bytes units from (end_point to (points_of units))) out out' is p.allowed
+          (subst (λ (bs : List ℕ). OnOk w (Appends out out' bs)) text written) (subst (λ (bs : List ℕ). AppendsFront out out' bs) text front),
+    )
 
 pub part_shows : (held : Option (List ℕ)) (bytes bytes' : List ℕ) (from : ℕ) (to : Option ℕ) (part : List SequenceText) (P : Type 0) → IfSome held (λ h. bytes ≡ h) → bytes' ≡ bytes → IsPart bytes' from to part
     → IfSome held (λ h. P → ShowsPart h from to)
 part_shows None bytes bytes' from to part P all same p = tt
 part_shows (Some h) bytes bytes' from to part P all same p = λ _. subst (λ (bs : List ℕ). ShowsPart bs from to) (same ∙ all) p.shows
-
-pub cut_failed : (held out out' : Option (List ℕ)) (bytes bytes' : List ℕ) (from : ℕ) (to : Option ℕ) (part part' : List SequenceText) → IfSome held (λ h. bytes ≡ h) → bytes' ≡ bytes → IsPart bytes' from to part → part' ≡ part
-    → AppendsFront out out' (sequences_bytes 0 (with_pictures part')) → IfSome held (λ h. IsCutBy h from to edited.WriteFault out out')
-cut_failed None out out' bytes bytes' from to part part' all same p parts front = tt
-cut_failed (Some h) out out' bytes bytes' from to part part' all same p parts front =
-    subst (λ (bs : List ℕ). IsCutBy bs from to edited.WriteFault out out') (same ∙ all)
-    (p.outcome, p.stream, (p.allowed, subst (λ (bs : List ℕ). AppendsFront out out' bs) (text_is bytes' from to part part' p parts) front))
-
-pub cut_wanting : (held out out' : Option (List ℕ)) (bytes bytes' : List ℕ) (from : ℕ) (to : Option ℕ) (part part' : List SequenceText) → IfSome held (λ h. bytes ≡ h) → bytes' ≡ bytes → IsPart bytes' from to part → part' ≡ part
-    → AppendsFront out out' (sequences_bytes 0 (with_pictures part')) → IfSome held (λ h. IsCutBy h from to edited.NoMemory out out')
-cut_wanting None out out' bytes bytes' from to part part' all same p parts front = tt
-cut_wanting (Some h) out out' bytes bytes' from to part part' all same p parts front =
-    let units = p.stream.units in
-    subst (λ (bs : List ℕ). IsCutBy bs from to edited.NoMemory out out') (same ∙ all) (
-      p.outcome,
-      p.stream,
-      subst (λ (r : Option Edited). AppendsFront out out' (unless_refused r (cut_bytes units from (end_point to (points_of units))))) (sym p.allowed)
-          (subst (λ (bs : List ℕ). AppendsFront out out' bs) (text_is bytes' from to part part' p parts) front),
-    )

@@ -73,9 +73,6 @@ wrong_refused bytes units from to n c is = record {
   reason = refusal_is bytes units from to c ∙ ap (λ point. option_or (of_point point) (of_open (open_cut units from (end_point to (points_of units))))) is;
 }
 
-pub wanting : (bytes : List ℕ) (units : List UnitText) (from : ℕ) (to : Option ℕ) → IsChecked bytes units → RefusesCut bytes from to edited.NoMemory
-wanting bytes units from to c = record { outcome = c.outcome; stream = c.stream; reason = tt }
-
 -- a stream with a fault
 pub fault_refused : (bytes : List ℕ) (from : ℕ) (to : Option ℕ) (answer : Edited) → IsRefused bytes answer → RefusesCut bytes from to answer
 fault_refused bytes from to edited.Done refused = absurd refused

@@ -1,9 +1,10 @@
 -- What a joining answers, of whatever is known of its input.
-use Rattle.std.proofs.Common.{◌≡◌, ◌∙◌, ℕ, ◌<◌, ◌^◌, List, Option, None, Some, refl, sym, ap, subst}
-use Rattle.std.specs.Prelude.{IfSome, ⊤}
+use Rattle.std.proofs.Common.{◌≡◌, ◌∙◌, ℕ, ◌<◌, ◌^◌, List, Option, None, Some, Result, sym, ap, subst}
+use Rattle.std.specs.Prelude.{IfSome, OnOk}
 use Rattle.std.specs.List.{AllByRecursion}
 use Rattle.std.specs.Io.KnownBytes.{Appends}
 use Rattle.std.proofs.KnownBytes.{Keeps-refl}
+use Rattle.dirac_io.specs.declared.sink.Unwritten.{Unwritten}
 use Rattle.dirac_io.specs.Writing.{AppendsFront}
 use Rattle.dirac_types.specs.declared.faults.Fault.{Fault}
 use Rattle.dirac_units.specs.Cut.{EachHasACut, UnitText, start}
@@ -17,8 +18,8 @@ use Rattle.dirac_edit.specs.declared.answers.Edited.{Edited}
 use Rattle.dirac_edit.specs.declared.answers.Edited.TheVariants as edited
 use Rattle.dirac_edit.specs.Edits.{AnswersEdit, IsJoinAnswer, IsJoinedBy, JoinedShowsSame, join_refusal, unless_refused}
 use Rattle.dirac_edit.specs.Kept.{kept_of}
-use Rattle.dirac_edit.specs.Steps.{IsChecked, IsReason, IsRefused, IsWhole, RefusesJoin, StopsReading}
-use Rattle.dirac_edit.proofs.Answering.{nothing_in_front, some_shown, stopped_by}
+use Rattle.dirac_edit.specs.Steps.{IsChecked, IsReason, IsRefused, IsWhole, RefusesJoin, StopsReading, ended_as}
+use Rattle.dirac_edit.proofs.Answering.{ended_by, nothing_in_front, some_shown, stopped_by}
 use Rattle.dirac_edit.proofs.Checking.{ends_well, faultless}
 use Rattle.dirac_edit.proofs.Keeping.{all_kept}
 
@@ -60,9 +61,6 @@ join_refused_by bytes (edited.OpenCut n) refused = absurd refused
 join_refused_by bytes edited.ReadFault refused = absurd refused
 join_refused_by bytes edited.WriteFault refused = absurd refused
 join_refused_by bytes edited.NoMemory refused = record { outcome = refused.0; stream = refused.1; reason = tt }
-
-pub join_wants : (bytes : List ℕ) (units : List UnitText) → IsChecked bytes units → RefusesJoin bytes edited.NoMemory
-join_wants bytes units c = record { outcome = c.outcome; stream = c.stream; reason = tt }
 
 -- ---- answers
 
@@ -117,31 +115,18 @@ refusal_named bytes answer r = named_by answer r.outcome.end r.reason
 text_is : (bytes : List ℕ) (all all' : List SequenceText) → (w : IsWhole bytes all) → all' ≡ all → bytes_or_bare all' (joined all') ≡ joined_bytes w.stream.units
 text_is bytes all all' w same = ap (λ (ss : List SequenceText). bytes_or_bare ss (joined ss)) (same ∙ w.same)
 
-pub join_done : (held out out' : Option (List ℕ)) (bytes bytes' : List ℕ) (all all' : List SequenceText) → IfSome held (λ h. bytes ≡ h) → bytes' ≡ bytes → IsWhole bytes' all → all' ≡ all
-    → Appends out out' (bytes_or_bare all' (joined all')) → IfSome held (λ h. IsJoinedBy h edited.Done out out')
-join_done None out out' bytes bytes' all all' is same w sequences written = tt
-join_done (Some h) out out' bytes bytes' all all' is same w sequences written =
-    subst (λ (bs : List ℕ). IsJoinedBy bs edited.Done out out') (same ∙ is)
-    (w.outcome, w.stream, (w.allowed, subst (λ (bs : List ℕ). Appends out out' bs) (text_is bytes' all all' w sequences) written))
+pub join_written : (held out out' : Option (List ℕ)) (bytes bytes' : List ℕ) (all all' : List SequenceText) (answer : Edited) (w : Result (Unit {0}) Unwritten) → IfSome held (λ h. bytes ≡ h) → bytes' ≡ bytes → IsWhole bytes' all
+    → all' ≡ all → answer ≡ ended_as w → OnOk w (Appends out out' (bytes_or_bare all' (joined all'))) → AppendsFront out out' (bytes_or_bare all' (joined all')) → IfSome held (λ h. IsJoinedBy h answer out out')
+join_written None out out' bytes bytes' all all' answer w is same whole sequences ended written front = tt
+join_written (Some h) out out' bytes bytes' all all' answer w is same whole sequences ended written front =
+    let text = text_is bytes' all all' whole sequences in
+    subst (λ (bs : List ℕ). IsJoinedBy bs answer out out') (same ∙ is) (
+      whole.outcome,
+      whole.stream,
+      ended_by answer w (join_refusal whole.outcome.end) (joined_bytes whole.stream.units) out out' ended whole.allowed
+          (subst (λ (bs : List ℕ). OnOk w (Appends out out' bs)) text written) (subst (λ (bs : List ℕ). AppendsFront out out' bs) text front),
+    )
 
 pub join_shows : (held : Option (List ℕ)) (bytes bytes' : List ℕ) (all : List SequenceText) (P : Type 0) → IfSome held (λ h. bytes ≡ h) → bytes' ≡ bytes → IsWhole bytes' all → IfSome held (λ h. P → JoinedShowsSame h)
 join_shows None bytes bytes' all P is same w = tt
 join_shows (Some h) bytes bytes' all P is same w = λ _. subst (λ (bs : List ℕ). JoinedShowsSame bs) (same ∙ is) w.shows
-
-pub join_failed : (held out out' : Option (List ℕ)) (bytes bytes' : List ℕ) (all all' : List SequenceText) → IfSome held (λ h. bytes ≡ h) → bytes' ≡ bytes → IsWhole bytes' all → all' ≡ all
-    → AppendsFront out out' (bytes_or_bare all' (joined all')) → IfSome held (λ h. IsJoinedBy h edited.WriteFault out out')
-join_failed None out out' bytes bytes' all all' is same w sequences front = tt
-join_failed (Some h) out out' bytes bytes' all all' is same w sequences front =
-    subst (λ (bs : List ℕ). IsJoinedBy bs edited.WriteFault out out') (same ∙ is)
-    (w.outcome, w.stream, (w.allowed, subst (λ (bs : List ℕ). AppendsFront out out' bs) (text_is bytes' all all' w sequences) front))
-
-pub join_wanting : (held out out' : Option (List ℕ)) (bytes bytes' : List ℕ) (all all' : List SequenceText) → IfSome held (λ h. bytes ≡ h) → bytes' ≡ bytes → IsWhole bytes' all → all' ≡ all
-    → AppendsFront out out' (bytes_or_bare all' (joined all')) → IfSome held (λ h. IsJoinedBy h edited.NoMemory out out')
-join_wanting None out out' bytes bytes' all all' is same w sequences front = tt
-join_wanting (Some h) out out' bytes bytes' all all' is same w sequences front =
-    subst (λ (bs : List ℕ). IsJoinedBy bs edited.NoMemory out out') (same ∙ is) (
-      w.outcome,
-      w.stream,
-      subst (λ (r : Option Edited). AppendsFront out out' (unless_refused r (joined_bytes w.stream.units))) (sym w.allowed)
-          (subst (λ (bs : List ℕ). AppendsFront out out' bs) (text_is bytes' all all' w sequences) front),
-    )

@@ -1,6 +1,8 @@
 -- What the steps of a cut and a joining answer.
 -- Inner: for the proofs of this crate.
-use Rattle.std.specs.Prelude.{◌≡◌, ℕ, List, Option, None, Some, ⊤}
+use Rattle.std.specs.Prelude.{◌≡◌, ℕ, List, Option, None, Some, ⊤, Result, Ok, Err}
+use Rattle.dirac_io.specs.declared.sink.Unwritten.{Unwritten}
+use Rattle.dirac_io.specs.declared.sink.Unwritten.TheVariants as unwritten
 use Rattle.dirac_units.specs.Cut.{UnitText}
 use Rattle.dirac_decode.specs.Shown.{IsShown, Outcome}
 use Rattle.dirac_edit_laws.specs.Cut.{end_point, part_of}
@@ -8,6 +10,12 @@ use Rattle.dirac_edit_laws.specs.Texts.{SequenceText, points_of, sequences, with
 use Rattle.dirac_edit.specs.declared.answers.Edited.{Edited}
 use Rattle.dirac_edit.specs.declared.answers.Edited.TheVariants as edited
 use Rattle.dirac_edit.specs.Edits.{ShowsPart, JoinedShowsSame, cut_refusal, join_refusal}
+
+-- the answer where the writing ended so
+abbrev pub ended_as : Result (Unit {0}) Unwritten → Edited
+ended_as (Ok all) = edited.Done
+ended_as (Err unwritten.Failed) = edited.WriteFault
+ended_as (Err unwritten.NoMemory) = edited.NoMemory
 
 -- the answers of a reading that stopped
 abbrev pub StopsReading : Edited → Type 0

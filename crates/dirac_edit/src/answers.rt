@@ -1,3 +1,7 @@
+ghost use Rattle.std.specs.Prelude.{◌≡◌, Err};
+ghost use Rattle.dirac_edit.specs.Steps.{ended_as};
+
+use dirac_io::Unwritten;
 use dirac_types::Fault;
 
 /// How a cut or a joining ended.
@@ -16,4 +20,18 @@ pub enum Edited {
     /// A write to the sink failed.
     WriteFault,
     NoMemory,
+}
+
+impl Edited {
+    /// The answer where the writing ended so.
+    pub(crate) fn of(written: Result<(), Unwritten>) -> Edited
+        ensures value { result ≡ ended_as written }
+        ensures failed { result ≡ Edited.WriteFault → written ≡ Err Unwritten.Failed }
+    {
+        match written {
+            Ok(()) => Edited::Done,
+            Err(Unwritten::Failed) => Edited::WriteFault,
+            Err(Unwritten::NoMemory) => Edited::NoMemory,
+        }
+    }
 }

@@ -17,7 +17,7 @@ use crate::sequence::HeldSequence;
 use crate::units::units_of;
 use crate::writing::put_sequences;
 use dirac_edit_laws::{cuts_show_their_parts, units_show_their_sequences};
-use dirac_io::{Put, Sink, Source};
+use dirac_io::{Sink, Source};
 use dirac_units::bytes_have_one_cut;
 use std::alloc::Global;
 
@@ -50,11 +50,7 @@ pub fn cut_stream<S: Source, K: Sink>(
         Err(answer) => return answer,
     };
     match part_of(alloc, bytes.as_slice(), from, to) {
-        Ok(part) => match put_sequences(out, part.as_slice()) {
-            Put::All => Edited::Done,
-            Put::Failed => Edited::WriteFault,
-            Put::NoMemory => Edited::NoMemory,
-        },
+        Ok(part) => Edited::of(put_sequences(out, part.as_slice())),
         Err(answer) => answer,
     }
 }
@@ -75,10 +71,7 @@ fn part_of<'a>(
     ensures part { IfOk result (λ part. IsPart bytes.now from to part.items) }
     ensures refused { IfErr result (RefusesCut bytes.now from to) }
 {
-    match check(alloc, bytes) {
-        Ok(()) => {}
-        Err(answer) => return Err(answer),
-    }
+    check(alloc, bytes)?;
     are_bytes(bytes);
     bytes_have_one_cut();
     cuts_show_their_parts();

@@ -15,7 +15,7 @@ use crate::reading::take_all;
 use crate::sequence::HeldSequence;
 use crate::units::units_of;
 use dirac_edit_laws::joined_streams_show_the_same;
-use dirac_io::{Put, Sink, Source};
+use dirac_io::{Sink, Source};
 use dirac_units::bytes_have_one_cut;
 use std::alloc::Global;
 
@@ -44,11 +44,7 @@ pub fn join_stream<S: Source, K: Sink>(alloc: Global, source: &mut S, out: &mut 
         Err(answer) => return answer,
     };
     match whole_of(alloc, bytes.as_slice()) {
-        Ok(sequences) => match put_joined(out, sequences.as_slice()) {
-            Put::All => Edited::Done,
-            Put::Failed => Edited::WriteFault,
-            Put::NoMemory => Edited::NoMemory,
-        },
+        Ok(sequences) => Edited::of(put_joined(out, sequences.as_slice())),
         Err(answer) => answer,
     }
 }
@@ -64,10 +60,7 @@ fn whole_of<'a>(alloc: Global, bytes: &'a [u8]) -> Result<Vec<HeldSequence<'a>>,
     ensures whole { IfOk result (λ all. IsWhole bytes.now all.items) }
     ensures refused { IfErr result (RefusesJoin bytes.now) }
 {
-    match check(alloc, bytes) {
-        Ok(()) => {}
-        Err(answer) => return Err(answer),
-    }
+    check(alloc, bytes)?;
     are_bytes(bytes);
     bytes_have_one_cut();
     joined_streams_show_the_same();

@@ -1,7 +1,7 @@
 //! Sequences, written one behind another: those whose keys leave room are appended to the one before them.
 
-ghost use Rattle.std.specs.Prelude.{◌≡◌, ◌≤◌, ◌<◌, ◌+◌, ◌++◌, ◌^◌, length, map, None, Some, MatchOption, false, true};
-ghost use Rattle.std.specs.Prelude.{is_none};
+ghost use Rattle.std.specs.Prelude.{◌≡◌, ◌≤◌, ◌<◌, ◌+◌, ◌++◌, ◌^◌, length, map, Err, None, Some, OnOk, MatchOption};
+ghost use Rattle.std.specs.Prelude.{false, true, is_none};
 ghost use Rattle.std.specs.Int.{to_be_bytes, w32};
 ghost use Rattle.std.specs.Io.KnownBytes.{Appends};
 ghost use Rattle.dirac_io.specs.Faults.{Rose};
@@ -15,7 +15,7 @@ ghost use Rattle.dirac_edit.specs.Merged.{shift_onto, units_behind, way_onto};
 use crate::keys::{Keys, keys_of};
 use crate::numbers::{behind_number, number_in};
 use crate::sequence::{HeldPicture, HeldSequence};
-use dirac_io::{Put, Sink, put_all};
+use dirac_io::{Sink, Unwritten, put_all};
 use dirac_units::{
     PARSE_INFO_LENGTH, ParseInfo, SEQUENCE_HEADER, put_end, put_unit, unit_length, write_info,
 };
@@ -142,13 +142,12 @@ impl<'a> Progress<'a> {
     }
 
     /// Writes a sequence, appended to the one before it where it may be.
-    fn put<K: Sink>(&mut self, out: &mut K, sequence: &HeldSequence<'a>) -> Put
-        ensures all { result ≡ Put.All
-            → Appends (K.taken out.old) (K.taken out.new) (added self.old sequence.now).bytes }
-        ensures behind { result ≡ Put.All → self.new ≡ behind self.old sequence.now }
+    fn put<K: Sink>(&mut self, out: &mut K, sequence: &HeldSequence<'a>) -> Result<(), Unwritten>
+        ensures all { OnOk result (Appends (K.taken out.old) (K.taken out.new) (added self.old sequence.now).bytes) }
+        ensures behind { OnOk result (self.new ≡ behind self.old sequence.now) }
         ensures numbered { first_number sequence.now.pictures < 2 ^ 32 }
         ensures front { AppendsFront (K.taken out.old) (K.taken out.new) (added self.old sequence.now).bytes }
-        ensures failed { result ≡ Put.Failed → Rose (K.faults out.old) (K.faults out.new) }
+        ensures failed { result ≡ Err Unwritten.Failed → Rose (K.faults out.old) (K.faults out.new) }
         ensures count { K.faults out.old ≤ K.faults out.new }
     {
         let keys = keys_of(sequence.pictures());
@@ -170,13 +169,19 @@ impl<'a> Progress<'a> {
 }
 
 /// Writes a picture's unit with this number and this rest of its payload, behind a unit of `previous` bytes.
-fn put_numbered<K: Sink>(out: &mut K, code: u8, previous: u32, number: u32, rest: &[u8]) -> Put
+fn put_numbered<K: Sink>(
+    out: &mut K,
+    code: u8,
+    previous: u32,
+    number: u32,
+    rest: &[u8],
+) -> Result<(), Unwritten>
     requires { 17 + length rest.now < 2 ^ 32 }
-    ensures all { result ≡ Put.All → Appends (K.taken out.old) (K.taken out.new)
-        (unit code previous (to_be_bytes w32 number ++ rest.now)) }
+    ensures all { OnOk result (Appends (K.taken out.old) (K.taken out.new)
+        (unit code previous (to_be_bytes w32 number ++ rest.now))) }
     ensures front { AppendsFront (K.taken out.old) (K.taken out.new)
         (unit code previous (to_be_bytes w32 number ++ rest.now)) }
-    ensures failed { result ≡ Put.Failed → Rose (K.faults out.old) (K.faults out.new) }
+    ensures failed { result ≡ Err Unwritten.Failed → Rose (K.faults out.old) (K.faults out.new) }
     ensures count { K.faults out.old ≤ K.faults out.new }
 {
     let info = write_info(ParseInfo {
@@ -184,25 +189,19 @@ fn put_numbered<K: Sink>(out: &mut K, code: u8, previous: u32, number: u32, rest
         next: numbered_length(rest),
         previous,
     });
-    match put_both(out, &info, &number.to_be_bytes()) {
-        Put::All => put_all(out, rest),
-        Put::Failed => Put::Failed,
-        Put::NoMemory => Put::NoMemory,
-    }
+    put_both(out, &info, &number.to_be_bytes())?;
+    put_all(out, rest).done()
 }
 
 /// Writes two pieces.
-fn put_both<K: Sink>(out: &mut K, first: &[u8], second: &[u8]) -> Put
-    ensures all { result ≡ Put.All → Appends (K.taken out.old) (K.taken out.new) (first.now ++ second.now) }
+fn put_both<K: Sink>(out: &mut K, first: &[u8], second: &[u8]) -> Result<(), Unwritten>
+    ensures all { OnOk result (Appends (K.taken out.old) (K.taken out.new) (first.now ++ second.now)) }
     ensures front { AppendsFront (K.taken out.old) (K.taken out.new) (first.now ++ second.now) }
-    ensures failed { result ≡ Put.Failed → Rose (K.faults out.old) (K.faults out.new) }
+    ensures failed { result ≡ Err Unwritten.Failed → Rose (K.faults out.old) (K.faults out.new) }
     ensures count { K.faults out.old ≤ K.faults out.new }
 {
-    match put_all(out, first) {
-        Put::All => put_all(out, second),
-        Put::Failed => Put::Failed,
-        Put::NoMemory => Put::NoMemory,
-    }
+    put_all(out, first).done()?;
+    put_all(out, second).done()
 }
 
 /// The length of a picture's unit, which has this behind its number.
@@ -219,92 +218,88 @@ fn put_units<K: Sink>(
     previous: &mut u32,
     way: u32,
     pictures: &[HeldPicture<'_>],
-) -> Put
-    ensures all { result ≡ Put.All → Appends (K.taken out.old) (K.taken out.new)
-        (units_behind previous.old (map (moved_on way) pictures.now)) }
-    ensures last { result ≡ Put.All → previous.new ≡ length_behind previous.old (map (moved_on way) pictures.now) }
+) -> Result<(), Unwritten>
+    ensures all { OnOk result (Appends (K.taken out.old) (K.taken out.new)
+        (units_behind previous.old (map (moved_on way) pictures.now))) }
+    ensures last { OnOk result (previous.new ≡ length_behind previous.old (map (moved_on way) pictures.now)) }
     ensures front { AppendsFront (K.taken out.old) (K.taken out.new)
         (units_behind previous.old (map (moved_on way) pictures.now)) }
-    ensures failed { result ≡ Put.Failed → Rose (K.faults out.old) (K.faults out.new) }
+    ensures failed { result ≡ Err Unwritten.Failed → Rose (K.faults out.old) (K.faults out.new) }
     ensures count { K.faults out.old ≤ K.faults out.new }
 {
     for picture in pictures {
         let payload = picture.payload();
         let number = number_in(payload).wrapping_add(way);
         let rest = behind_number(payload);
-        match put_numbered(out, picture.code(), *previous, number, rest) {
-            Put::All => {}
-            Put::Failed => return Put::Failed,
-            Put::NoMemory => return Put::NoMemory,
-        }
+        put_numbered(out, picture.code(), *previous, number, rest)?;
         *previous = numbered_length(rest);
     }
-    Put::All
+    Ok(())
 }
 
 /// Writes the header and the pictures of a sequence, behind a unit of `previous` bytes.
-fn put_own<K: Sink>(out: &mut K, previous: &mut u32, sequence: &HeldSequence<'_>) -> Put
-    ensures all { result ≡ Put.All → Appends (K.taken out.old) (K.taken out.new)
-        (own_bytes previous.old sequence.now) }
-    ensures last { result ≡ Put.All → previous.new ≡ own_length sequence.now }
+fn put_own<K: Sink>(
+    out: &mut K,
+    previous: &mut u32,
+    sequence: &HeldSequence<'_>,
+) -> Result<(), Unwritten>
+    ensures all { OnOk result (Appends (K.taken out.old) (K.taken out.new)
+        (own_bytes previous.old sequence.now)) }
+    ensures last { OnOk result (previous.new ≡ own_length sequence.now) }
     ensures front { AppendsFront (K.taken out.old) (K.taken out.new) (own_bytes previous.old sequence.now) }
-    ensures failed { result ≡ Put.Failed → Rose (K.faults out.old) (K.faults out.new) }
+    ensures failed { result ≡ Err Unwritten.Failed → Rose (K.faults out.old) (K.faults out.new) }
     ensures count { K.faults out.old ≤ K.faults out.new }
 {
     let header = sequence.header();
-    match put_unit(out, SEQUENCE_HEADER, *previous, header) {
-        Put::All => {}
-        Put::Failed => return Put::Failed,
-        Put::NoMemory => return Put::NoMemory,
-    }
+    put_unit(out, SEQUENCE_HEADER, *previous, header).done()?;
     *previous = unit_length(header);
     put_units(out, previous, 0, sequence.pictures())
 }
 
 /// Writes an end unit behind a unit of `previous` bytes, and behind it a sequence.
-fn put_apart<K: Sink>(out: &mut K, previous: &mut u32, sequence: &HeldSequence<'_>) -> Put
-    ensures all { result ≡ Put.All → Appends (K.taken out.old) (K.taken out.new)
-        (end_unit previous.old ++ own_bytes 13 sequence.now) }
-    ensures last { result ≡ Put.All → previous.new ≡ own_length sequence.now }
+fn put_apart<K: Sink>(
+    out: &mut K,
+    previous: &mut u32,
+    sequence: &HeldSequence<'_>,
+) -> Result<(), Unwritten>
+    ensures all { OnOk result (Appends (K.taken out.old) (K.taken out.new)
+        (end_unit previous.old ++ own_bytes 13 sequence.now)) }
+    ensures last { OnOk result (previous.new ≡ own_length sequence.now) }
     ensures front { AppendsFront (K.taken out.old) (K.taken out.new)
         (end_unit previous.old ++ own_bytes 13 sequence.now) }
-    ensures failed { result ≡ Put.Failed → Rose (K.faults out.old) (K.faults out.new) }
+    ensures failed { result ≡ Err Unwritten.Failed → Rose (K.faults out.old) (K.faults out.new) }
     ensures count { K.faults out.old ≤ K.faults out.new }
 {
-    match put_end(out, *previous) {
-        Put::All => {}
-        Put::Failed => return Put::Failed,
-        Put::NoMemory => return Put::NoMemory,
-    }
+    put_end(out, *previous).done()?;
     *previous = PARSE_INFO_LENGTH as u32;
     put_own(out, previous, sequence)
 }
 
 /// Writes a stream without pictures: the first header, where there is one, and an end unit.
-fn put_bare<K: Sink>(out: &mut K, sequences: &[HeldSequence<'_>]) -> Put
-    ensures all { result ≡ Put.All → Appends (K.taken out.old) (K.taken out.new) (bare sequences.now) }
+fn put_bare<K: Sink>(out: &mut K, sequences: &[HeldSequence<'_>]) -> Result<(), Unwritten>
+    ensures all { OnOk result (Appends (K.taken out.old) (K.taken out.new) (bare sequences.now)) }
     ensures front { AppendsFront (K.taken out.old) (K.taken out.new) (bare sequences.now) }
-    ensures failed { result ≡ Put.Failed → Rose (K.faults out.old) (K.faults out.new) }
+    ensures failed { result ≡ Err Unwritten.Failed → Rose (K.faults out.old) (K.faults out.new) }
     ensures count { K.faults out.old ≤ K.faults out.new }
 {
     let Some(sequence) = sequences.first() else {
-        return put_end(out, 0);
+        return put_end(out, 0).done();
     };
     let header = sequence.header();
-    match put_unit(out, SEQUENCE_HEADER, 0, header) {
-        Put::All => put_end(out, unit_length(header)),
-        Put::Failed => Put::Failed,
-        Put::NoMemory => Put::NoMemory,
-    }
+    put_unit(out, SEQUENCE_HEADER, 0, header).done()?;
+    put_end(out, unit_length(header)).done()
 }
 
 /// Writes sequences, joined.
-pub(crate) fn put_joined<K: Sink>(out: &mut K, sequences: &[HeldSequence<'_>]) -> Put
-    ensures all { result ≡ Put.All → Appends (K.taken out.old) (K.taken out.new)
-        (bytes_or_bare sequences.now (joined sequences.now)) }
+pub(crate) fn put_joined<K: Sink>(
+    out: &mut K,
+    sequences: &[HeldSequence<'_>],
+) -> Result<(), Unwritten>
+    ensures all { OnOk result (Appends (K.taken out.old) (K.taken out.new)
+        (bytes_or_bare sequences.now (joined sequences.now))) }
     ensures front { AppendsFront (K.taken out.old) (K.taken out.new)
         (bytes_or_bare sequences.now (joined sequences.now)) }
-    ensures failed { result ≡ Put.Failed → Rose (K.faults out.old) (K.faults out.new) }
+    ensures failed { result ≡ Err Unwritten.Failed → Rose (K.faults out.old) (K.faults out.new) }
     ensures count { K.faults out.old ≤ K.faults out.new }
 {
     let mut progress = Progress::new();
@@ -312,14 +307,10 @@ pub(crate) fn put_joined<K: Sink>(out: &mut K, sequences: &[HeldSequence<'_>]) -
         if sequence.pictures().is_empty() {
             continue;
         }
-        match progress.put(out, sequence) {
-            Put::All => {}
-            Put::Failed => return Put::Failed,
-            Put::NoMemory => return Put::NoMemory,
-        }
+        progress.put(out, sequence)?;
     }
     if progress.is_bare() {
         return put_bare(out, sequences);
     }
-    put_end(out, progress.previous())
+    put_end(out, progress.previous()).done()
 }

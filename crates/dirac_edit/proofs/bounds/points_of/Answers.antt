@@ -17,9 +17,9 @@ loop-unit-preserved c =
       | else-is_intra w ↦ w.points-is ∙ sym (cond-false b (points + 1) points (sym same ∙ w.if-is_intra.false))
     ] in
     record {
-      few = elim c.if-is_intra.branch [
-        | then-is_intra w ↦ omega (arith, c.loop-unit.invariant.few)
-        | else-is_intra w ↦ omega (arith, c.loop-unit.invariant.few)
+      at_most_one_a_unit = elim c.if-is_intra.branch [
+        | then-is_intra w ↦ omega (arith, c.loop-unit.invariant.at_most_one_a_unit)
+        | else-is_intra w ↦ omega (arith, c.loop-unit.invariant.at_most_one_a_unit)
       ];
       so = points_more c.args.units.now c.loop-unit.unit-index u points c.if-is_intra.points c.loop-unit-test.true c.unit-item.is c.loop-unit.invariant.so next;
     }

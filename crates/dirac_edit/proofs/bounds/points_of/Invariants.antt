@@ -4,6 +4,6 @@ use Rattle.dirac_edit.proofs.bounds.points_of.Given as goal
 
 abbrev pub invariant-loop-unit : goal.invariant-loop-unit
 invariant-loop-unit l = record {
-  few : l.points ≤ l.unit-index;
+  at_most_one_a_unit : l.points ≤ l.unit-index;
   so : l.points + points_of (drop l.unit-index l.units) ≡ points_of l.units;
 }

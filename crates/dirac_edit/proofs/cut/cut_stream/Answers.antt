@@ -1,29 +1,19 @@
-use Rattle.std.proofs.Common.{refl}
-use Rattle.dirac_edit.proofs.Answering.{cut_done, cut_failed, cut_refused, cut_wanting, part_shows, reading_stopped}
+use Rattle.dirac_edit.proofs.Answering.{cut_refused, cut_written, part_shows, reading_stopped}
 use Rattle.dirac_edit.proofs.cut.cut_stream.Goals as goal
 
 pub returns-in-Err-clause-cut : goal.returns-in-Err-clause-cut
 returns-in-Err-clause-cut g c =
     reading_stopped (g.S.Source.held c.args.source.now) (g.K.Sink.taken c.args.out.now) c.args.from c.args.to c.in-Err.answer c.bytes_have_one_cut.ensures.each_has_a_cut c.in-Err.ensures.stopped
 
-pub returns-in-All-clause-cut : goal.returns-in-All-clause-cut
-returns-in-All-clause-cut g c =
-    cut_done (g.S.Source.held c.args.source.now) (g.K.Sink.taken c.args.out.now) (g.K.Sink.taken c.put_sequences.new.out) c.in-Ok.bytes.items c.as_slice.result.now c.args.from c.args.to
-    c.in-Ok-part_of.part.items c.as_slice-in-Ok-part_of.result.now c.in-Ok.ensures.all c.as_slice.ensures.value c.in-Ok-part_of.ensures.part c.as_slice-in-Ok-part_of.ensures.value (c.in-All.ensures.all refl)
-
-pub returns-in-All-clause-shows : goal.returns-in-All-clause-shows
-returns-in-All-clause-shows g c =
-    part_shows (g.S.Source.held c.args.source.now) c.in-Ok.bytes.items c.as_slice.result.now c.args.from c.args.to c.in-Ok-part_of.part.items _ c.in-Ok.ensures.all c.as_slice.ensures.value c.in-Ok-part_of.ensures.part
-
-pub returns-in-Failed-clause-cut : goal.returns-in-Failed-clause-cut
-returns-in-Failed-clause-cut g c =
-    cut_failed (g.S.Source.held c.args.source.now) (g.K.Sink.taken c.args.out.now) (g.K.Sink.taken c.put_sequences.new.out) c.in-Ok.bytes.items c.as_slice.result.now c.args.from c.args.to
-    c.in-Ok-part_of.part.items c.as_slice-in-Ok-part_of.result.now c.in-Ok.ensures.all c.as_slice.ensures.value c.in-Ok-part_of.ensures.part c.as_slice-in-Ok-part_of.ensures.value c.in-Failed.ensures.front
-
 pub returns-in-Ok-part_of-clause-cut : goal.returns-in-Ok-part_of-clause-cut
 returns-in-Ok-part_of-clause-cut g c =
-    cut_wanting (g.S.Source.held c.args.source.now) (g.K.Sink.taken c.args.out.now) (g.K.Sink.taken c.put_sequences.new.out) c.in-Ok.bytes.items c.as_slice.result.now c.args.from c.args.to
-    c.in-Ok-part_of.part.items c.as_slice-in-Ok-part_of.result.now c.in-Ok.ensures.all c.as_slice.ensures.value c.in-Ok-part_of.ensures.part c.as_slice-in-Ok-part_of.ensures.value c.in-NoMemory.ensures.front
+    cut_written (g.S.Source.held c.args.source.now) (g.K.Sink.taken c.args.out.now) (g.K.Sink.taken c.put_sequences.new.out) c.in-Ok.bytes.items c.as_slice.result.now c.args.from c.args.to
+    c.in-Ok-part_of.part.items c.as_slice-in-Ok-part_of.result.now c.of.result c.put_sequences.result c.in-Ok.ensures.all c.as_slice.ensures.value c.in-Ok-part_of.ensures.part c.as_slice-in-Ok-part_of.ensures.value
+    c.of.ensures.value c.put_sequences.ensures.all c.put_sequences.ensures.front
+
+pub returns-in-Ok-part_of-clause-shows : goal.returns-in-Ok-part_of-clause-shows
+returns-in-Ok-part_of-clause-shows g c =
+    part_shows (g.S.Source.held c.args.source.now) c.in-Ok.bytes.items c.as_slice.result.now c.args.from c.args.to c.in-Ok-part_of.part.items _ c.in-Ok.ensures.all c.as_slice.ensures.value c.in-Ok-part_of.ensures.part
 
 pub returns-clause-cut : goal.returns-clause-cut
 returns-clause-cut g c =

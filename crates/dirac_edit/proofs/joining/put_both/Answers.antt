@@ -1,29 +1,18 @@
-use Rattle.std.proofs.Common.{◌++◌, ℕ, List, refl}
-use Rattle.dirac_edit.proofs.Written.{last_part_written, none_written, part_written, piece_written}
+use Rattle.std.proofs.KnownBytes.{Appends-trans}
+use Rattle.std.proofs.lemmas.Result.{on_ok_weaker}
+use Rattle.dirac_units.proofs.Appended.{behind_front, front_then}
 use Rattle.dirac_edit.proofs.joining.put_both.Goals as goal
 
-pub returns-in-All-clause-front : goal.returns-in-All-clause-front
-returns-in-All-clause-front g c =
-    let first = c.args.first.now in
-    let second = c.args.second.now in
-    let out = g.K.Sink.taken c.args.out.now in
-    let mid = g.K.Sink.taken c.put_all.new.sink in
-    let both : List ℕ = first ++ second in
-    last_part_written both second out mid (g.K.Sink.taken c.put_all-in-All.new.sink)
-    (piece_written both first second out out mid (none_written both out) (c.in-All.ensures.all refl)) c.put_all-in-All.ensures.front
+pub returns-in_err-done-clause-front : goal.returns-in_err-done-clause-front
+returns-in_err-done-clause-front g c =
+    front_then (g.K.Sink.taken c.args.out.now) (g.K.Sink.taken c.put_all.new.sink) c.args.first.now c.args.second.now c.put_all.ensures.front
 
-pub returns-in-Failed-clause-front : goal.returns-in-Failed-clause-front
-returns-in-Failed-clause-front g c =
-    let first = c.args.first.now in
-    let second = c.args.second.now in
-    let out = g.K.Sink.taken c.args.out.now in
-    let both : List ℕ = first ++ second in
-    part_written both first second out out (g.K.Sink.taken c.put_all.new.sink) (none_written both out) c.in-Failed.ensures.front
+pub returns-clause-all : goal.returns-clause-all
+returns-clause-all g c =
+    on_ok_weaker c.done-2.result (λ all. Appends-trans (g.K.Sink.taken c.args.out.now) (g.K.Sink.taken c.put_all.new.sink) (g.K.Sink.taken c.put_all-2.new.sink) c.args.first.now c.args.second.now
+    (c.put_all.ensures.all c.in_ok-done.ensures.all) (c.put_all-2.ensures.all all)) c.done-2.ensures.all
 
-pub returns-in-NoMemory-clause-front : goal.returns-in-NoMemory-clause-front
-returns-in-NoMemory-clause-front g c =
-    let first = c.args.first.now in
-    let second = c.args.second.now in
-    let out = g.K.Sink.taken c.args.out.now in
-    let both : List ℕ = first ++ second in
-    part_written both first second out out (g.K.Sink.taken c.put_all.new.sink) (none_written both out) c.in-NoMemory.ensures.front
+pub returns-clause-front : goal.returns-clause-front
+returns-clause-front g c =
+    behind_front (g.K.Sink.taken c.args.out.now) (g.K.Sink.taken c.put_all.new.sink) (g.K.Sink.taken c.put_all-2.new.sink) c.args.first.now c.args.second.now
+    (c.put_all.ensures.all c.in_ok-done.ensures.all) c.put_all-2.ensures.front

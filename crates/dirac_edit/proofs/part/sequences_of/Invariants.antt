@@ -4,6 +4,6 @@ use Rattle.dirac_edit.proofs.part.sequences_of.Given as goal
 
 abbrev pub invariant-loop-index : goal.invariant-loop-index
 invariant-loop-index l = record {
-  few : l.walk.points ≤ l.index;
+  at_most_one_a_unit : l.walk.points ≤ l.index;
   so : kept_of l.part l.units ≡ all_of (walked_from l.part l.index l.walk (drop l.index l.units));
 }
