@@ -5,4 +5,5 @@ pub mod FinerBands
 pub mod Examples
 pub mod Undone
 pub mod Fitting
+pub mod HalfBands
 pub mod Analysing

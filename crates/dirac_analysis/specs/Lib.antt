@@ -1,4 +1,5 @@
 pub mod Analysis
 pub mod Coded
 pub mod Fits
+pub mod Halves
 pub mod Laws

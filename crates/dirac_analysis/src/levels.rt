@@ -5,11 +5,14 @@ ghost use Rattle.dirac_bands.specs.Interleaving.{band_of};
 ghost use Rattle.dirac_lift.specs.Level.{analysed};
 ghost use Rattle.dirac_analysis.specs.Analysis.{analysis_of, as_coded, differences};
 ghost use Rattle.dirac_analysis.specs.Fits.{AreQuantisable, IsDivisible, IsQuantisable, grown};
+ghost use Rattle.dirac_analysis.specs.Halves.{held_table};
 
 use crate::analysed::AnalysedPlane;
+use crate::held::{Held, SplitLevel};
+use crate::narrow::{is_narrow, split_narrow};
 use dirac_bands::{FourBands, dc_subtract, split_bands};
 use dirac_lift::analyse_level;
-use dirac_types::{Kind, LARGEST_TABLE_SIDE, NoMemory, Wide};
+use dirac_types::{Kind, LARGEST_TABLE_SIDE, Narrow, NoMemory, Wide};
 use std::alloc::Global;
 
 /// The last LL band as it is coded: an intra picture's less its predictions.
@@ -39,45 +42,85 @@ fn less_predictions(mut low: Wide) -> Wide
     low
 }
 
-/// Analyses one level.
-fn split_level(alloc: Global, mut plane: Wide, wavelet: u8) -> Result<FourBands, NoMemory>
+/// Analyses one level by wide numbers.
+fn split_wide(alloc: Global, mut plane: Wide, wavelet: u8) -> Result<SplitLevel, NoMemory>
     requires wavelet { IsWavelet wavelet }
     requires across { (plane.width % 2 ≡ 0) × (plane.width ≤ LARGEST_TABLE_SIDE) }
     requires down { (plane.height % 2 ≡ 0) × (plane.height ≤ LARGEST_TABLE_SIDE) }
     requires magnitudes_at_most_2_29 { All (λ v. unsigned_abs v ≤ 2 ^ 29) plane.values }
-    ensures ll { IfOk result (λ l. l.ll ≡ band_of (analysed wavelet plane) 0 0) }
+    ensures ll { IfOk result (λ l. held_table l.ll ≡ band_of (analysed wavelet plane) 0 0) }
     ensures hl { IfOk result (λ l. l.hl ≡ band_of (analysed wavelet plane) 1 0) }
     ensures lh { IfOk result (λ l. l.lh ≡ band_of (analysed wavelet plane) 0 1) }
     ensures hh { IfOk result (λ l. l.hh ≡ band_of (analysed wavelet plane) 1 1) }
-    ensures fits { IfOk result (λ l. IsQuantisable l.hl × IsQuantisable l.lh × IsQuantisable l.hh) }
 {
     analyse_level(wavelet, &mut plane);
-    let bands = split_bands(alloc, &plane)?;
-    Ok(bands)
+    let FourBands { ll, hl, lh, hh } = split_bands(alloc, &plane)?;
+    Ok(SplitLevel {
+        ll: Held::Wide(ll),
+        hl,
+        lh,
+        hh,
+    })
+}
+
+/// Analyses one level of a plane that is held in 32 bits: in these where all its values allow it.
+fn split_by_size(alloc: Global, plane: Narrow, wavelet: u8) -> Result<SplitLevel, NoMemory>
+    requires wavelet { IsWavelet wavelet }
+    requires across { (plane.width % 2 ≡ 0) × (plane.width ≤ LARGEST_TABLE_SIDE) }
+    requires down { (plane.height % 2 ≡ 0) × (plane.height ≤ LARGEST_TABLE_SIDE) }
+    requires magnitudes_at_most_2_29 { All (λ v. unsigned_abs v ≤ 2 ^ 29) plane.values }
+    ensures ll { IfOk result (λ l. held_table l.ll ≡ band_of (analysed wavelet plane) 0 0) }
+    ensures hl { IfOk result (λ l. l.hl ≡ band_of (analysed wavelet plane) 1 0) }
+    ensures lh { IfOk result (λ l. l.lh ≡ band_of (analysed wavelet plane) 0 1) }
+    ensures hh { IfOk result (λ l. l.hh ≡ band_of (analysed wavelet plane) 1 1) }
+{
+    if is_narrow(plane.values()) {
+        return split_narrow(alloc, &plane, wavelet);
+    }
+    let wide = plane.try_wide(alloc)?;
+    split_wide(alloc, wide, wavelet)
+}
+
+/// Analyses one level.
+fn split_level(alloc: Global, plane: Held, wavelet: u8) -> Result<SplitLevel, NoMemory>
+    requires wavelet { IsWavelet wavelet }
+    requires across { ((held_table plane).width % 2 ≡ 0) × ((held_table plane).width ≤ LARGEST_TABLE_SIDE) }
+    requires down { ((held_table plane).height % 2 ≡ 0) × ((held_table plane).height ≤ LARGEST_TABLE_SIDE) }
+    requires magnitudes_at_most_2_29 { All (λ v. unsigned_abs v ≤ 2 ^ 29) (held_table plane).values }
+    ensures ll { IfOk result (λ l. held_table l.ll ≡ band_of (analysed wavelet (held_table plane)) 0 0) }
+    ensures hl { IfOk result (λ l. l.hl ≡ band_of (analysed wavelet (held_table plane)) 1 0) }
+    ensures lh { IfOk result (λ l. l.lh ≡ band_of (analysed wavelet (held_table plane)) 0 1) }
+    ensures hh { IfOk result (λ l. l.hh ≡ band_of (analysed wavelet (held_table plane)) 1 1) }
+{
+    match plane {
+        Held::Narrow(plane) => split_by_size(alloc, plane, wavelet),
+        Held::Wide(plane) => split_wide(alloc, plane, wavelet),
+    }
 }
 
 /// A table that is analysed `depth` times.
 pub(crate) fn analyse_levels(
     alloc: Global,
     kind: Kind,
-    plane: Wide,
+    plane: Held,
     wavelet: u8,
     depth: u8,
 ) -> Result<AnalysedPlane, NoMemory>
     requires wavelet { IsWavelet wavelet }
     requires depth { depth ≤ 4 }
-    requires across { plane.width ≤ LARGEST_TABLE_SIDE }
-    requires down { plane.height ≤ LARGEST_TABLE_SIDE }
-    requires divisible { IsDivisible depth plane }
-    requires magnitudes_bounded { All (λ v. unsigned_abs v ≤ grown (4 - depth)) plane.values }
-    ensures value { IfOk result (λ a. a ≡ analysis_of kind wavelet plane depth) }
+    requires across { (held_table plane).width ≤ LARGEST_TABLE_SIDE }
+    requires down { (held_table plane).height ≤ LARGEST_TABLE_SIDE }
+    requires divisible { IsDivisible depth (held_table plane) }
+    requires magnitudes_bounded { All (λ v. unsigned_abs v ≤ grown (4 - depth)) (held_table plane).values }
+    ensures value { IfOk result (λ a. a ≡ analysis_of kind wavelet (held_table plane) depth) }
     ensures fits { IfOk result (AreQuantisable depth) }
 {
     if depth == 0 {
-        let lowest = lowest_band(kind, plane);
+        let low = plane.into_wide(alloc)?;
+        let lowest = lowest_band(kind, low);
         return Ok(AnalysedPlane::new(alloc, lowest));
     }
-    let FourBands { ll, hl, lh, hh } = split_level(alloc, plane, wavelet)?;
+    let SplitLevel { ll, hl, lh, hh } = split_level(alloc, plane, wavelet)?;
     let lower = analyse_levels(alloc, kind, ll, wavelet, depth - 1)?;
     let all = lower.with_level(hl, lh, hh)?;
     Ok(all)

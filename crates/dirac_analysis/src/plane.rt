@@ -7,6 +7,7 @@ ghost use Rattle.dirac_analysis.specs.Analysis.{plane_analysis, plane_bands};
 ghost use Rattle.dirac_analysis.specs.Fits.{AreDifferences, AreLevelBands, AreQuantisable};
 
 use crate::analysed::AnalysedPlane;
+use crate::held::Held;
 use crate::levels::analyse_levels;
 use crate::padding::pad;
 use crate::quantising::quantise_plane;
@@ -35,7 +36,7 @@ pub fn analyse(
 {
     let depth = transform.depth;
     let table = pad(alloc, plane, depth)?;
-    analyse_levels(alloc, kind, table, transform.wavelet, depth)
+    analyse_levels(alloc, kind, Held::Narrow(table), transform.wavelet, depth)
 }
 
 /// The subbands of a plane of values, quantised at `index`, but each flat codeblock at one that is lower by `finer`

@@ -1,10 +1,10 @@
 -- The analysis of a level in 32 bits: that they are enough, and what becomes of its rows and columns.
-use Rattle.std.proofs.Common.{◌≡◌, ◌≢◌, ℕ, ℤ, pos, zero, suc, Bool, true, false, if◌then◌else◌, ◌==◌, ◌+◌, ◌-◌, ◌*◌, ◌/◌, ◌%◌, ◌<◌, ◌≤◌, ◌+ℤ◌, unsigned_abs, List, [], ◌∷◌, ◌++◌, length, map, get_or, take, drop, arith, refl, inl, inr, ap, sym, ◌∙◌, subst, eq-eqb}
-use Rattle.std.specs.List.{All, range_with_len}
+use Rattle.std.proofs.Common.{◌≡◌, ℕ, ℤ, pos, zero, suc, Bool, true, false, if◌then◌else◌, ◌==◌, ◌+◌, ◌-◌, ◌*◌, ◌/◌, ◌%◌, ◌<◌, ◌≤◌, unsigned_abs, List, [], ◌∷◌, length, map, get_or, take, drop, arith, refl, inl, inr, ap, sym, ◌∙◌, subst, eq-eqb}
+use Rattle.std.specs.List.{All}
 use Rattle.std.proofs.lemmas.Bool.{cases_eq, cases_lt, ne_eqb, lt-ltb, le-ltb}
 use Rattle.std.proofs.lemmas.List.{get_or-take, get_or-drop, take-map, drop-map}
 use Rattle.std.proofs.lemmas.List.FromFn.{get_or-map-range_with_len, length-map-range_with_len}
-use Rattle.std.proofs.lemmas.Nat.{div_below, mod_below}
+use Rattle.std.proofs.lemmas.Nat.{div_below}
 use Rattle.dirac_types.specs.Table.{Table, filled}
 use Rattle.dirac_types.proofs.Bounds.{values_bound}
 use Rattle.dirac_types.proofs.Rows.{filled_at, rows_all}
@@ -13,7 +13,7 @@ use Rattle.dirac_lift.specs.HalfRuns.{AreNarrow, HalvesRun, stays_narrow}
 use Rattle.dirac_lift.specs.Halves.{AreHalves, from_halves, place_of}
 use Rattle.dirac_lift.specs.Level.{analysed, begun, column, columns_by, doubled, row_in, rows_by}
 use Rattle.dirac_lift.specs.Lifting.{own}
-use Rattle.dirac_lift.specs.Wavelets.{analyse, analyse_bound, has_shift, run, steps_of, taken_back}
+use Rattle.dirac_lift.specs.Wavelets.{analyse, has_shift, run, steps_of, taken_back}
 use Rattle.dirac_lift.proofs.ColumnLemmas.{column_at}
 use Rattle.dirac_lift.proofs.HalfPlanes.{column_halves, filled_len, place_even, place_in, place_odd}
 use Rattle.dirac_lift.proofs.LevelLemmas.{begun_bound, length-begun}

@@ -1,4 +1,4 @@
-use Rattle.std.proofs.Common.{◌≡◌, ℤ, ◌*◌, ◌/◌, ◌≤◌, List, unsigned_abs, length, drop, arith, ap, ap₂, sym, subst, ◌∙◌}
+use Rattle.std.proofs.Common.{ℤ, ◌*◌, ◌/◌, ◌≤◌, List, unsigned_abs, length, drop, arith, ap, ap₂, sym, subst, ◌∙◌}
 use Rattle.std.specs.List.{All}
 use Rattle.std.proofs.lemmas.List.{take_at}
 use Rattle.dirac_types.specs.Table.{Table}

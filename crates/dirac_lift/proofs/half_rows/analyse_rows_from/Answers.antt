@@ -1,4 +1,4 @@
-use Rattle.std.proofs.Common.{◌+◌, ◌*◌, ◌/◌, pos, get_or, arith, refl, ap, ◌∙◌}
+use Rattle.std.proofs.Common.{◌+◌, ◌*◌, pos, get_or, arith, refl, ap, ◌∙◌}
 use Rattle.dirac_types.proofs.Rows.{rows_more, rows_all}
 use Rattle.dirac_lift.specs.HalfRows.{column_of}
 use Rattle.dirac_lift.specs.Level.{begun, row_in}
