@@ -1,5 +1,5 @@
 -- Planes whose rows stand in halves.
-use Rattle.std.proofs.Common.{◌≡◌, ◌≢◌, ℕ, ℤ, pos, zero, suc, Bool, true, false, if◌then◌else◌, ◌==◌, ◌+◌, ◌-◌, ◌*◌, ◌/◌, ◌%◌, ◌<◌, ◌≤◌, List, [], ◌∷◌, length, map, get_or, take, drop, arith, refl, inl, inr, ap, sym, ◌∙◌, subst, eq-eqb, length-drop, unsigned_abs}
+use Rattle.std.proofs.Common.{◌≡◌, ◌≢◌, ℕ, ℤ, pos, zero, suc, Bool, true, false, if◌then◌else◌, ◌==◌, ◌+◌, ◌*◌, ◌/◌, ◌%◌, ◌<◌, ◌≤◌, List, [], ◌∷◌, length, map, get_or, take, drop, arith, refl, inl, inr, ap, sym, ◌∙◌, eq-eqb, length-drop, unsigned_abs}
 use Rattle.std.specs.List.{All, range_with_len}
 use Rattle.std.proofs.lemmas.Bool.{cases_eq, cases_lt, ne_eqb}
 use Rattle.std.proofs.lemmas.List.{get_or-take, get_or-drop, get_or_past, length-take-le}
@@ -11,8 +11,8 @@ use Rattle.dirac_types.proofs.Rows.{filled_at}
 use Rattle.dirac_lift.specs.Halves.{AreHalves, from_halves, place_of}
 use Rattle.dirac_lift.specs.HalfRuns.{AreNarrow, HalvesRun, after_steps, stays_narrow}
 use Rattle.dirac_lift.specs.Level.{column, columns_by, ended, halved, row_in, synthesised}
-use Rattle.dirac_lift.specs.Lifting.{own, other}
-use Rattle.dirac_lift.specs.Wavelets.{has_shift, run, steps_of, synth}
+use Rattle.dirac_lift.specs.Lifting.{own}
+use Rattle.dirac_lift.specs.Wavelets.{has_shift, steps_of, synth}
 use Rattle.dirac_lift.proofs.ColumnLemmas.{column_at, length-column}
 use Rattle.dirac_lift.proofs.HalfBounds.{rows_narrow}
 use Rattle.dirac_lift.proofs.RowLemmas.{length-row, row_at, row_bound}

@@ -1,5 +1,5 @@
 -- What operations on eight lanes leave in each of them.
-use Rattle.std.proofs.Common.{Bool, true, false, ◌≡◌, ℕ, zero, suc, ℤ, pos, negsuc, ◌+◌, ◌-◌, ◌*◌, ◌/◌, ◌^◌, ◌<◌, ◌≤◌, ◌+ℤ◌, ◌-ℤ◌, ◌*ℤ◌, unsigned_abs, List, [], ◌∷◌, length, get_or, map, to_z, of_z, arith, ap, ap₂, sym, refl, subst, ◌∙◌}
+use Rattle.std.proofs.Common.{◌≡◌, ℕ, suc, ℤ, pos, negsuc, ◌+◌, ◌^◌, ◌<◌, ◌≤◌, ◌+ℤ◌, ◌-ℤ◌, unsigned_abs, List, [], ◌∷◌, length, get_or, map, to_z, of_z, arith, ap, ap₂, sym, refl, subst, ◌∙◌}
 use Rattle.std.specs.Int.{w32, int_shr}
 use Rattle.std.proofs.lemmas.Int.{ints, to_z-of_z, fits_signed_from_abs}
 use Rattle.std.proofs.lemmas.List.{length-map, get_or-map}
@@ -10,7 +10,6 @@ use lib.Lanes.{zip2, Each2, chunk, put_chunk}
 use lib.Signed.{shr_z}
 use mir.Val.{SFits}
 use Rattle.dirac_lift.specs.Lanes.{AreLanes, IsEight, RunPut, lane}
-use Rattle.dirac_lift.specs.Lifting.{moved}
 
 -- lanes that hold f, lane by lane
 pub lanes_same : (f g : ℕ → ℤ) (v : List ℤ) → AreLanes f v → ((j : ℕ) → j < 8 → f j ≡ g j) → AreLanes g v

@@ -1,5 +1,5 @@
 -- A step over eight lines at once.
-use Rattle.std.proofs.Common.{◌≡◌, ℕ, ℤ, pos, ◌+◌, ◌*◌, ◌<◌, ◌≤◌, ◌+ℤ◌, ◌*ℤ◌, List, length, get_or, arith, refl, inl, inr, ap, ap₂, sym, ◌∙◌}
+use Rattle.std.proofs.Common.{◌≡◌, ℕ, ℤ, pos, ◌+◌, ◌*◌, ◌+ℤ◌, ◌*ℤ◌, List, length, get_or, arith, refl, inl, inr, ap, sym, ◌∙◌}
 use Rattle.std.proofs.lemmas.Bool.{cases_lt}
 use Rattle.dirac_lift.specs.Halves.{half_read, half_value}
 use Rattle.dirac_lift.specs.Lanes.{AreLanes, RunPut, lane}

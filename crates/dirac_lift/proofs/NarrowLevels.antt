@@ -1,10 +1,9 @@
 -- A level in place in 32 bits: columns and rows are taken apart, lifted, and written back.
-use Rattle.std.proofs.Common.{◌≡◌, ◌≢◌, ◌⊎◌, ℕ, ℤ, pos, Bool, true, false, if◌then◌else◌, ◌+◌, ◌-◌, ◌*◌, ◌/◌, ◌%◌, ◌<◌, ◌≤◌, unsigned_abs, List, length, map, get_or, set, arith, refl, inl, inr, ap, sym, ◌∙◌, subst}
+use Rattle.std.proofs.Common.{◌≡◌, ◌⊎◌, ℕ, ℤ, pos, true, if◌then◌else◌, ◌+◌, ◌-◌, ◌*◌, ◌/◌, ◌%◌, ◌<◌, ◌≤◌, unsigned_abs, List, length, get_or, set, arith, refl, inl, inr, ap, sym, ◌∙◌, subst}
 use Rattle.std.specs.List.{All}
 use Rattle.std.proofs.lemmas.Bool.{cases_eq, cases_lt}
-use Rattle.std.proofs.lemmas.List.{get_or-set_same, get_or-set_other, length-set, get_or_past, get_or_default, ext_get_or}
-use Rattle.std.proofs.lemmas.List.FromFn.{fill_by_all, get_or-map-range_with_len, length-map-range_with_len}
-use Rattle.std.proofs.lemmas.Nat.{mul-add-lt, same_from_place}
+use Rattle.std.proofs.lemmas.List.{get_or-set_same, get_or-set_other, get_or_past, get_or_default}
+use Rattle.std.proofs.lemmas.List.FromFn.{fill_by_all, get_or-map-range_with_len}
 use Rattle.dirac_types.specs.Table.{filled}
 use Rattle.dirac_bands.specs.DcSum.{by_rows}
 use Rattle.dirac_lift.specs.Halves.{AreHalves}
@@ -12,7 +11,7 @@ use Rattle.dirac_lift.specs.HalfRuns.{AreNarrow, IsNarrowLine, stays_narrow}
 use Rattle.dirac_lift.specs.Level.{column, ended, halved, row_in, synthesised}
 use Rattle.dirac_lift.specs.Lifting.{PlacesWithin, own, other}
 use Rattle.dirac_lift.specs.Places.{ColumnsBecome, RowsBecome}
-use Rattle.dirac_lift.specs.Wavelets.{has_shift, run, steps_of, synth}
+use Rattle.dirac_lift.specs.Wavelets.{has_shift, steps_of, synth}
 use Rattle.dirac_lift.proofs.ColumnLemmas.{column_at, column_bound, columns_values, length-column}
 use Rattle.dirac_lift.proofs.HalfLemmas.{abs-read}
 use Rattle.dirac_lift.proofs.HalfPlanes.{ended_with, filled_ended, filled_len}

@@ -9,7 +9,7 @@ use borrow.Rule.Slice.PartMut.{put_mid, mid_of, same_len_mid}
 use Rattle.dirac_lift.specs.Halves.{AreHalves}
 use Rattle.dirac_lift.specs.Lanes.{RunPut}
 use Rattle.dirac_lift.specs.Level.{column}
-use Rattle.dirac_lift.specs.Lifting.{own, other}
+use Rattle.dirac_lift.specs.Lifting.{own}
 use Rattle.dirac_lift.proofs.ColumnLemmas.{column_at, columns_bound, length-column}
 use Rattle.dirac_lift.proofs.NarrowLevels.{halves_bound}
 

@@ -152,18 +152,25 @@ fn synth_strip(wavelet: u8, values: &mut [i32], strip: Strip, low: &mut [i32], h
     put_strip(low, high, values, strip);
 }
 
-/// The synthesis of all columns: eight at a time in lanes, then those that are left over.
-fn synth_narrow_columns(wavelet: u8, values: &mut [i32], width: usize, height: usize)
+/// The synthesis of all columns, eight at a time in lanes, then those that are left over; `low` and `high` are places to
+/// work.
+fn synth_strips(
+    wavelet: u8,
+    values: &mut [i32],
+    width: usize,
+    height: usize,
+    low: &mut [i32],
+    high: &mut [i32],
+)
     requires wavelet { IsWavelet wavelet }
     requires len { length values.old ≡ width * height }
     requires even { height % 2 ≡ 0 }
-    requires down { height ≤ LARGEST_TABLE_SIDE }
+    requires low { 8 * (height / 2) ≤ length low.old }
+    requires high { 8 * (height / 2) ≤ length high.old }
     requires at_most_4095 { All (λ v. unsigned_abs v ≤ LARGEST_NARROW) values.old }
     ensures { ColumnsBecome (synth wavelet) width height values.old values.new }
 {
     let half = height / 2;
-    let mut low = [0i32; STRIP_HALF];
-    let mut high = [0i32; STRIP_HALF];
     let eights = width / 8;
     for i in 0..eights {
         let strip = Strip {
@@ -195,6 +202,26 @@ fn synth_narrow_columns(wavelet: u8, values: &mut [i32], width: usize, height: u
             &mut low[..left * half],
             &mut high[..left * half],
         );
+    }
+}
+
+/// The synthesis of all columns. The places to work are of two sizes, since each call fills them.
+fn synth_narrow_columns(wavelet: u8, values: &mut [i32], width: usize, height: usize)
+    requires wavelet { IsWavelet wavelet }
+    requires len { length values.old ≡ width * height }
+    requires even { height % 2 ≡ 0 }
+    requires down { height ≤ LARGEST_TABLE_SIDE }
+    requires at_most_4095 { All (λ v. unsigned_abs v ≤ LARGEST_NARROW) values.old }
+    ensures { ColumnsBecome (synth wavelet) width height values.old values.new }
+{
+    if 8 * (height / 2) <= HALF_SIDE {
+        let mut low = [0i32; HALF_SIDE];
+        let mut high = [0i32; HALF_SIDE];
+        synth_strips(wavelet, values, width, height, &mut low, &mut high);
+    } else {
+        let mut low = [0i32; STRIP_HALF];
+        let mut high = [0i32; STRIP_HALF];
+        synth_strips(wavelet, values, width, height, &mut low, &mut high);
     }
 }
 

@@ -1,4 +1,4 @@
-use Rattle.std.proofs.Common.{◌+◌, ◌*◌, arith}
+use Rattle.std.proofs.Common.{◌*◌, arith}
 use Rattle.dirac_lift.proofs.HalfLemmas.{half_end, half_none, half_still}
 use Rattle.dirac_lift.proofs.LaneSteps.{half_eight}
 use Rattle.dirac_lift.proofs.half_lanes.lift_eight.Goals as goal

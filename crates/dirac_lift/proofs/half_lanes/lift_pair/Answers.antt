@@ -1,4 +1,4 @@
-use Rattle.std.proofs.Common.{◌+◌, ◌*◌, pos, slice_index_or, ap, sym}
+use Rattle.std.proofs.Common.{◌+◌, ◌*◌, pos, slice_index_or, ap}
 use Rattle.dirac_lift.specs.Lifting.{moved, rounded}
 use Rattle.dirac_lift.proofs.LaneLemmas.{handed, handed_own, run_same}
 use Rattle.dirac_lift.proofs.half_lanes.lift_pair.Goals as goal

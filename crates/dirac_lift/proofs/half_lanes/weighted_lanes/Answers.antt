@@ -1,4 +1,4 @@
-use Rattle.std.proofs.Common.{rules, ◌≡◌, ◌+◌, ◌*◌, pos, slice_index_or, length, arith, ap, refl, ◌∙◌}
+use Rattle.std.proofs.Common.{rules, ◌+◌, ◌*◌, pos, slice_index_or, arith, ap, refl, ◌∙◌}
 use Rattle.std.specs.Int.{w32}
 use Rattle.std.proofs.lemmas.Int.{fits_signed_from_abs, to_z-of_z}
 use mir.Val.{SFits}

@@ -1,4 +1,4 @@
-use Rattle.std.proofs.Common.{◌≡◌, ℕ, ◌+◌, ◌*◌, ◌/◌, arith, subst}
+use Rattle.std.proofs.Common.{◌/◌, arith}
 use Rattle.std.proofs.lemmas.Nat.{row_fits}
 use Rattle.dirac_lift.proofs.Strips.{strip_all, strip_more, strip_none, strip_others}
 use Rattle.dirac_lift.proofs.narrow_levels.put_strip.Goals as goal

@@ -1,4 +1,4 @@
-use Rattle.std.proofs.Common.{◌≡◌, ℕ, ◌+◌, ◌*◌, ◌/◌, ◌<◌, pos, get_or, arith, ap}
+use Rattle.std.proofs.Common.{◌/◌, pos, get_or, arith, ap}
 use Rattle.std.proofs.lemmas.Nat.{row_fits}
 use Rattle.dirac_lift.proofs.LaneLemmas.{run_same}
 use Rattle.dirac_lift.proofs.Strips.{rows_taken_none, rows_taken_more, strip_halves}

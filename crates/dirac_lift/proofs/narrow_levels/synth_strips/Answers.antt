@@ -1,6 +1,6 @@
 use Rattle.std.proofs.Common.{◌≡◌, ◌+◌, ◌*◌, ◌/◌, ◌%◌, arith}
 use Rattle.dirac_lift.proofs.NarrowLevels.{ran_none, ran_more, ran_all, ran_bound}
-use Rattle.dirac_lift.proofs.narrow_levels.synth_narrow_columns.Goals as goal
+use Rattle.dirac_lift.proofs.narrow_levels.synth_strips.Goals as goal
 
 pub loop-i-init : goal.loop-i-init
 loop-i-init c = ran_none _ _ _ _
