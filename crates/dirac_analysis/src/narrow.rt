@@ -1,5 +1,6 @@
 //! A level whose values are at most 4,095, analysed in 32 bits.
-ghost use Rattle.std.specs.Prelude.{◌≡◌, ℕ, pos, true, ◌+◌, ◌/◌, ◌%◌, ◌<◌, ◌≤◌, length, slice_index_or, unsigned_abs, IfOk};
+ghost use Rattle.std.specs.Prelude.{◌≡◌, ℕ, pos, true, ◌+◌, ◌/◌, ◌%◌, ◌<◌, ◌≤◌, length, slice_index_or, unsigned_abs};
+ghost use Rattle.std.specs.Prelude.{IfOk};
 ghost use Rattle.std.specs.List.{All};
 ghost use Rattle.dirac_types.specs.Limits.{IsWavelet};
 ghost use Rattle.dirac_bands.specs.Interleaving.{band_of};
