@@ -1,6 +1,6 @@
 -- What the words of a command line say.
-use Rattle.std.specs.Prelude.{ℕ, ◌+◌, List, [], ◌∷◌, drop, codes, bytes_eq, if◌then◌else◌, Option, None, Some}
-use Rattle.std.specs.Prelude.{unwrap_or, Result, Ok, Err}
+use Rattle.std.specs.Prelude.{ℕ, ◌+◌, Bool, true, false, List, [], ◌∷◌, drop, codes, bytes_eq, if◌then◌else◌, Option}
+use Rattle.std.specs.Prelude.{None, Some, unwrap_or, Result, Ok, Err}
 use Rattle.dirac_types.specs.declared.settings.BadSetting.{BadSetting}
 use Rattle.dirac_types.specs.Settings.{first_bad, table}
 use Rattle.dirac_tool.specs.declared.words.Command.{Command}
@@ -70,6 +70,12 @@ command_read (word ∷ words) =
     else if bytes_eq word (codes "rate") then rate_read words
     else if bytes_eq word (codes "join") then alone command.Join words
     else Err (Usage 0)
+
+-- the words fit a command that tells reconstructions beside it: `encode` or `rate`, whatever their settings are
+abbrev pub tells_reconstructions : Result Command WordsStop → Bool
+tells_reconstructions (Ok (command.Encode s)) = true
+tells_reconstructions (Ok (command.Rate s budget)) = true
+tells_reconstructions _ = false
 
 -- the path that these words give, where all settings are in their ranges
 abbrev pub path_accepted : Option BadSetting → List (List ℕ) → Option (List ℕ)

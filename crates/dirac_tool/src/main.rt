@@ -47,6 +47,9 @@ mod tests;
 mod tries;
 mod words;
 
+ghost use Rattle.std.specs.Prelude.{◌≡◌};
+ghost use Rattle.dirac_tool.specs.Words.{command_read, tells_reconstructions};
+
 use crate::ended::{Ended, ended_text, status};
 use crate::flushed::{run_beside, run_on};
 use crate::words::{Command, Words, read_words, recon_path};
@@ -118,7 +121,9 @@ fn keep_freed_memory(alloc: Global) {
 }
 
 // Whether the words fit a command that tells reconstructions beside it.
-fn has_recon(words: &Words) -> bool {
+fn has_recon(words: &Words) -> bool
+    ensures { result ≡ tells_reconstructions (command_read words.now) }
+{
     matches!(
         read_words(words),
         Ok(Command::Encode(_) | Command::Rate(_, _))

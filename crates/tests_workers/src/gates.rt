@@ -9,6 +9,16 @@ pub const SECOND: u64 = 2;
 
 pub const THIRD: u64 = 4;
 
+// The bit of a row; rows beyond the third have none.
+fn bit_of(row: u32) -> u64 {
+    match row {
+        0 => FIRST,
+        1 => SECOND,
+        2 => THIRD,
+        _ => 0,
+    }
+}
+
 // how many turns a gate holds a row for, at most
 const TURNS: u32 = 100_000_000;
 
@@ -34,6 +44,11 @@ impl HoldsRows {
         }
     }
 
+    /// The row was entered.
+    pub fn was_entered(&self, row: u32) -> bool {
+        self.entered.load(SeqCst) & bit_of(row) != 0
+    }
+
     /// Each row that was held saw all others come.
     pub fn all_came(&self) -> bool {
         self.came.load(SeqCst) && !self.ran_out.load(SeqCst)
@@ -42,12 +57,7 @@ impl HoldsRows {
 
 impl RowGate for HoldsRows {
     fn enter(&self, row: u32) {
-        let own = match row {
-            0 => FIRST,
-            1 => SECOND,
-            2 => THIRD,
-            _ => 0,
-        };
+        let own = bit_of(row);
         self.entered.fetch_or(own, SeqCst);
         if self.held & own == 0 {
             return;

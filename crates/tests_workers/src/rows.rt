@@ -8,6 +8,8 @@ use dirac_rows::{RowClaims, RowSeat, map_rows, split_rows};
 use dirac_types::NoMemory;
 use std::alloc::Global;
 use std::sync::Wait;
+use std::sync::atomic::AtomicU64;
+use std::sync::atomic::Ordering::SeqCst;
 use std::thread;
 use std::thread::Threads;
 
@@ -104,6 +106,35 @@ fn each_gate_sees_all_rows(rt: HostRuntime) -> Result<(), NoMemory> {
         let items = hundreds(&rt, rt.alloc(), 3, 2, &gate)?;
         assert_eq!(rt; items.as_slice(), [100, 101, 102].as_slice());
         assert!(rt; gate.all_came());
+    }
+    Ok(())
+}
+
+// Of three rows, how many are worked on before their gate is passed.
+fn rows_before_their_gate<R: Threads + Sync>(
+    rt: &R,
+    alloc: Global,
+    workers: u32,
+) -> Result<u64, NoMemory>
+    requires { (1 ≤ workers) × (workers ≤ 64) }
+{
+    let gate = HoldsRows::new(0, 0);
+    let early = AtomicU64::new(0);
+    let work = |row: u32| -> Result<u32, NoMemory> {
+        if !gate.was_entered(row) {
+            early.fetch_add(1, SeqCst);
+        }
+        Ok(row)
+    };
+    let _rows = map_rows(rt, alloc, 3, workers, &gate, &work)?;
+    Ok(early.load(SeqCst))
+}
+
+// No clause says when a gate is passed.
+#[test]
+fn gates_are_passed_before_the_work(rt: HostRuntime) -> Result<(), NoMemory> {
+    for workers in [1, 2, 3] {
+        assert_eq!(rt; rows_before_their_gate(&rt, rt.alloc(), workers)?, 0);
     }
     Ok(())
 }
