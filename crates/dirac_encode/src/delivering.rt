@@ -1,6 +1,6 @@
 //! Reconstructions, delivered as raw pictures.
 
-ghost use Rattle.std.specs.Prelude.{◌≡◌, ◌≤◌};
+ghost use Rattle.std.specs.Prelude.{◌≡◌, ◌≤◌, Err, OnOk};
 ghost use Rattle.std.specs.Io.KnownBytes.{Appends};
 ghost use Rattle.std.specs.Option.{option_to_list};
 ghost use Rattle.dirac_io.specs.Faults.{Rose};
@@ -10,20 +10,24 @@ ghost use Rattle.dirac_decode.specs.Raw.{raws};
 ghost use Rattle.dirac_encode.specs.Going.{joined};
 
 use dirac_decode::put_picture;
-use dirac_io::{Put, Sink};
+use dirac_io::{Sink, Unwritten};
 use dirac_refs::{Delivery, key};
 use dirac_types::Picture;
 
 /// Writes a picture that leaves, if one does.
-fn put_left<N: Sink>(side: &mut N, left: Option<Picture>, row: &mut Vec<u8>) -> Put
-    ensures all { result ≡ Put.All → Appends (N.taken side.old) (N.taken side.new) (raws (option_to_list left)) }
+fn put_left<N: Sink>(
+    side: &mut N,
+    left: Option<Picture>,
+    row: &mut Vec<u8>,
+) -> Result<(), Unwritten>
+    ensures all { OnOk result (Appends (N.taken side.old) (N.taken side.new) (raws (option_to_list left))) }
     ensures front { AppendsFront (N.taken side.old) (N.taken side.new) (raws (option_to_list left)) }
-    ensures failed { result ≡ Put.Failed → Rose (N.faults side.old) (N.faults side.new) }
+    ensures failed { result ≡ Err Unwritten.Failed → Rose (N.faults side.old) (N.faults side.new) }
     ensures count { N.faults side.old ≤ N.faults side.new }
 {
     match left {
-        Some(picture) => put_picture(side, &picture, row),
-        None => Put::All,
+        Some(picture) => put_picture(side, &picture, row).done(),
+        None => Ok(()),
     }
 }
 
@@ -34,13 +38,13 @@ pub(crate) fn deliver<N: Sink>(
     number: u32,
     shown: Picture,
     row: &mut Vec<u8>,
-) -> Put
+) -> Result<(), Unwritten>
     ensures waiting { delivery.new ≡ (delivered (joined delivery.old number shown)).waiting }
-    ensures all { result ≡ Put.All → Appends (N.taken side.old) (N.taken side.new)
-        (raws (delivered (joined delivery.old number shown)).gone) }
+    ensures all { OnOk result (Appends (N.taken side.old) (N.taken side.new)
+        (raws (delivered (joined delivery.old number shown)).gone)) }
     ensures front { AppendsFront (N.taken side.old) (N.taken side.new)
         (raws (delivered (joined delivery.old number shown)).gone) }
-    ensures failed { result ≡ Put.Failed → Rose (N.faults side.old) (N.faults side.new) }
+    ensures failed { result ≡ Err Unwritten.Failed → Rose (N.faults side.old) (N.faults side.new) }
     ensures count { N.faults side.old ≤ N.faults side.new }
 {
     let left = delivery.push(key(0, number), shown);
@@ -48,18 +52,18 @@ pub(crate) fn deliver<N: Sink>(
 }
 
 /// Writes all pictures that wait, in the order in which they leave.
-pub(crate) fn put_waiting<N: Sink>(side: &mut N, delivery: &mut Delivery, row: &mut Vec<u8>) -> Put
-    ensures all { result ≡ Put.All → Appends (N.taken side.old) (N.taken side.new) (raws (flushed delivery.old)) }
+pub(crate) fn put_waiting<N: Sink>(
+    side: &mut N,
+    delivery: &mut Delivery,
+    row: &mut Vec<u8>,
+) -> Result<(), Unwritten>
+    ensures all { OnOk result (Appends (N.taken side.old) (N.taken side.new) (raws (flushed delivery.old))) }
     ensures front { AppendsFront (N.taken side.old) (N.taken side.new) (raws (flushed delivery.old)) }
-    ensures failed { result ≡ Put.Failed → Rose (N.faults side.old) (N.faults side.new) }
+    ensures failed { result ≡ Err Unwritten.Failed → Rose (N.faults side.old) (N.faults side.new) }
     ensures count { N.faults side.old ≤ N.faults side.new }
 {
     'waiting: while let Some(picture) = delivery.pop() {
-        match put_picture(side, &picture, row) {
-            Put::All => {}
-            Put::Failed => return Put::Failed,
-            Put::NoMemory => return Put::NoMemory,
-        }
+        put_picture(side, &picture, row).done()?;
     }
-    Put::All
+    Ok(())
 }

@@ -10,7 +10,7 @@ use crate::coder::Coder;
 use crate::delivering::put_waiting;
 use crate::progress::Progress;
 use crate::units::put_end_units;
-use dirac_io::{Put, Sink};
+use dirac_io::{Sink, Unwritten};
 use dirac_stream::Encoded;
 
 /// Writes what stands behind the pictures: where there is none a sequence header, then the end unit; and all pictures
@@ -39,13 +39,13 @@ pub(crate) fn put_last<R, K: Sink, N: Sink, G>(
         coding.count,
         coding.previous,
     ) {
-        Put::All => {}
-        Put::Failed => return Err(Encoded::WriteFault),
-        Put::NoMemory => return Err(Encoded::NoMemory),
+        Ok(()) => {}
+        Err(Unwritten::Failed) => return Err(Encoded::WriteFault),
+        Err(Unwritten::NoMemory) => return Err(Encoded::NoMemory),
     }
     match put_waiting(side, &mut coding.delivery, &mut coding.row) {
-        Put::All => Ok(()),
-        Put::Failed => Err(Encoded::SideFault),
-        Put::NoMemory => Err(Encoded::NoMemory),
+        Ok(()) => Ok(()),
+        Err(Unwritten::Failed) => Err(Encoded::SideFault),
+        Err(Unwritten::NoMemory) => Err(Encoded::NoMemory),
     }
 }

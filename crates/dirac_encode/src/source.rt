@@ -26,7 +26,7 @@ use crate::fitting::fit_picture;
 use crate::progress::Progress;
 use crate::units::put_header;
 use dirac_code::{Coded, code_picture};
-use dirac_io::{Put, RowGate, Sink};
+use dirac_io::{Put, RowGate, Sink, Unwritten};
 use dirac_picture::is_intra;
 use dirac_plan::Planned;
 use dirac_refs::{RefBuffer, reference_of};
@@ -87,9 +87,9 @@ fn put_coded<K: Sink, N: Sink>(
         coded.shown,
         &mut coding.row,
     ) {
-        Put::All => Ok(()),
-        Put::Failed => Err(Encoded::SideFault),
-        Put::NoMemory => Err(Encoded::NoMemory),
+        Ok(()) => Ok(()),
+        Err(Unwritten::Failed) => Err(Encoded::SideFault),
+        Err(Unwritten::NoMemory) => Err(Encoded::NoMemory),
     }
 }
 
@@ -185,9 +185,9 @@ pub(crate) fn put_source<R: Threads + Sync, K: Sink, N: Sink, G: RowGate>(
 {
     let settings = coder.settings;
     match put_header(out, settings, coder.header, planned.code, coding.previous) {
-        Put::All => {}
-        Put::Failed => return Err(Encoded::WriteFault),
-        Put::NoMemory => return Err(Encoded::NoMemory),
+        Ok(()) => {}
+        Err(Unwritten::Failed) => return Err(Encoded::WriteFault),
+        Err(Unwritten::NoMemory) => return Err(Encoded::NoMemory),
     }
     let Ok(coded) = code_source(coder, planned, source, &coding.refs) else {
         return Err(Encoded::NoMemory);

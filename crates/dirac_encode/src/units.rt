@@ -1,6 +1,6 @@
 //! The units of a stream, written to a sink.
 
-ghost use Rattle.std.specs.Prelude.{◌≡◌, ◌≤◌, if◌then◌else◌, []};
+ghost use Rattle.std.specs.Prelude.{◌≡◌, ◌≤◌, if◌then◌else◌, [], Err, OnOk};
 ghost use Rattle.std.specs.Io.KnownBytes.{Appends};
 ghost use Rattle.dirac_io.specs.Faults.{Rose};
 ghost use Rattle.dirac_io.specs.Writing.{AppendsFront};
@@ -9,7 +9,7 @@ ghost use Rattle.dirac_picture.specs.Grammar as grammar;
 ghost use Rattle.dirac_stream.specs.Steps.{last_units};
 ghost use Rattle.dirac_stream.specs.Stream.{header_unit};
 
-use dirac_io::{Put, Sink};
+use dirac_io::{Sink, Unwritten};
 use dirac_picture::is_intra;
 use dirac_types::Settings;
 use dirac_units::{PARSE_INFO_LENGTH, SEQUENCE_HEADER, put_end, put_unit};
@@ -21,19 +21,19 @@ pub(crate) fn put_header<K: Sink>(
     header: &[u8],
     code: u8,
     previous: u32,
-) -> Put
+) -> Result<(), Unwritten>
     requires { header.now ≡ sequence_payload settings.now }
-    ensures all { result ≡ Put.All → Appends (K.taken out.old) (K.taken out.new)
-        (if grammar.is_intra code then header_unit settings.now previous else []) }
+    ensures all { OnOk result (Appends (K.taken out.old) (K.taken out.new)
+        (if grammar.is_intra code then header_unit settings.now previous else [])) }
     ensures front { AppendsFront (K.taken out.old) (K.taken out.new)
         (if grammar.is_intra code then header_unit settings.now previous else []) }
-    ensures failed { result ≡ Put.Failed → Rose (K.faults out.old) (K.faults out.new) }
+    ensures failed { result ≡ Err Unwritten.Failed → Rose (K.faults out.old) (K.faults out.new) }
     ensures count { K.faults out.old ≤ K.faults out.new }
 {
     if is_intra(code) {
-        put_unit(out, SEQUENCE_HEADER, previous, header)
+        put_unit(out, SEQUENCE_HEADER, previous, header).done()
     } else {
-        Put::All
+        Ok(())
     }
 }
 
@@ -44,21 +44,18 @@ pub(crate) fn put_end_units<K: Sink>(
     header: &[u8],
     count: u32,
     previous: u32,
-) -> Put
+) -> Result<(), Unwritten>
     requires { header.now ≡ sequence_payload settings.now }
-    ensures all { result ≡ Put.All → Appends (K.taken out.old) (K.taken out.new)
-        (last_units settings.now count previous) }
+    ensures all { OnOk result (Appends (K.taken out.old) (K.taken out.new)
+        (last_units settings.now count previous)) }
     ensures front { AppendsFront (K.taken out.old) (K.taken out.new)
         (last_units settings.now count previous) }
-    ensures failed { result ≡ Put.Failed → Rose (K.faults out.old) (K.faults out.new) }
+    ensures failed { result ≡ Err Unwritten.Failed → Rose (K.faults out.old) (K.faults out.new) }
     ensures count { K.faults out.old ≤ K.faults out.new }
 {
     if count > 0 {
-        return put_end(out, previous);
+        return put_end(out, previous).done();
     }
-    match put_unit(out, SEQUENCE_HEADER, 0, header) {
-        Put::All => put_end(out, (PARSE_INFO_LENGTH + header.len()) as u32),
-        Put::Failed => Put::Failed,
-        Put::NoMemory => Put::NoMemory,
-    }
+    put_unit(out, SEQUENCE_HEADER, 0, header).done()?;
+    put_end(out, (PARSE_INFO_LENGTH + header.len()) as u32).done()
 }

@@ -1,4 +1,4 @@
-use Rattle.std.proofs.Common.{◌+◌, ◌≤◌, length, refl, arith}
+use Rattle.std.proofs.Common.{◌+◌, ◌≤◌, length, arith}
 use Rattle.dirac_stream.specs.Fit.{rule_of}
 use Rattle.dirac_encode.specs.Going.{so_far}
 use Rattle.dirac_stream.specs.Coding.{Job}
@@ -8,9 +8,9 @@ use Rattle.dirac_encode.proofs.source.put_source.Goals as goal
 
 pub returns-then-len-from-clause-stopped : goal.returns-then-len-from-clause-stopped
 returns-then-len-from-clause-stopped g c =
-    step_long (rule_of c.args.coder.now.budget) c.args.coder.now.settings.now (record { planned = c.args.planned.now; source = c.args.source.now }) (so_far c.args.coding.now) c.in-Ok.coded.payload.items c.in-Ok.coded.shown
+    step_long (rule_of c.args.coder.now.budget) c.args.coder.now.settings.now (record { planned = c.args.planned.now; source = c.args.source.now }) (so_far c.args.coding.now) c.in-Ok-code_source.coded.payload.items c.in-Ok-code_source.coded.shown
     (g.K.Sink.taken c.args.out.now) (g.K.Sink.taken c.put_header.new.out) (g.N.Sink.taken c.args.side.now)
-    (record { payload_is = c.in-Ok.ensures.payload; shown_is = c.in-Ok.ensures.shown }) (omega (arith, c.if-len-from.true)) (c.in-All.ensures.all refl)
+    (record { payload_is = c.in-Ok-code_source.ensures.payload; shown_is = c.in-Ok-code_source.ensures.shown }) (omega (arith, c.if-len-from.true)) c.in-Ok.ensures.all
 
 pub length_before-previous-requires : goal.length_before-previous-requires
 length_before-previous-requires g c = header_fits c.args.coder.now.settings.now c.args.coder.now.header.now c.requires.header
@@ -22,28 +22,28 @@ pub returns-clause-coded : goal.returns-clause-coded
 returns-clause-coded g c =
     let f = rule_of c.args.coder.now.budget in
     let t = c.args.coder.now.settings.now in
-    let coded = c.in-Ok.coded in
+    let coded = c.in-Ok-code_source.coded in
     let short : 13 + length coded.payload.items ≤ t.unit_bytes = omega (arith, c.if-len-from.false) in
     let j : Job = record { planned = c.args.planned.now; source = c.args.source.now } in
     let previous = previous_is f t c.args.coding.now.refs j c.args.coder.now.header.now c.args.coding.now.previous c.length_before-previous.result c.requires.header c.length_before-previous.ensures in
     on_ok_six c.put_coded.result (λ count last refs waiting out side.
     step_coded f t j (so_far c.args.coding.now) (so_far c.put_coded.new.coding) c.length_before-previous.result coded.payload.items coded.shown
     (g.K.Sink.taken c.args.out.now) (g.K.Sink.taken c.put_header.new.out) (g.K.Sink.taken c.put_coded.new.out) (g.N.Sink.taken c.args.side.now) (g.N.Sink.taken c.put_coded.new.side)
-    (record { payload_is = c.in-Ok.ensures.payload; shown_is = c.in-Ok.ensures.shown }) previous short
-    count last refs waiting (c.in-All.ensures.all refl) out side)
+    (record { payload_is = c.in-Ok-code_source.ensures.payload; shown_is = c.in-Ok-code_source.ensures.shown }) previous short
+    count last refs waiting c.in-Ok.ensures.all out side)
     c.put_coded.ensures.count c.put_coded.ensures.previous c.put_coded.ensures.refs c.put_coded.ensures.waiting c.put_coded.ensures.out c.put_coded.ensures.side
 
 pub returns-clause-stopped : goal.returns-clause-stopped
 returns-clause-stopped g c =
     let f = rule_of c.args.coder.now.budget in
     let t = c.args.coder.now.settings.now in
-    let coded = c.in-Ok.coded in
+    let coded = c.in-Ok-code_source.coded in
     let short : 13 + length coded.payload.items ≤ t.unit_bytes = omega (arith, c.if-len-from.false) in
     let j : Job = record { planned = c.args.planned.now; source = c.args.source.now } in
     let previous = previous_is f t c.args.coding.now.refs j c.args.coder.now.header.now c.args.coding.now.previous c.length_before-previous.result c.requires.header c.length_before-previous.ensures in
     if_err c.put_coded.result (λ answer fault.
     step_stopped f t j (so_far c.args.coding.now) answer c.length_before-previous.result coded.payload.items coded.shown
     (g.K.Sink.taken c.args.out.now) (g.K.Sink.taken c.put_header.new.out) (g.K.Sink.taken c.put_coded.new.out) (g.N.Sink.taken c.args.side.now) (g.N.Sink.taken c.put_coded.new.side)
-    (record { payload_is = c.in-Ok.ensures.payload; shown_is = c.in-Ok.ensures.shown }) previous short fault
-    (c.in-All.ensures.all refl) c.put_coded.ensures.out_front c.put_coded.ensures.side_front)
+    (record { payload_is = c.in-Ok-code_source.ensures.payload; shown_is = c.in-Ok-code_source.ensures.shown }) previous short fault
+    c.in-Ok.ensures.all c.put_coded.ensures.out_front c.put_coded.ensures.side_front)
     c.put_coded.ensures.stopped
