@@ -37,3 +37,23 @@ fn levels_of_32_bits(rt: HostRuntime) -> Result<(), NoMemory> {
     assert!(rt; plane.values() == [2, 0, 2, 0].as_slice());
     Ok(())
 }
+
+/// A plane of 10 by 2, of which wavelet 3 lifts eight columns together and two apart: the rows 0 to 9 and ten zeros.
+#[test]
+fn levels_of_eight_columns_and_two(rt: HostRuntime) -> Result<(), NoMemory> {
+    let mut plane = Narrow::try_new(rt.alloc(), 10, 2, 0)?;
+    assert!(rt; plane.width() == 10);
+    assert!(rt; plane.height() == 2);
+    plane
+        .row_mut(0)
+        .copy_from_slice([0, 1, 2, 3, 4, 5, 6, 7, 8, 9].as_slice());
+    assert!(rt; plane.width() == 10);
+    assert!(rt; plane.height() == 2);
+    assert!(rt; plane.values().iter().all(|v| v.unsigned_abs() <= 4095));
+    synth_level_narrow(3, &mut plane);
+    let row = [-1, 0, 0, 3, 1, 6, 2, 9, 3, 12];
+    assert!(rt; plane.height() == 2);
+    assert!(rt; plane.row(0) == row.as_slice());
+    assert!(rt; plane.row(1) == row.as_slice());
+    Ok(())
+}
