@@ -152,8 +152,8 @@ fn synth_strip(wavelet: u8, values: &mut [i32], strip: Strip, low: &mut [i32], h
     put_strip(low, high, values, strip);
 }
 
-/// The synthesis of all columns, eight at a time in lanes, then those that are left over; `low` and `high` are places to
-/// work.
+/// The synthesis of all columns, eight at a time in lanes, then those that are left over; `low` and `high` are places
+/// to work.
 fn synth_strips(
     wavelet: u8,
     values: &mut [i32],

@@ -7,9 +7,9 @@ use Rattle.dirac_types.specs.declared.settings.Settings.{Settings}
 use Rattle.dirac_types.specs.Settings.{IsAccepted}
 use Rattle.dirac_plan.specs.Planning.{frame_pictures, group_offset, group_pictures, step_pictures, waiting_places}
 
--- how far a place stands behind the first of its step, in a group of which a frame has that many pictures and a step that
--- many: a step is an anchor, and behind it what stands between it and the anchor before it; 0 for the pictures of the
--- frame that opens the group
+-- how far a place stands behind the first of its step, in a group of which a frame has that many pictures and a step
+-- that many: a step is an anchor, and behind it what stands between it and the anchor before it; 0 for the pictures of
+-- the frame that opens the group
 abbrev pub step_offset_in : ℕ → ℕ → ℕ → ℕ
 step_offset_in frame step offset = if nat_lt offset frame then 0 else (offset - frame) % step
 

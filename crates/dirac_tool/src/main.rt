@@ -68,8 +68,8 @@ const NO_FILE: u8 = 12;
 // How many bytes of standard input are fetched at once at most: what a pipe holds. A read gives what is there.
 const READ_AHEAD: usize = 65_536;
 
-// The longest piece of memory, in bytes, from whose freeing the C library learns: it takes pieces up to that length from
-// its own store from then on, and keeps there what is freed, up to twice as much.
+// The longest piece of memory, in bytes, from whose freeing the C library learns: it takes pieces up to that length
+// from its own store from then on, and keeps there what is freed, up to twice as much.
 const LEARNT_PIECE: usize = 31 << 20;
 
 fn main(rt: HostRuntime) -> ExitCode {
@@ -114,8 +114,8 @@ fn main(rt: HostRuntime) -> ExitCode {
     ExitCode::from(status(&ended))
 }
 
-// Takes a large piece of memory and frees it untouched, so that the tables of one picture stay at hand for the next, and
-// aren't given back to the system and asked for again, page by page. Where there is no such piece, nothing is lost.
+// Takes a large piece of memory and frees it untouched, so that the tables of one picture stay at hand for the next,
+// and aren't given back to the system and asked for again, page by page. Where there is no such piece, nothing is lost.
 fn keep_freed_memory(alloc: Global) {
     let _ = Vec::<u8>::with_capacity(alloc, LEARNT_PIECE);
 }
