@@ -1,27 +1,11 @@
 -- What one decision makes of the registers.
-use Rattle.std.proofs.Common.{◌≡◌, ℕ, ◌+◌, ◌-◌, ◌*◌, ◌/◌, ◌%◌, ◌^◌, ◌<◌, ◌≤◌, Bool, true, false, List, inl, inr, refl, sym, arith, subst, mod-eq_of_lt, mul-le-mul_right}
-use Rattle.std.proofs.Math.Nat.{div-mul-le_self}
-use Rattle.std.proofs.lemmas.Bool.{cases_lt}
-use Rattle.std.proofs.lemmas.Nat.{pow-add, pow_pos, le-div}
+use Rattle.std.proofs.Common.{◌≡◌, ℕ, ◌+◌, ◌-◌, ◌*◌, ◌%◌, ◌^◌, ◌<◌, ◌≤◌, Bool, true, false, List, refl, sym, arith, subst, mod-eq_of_lt}
+use Rattle.std.proofs.lemmas.Nat.{pow-add}
 use Rattle.dirac_arith.specs.declared.registers.Registers.{Registers}
 use Rattle.dirac_arith.specs.Interval.{doublings_for}
 use Rattle.dirac_arith.specs.Registers.{Stands, part_of, lift_of}
 use Rattle.dirac_arith.proofs.Doublings.{widens}
 use Rattle.dirac_arith.proofs.Windows.{stands_decided}
-
--- a comparison with a window that is shifted down is one with a split that is shifted up
-pub shifted_at_least : (split window ahead : ℕ) → split ≤ window / 2 ^ ahead → split * 2 ^ ahead ≤ window
-shifted_at_least split window ahead above =
-    let most = div-mul-le_self window (2 ^ ahead) in
-    let grown = mul-le-mul_right {m = split} {n = window / 2 ^ ahead} (2 ^ ahead) above in
-    omega arith
-
-pub shifted_below : (split window ahead : ℕ) → window / 2 ^ ahead < split → window < split * 2 ^ ahead
-shifted_below split window ahead below =
-    elim (cases_lt window (split * 2 ^ ahead)) [
-      | inl less ↦ less
-      | inr more ↦ let least = le-div split window (2 ^ ahead) (pow_pos ahead) more in absurd (omega arith)
-    ]
 
 -- the registers after a decision of this truth, where the lower part of the range is `split` wide
 pub record Settles (old : Registers) (split : ℕ) (truth : Bool) (new : Registers) : Type 0 where

@@ -1,3 +1,4 @@
+pub mod Behind
 pub mod Bytes
 pub mod Carrieds
 pub mod Decided

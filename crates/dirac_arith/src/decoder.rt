@@ -1,12 +1,12 @@
 //! Arithmetic decoding of one block.
-ghost use Rattle.std.specs.Prelude.{◌≡◌, ◌≢◌, ◌↔◌, ◌+◌, ◌-◌, ◌*◌, ◌/◌, ◌^◌, ◌<◌, ◌≤◌, ◌⊎◌, ℕ, ℤ, nat_abs, Bool, false};
+ghost use Rattle.std.specs.Prelude.{◌≡◌, ◌≢◌, ◌↔◌, ◌+◌, ◌-◌, ◌*◌, ◌/◌, ◌^◌, ◌<◌, ◌≤◌, ◌⊎◌, ℕ, ℤ, nat_abs, Bool, true, false};
 ghost use Rattle.std.specs.Prelude.{List, length, slice_index, IfOk, IfErr, OnErr, Ok, Err};
 ghost use Rattle.dirac_arith.specs.Carried.{Lies};
 ghost use Rattle.dirac_arith.specs.Deciding.{Gives, decided, number_read, signed_read};
 ghost use Rattle.dirac_arith.specs.Front.{front};
 ghost use Rattle.dirac_arith.specs.Interval.{narrowed, narrowed_by, whole};
-ghost use Rattle.dirac_arith.specs.Reading.{Reads};
-ghost use Rattle.dirac_arith.specs.Spelling.{AreContexts, signed_spelling, spelling, spelt};
+ghost use Rattle.dirac_arith.specs.Reading.{Reading, Reads};
+ghost use Rattle.dirac_arith.specs.Spelling.{AreContexts, follow_at, signed_spelling, spelling, spelt};
 
 use crate::contexts::CONTEXTS;
 use crate::follow::follow_context;
@@ -204,5 +204,52 @@ impl<'a> Decoder<'a> {
         }
         let negative = self.decision(sign)?;
         Ok(with_sign(magnitude, negative))
+    }
+
+    /// A signed number behind its first follow decision, which was false: as `signed` reads it from there on. It isn't
+    /// 0, which has no other decision.
+    pub fn signed_behind(&mut self, follow: &[u8], bits: u8, sign: u8) -> Result<i64, Cause>
+        requires not_empty { 0 < length follow.now }
+        requires follow { AreContexts follow.now }
+        requires bits { bits < CONTEXTS }
+        requires sign { sign < CONTEXTS }
+        requires no_overflow { self.old.at.doublings < 2 ^ 61 + 9 }
+        ensures read { (before : Reading) → decided (follow_at follow.now 0) before ≡ Ok (false, self.old) →
+            Gives result self.new (signed_read follow.now bits sign before) }
+        ensures few_doublings { self.new.at.doublings ≤ self.old.at.doublings + 693 }
+    {
+        let magnitude = self.magnitude_behind(follow, bits)?;
+        let negative = self.decision(sign)?;
+        Ok(with_sign(magnitude, negative))
+    }
+
+    // Reads digits, of which there is one, until a true follow decision.
+    #[inline(always)]
+    fn magnitude_behind(&mut self, follow: &[u8], bits: u8) -> Result<u64, Cause>
+        requires not_empty { 0 < length follow.now }
+        requires follow { AreContexts follow.now }
+        requires bits { bits < CONTEXTS }
+        requires no_overflow { self.old.at.doublings < 2 ^ 61 + 9 }
+        ensures read { (before : Reading) → decided (follow_at follow.now 0) before ≡ Ok (false, self.old) →
+            Gives result self.new (number_read follow.now bits before) }
+        ensures not_zero { IfOk result (λ v. 1 ≤ v) }
+        ensures below_2_39 { IfOk result (λ v. v < 2 ^ 39 - 1) }
+        ensures few_doublings { self.new.at.doublings ≤ self.old.at.doublings + 684 }
+    {
+        let first = self.decision(bits)?;
+        let mut value: u64 = 2 + u64::from(first);
+        'digits: for i in 1..38usize {
+            let last = self.decision(follow_context(follow, i))?;
+            if last {
+                return Ok(value - 1);
+            }
+            let digit = self.decision(bits)?;
+            value = value * 2 + u64::from(digit);
+        }
+        let end = self.decision(follow_context(follow, MOST_DIGITS))?;
+        if end {
+            return Ok(value - 1);
+        }
+        Err(Cause::NumberTooLong)
     }
 }

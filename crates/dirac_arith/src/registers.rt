@@ -139,6 +139,15 @@ pub fn doublings(range: u32) -> u32
     14 + most / 32768 - (31 - most.leading_zeros())
 }
 
+/// A number less another where it isn't below that, else the number itself: without a branch.
+#[inline(always)]
+fn less_where_not_below(number: u64, other: u64) -> u64
+    ensures not_below { other ≤ number → result ≡ number - other }
+    ensures below { number < other → result ≡ number }
+{
+    number.wrapping_sub(other).min(number)
+}
+
 /// Takes one decision at a context of this probability.
 #[inline(always)]
 pub fn decide(registers: Registers, probability: u16) -> Decided
@@ -166,11 +175,12 @@ pub fn decide(registers: Registers, probability: u16) -> Decided
     let split = registers.range * u32::from(probability) / 65536;
     let whole = u64::from(split);
     let bound = whole << registers.ahead;
-    let truth = registers.window >> registers.ahead >= whole;
-    let (window, range) = if truth {
-        (registers.window - bound, registers.range - split)
+    let truth = registers.window >= bound;
+    let window = less_where_not_below(registers.window, bound);
+    let range = if truth {
+        registers.range - split
     } else {
-        (registers.window, split)
+        split
     };
     let count = doublings(range);
     Decided {
