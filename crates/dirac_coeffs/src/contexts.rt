@@ -1,5 +1,5 @@
-ghost use Rattle.std.specs.Prelude.{◌≡◌, ◌+◌, ◌*◌, ◌<◌, ◌≤◌, ◌&&◌, length};
-ghost use Rattle.dirac_arith.specs.Spelling.{AreContexts};
+ghost use Rattle.std.specs.Prelude.{◌≡◌, ◌+◌, ◌*◌, ◌<◌, ◌≤◌, ◌&&◌, Bool, length};
+ghost use Rattle.dirac_arith.specs.Spelling.{AreContexts, follow_at};
 ghost use Rattle.dirac_coeffs.specs.Contexts.{left_of, above_of, corner_of, parent_of, is_zero, follow_of, sign_of};
 ghost use Rattle.dirac_coeffs.specs.Contexts.{sign_neighbour};
 
@@ -99,6 +99,25 @@ pub fn follow_contexts(parent_is_zero: bool, neighbours_are_zero: bool) -> &'sta
         (false, true) => &PARENT_ZEROS,
         (false, false) => &PARENT_VALUES,
     }
+}
+
+/// The first of them, which is of the decision whether the value is 0.
+#[inline(always)]
+pub fn first_context(parent_is_zero: bool, neighbours_are_zero: bool) -> u8
+    ensures value { result ≡ follow_at (follow_of parent_is_zero neighbours_are_zero) 0 }
+    ensures context { result < CONTEXTS }
+{
+    2 * u8::from(!parent_is_zero) + u8::from(!neighbours_are_zero)
+}
+
+/// The follow contexts whose first one this is.
+#[inline(always)]
+pub fn follow_from(first: u8) -> &'static [u8; 6]
+    ensures value { (parent neighbours : Bool) → first ≡ follow_at (follow_of parent neighbours) 0
+        → result.now ≡ follow_of parent neighbours }
+    ensures contexts { AreContexts result.now }
+{
+    follow_contexts(first < 2, first % 2 == 0)
 }
 
 /// The follow contexts among these neighbours.

@@ -1,8 +1,11 @@
-ghost use Rattle.std.specs.Prelude.{◌≡◌, ◌+◌, ◌*◌, ◌^◌, ◌<◌, ◌≤◌, length, slice_set, IfOk};
-ghost use Rattle.dirac_arith.specs.Deciding.{Gives, signed_read};
+ghost use Rattle.std.specs.Prelude.{◌≡◌, ◌+◌, ◌*◌, ◌^◌, ◌<◌, ◌≤◌, Bool, false, length, slice_set, IfOk, Ok};
+ghost use Rattle.dirac_arith.specs.Deciding.{Gives, decided, signed_read};
+ghost use Rattle.dirac_arith.specs.Reading.{Reading};
+ghost use Rattle.dirac_arith.specs.Spelling.{follow_at};
 ghost use Rattle.dirac_coeffs.specs.Answers.{Moves};
 ghost use Rattle.dirac_coeffs.specs.BandRead.{progress, value_step, row_step, rows_step};
-ghost use Rattle.dirac_coeffs.specs.Contexts.{above_of, follow_among, bits_context, corner_of, left_of, sign_of};
+ghost use Rattle.dirac_coeffs.specs.Contexts.{above_of, follow_among, follow_of, bits_context, corner_of, left_of};
+ghost use Rattle.dirac_coeffs.specs.Contexts.{sign_of};
 ghost use Rattle.dirac_coeffs.specs.Contexts.{sign_neighbour};
 ghost use Rattle.dirac_coeffs.specs.Decisions.{frame_of};
 
@@ -20,6 +23,27 @@ struct Neighbours {
     corner: i64,
 }
 
+/// Reads a value behind its first decision, which says that it isn't 0.
+#[inline(never)]
+fn read_further(
+    decoder: &mut Decoder<'_>,
+    band: Band,
+    first: u8,
+    left: i64,
+    above: i64,
+) -> Result<i64, Cause>
+    requires no_overflow { decoder.old.at.doublings < 2 ^ 61 + 9 }
+    ensures read { (parent neighbours : Bool) (before : Reading) →
+        let follow = follow_of parent neighbours in
+        first ≡ follow_at follow 0 → decided first before ≡ Ok (false, decoder.old) →
+        Gives result decoder.new (signed_read follow bits_context (sign_of (sign_neighbour band left above)) before) }
+    ensures few_doublings { decoder.new.at.doublings ≤ decoder.old.at.doublings + 693 }
+{
+    let follow = contexts::follow_from(first);
+    let sign = contexts::sign_context(band, left, above);
+    decoder.signed_behind(follow, COEFFICIENT_DIGITS, sign)
+}
+
 /// Reads a value among these neighbours.
 #[inline(always)]
 fn read_value(
@@ -34,14 +58,19 @@ fn read_value(
         (sign_of (sign_neighbour band neighbours.left neighbours.above)) decoder.old) }
     ensures few_doublings { decoder.new.at.doublings ≤ decoder.old.at.doublings + 702 }
 {
-    let follow = contexts::follow_among(
-        neighbours.left,
-        neighbours.above,
-        neighbours.corner,
-        parent,
-    );
-    let sign = contexts::sign_context(band, neighbours.left, neighbours.above);
-    decoder.signed(follow, COEFFICIENT_DIGITS, sign)
+    let Neighbours {
+        left,
+        above,
+        corner,
+    } = neighbours;
+    let parent_is_zero = contexts::is_zero_value(parent);
+    let neighbours_are_zero = contexts::are_zeros(left, above, corner);
+    let first = contexts::first_context(parent_is_zero, neighbours_are_zero);
+    match decoder.decision(first) {
+        Ok(true) => Ok(0),
+        Ok(false) => read_further(decoder, band, first, left, above),
+        Err(cause) => Err(cause),
+    }
 }
 
 /// Reads the value in column `x` of row `y` among these neighbours of it.
