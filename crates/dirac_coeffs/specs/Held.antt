@@ -13,7 +13,7 @@ zeros_of width height = record { width = width; height = height; values = replic
 -- the table of them
 abbrev pub held_table : Held → Table
 held_table (Zeros s) = zeros_of s.width s.height
-held_table (Narrow t) = t
+held_table (Narrow r) = record { width = r.size.width; height = r.size.height; values = r.values.items }
 held_table (Wide t) = t
 
 -- the largest magnitude: no value has a larger one, and no smaller number is as large as all
@@ -24,7 +24,7 @@ pub record IsLargest (largest : ℕ) (xs : List ℤ) : Type 0 where
 -- coefficients are held wide only where 32 bits aren't enough for the largest
 abbrev pub IsWideFor : Held → ℕ → Type 0
 IsWideFor (Zeros s) largest = ⊤
-IsWideFor (Narrow t) largest = ⊤
+IsWideFor (Narrow r) largest = ⊤
 IsWideFor (Wide t) largest = 2 ^ 31 ≤ largest
 
 -- a band that is held: a table of sizes that a band may have, and its largest magnitude

@@ -1,11 +1,11 @@
 ghost use Rattle.std.specs.Prelude.{◌≡◌, ℕ, pos, true, false, ◌*◌, ◌^◌, ◌<◌, ◌≤◌, length, slice_index_or};
-ghost use Rattle.std.specs.Prelude.{slice_set, unsigned_abs, IfOk, IfSome, None};
+ghost use Rattle.std.specs.Prelude.{slice_set, unsigned_abs, List, [], ◌++◌, IfOk, IfSome, None};
 ghost use Rattle.std.specs.List.{All};
 ghost use Rattle.dirac_types.specs.Table.{row_of, table_at};
 ghost use Rattle.dirac_coeffs.specs.Held.{IsLargest, zeros_of};
 ghost use Rattle.dirac_coeffs.specs.Written.{is_zero_band};
 
-use dirac_types::{BandTable, LARGEST_TABLE_SIDE, Narrow, NoMemory};
+use dirac_types::{BandTable, LARGEST_TABLE_SIDE, NoMemory};
 use std::alloc::Global;
 use std::marker::Model;
 
@@ -16,11 +16,18 @@ pub struct BandSize {
     pub height: u32,
 }
 
+/// Numbers in 32 bits, by rows.
+#[derive(Debug, Drop)]
+pub struct NarrowRows {
+    size: BandSize,
+    values: Vec<i32>,
+}
+
 /// Coefficients in 32 bits where these are enough, else wide; no list of them where all are zeros.
 #[derive(Debug, Drop)]
 pub enum Held {
     Zeros(BandSize),
-    Narrow(Narrow),
+    Narrow(NarrowRows),
     Wide(BandTable),
 }
 
@@ -64,8 +71,12 @@ impl Coefficients {
         requires down { table.height ≤ LARGEST_TABLE_SIDE }
         ensures { IfOk result (λ c. c ≡ table) }
     {
-        let mut narrow = Narrow::try_new(alloc, table.width(), table.height(), 0)?;
-        let narrowed = copy_narrowed(table.values(), narrow.values_mut());
+        let size = BandSize {
+            width: table.width(),
+            height: table.height(),
+        };
+        let mut values = Vec::with_capacity(alloc, table.values().len())?;
+        let narrowed = narrow_rows(alloc, &table, &mut values)?;
         if !narrowed.all {
             let largest = largest_of(table.values());
             return Ok(Coefficients {
@@ -74,10 +85,11 @@ impl Coefficients {
             });
         }
         if narrowed.largest == 0 {
-            return Ok(Coefficients::zeros(table.width(), table.height()));
+            return Ok(Coefficients::zeros(size.width, size.height));
         }
+        let rows = NarrowRows { size, values };
         Ok(Coefficients {
-            held: Held::Narrow(narrow),
+            held: Held::Narrow(rows),
             largest: u64::from(narrowed.largest),
         })
     }
@@ -91,7 +103,7 @@ impl Coefficients {
     {
         match &self.held {
             Held::Zeros(size) => size.width,
-            Held::Narrow(table) => table.width(),
+            Held::Narrow(rows) => rows.size.width,
             Held::Wide(table) => table.width(),
         }
     }
@@ -105,7 +117,7 @@ impl Coefficients {
     {
         match &self.held {
             Held::Zeros(size) => size.height,
-            Held::Narrow(table) => table.height(),
+            Held::Narrow(rows) => rows.size.height,
             Held::Wide(table) => table.height(),
         }
     }
@@ -133,7 +145,9 @@ impl Coefficients {
     {
         match &self.held {
             Held::Zeros(_size) => 0,
-            Held::Narrow(table) => i64::from(table.at(x, y)),
+            Held::Narrow(rows) => {
+                i64::from(rows.values[y as usize * rows.size.width as usize + x as usize])
+            }
             Held::Wide(table) => table.at(x, y),
         }
     }
@@ -148,7 +162,10 @@ impl Coefficients {
     {
         match &self.held {
             Held::Zeros(_size) => None,
-            Held::Narrow(table) => Some(table.row(y)),
+            Held::Narrow(rows) => {
+                let start = y as usize * rows.size.width as usize;
+                Some(&rows.values[start..start + rows.size.width as usize])
+            }
             Held::Wide(_table) => None,
         }
     }
@@ -160,7 +177,7 @@ impl Coefficients {
         let mut wide = BandTable::try_new(alloc, self.width(), self.height(), 0)?;
         match &self.held {
             Held::Zeros(_size) => {}
-            Held::Narrow(table) => copy_widened(table.values(), wide.values_mut()),
+            Held::Narrow(rows) => copy_widened(rows.values.as_slice(), wide.values_mut()),
             Held::Wide(table) => copy(table.values(), wide.values_mut()),
         }
         Ok(wide)
@@ -215,6 +232,46 @@ fn copy_narrowed(wide: &[i64], narrow: &mut [i32]) -> Narrowed
         largest = largest.max(one.largest);
     }
     Narrowed { all, largest }
+}
+
+/// Appends a row of numbers in 32 bits, where they fit, by way of a line of its length.
+fn append_narrowed(
+    row: &[i64],
+    line: &mut [i32],
+    values: &mut Vec<i32>,
+) -> Result<Narrowed, NoMemory>
+    requires { length line.old ≡ length row.now }
+    ensures written { IfOk result (λ n. n.all ≡ true → values.new.items ≡ values.old.items ++ row.now) }
+    ensures largest { IfOk result (λ n. n.all ≡ true → IsLargest n.largest row.now) }
+    ensures others { IfOk result (λ n. n.all ≡ false → (m : ℕ) → All (λ v. unsigned_abs v ≤ m) row.now → 2 ^ 31 ≤ m) }
+{
+    let narrowed = copy_narrowed(row, line);
+    values.extend_from_slice(line)?;
+    Ok(narrowed)
+}
+
+/// Appends all rows of numbers in 32 bits, where they fit.
+fn narrow_rows(
+    alloc: Global,
+    table: &BandTable,
+    values: &mut Vec<i32>,
+) -> Result<Narrowed, NoMemory>
+    requires { values.old.items ≡ [] }
+    ensures written { IfOk result (λ n. n.all ≡ true → values.new.items ≡ table.now.values) }
+    ensures largest { IfOk result (λ n. n.all ≡ true → IsLargest n.largest table.now.values) }
+    ensures others { IfOk result (λ n. n.all ≡ false → (m : ℕ) → All (λ v. unsigned_abs v ≤ m) table.now.values
+        → 2 ^ 31 ≤ m) }
+{
+    let mut row = vec![in alloc; 0i32; table.width() as usize]?;
+    let line = row.as_mut_slice();
+    let mut all = true;
+    let mut largest = 0u32;
+    for y in 0..table.height() {
+        let next = append_narrowed(table.row(y), line, values)?;
+        all &= next.all;
+        largest = largest.max(next.largest);
+    }
+    Ok(Narrowed { all, largest })
 }
 
 /// The largest magnitude.
