@@ -3,11 +3,9 @@ ghost use Rattle.std.specs.Prelude.{IfOk};
 ghost use Rattle.std.specs.List.{All};
 ghost use Rattle.dirac_types.specs.Limits.{IsIndex};
 ghost use Rattle.dirac_quant.specs.Quantiser.{reduced, with_sign_of};
-ghost use Rattle.dirac_coeffs.specs.Contexts as contexts;
-ghost use Rattle.dirac_coeffs.specs.Written.{is_zero_band};
 ghost use Rattle.dirac_analysis.specs.Coded.{coded_by_one};
 
-use dirac_coeffs::{CodedBand, Indices};
+use dirac_coeffs::{CodedBand, Coefficients, Indices};
 use dirac_quant::{factor, reduce_by};
 use dirac_types::{BandTable, LARGEST_TABLE_SIDE, MOST_CODEBLOCKS, NoMemory, Wide};
 use std::alloc::Global;
@@ -48,19 +46,6 @@ fn reduce_values(values: &[i128], index: u8, coded: &mut [i64])
     reduce_part(values, index, 0, values.len(), coded);
 }
 
-fn is_zero(value: i64) -> bool
-    ensures { result ≡ contexts.is_zero value }
-{
-    value == 0
-}
-
-/// Whether all values are zeros.
-pub(crate) fn are_all_zeros(values: &[i64]) -> bool
-    ensures { result ≡ is_zero_band values.now }
-{
-    values.iter().all(|value| is_zero(*value))
-}
-
 /// A table of coefficients coded at this quantiser index, which each of its codeblocks has, that many across and down;
 /// a band of zeros has index 0.
 pub(crate) fn code_by_one(
@@ -78,16 +63,13 @@ pub(crate) fn code_by_one(
 {
     let mut numbers = BandTable::try_new(alloc, table.width(), table.height(), 0)?;
     reduce_values(table.values(), index, numbers.values_mut());
-    let index = if are_all_zeros(numbers.values()) {
-        0
-    } else {
-        index
-    };
+    let coded = Coefficients::try_of(alloc, numbers)?;
+    let index = if coded.are_zeros() { 0 } else { index };
     let (across, down) = counts;
     let indices = Indices::try_new(alloc, across * down, index)?;
     Ok(CodedBand {
         index,
         indices,
-        table: numbers,
+        table: coded,
     })
 }

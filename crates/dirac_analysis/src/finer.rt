@@ -11,9 +11,9 @@ ghost use Rattle.dirac_analysis.specs.Coded.{coded as coded_band};
 ghost use Rattle.dirac_analysis.specs.Fits.{IsQuantisable};
 
 use crate::choosing::{Choices, choose_all};
-use crate::coded::{are_all_zeros, reduce_part};
+use crate::coded::reduce_part;
 use dirac_bands::edge;
-use dirac_coeffs::{CodedBand, Indices};
+use dirac_coeffs::{CodedBand, Coefficients, Indices};
 use dirac_residual::first_codeblock;
 use dirac_types::{BandTable, LARGEST_TABLE_SIDE, MOST_CODEBLOCKS, NoMemory, Wide};
 use std::alloc::Global;
@@ -83,11 +83,12 @@ pub(crate) fn code_finer(
 {
     let Choices { chosen, coded } = choose_all(alloc, table, counts, finer, index)?;
     let numbers = reduce_codeblocks(alloc, table, counts, &chosen)?;
-    if !are_all_zeros(numbers.values()) {
+    let quantised = Coefficients::try_of(alloc, numbers)?;
+    if !quantised.are_zeros() {
         return Ok(CodedBand {
             index,
             indices: coded,
-            table: numbers,
+            table: quantised,
         });
     }
     let (across, down) = counts;
@@ -95,6 +96,6 @@ pub(crate) fn code_finer(
     Ok(CodedBand {
         index: 0,
         indices,
-        table: numbers,
+        table: quantised,
     })
 }

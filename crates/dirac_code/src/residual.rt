@@ -2,7 +2,6 @@
 
 ghost use Rattle.std.specs.Prelude.{◌≡◌, ◌≤◌, IfOk, if◌then◌else◌, Some, None};
 ghost use Rattle.dirac_types.specs.declared.formats.Kind.TheVariants.{Inter, Intra};
-ghost use Rattle.dirac_coeffs.specs.Contexts as contexts;
 ghost use Rattle.dirac_coeffs.specs.Written.{is_zero_band};
 ghost use Rattle.dirac_residual.specs.Zeros.{are_zero_bands};
 ghost use Rattle.dirac_analysis.specs.Analysis.{quantised};
@@ -283,18 +282,11 @@ fn with_transform(settings: &Settings, y: PlaneBands, u: PlaneBands, v: PlaneBan
     }
 }
 
-/// A value is 0.
-fn is_zero(value: i64) -> bool
-    ensures { result ≡ contexts.is_zero value }
-{
-    value == 0
-}
-
 /// A band has zeros alone.
 fn is_band_of_zeros(band: &CodedBand) -> bool
     ensures { result ≡ is_zero_band band.now.table.values }
 {
-    band.table.values().iter().all(|value| is_zero(*value))
+    band.table.are_zeros()
 }
 
 /// All bands of a plane have zeros alone.

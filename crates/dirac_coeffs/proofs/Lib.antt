@@ -22,3 +22,4 @@ pub mod SpelledBand
 pub mod Examples
 mod Fronts
 pub mod Going
+pub mod Largest

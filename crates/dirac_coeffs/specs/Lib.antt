@@ -8,3 +8,4 @@ pub mod Laws
 pub mod Grammar
 pub mod Answers
 pub mod Written
+pub mod Held

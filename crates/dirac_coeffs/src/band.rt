@@ -6,21 +6,12 @@ ghost use Rattle.dirac_coeffs.specs.Grammar.{band, coded_band, values_of_parent,
 ghost use Rattle.dirac_coeffs.specs.Layouts.{IsBandLayout};
 
 use crate::block::read_block;
+use crate::coefficients::Coefficients;
 use crate::indices::equal_indices;
 use crate::layout::{BandLayout, CodedBand};
 use dirac_bits::BitReader;
-use dirac_types::{BandTable, Cause, LARGEST_INDEX, Refusal, Stop};
+use dirac_types::{Cause, LARGEST_INDEX, Refusal, Stop};
 use std::alloc::Global;
-
-/// The values of the parent.
-pub fn parent_values<'a>(parent: Option<&'a BandTable>) -> &'a [i64]
-    ensures { result.now ≡ values_of_parent parent.entry }
-{
-    match parent {
-        Some(table) => table.values(),
-        None => &[],
-    }
-}
 
 /// Reads the quantiser index and the block of a subband.
 #[tactic(auto, unfolding(crate::specs::Grammar::coded_band))]
@@ -64,7 +55,7 @@ pub fn read_band(
     alloc: Global,
     r: &mut BitReader<'_>,
     layout: BandLayout,
-    parent: Option<&BandTable>,
+    parent: Option<&Coefficients>,
 ) -> Result<CodedBand, Stop>
     requires layout { IsBandLayout layout }
     requires parent { ForSome parent (IsParentOf layout) }
@@ -77,12 +68,18 @@ pub fn read_band(
     let len = r.uint()?;
     if len == 0 {
         let indices = equal_indices(alloc, layout, 0)?;
-        let table = BandTable::try_new(alloc, layout.width, layout.height, 0)?;
+        let table = Coefficients::zeros(layout.width, layout.height);
         return Ok(CodedBand {
             index: 0,
             indices,
             table,
         });
     }
-    read_coded(alloc, r, len, layout, parent_values(parent))
+    match parent {
+        Some(table) => {
+            let wide = table.try_wide(alloc)?;
+            read_coded(alloc, r, len, layout, wide.values())
+        }
+        None => read_coded(alloc, r, len, layout, &[]),
+    }
 }

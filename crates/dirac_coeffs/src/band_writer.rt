@@ -8,12 +8,11 @@ ghost use Rattle.dirac_coeffs.specs.Indices.{all_equal};
 ghost use Rattle.dirac_coeffs.specs.Layouts.{IsBandLayout};
 ghost use Rattle.dirac_coeffs.specs.Written.{AreIndicesOf, block_of, is_zero_band, with_block, with_band};
 
-use crate::band::parent_values;
 use crate::block_writer::write_block;
+use crate::coefficients::Coefficients;
 use crate::layout::{BandLayout, CodedBand};
-use crate::zeros::are_all_zeros;
 use dirac_bits::BitWriter;
-use dirac_types::{BandTable, NoMemory};
+use dirac_types::NoMemory;
 use std::alloc::Global;
 
 /// Writes the length of a subband's block, its quantiser index and the block.
@@ -34,14 +33,8 @@ fn write_coded(
         band.now.index band.now.table.values band.now.indices) w.old)) }
 {
     let index = band.index;
-    let block = write_block(
-        alloc,
-        band.table.values(),
-        &band.indices,
-        layout,
-        parent,
-        index,
-    )?;
+    let table = band.table.try_wide(alloc)?;
+    let block = write_block(alloc, table.values(), &band.indices, layout, parent, index)?;
     w.uint(block.len() as u64)?;
     w.uint(u64::from(index))?;
     w.align()?;
@@ -55,7 +48,7 @@ pub fn write_band(
     alloc: Global,
     w: &mut BitWriter,
     layout: BandLayout,
-    parent: Option<&BandTable>,
+    parent: Option<&Coefficients>,
     band: &CodedBand,
 ) -> Result<(), NoMemory>
     requires layout { IsBandLayout layout }
@@ -71,8 +64,14 @@ pub fn write_band(
         w.new) }
 {
     w.align()?;
-    if are_all_zeros(band.table.values()) {
+    if band.table.are_zeros() {
         return w.uint(0);
     }
-    write_coded(alloc, w, layout, parent_values(parent), band)
+    match parent {
+        Some(table) => {
+            let wide = table.try_wide(alloc)?;
+            write_coded(alloc, w, layout, wide.values(), band)
+        }
+        None => write_coded(alloc, w, layout, &[], band),
+    }
 }

@@ -7,6 +7,7 @@ ghost use Rattle.dirac_coeffs.specs.Layouts.{IsBandLayout};
 ghost use Rattle.dirac_types.specs.Limits.{IsIndex};
 
 use crate::codeblocks::read_all;
+use crate::coefficients::Coefficients;
 use crate::indices::equal_indices;
 use crate::layout::{BandBlock, BandLayout};
 use dirac_arith::Decoder;
@@ -45,7 +46,13 @@ pub fn read_block(
         parent,
         index,
     ) {
-        Ok(()) => Ok(BandBlock { indices, table }),
+        Ok(()) => {
+            let coefficients = Coefficients::try_of(alloc, table)?;
+            Ok(BandBlock {
+                indices,
+                table: coefficients,
+            })
+        }
         Err(cause) => Err(Stop::Refused(Refusal { at, cause })),
     }
 }

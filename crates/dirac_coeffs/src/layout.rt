@@ -1,5 +1,6 @@
+use crate::coefficients::Coefficients;
 use crate::indices::Indices;
-use dirac_types::{Band, BandTable};
+use dirac_types::Band;
 
 /// Which subband of a level a block holds: its orientation, its size in coefficients, the number of codeblocks that it
 /// is divided into, across and down, and the codeblock mode: in mode 0 all codeblocks have the band's quantiser index,
@@ -18,7 +19,7 @@ pub struct BandLayout {
 #[derive(Debug, Drop)]
 pub struct BandBlock {
     pub indices: Indices,
-    pub table: BandTable,
+    pub table: Coefficients,
 }
 
 /// A subband as it is coded: its quantiser index, that of each codeblock by rows, and the quantised coefficients. In
@@ -28,5 +29,5 @@ pub struct BandBlock {
 pub struct CodedBand {
     pub index: u8,
     pub indices: Indices,
-    pub table: BandTable,
+    pub table: Coefficients,
 }

@@ -7,6 +7,7 @@ fn is_shared<T: Send + Sync>() {}
 fn are_shared() {
     is_shared::<crate::BandLayout>();
     is_shared::<crate::Indices>();
+    is_shared::<crate::Coefficients>();
     is_shared::<crate::BandBlock>();
     is_shared::<crate::CodedBand>();
 }

@@ -1,6 +1,6 @@
 ghost use Rattle.std.specs.Prelude.{◌≡◌, ℕ, ◌+◌, ◌*◌, ◌<◌, ◌≤◌, pos, true, false, length};
 ghost use Rattle.dirac_bands.specs.Geometry.{edge_of};
-ghost use Rattle.dirac_coeffs.specs.Written.{is_zero_band, is_zero_block};
+ghost use Rattle.dirac_coeffs.specs.Written.{is_zero_block};
 ghost use Rattle.dirac_coeffs.specs.Contexts.{value_at};
 ghost use Rattle.dirac_coeffs.specs.Layouts.{IsBandLayout, span_of};
 
@@ -56,11 +56,4 @@ pub fn has_zeros_alone(values: &[i64], layout: BandLayout, codeblock: Codeblock)
     let columns = codeblock_span(layout.width, layout.across, codeblock.column);
     let rows = codeblock_span(layout.height, layout.down, codeblock.row);
     are_zero_rows(values, layout.width as usize, rows, columns)
-}
-
-/// Whether all values are zeros.
-pub fn are_all_zeros(values: &[i64]) -> bool
-    ensures { result ≡ is_zero_band values.now }
-{
-    values.iter().all(|v| is_zero_value(*v))
 }

@@ -10,14 +10,14 @@ ghost use Rattle.dirac_picture.specs.Fits.{AreBands, AreBandsOf, IsLayout, IsPla
 use crate::layouts::layout;
 use crate::plane_bands::PlaneBands;
 use dirac_bits::BitReader;
-use dirac_coeffs::{CodedBand, read_band};
+use dirac_coeffs::{CodedBand, Coefficients, read_band};
 use dirac_header::Transform;
-use dirac_types::{BandTable, Stop};
+use dirac_types::Stop;
 use std::alloc::Global;
 
 /// The parent of the band behind these.
 #[tactic(auto, unfolding(crate::specs::Bands::parent_values))]
-fn parent(bands: &PlaneBands) -> Option<&BandTable>
+fn parent(bands: &PlaneBands) -> Option<&Coefficients>
     requires { length bands.now ≤ 16 }
     ensures value { values_of_parent result ≡ places.parent_values bands.now }
     ensures listed { ForSome result (λ t. places.IsParentAmong bands.now t.now) }

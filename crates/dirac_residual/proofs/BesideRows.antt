@@ -3,18 +3,18 @@ use Rattle.std.proofs.Common.{◌≡◌, ℕ, ℤ, pos, ◌+◌, ◌-◌, ◌*�
 use Rattle.std.specs.List.{All}
 use Rattle.std.proofs.lemmas.Bool.{cases_eq, cases_lt, ne_eqb, lt-ltb, le-ltb}
 use Rattle.std.proofs.lemmas.List.{get_or-set_same, get_or-set_other, get_or-map}
+use Rattle.std.proofs.lemmas.Nat.{mul-add-lt}
 use Rattle.std.proofs.lemmas.List.Elements.{All-take, All-drop, All-map}
 use Rattle.dirac_types.specs.declared.formats.Kind.{Kind}
 use Rattle.dirac_types.specs.Table.{Table, row_of, table_at}
 use Rattle.dirac_types.proofs.Bounds.{told_bound, values_bound}
-use Rattle.dirac_types.proofs.Rows.{filled_at, row_at, rows_all}
+use Rattle.dirac_types.proofs.Rows.{filled_at, rows_all}
 use Rattle.dirac_quant.specs.Quantiser.{factor_of, offset_of, restored, scaled}
 use Rattle.dirac_bands.specs.Interleaving.{joined, joined_at}
 use Rattle.dirac_coeffs.specs.declared.layout.CodedBand.{CodedBand}
 use Rattle.dirac_lift.specs.Halves.{from_halves, place_of}
 use Rattle.dirac_residual.specs.Halves.{IsNarrowBand, beside, beside_at}
 use Rattle.dirac_residual.specs.Codeblocks.{restored_by_one}
-use Rattle.dirac_residual.proofs.JoinedRows.{restored_row}
 use Rattle.dirac_residual.proofs.ZeroBands.{length-filled}
 
 -- one more value is written behind a place
@@ -55,14 +55,13 @@ beside_bound most a b ha hb =
           rw (beside_right a b (x - a.width) x y (omega (arith, past))) (values_bound most b.values hb (y * b.width + (x - a.width)))
     ])
 
--- what a coded number of a row stands for
-pub restored_value : (kind : Kind) (b : CodedBand) (n y factor offset : ℕ) (coded : List ℤ) → coded ≡ row_of b.table y → factor ≡ factor_of b.index → offset ≡ offset_of b.index kind → n < b.table.width → n < length coded → scaled (get_or coded n (pos 0)) factor offset ≡ table_at (restored_by_one kind b) n y
-restored_value kind b n y factor offset coded e ef eo l inside =
-    ap (λ f. scaled (get_or coded n (pos 0)) f offset) ef
-    ∙ ap (λ o. scaled (get_or coded n (pos 0)) (factor_of b.index) o) eo
-    ∙ sym (get_or-map (λ v. restored v b.index kind) coded n (pos 0) (pos 0) inside)
-    ∙ ap (λ zs. get_or zs n (pos 0)) (restored_row kind b y coded e)
-    ∙ row_at (restored_by_one kind b) n y l
+-- what a coded number stands for
+pub restored_place : (kind : Kind) (b : CodedBand) (n y factor offset : ℕ) → factor ≡ factor_of b.index → offset ≡ offset_of b.index kind → n < b.table.width → y < b.table.height → length b.table.values ≡ b.table.width * b.table.height
+    → scaled (table_at b.table n y) factor offset ≡ table_at (restored_by_one kind b) n y
+restored_place kind b n y factor offset ef eo l k whole =
+    ap (λ f. scaled (table_at b.table n y) f offset) ef
+    ∙ ap (λ o. scaled (table_at b.table n y) (factor_of b.index) o) eo
+    ∙ sym (get_or-map (λ v. restored v b.index kind) b.table.values (y * b.table.width + n) (pos 0) (pos 0) (omega (arith, whole, mul-add-lt y b.table.width n b.table.height k l)))
 
 -- what holds of all values holds of a row's
 pub row_all : (P : ℤ → Type 0) (t : Table) (y : ℕ) (row : List ℤ) → row ≡ row_of t y → All P t.values → All P row

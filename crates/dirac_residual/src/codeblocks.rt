@@ -33,7 +33,7 @@ pub fn has_one_index(band: &CodedBand, counts: (u32, u32)) -> bool
     ensures { result ≡ true → (kind : TheKind) → restored_band kind counts band.now ≡ restored_by_one kind band.now }
 {
     let (across, down) = counts;
-    let _values = band.table.values();
+    let _width = band.table.width();
     are_all(&band.indices, across * down, band.index)
 }
 
@@ -139,11 +139,12 @@ pub fn restore_codeblocks(
     ensures { IfOk result (λ t. t ≡ restored_band kind counts band.now) }
 {
     let (across, _down) = counts;
-    let height = band.table.height();
-    let mut plane = Wide::try_new(alloc, band.table.width(), height, 0)?;
+    let table = band.table.try_wide(alloc)?;
+    let height = table.height();
+    let mut plane = Wide::try_new(alloc, table.width(), height, 0)?;
     for y in 0..height {
         let first = first_codeblock(height, counts, y);
-        let coded = band.table.row(y);
+        let coded = table.row(y);
         restore_row(coded, &band.indices, first, across, kind, plane.row_mut(y));
     }
     Ok(plane)

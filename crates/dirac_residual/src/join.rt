@@ -81,11 +81,14 @@ pub fn join_restored(
     let width = low.width();
     let height = low.height();
     let mut plane = Wide::try_new(alloc, 2 * width, 2 * height, 0)?;
+    let hl_table = hl.table.try_wide(alloc)?;
+    let lh_table = lh.table.try_wide(alloc)?;
+    let hh_table = hh.table.try_wide(alloc)?;
     for y in 0..height {
-        let right = hl.table.row(y);
+        let right = hl_table.row(y);
         even_row(low.row(y), right, hl.index, kind, plane.row_mut(2 * y));
-        let left = lh.table.row(y);
-        let right = hh.table.row(y);
+        let left = lh_table.row(y);
+        let right = hh_table.row(y);
         odd_row(
             left,
             lh.index,

@@ -4,6 +4,7 @@ ghost use Rattle.std.specs.Prelude.{◌≡◌, ℕ, pos, true, ◌+◌, ◌*◌,
 ghost use Rattle.std.specs.Prelude.{unsigned_abs, IfOk};
 ghost use Rattle.std.specs.List.{All};
 ghost use Rattle.dirac_types.specs.Limits.{IsIndex, IsWavelet};
+ghost use Rattle.dirac_types.specs.Table.{table_at};
 ghost use Rattle.dirac_quant.specs.Quantiser.{scaled};
 ghost use Rattle.dirac_lift.specs.Level.{level};
 ghost use Rattle.dirac_residual.specs.Fits.{IsBesides};
@@ -11,7 +12,7 @@ ghost use Rattle.dirac_residual.specs.Halves.{IsNarrowBand, IsRestorable, beside
 ghost use Rattle.dirac_residual.specs.Codeblocks.{restored_by_one};
 
 use crate::scale::{Scale, scale_of};
-use dirac_coeffs::CodedBand;
+use dirac_coeffs::{CodedBand, Coefficients};
 use dirac_lift::synth_halves_level;
 use dirac_quant::{narrow_limit, restore_narrow};
 use dirac_types::{Kind, LARGEST_NARROW, LARGEST_SIDE, Narrow, NoMemory};
@@ -24,29 +25,17 @@ pub fn is_narrow(values: &[i32]) -> bool
     values.iter().all(|v| v.unsigned_abs() <= LARGEST_NARROW)
 }
 
-/// Whether all magnitudes are at most `most`.
-fn are_at_most(coded: &[i64], most: u64) -> bool
-    ensures { result ≡ true → All (λ v. unsigned_abs v ≤ most) coded.now }
-{
-    let mut all = true;
-    for n in 0..coded.len() {
-        all &= coded[n].unsigned_abs() <= most;
-    }
-    all
-}
-
 /// Whether all coefficients of a band are at most 4,095 in magnitude.
 pub fn is_narrow_band(band: &CodedBand, kind: Kind) -> bool
     requires { IsIndex band.now.index }
     ensures { result ≡ true → IsNarrowBand kind band.now }
 {
-    let most = narrow_limit(band.index, kind);
-    are_at_most(band.table.values(), most)
+    band.table.largest() <= narrow_limit(band.index, kind)
 }
 
 /// Writes what one coded number stands for.
 #[inline(always)]
-fn put_restored(coded: &[i64], scale: Scale, n: usize, line: &mut [i32], at: usize)
+fn put_restored(coded: &[i32], scale: Scale, n: usize, line: &mut [i32], at: usize)
     requires coded { n < length coded.now }
     requires inside { at < length line.old }
     requires offset { scale.offset < 2 ^ 27 }
@@ -54,12 +43,12 @@ fn put_restored(coded: &[i64], scale: Scale, n: usize, line: &mut [i32], at: usi
     requires restorable { All (λ v. IsRestorable scale.factor scale.offset v) coded.now }
     ensures { line.new ≡ slice_set line.old at (scaled (slice_index_or coded.now n (pos 0)) scale.factor scale.offset) }
 {
-    line[at] = restore_narrow(coded[n] as i32, scale.factor, scale.offset);
+    line[at] = restore_narrow(coded[n], scale.factor, scale.offset);
 }
 
 /// Writes what coded numbers stand for to the places of a line from one on.
 #[inline(always)]
-fn restore_from(coded: &[i64], scale: Scale, from: usize, line: &mut [i32])
+fn restore_from(coded: &[i32], scale: Scale, from: usize, line: &mut [i32])
     requires line { length line.old ≡ 2 * length coded.now }
     requires from { from ≤ length coded.now }
     requires offset { scale.offset < 2 ^ 27 }
@@ -71,6 +60,39 @@ fn restore_from(coded: &[i64], scale: Scale, from: usize, line: &mut [i32])
 {
     for n in 0..coded.len() {
         put_restored(coded, scale, n, line, from + n);
+    }
+}
+
+/// Writes zeros to `count` places of a line from one on.
+#[inline(always)]
+fn clear_from(count: usize, from: usize, line: &mut [i32])
+    requires { from + count ≤ length line.old }
+    ensures written { (n : ℕ) → n < count → slice_index_or line.new (from + n) (pos 0) ≡ pos 0 }
+    ensures before { (x : ℕ) → x < from → slice_index_or line.new x (pos 0) ≡ slice_index_or line.old x (pos 0) }
+{
+    for n in 0..count {
+        line[from + n] = 0;
+    }
+}
+
+/// Writes what a row of a band stands for to the places of a line from one on.
+#[inline(always)]
+fn restore_row_from(band: &Coefficients, scale: Scale, y: u32, from: usize, line: &mut [i32])
+    requires row { y < band.now.height }
+    requires line { length line.old ≡ 2 * band.now.width }
+    requires from { from ≤ band.now.width }
+    requires offset { scale.offset < 2 ^ 27 }
+    requires below { All (λ v. unsigned_abs v < 2 ^ 12) band.now.values }
+    requires restorable { All (λ v. IsRestorable scale.factor scale.offset v) band.now.values }
+    ensures written { (n : ℕ) → n < band.now.width → slice_index_or line.new (from + n) (pos 0)
+        ≡ scaled (table_at band.now n y) scale.factor scale.offset }
+    ensures before { (x : ℕ) → x < from → slice_index_or line.new x (pos 0) ≡ slice_index_or line.old x (pos 0) }
+    ensures whole { length band.now.values ≡ band.now.width * band.now.height }
+{
+    let width = band.width() as usize;
+    match band.narrow_row(y) {
+        Some(coded) => restore_from(coded, scale, from, line),
+        None => clear_from(width, from, line),
     }
 }
 
@@ -98,10 +120,9 @@ fn even_rows(alloc: Global, low: &Narrow, hl: &CodedBand, kind: Kind) -> Result<
     let scale = scale_of(hl.index, kind);
     let mut rows = Narrow::try_new(alloc, 2 * width, low.height(), 0)?;
     for y in 0..low.height() {
-        let right = hl.table.row(y);
         let line = rows.row_mut(y);
         copy_to_front(low.row(y), line);
-        restore_from(right, scale, width as usize, line);
+        restore_row_from(&hl.table, scale, y, width as usize, line);
     }
     Ok(rows)
 }
@@ -121,11 +142,9 @@ fn odd_rows(alloc: Global, lh: &CodedBand, hh: &CodedBand, kind: Kind) -> Result
     let right_scale = scale_of(hh.index, kind);
     let mut rows = Narrow::try_new(alloc, 2 * width, lh.table.height(), 0)?;
     for y in 0..lh.table.height() {
-        let left = lh.table.row(y);
-        let right = hh.table.row(y);
         let line = rows.row_mut(y);
-        restore_from(left, left_scale, 0, line);
-        restore_from(right, right_scale, width as usize, line);
+        restore_row_from(&lh.table, left_scale, y, 0, line);
+        restore_row_from(&hh.table, right_scale, y, width as usize, line);
     }
     Ok(rows)
 }

@@ -41,17 +41,6 @@ fn lowest_band(
     Ok(low)
 }
 
-/// Whether all values are zeros. Each is looked at, so that several are compared at once.
-fn are_zeros(values: &[i64]) -> bool
-    ensures { result ≡ true → AreZeros values.now }
-{
-    let mut zeros = true;
-    for n in 0..values.len() {
-        zeros &= values[n] == 0;
-    }
-    zeros
-}
-
 /// Whether all bands have zeros alone.
 fn have_zeros_alone(bands: &[CodedBand]) -> bool
     ensures { result ≡ true → (n : ℕ) (band : TheBand) → slice_get bands.now n ≡ Some band →
@@ -59,7 +48,7 @@ fn have_zeros_alone(bands: &[CodedBand]) -> bool
 {
     for n in 0..bands.len() {
         let band = &bands[n];
-        if !are_zeros(band.table.values()) {
+        if !band.table.are_zeros() {
             return false;
         }
     }

@@ -54,7 +54,8 @@ fn restore_by_one(alloc: Global, band: &CodedBand, kind: Kind) -> Result<Wide, N
     ensures { IfOk result (λ t. t ≡ restored_by_one kind band.now) }
 {
     let mut plane = Wide::try_new(alloc, band.table.width(), band.table.height(), 0)?;
-    restore_values(band.table.values(), band.index, kind, plane.values_mut());
+    let table = band.table.try_wide(alloc)?;
+    restore_values(table.values(), band.index, kind, plane.values_mut());
     Ok(plane)
 }
 

@@ -18,13 +18,17 @@ written_spells : {T E : Type 0} (layout : BandLayout) (parent : List ℤ) (b : C
 written_spells layout parent b old new is coded of zeros indices (Ok x) e = subst (λ (l : List Bool). SpelledBehind (band_grammar layout parent) b old l) (sym e) (band_spells layout parent b old is coded of zeros indices)
 written_spells layout parent b old new is coded of zeros indices (Err x) e = e
 
-pub returns-then-are_all_zeros-clause-spelled : goal.returns-then-are_all_zeros-clause-spelled
-returns-then-are_all_zeros-clause-spelled c =
+pub returns-then-are_zeros-clause-spelled : goal.returns-then-are_zeros-clause-spelled
+returns-then-are_zeros-clause-spelled c =
     written_spells c.args.layout (values_of_parent c.args.parent) c.args.band.now c.args.w.now c.uint.new.self c.requires.layout c.requires.band c.requires.indices c.requires.zeros c.requires.zero_indices c.uint.result (search rules)
 
-pub returns-clause-spelled : goal.returns-clause-spelled
-returns-clause-spelled c =
+pub returns-in_ok-wide-in-Some-clause-spelled : goal.returns-in_ok-wide-in-Some-clause-spelled
+returns-in_ok-wide-in-Some-clause-spelled c =
     written_spells c.args.layout (values_of_parent c.args.parent) c.args.band.now c.args.w.now c.write_coded.new.w c.requires.layout c.requires.band c.requires.indices c.requires.zeros c.requires.zero_indices c.write_coded.result (search rules)
+
+pub returns-in-None-clause-spelled : goal.returns-in-None-clause-spelled
+returns-in-None-clause-spelled c =
+    written_spells c.args.layout (values_of_parent c.args.parent) c.args.band.now c.args.w.now c.write_coded-in-None.new.w c.requires.layout c.requires.band c.requires.indices c.requires.zeros c.requires.zero_indices c.write_coded-in-None.result (search rules)
 
 pub returns-in_err-align-clause-front : goal.returns-in_err-align-clause-front
 returns-in_err-align-clause-front c =

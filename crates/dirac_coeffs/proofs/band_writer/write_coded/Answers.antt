@@ -13,3 +13,8 @@ pub returns-in_err-uint-clause-front : goal.returns-in_err-uint-clause-front
 returns-in_err-uint-clause-front c =
     let b = c.args.band.now in
     on_err _ (no_block b.index (block_of c.args.layout c.args.parent.now b.index b.table.values b.indices) c.in_err-uint.ensures.err)
+
+pub returns-in_err-table-clause-front : goal.returns-in_err-table-clause-front
+returns-in_err-table-clause-front c =
+    let b = c.args.band.now in
+    on_err _ (no_block b.index (block_of c.args.layout c.args.parent.now b.index b.table.values b.indices) refl)

@@ -1,4 +1,4 @@
-use Rattle.std.proofs.Common.{◌≡◌, ℤ, pos, ◌*◌, ◌++◌, length, take, drop, List, replicate, Result, Ok, Err, refl, sym, ap, ◌∙◌, subst}
+use Rattle.std.proofs.Common.{◌≡◌, ℤ, pos, ◌*◌, length, List, replicate, Result, Ok, Err, refl, sym, ap, ◌∙◌, subst}
 use Rattle.dirac_types.specs.declared.faults.Cause.{Cause}
 use Rattle.dirac_types.specs.declared.faults.Cause.TheVariants as causes
 use Rattle.dirac_types.specs.declared.faults.Stop.{Stop}
@@ -14,8 +14,8 @@ cause_in (Ok x) = causes.CodeWord
 cause_in (Err (stop.Refused q)) = q.cause
 cause_in (Err stop.NoMemory) = causes.CodeWord
 
-pub returns-in-Ok-clause-value : goal.returns-in-Ok-clause-value
-returns-in-Ok-clause-value c =
+pub returns-in_ok-coefficients-in-Ok-clause-value : goal.returns-in_ok-coefficients-in-Ok-clause-value
+returns-in_ok-coefficients-in-Ok-clause-value c =
     let layout = c.args.layout in
     let parent = c.args.parent.now in
     let block = c.args.block.now in
@@ -23,22 +23,19 @@ returns-in-Ok-clause-value c =
     let vs = c.values_mut.result.now in
     let ws = c.read_all.new.values in
     let read = steps_answer layout parent c.args.index block t vs c.in_ok-indices.indices c.new-decoder.result (Ok (band_progress ws c.read_all.new.indices c.read_all.new.decoder)) c.requires.layout c.requires.index c.in_ok-table.ensures c.values_mut.ensures.value c.in_ok-indices.ensures c.new-decoder.ensures c.in-Ok.ensures.value in
-    let over = written_over t.values ws (c.read_all.ensures.len ∙ ap length c.values_mut.ensures.value) in (
+    let over = written_over t.values ws (c.read_all.ensures.len ∙ ap length c.values_mut.ensures.value) in
+    rw c.in_ok-coefficients-in-Ok.ensures (
       table_written layout t (replicate (layout.width * layout.height) (pos 0)) ws c.in_ok-table.ensures,
       subst (λ (l : List ℤ). band_read layout parent c.args.index block ≡ Ok (content l c.read_all.new.indices)) (sym over) read,
     )
 
-pub returns-in-Ok-clause-lawful : goal.returns-in-Ok-clause-lawful
-returns-in-Ok-clause-lawful c =
-    let t = c.in_ok-table.table in
-    let ws = c.read_all.new.values in
-    (band_carried c.args.layout c.args.parent.now c.args.index c.args.block.now (take (length t.values) (ws ++ drop (length ws) t.values)) c.read_all.new.indices c.requires.layout c.requires.index (returns-in-Ok-clause-value c).1).1.lawful
+pub returns-in_ok-coefficients-in-Ok-clause-lawful : goal.returns-in_ok-coefficients-in-Ok-clause-lawful
+returns-in_ok-coefficients-in-Ok-clause-lawful c =
+    (band_carried c.args.layout c.args.parent.now c.args.index c.args.block.now c.in_ok-coefficients-in-Ok.coefficients.values c.read_all.new.indices c.requires.layout c.requires.index (returns-in_ok-coefficients-in-Ok-clause-value c).1).1.lawful
 
-pub returns-in-Ok-clause-plain : goal.returns-in-Ok-clause-plain
-returns-in-Ok-clause-plain c = λ mode.
-    let t = c.in_ok-table.table in
-    let ws = c.read_all.new.values in
-    plain_is_equal c.args.layout c.args.parent.now c.args.index c.args.block.now (take (length t.values) (ws ++ drop (length ws) t.values)) c.read_all.new.indices c.requires.layout c.requires.index mode (returns-in-Ok-clause-value c).1
+pub returns-in_ok-coefficients-in-Ok-clause-plain : goal.returns-in_ok-coefficients-in-Ok-clause-plain
+returns-in_ok-coefficients-in-Ok-clause-plain c = λ mode.
+    plain_is_equal c.args.layout c.args.parent.now c.args.index c.args.block.now c.in_ok-coefficients-in-Ok.coefficients.values c.read_all.new.indices c.requires.layout c.requires.index mode (returns-in_ok-coefficients-in-Ok-clause-value c).1
 
 pub returns-in-Err-clause-value : goal.returns-in-Err-clause-value
 returns-in-Err-clause-value c =

@@ -1,7 +1,6 @@
-use Rattle.std.proofs.Common.{ap, sym, length, ◌∙◌}
 use Rattle.dirac_residual.proofs.ByCodeblock.{one_restores}
 use Rattle.dirac_residual.proofs.codeblocks.has_one_index.Goals as goal
 
 pub returns : goal.returns
 returns c is kind =
-    one_restores kind c.args.counts c.args.band.now (sym (ap length c.values-values.ensures.value) ∙ c.values-values.ensures.len) c.requires (c.are_all.ensures is)
+    one_restores kind c.args.counts c.args.band.now c.width-width.ensures.whole c.requires (c.are_all.ensures is)

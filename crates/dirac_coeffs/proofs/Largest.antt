@@ -1,0 +1,162 @@
+-- The largest of some magnitudes, and bands whose largest magnitude is 0.
+use Rattle.std.proofs.Common.{◌≡◌, ℕ, zero, suc, ℤ, pos, negsuc, ◌+◌, ◌*◌, ◌<◌, ◌≤◌, ◌&&◌, Bool, true, false, List, [], ◌∷◌, ◌++◌, ◌-◌, ◌^◌, drop, take, length, length-append, replicate, slice_index_or, slice_set, unsigned_abs, nat_eq, max, arith, refl, ap, sym, ◌∙◌, inl, inr, subst, eq-eqb}
+use Rattle.std.specs.List.{All}
+use Rattle.std.proofs.lemmas.List.Elements.{All-append}
+use Rattle.std.proofs.lemmas.Bool.{and_parts, cases_Bool, cases_eq, ne_eqb}
+use Rattle.std.proofs.lemmas.List.{get_or-append-add, get_or-replicate, get_or_append_left, get_or-set_other, get_or-set_same, length-replicate}
+use Rattle.dirac_types.specs.declared.limits.TheConstants.{LARGEST_TABLE_SIDE}
+use Rattle.dirac_coeffs.specs.declared.coefficients.NarrowRows.{NarrowRows}
+use Rattle.dirac_coeffs.specs.declared.coefficients.Held.TheVariants.{Narrow}
+use Rattle.dirac_types.specs.Table.{Table, row_of}
+use Rattle.dirac_coeffs.specs.Contexts.{is_zero}
+use Rattle.dirac_coeffs.specs.Held.{IsHeld, IsLargest, zeros_of}
+use Rattle.dirac_coeffs.specs.Written.{is_zero_band}
+
+-- one more number is at most the largest so far, or is the largest itself
+pub bound_more : (f : ℕ → ℕ) (n old one new : ℕ) → ((k : ℕ) → k < n → f k ≤ old) → one ≡ f n → new ≡ max old one → (k : ℕ) → k < n + 1 → f k ≤ new
+bound_more f n old one new before e m k l = elim (cases_eq k n) [
+  | inl last ↦ rw last (omega (arith, e, m))
+  | inr other ↦ omega (arith, m, before k (omega (arith, l, other)))
+]
+
+-- and no smaller number bounds them
+pub least_more : (f : ℕ → ℕ) (n old one new : ℕ) → ((m : ℕ) → ((k : ℕ) → k < n → f k ≤ m) → old ≤ m) → one ≡ f n → new ≡ max old one → (m : ℕ) → ((k : ℕ) → k < n + 1 → f k ≤ m) → new ≤ m
+least_more f n old one new before e new_is m all =
+    omega (arith, e, new_is, before m (λ k l. all k (omega (arith, l))), all n (omega arith))
+
+-- a bound on all numbers of a list, told by their places
+pub all_bounded : (xs : List ℤ) (n m : ℕ) → length xs ≤ n → ((k : ℕ) → k < n → unsigned_abs (slice_index_or xs k (pos 0)) ≤ m) → All (λ v. unsigned_abs v ≤ m) xs
+all_bounded xs n m all each k d l =
+    let same : slice_index_or xs k d ≡ slice_index_or xs k (pos 0) = other_default xs k d (pos 0) l in
+    rw same (each k (omega (arith, l, all)))
+  where
+    other_default : (xs : List ℤ) (k : ℕ) (d e : ℤ) → k < length xs → slice_index_or xs k d ≡ slice_index_or xs k e
+    other_default [] k d e l = absurd (omega arith)
+    other_default (x ∷ xs) zero d e l = refl
+    other_default (x ∷ xs) (suc k) d e l = other_default xs k d e (omega arith)
+
+no_magnitude : (v : ℤ) → unsigned_abs v ≤ 0 → v ≡ pos 0
+no_magnitude (pos zero) l = refl
+no_magnitude (pos (suc n)) l = absurd (omega arith)
+no_magnitude (negsuc n) l = absurd (omega arith)
+
+-- where the largest magnitude is 0, all numbers are
+pub all_zeros : (xs : List ℤ) → All (λ v. unsigned_abs v ≤ 0) xs → All (λ v. v ≡ pos 0) xs
+all_zeros xs all k d l = no_magnitude (slice_index_or xs k d) (all k d l)
+
+-- zeros are a band of zeros, and the other way round
+zero_is : (x : ℤ) → is_zero x ≡ true → x ≡ pos 0
+zero_is (pos zero) e = refl
+zero_is (pos (suc n)) e = absurd cc
+zero_is (negsuc n) e = absurd cc
+
+zeros_of_band : (xs : List ℤ) → is_zero_band xs ≡ true → All (λ v. unsigned_abs v ≤ 0) xs
+zeros_of_band [] e k d l = absurd (omega arith)
+zeros_of_band (x ∷ xs) e zero d l = rw (zero_is x (and_parts (is_zero x) (is_zero_band xs) e).0) (omega arith)
+zeros_of_band (x ∷ xs) e (suc k) d l = zeros_of_band xs (and_parts (is_zero x) (is_zero_band xs) e).1 k d (omega arith)
+
+pub band_of_zeros : (xs : List ℤ) → All (λ v. v ≡ pos 0) xs → is_zero_band xs ≡ true
+band_of_zeros [] all = refl
+band_of_zeros (x ∷ xs) all =
+    rw (all zero (pos 0) (omega arith)) (band_of_zeros xs (λ k d l. all (suc k) d (omega (arith, l))))
+
+-- so the largest magnitude tells whether a band has zeros alone
+pub zeros_told : (largest : ℕ) (xs : List ℤ) → IsLargest largest xs → nat_eq largest 0 ≡ is_zero_band xs
+zeros_told largest xs is = elim (cases_Bool (is_zero_band xs)) [
+  | inl zeros ↦
+      let none : largest ≡ 0 = omega (arith, is.least 0 (zeros_of_band xs zeros)) in
+      eq-eqb largest 0 none ∙ sym zeros
+  | inr some ↦ ne_eqb largest 0 (λ none. clash xs largest is none some) ∙ sym some
+] where
+  clash : (xs : List ℤ) (largest : ℕ) → IsLargest largest xs → largest ≡ 0 → is_zero_band xs ≡ false → ⊥
+  clash xs largest is none some =
+      let zeros : is_zero_band xs ≡ true = band_of_zeros xs (all_zeros xs (rw none at is.bound)) in
+      let e : true ≡ false = sym zeros ∙ some in absurd cc
+
+pub zeros_are_zeros : (n : ℕ) → All (λ v. v ≡ pos 0) (replicate n (pos 0))
+zeros_are_zeros n k d l = get_or-replicate n k (pos 0) d (omega (arith, l, length-replicate n (pos 0)))
+
+-- a list of zeros is told by its length
+pub zeros_replicated : (xs : List ℤ) (n : ℕ) → length xs ≡ n → All (λ v. v ≡ pos 0) xs → xs ≡ replicate n (pos 0)
+zeros_replicated [] zero e all = refl
+zeros_replicated [] (suc n) e all = absurd (omega arith)
+zeros_replicated (x ∷ xs) zero e all = absurd (omega arith)
+zeros_replicated (x ∷ xs) (suc n) e all =
+    rw (all zero (pos 0) (omega arith)) (ap (λ ys. pos 0 ∷ ys) (zeros_replicated xs n (omega arith) (λ k d l. all (suc k) d (omega (arith, l)))))
+
+-- one more number is copied
+pub copied_more : (xs ys : List ℤ) (n : ℕ) → n < length ys → ((k : ℕ) → k < n → slice_index_or ys k (pos 0) ≡ slice_index_or xs k (pos 0)) → (k : ℕ) → k < n + 1 → slice_index_or (slice_set ys n (slice_index_or xs n (pos 0))) k (pos 0) ≡ slice_index_or xs k (pos 0)
+copied_more xs ys n fits before k l = elim (cases_eq k n) [
+  | inl last ↦ rw last (get_or-set_same ys n (slice_index_or xs n (pos 0)) (pos 0) fits)
+  | inr other ↦ get_or-set_other ys n k (slice_index_or xs n (pos 0)) (pos 0) other ∙ before k (omega (arith, l, other))
+]
+
+-- a table of zeros
+pub zeros_table : (t : Table) (width height largest : ℕ) → width ≡ t.width → height ≡ t.height → length t.values ≡ t.width * t.height → IsLargest largest t.values → largest ≡ 0
+    → zeros_of width height ≡ t
+zeros_table t width height largest across down whole is none =
+    let values : t.values ≡ replicate (t.width * t.height) (pos 0) = zeros_replicated t.values (t.width * t.height) whole (all_zeros t.values (rw none at is.bound)) in
+    rw (across, down) (ap (λ (xs : List ℤ). record t { values = xs }) (sym values))
+
+-- what holds of all numbers holds of those in front, and of the rest
+front_all : (P : ℤ → Type 0) (xs ys : List ℤ) → All P (xs ++ ys) → All P xs
+front_all P xs ys all k d l = subst P (get_or_append_left xs ys d k l) (all k d (omega (arith, l, length-append xs ys)))
+
+rest_all : (P : ℤ → Type 0) (xs ys : List ℤ) → All P (xs ++ ys) → All P ys
+rest_all P xs ys all k d l = subst P (get_or-append-add xs ys k d) (all (length xs + k) d (omega (arith, l, length-append xs ys)))
+
+-- the largest of two lists' largest magnitudes
+pub largest_joined : (xs ys : List ℤ) (a b new : ℕ) → IsLargest a xs → IsLargest b ys → new ≡ max a b → IsLargest new (xs ++ ys)
+largest_joined xs ys a b new p q e = record {
+  bound = All-append (λ v. unsigned_abs v ≤ new) xs ys (λ k d l. omega (arith, e, p.bound k d l)) (λ k d l. omega (arith, e, q.bound k d l));
+  least = λ m all. omega (arith, e, p.least m (front_all (λ v. unsigned_abs v ≤ m) xs ys all), q.least m (rest_all (λ v. unsigned_abs v ≤ m) xs ys all));
+}
+
+pub largest_none : IsLargest 0 []
+largest_none = record { bound = λ k d l. absurd (omega arith); least = λ m all. omega arith }
+
+-- one more row
+pub rows_taken : (t : Table) (y : ℕ) → take ((y + 1) * t.width) t.values ≡ take (y * t.width) t.values ++ row_of t y
+rows_taken t y =
+    let more : (y + 1) * t.width ≡ y * t.width + t.width = omega arith in
+    let row : y * t.width + t.width - y * t.width ≡ t.width = omega arith in
+    rw (more, row) (taken (y * t.width) t.width t.values)
+  where
+    taken : (m n : ℕ) (xs : List ℤ) → take (m + n) xs ≡ take m xs ++ take n (drop m xs)
+    taken zero n xs = let none : 0 + n ≡ n = omega arith in rw none refl
+    taken (suc m) zero [] = let next : suc m + 0 ≡ suc m = omega arith in rw next refl
+    taken (suc m) (suc n) [] = let next : suc m + suc n ≡ suc (m + suc n) = omega arith in rw next refl
+    taken (suc m) n (x ∷ xs) = let next : suc m + n ≡ suc (m + n) = omega arith in rw next (ap (λ zs. x ∷ zs) (taken m n xs))
+
+-- rows in 32 bits are held where they are those of a table
+pub held_narrow : (r : NarrowRows) (table : Table) (largest : ℕ) → r.size.width ≡ table.width → r.size.height ≡ table.height → r.values.items ≡ table.values → length table.values ≡ table.width * table.height
+    → (1 ≤ table.width) × (table.width ≤ LARGEST_TABLE_SIDE) → (1 ≤ table.height) × (table.height ≤ LARGEST_TABLE_SIDE) → IsLargest largest table.values → IsHeld (Narrow r) largest
+held_narrow r table largest across down same whole wide high is = record {
+  across = rw across wide;
+  down = rw down high;
+  whole = rw (same, across, down) whole;
+  most = rw same is;
+  wide = tt;
+}
+
+-- what is known of the rows that were narrowed, and of one more
+pub record AreNarrowed (all : Bool) (largest : ℕ) (values xs : List ℤ) : Type 0 where
+  pub written : all ≡ true → values ≡ xs
+  pub most : all ≡ true → IsLargest largest xs
+  pub others : all ≡ false → (m : ℕ) → All (λ v. unsigned_abs v ≤ m) xs → 2 ^ 31 ≤ m
+
+pub none_narrowed : AreNarrowed true 0 [] []
+none_narrowed = record { written = λ e. refl; most = λ e. largest_none; others = λ e. absurd cc }
+
+pub row_narrowed : (t : Table) (y next : ℕ) (all one : Bool) (largest other new : ℕ) (values more : List ℤ) → next ≡ y + 1 → AreNarrowed all largest values (take (y * t.width) t.values) → (one ≡ true → more ≡ values ++ row_of t y)
+    → (one ≡ true → IsLargest other (row_of t y)) → (one ≡ false → (m : ℕ) → All (λ v. unsigned_abs v ≤ m) (row_of t y) → 2 ^ 31 ≤ m) → new ≡ max largest other
+    → AreNarrowed (all && one) new more (take (next * t.width) t.values)
+row_narrowed t y next all one largest other new values more next_is p written most others e =
+    rw (next_is, rows_taken t y) (record {
+      written = λ h. let both = and_parts all one h in written both.1 ∙ ap (λ zs. zs ++ row_of t y) (p.written both.0);
+      most = λ h. let both = and_parts all one h in largest_joined (take (y * t.width) t.values) (row_of t y) largest other new (p.most both.0) (most both.1) e;
+      others = λ h m l. elim (cases_Bool all) [
+        | inl so_far ↦ let last : one ≡ false = rw so_far at h in others last m (rest_all (λ v. unsigned_abs v ≤ m) (take (y * t.width) t.values) (row_of t y) l)
+        | inr before ↦ p.others before m (front_all (λ v. unsigned_abs v ≤ m) (take (y * t.width) t.values) (row_of t y) l)
+      ];
+    })

@@ -1,0 +1,5 @@
+use Rattle.std.proofs.Common.{◌≡◌, ℕ, ◌<◌, pos, get_or}
+use Rattle.dirac_coeffs.proofs.coefficients.copy_widened.Given as goal
+
+abbrev pub invariant-loop-n : goal.invariant-loop-n
+invariant-loop-n l = (k : ℕ) → k < l.n → get_or l.wide k (pos 0) ≡ get_or l.narrow k (pos 0)

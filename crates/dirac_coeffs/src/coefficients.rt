@@ -1,0 +1,304 @@
+ghost use Rattle.std.specs.Prelude.{◌≡◌, ℕ, pos, true, false, ◌*◌, ◌^◌, ◌<◌, ◌≤◌, length, slice_index_or};
+ghost use Rattle.std.specs.Prelude.{slice_set, unsigned_abs, List, [], ◌++◌, IfOk, IfSome, None};
+ghost use Rattle.std.specs.List.{All};
+ghost use Rattle.dirac_types.specs.Table.{row_of, table_at};
+ghost use Rattle.dirac_coeffs.specs.Held.{IsLargest, zeros_of};
+ghost use Rattle.dirac_coeffs.specs.Written.{is_zero_band};
+
+use dirac_types::{BandTable, LARGEST_TABLE_SIDE, NoMemory};
+use std::alloc::Global;
+use std::marker::Model;
+
+/// The columns and rows of a band.
+#[derive(Clone, Copy, Debug)]
+pub struct BandSize {
+    pub width: u32,
+    pub height: u32,
+}
+
+/// Numbers in 32 bits, by rows.
+#[derive(Debug, Drop)]
+pub struct NarrowRows {
+    size: BandSize,
+    values: Vec<i32>,
+}
+
+/// Coefficients in 32 bits where these are enough, else wide; no list of them where all are zeros.
+#[derive(Debug, Drop)]
+pub enum Held {
+    Zeros(BandSize),
+    Narrow(NarrowRows),
+    Wide(BandTable),
+}
+
+/// The quantised coefficients of one subband, by rows from the top, and the largest of their magnitudes.
+///
+/// They are seen as a table.
+#[derive(Debug, Drop)]
+pub struct Coefficients {
+    held: Held,
+    largest: u64,
+}
+
+impl Model for Coefficients {
+    ghost use Rattle.dirac_types.specs.Table.{Table};
+    ghost use Rattle.dirac_coeffs.specs.Held.{IsHeld, held_table};
+
+    ghost Value = { Table };
+
+    ghost view = { λ c. held_table c.held };
+
+    ghost invariant = { λ c. IsHeld c.held c.largest };
+}
+
+impl Coefficients {
+    /// A band of zeros.
+    pub fn zeros(width: u32, height: u32) -> Coefficients
+        requires across { (1 ≤ width) × (width ≤ LARGEST_TABLE_SIDE) }
+        requires down { (1 ≤ height) × (height ≤ LARGEST_TABLE_SIDE) }
+        ensures { result ≡ zeros_of width height }
+    {
+        let size = BandSize { width, height };
+        Coefficients {
+            held: Held::Zeros(size),
+            largest: 0,
+        }
+    }
+
+    /// These coefficients.
+    pub fn try_of(alloc: Global, table: BandTable) -> Result<Coefficients, NoMemory>
+        requires across { table.width ≤ LARGEST_TABLE_SIDE }
+        requires down { table.height ≤ LARGEST_TABLE_SIDE }
+        ensures { IfOk result (λ c. c ≡ table) }
+    {
+        let size = BandSize {
+            width: table.width(),
+            height: table.height(),
+        };
+        let mut values = Vec::with_capacity(alloc, table.values().len())?;
+        let narrowed = narrow_rows(alloc, &table, &mut values)?;
+        if !narrowed.all {
+            let largest = largest_of(table.values());
+            return Ok(Coefficients {
+                held: Held::Wide(table),
+                largest,
+            });
+        }
+        if narrowed.largest == 0 {
+            return Ok(Coefficients::zeros(size.width, size.height));
+        }
+        let rows = NarrowRows { size, values };
+        Ok(Coefficients {
+            held: Held::Narrow(rows),
+            largest: u64::from(narrowed.largest),
+        })
+    }
+
+    /// The number of columns.
+    pub fn width(&self) -> u32
+        ensures value { result ≡ self.now.width }
+        ensures whole { length self.now.values ≡ self.now.width * self.now.height }
+        ensures at_least_1 { 1 ≤ result }
+        ensures at_most_8192 { result ≤ LARGEST_TABLE_SIDE }
+    {
+        match &self.held {
+            Held::Zeros(size) => size.width,
+            Held::Narrow(rows) => rows.size.width,
+            Held::Wide(table) => table.width(),
+        }
+    }
+
+    /// The number of rows.
+    pub fn height(&self) -> u32
+        ensures value { result ≡ self.now.height }
+        ensures whole { length self.now.values ≡ self.now.width * self.now.height }
+        ensures at_least_1 { 1 ≤ result }
+        ensures at_most_8192 { result ≤ LARGEST_TABLE_SIDE }
+    {
+        match &self.held {
+            Held::Zeros(size) => size.height,
+            Held::Narrow(rows) => rows.size.height,
+            Held::Wide(table) => table.height(),
+        }
+    }
+
+    /// The largest magnitude.
+    pub fn largest(&self) -> u64
+        ensures { IsLargest result self.now.values }
+    {
+        self.largest
+    }
+
+    /// Whether all coefficients are zeros.
+    pub fn are_zeros(&self) -> bool
+        ensures value { result ≡ is_zero_band self.now.values }
+        ensures zeros { result ≡ true → All (λ v. v ≡ pos 0) self.now.values }
+    {
+        self.largest == 0
+    }
+
+    /// The coefficient in column `x` of row `y`, both counted from 0.
+    pub fn at(&self, x: u32, y: u32) -> i64
+        requires across { x < self.now.width }
+        requires down { y < self.now.height }
+        ensures { result ≡ table_at self.now x y }
+    {
+        match &self.held {
+            Held::Zeros(_size) => 0,
+            Held::Narrow(rows) => {
+                i64::from(rows.values[y as usize * rows.size.width as usize + x as usize])
+            }
+            Held::Wide(table) => table.at(x, y),
+        }
+    }
+
+    /// Lends row `y` of coefficients that fit 32 bits; none where all are zeros.
+    pub fn narrow_row(&self, y: u32) -> Option<&[i32]>
+        requires inside { y < self.now.height }
+        requires fits { All (λ v. unsigned_abs v < 2 ^ 31) self.now.values }
+        ensures value { IfSome result (λ row. row.now ≡ row_of self.now y) }
+        ensures len { IfSome result (λ row. length row.now ≡ self.now.width) }
+        ensures zeros { result ≡ None → All (λ v. v ≡ pos 0) self.now.values }
+    {
+        match &self.held {
+            Held::Zeros(_size) => None,
+            Held::Narrow(rows) => {
+                let start = y as usize * rows.size.width as usize;
+                Some(&rows.values[start..start + rows.size.width as usize])
+            }
+            Held::Wide(_table) => None,
+        }
+    }
+
+    /// A table of all coefficients, each in 64 bits.
+    pub fn try_wide(&self, alloc: Global) -> Result<BandTable, NoMemory>
+        ensures { IfOk result (λ t. t ≡ self.now) }
+    {
+        let mut wide = BandTable::try_new(alloc, self.width(), self.height(), 0)?;
+        match &self.held {
+            Held::Zeros(_size) => {}
+            Held::Narrow(rows) => copy_widened(rows.values.as_slice(), wide.values_mut()),
+            Held::Wide(table) => copy(table.values(), wide.values_mut()),
+        }
+        Ok(wide)
+    }
+}
+
+/// What came of numbers that were written in 32 bits: whether all of them fit, and then the largest magnitude.
+#[derive(Clone, Copy)]
+struct Narrowed {
+    all: bool,
+    largest: u32,
+}
+
+/// The lower 32 bits of a number, which are the number where it fits.
+#[inline(always)]
+fn lower_half(value: i64) -> i32
+    ensures { unsigned_abs value < 2 ^ 31 → result ≡ value }
+{
+    ((value.cast_unsigned() % 4_294_967_296) as u32).cast_signed()
+}
+
+/// Writes a number in 32 bits, where it fits.
+#[inline(always)]
+fn put_narrowed(wide: &[i64], n: usize, narrow: &mut [i32]) -> Narrowed
+    requires wide { n < length wide.now }
+    requires narrow { n < length narrow.old }
+    ensures len { length narrow.new ≡ length narrow.old }
+    ensures written { result.all ≡ true → narrow.new ≡ slice_set narrow.old n (slice_index_or wide.now n (pos 0)) }
+    ensures largest { result.all ≡ true → result.largest ≡ unsigned_abs (slice_index_or wide.now n (pos 0)) }
+    ensures others { result.all ≡ false → 2 ^ 31 ≤ unsigned_abs (slice_index_or wide.now n (pos 0)) }
+{
+    let half = lower_half(wide[n]);
+    narrow[n] = half;
+    Narrowed {
+        all: i64::from(half) == wide[n],
+        largest: half.unsigned_abs(),
+    }
+}
+
+/// Writes each number in 32 bits, where it fits. No number ends the loop, so that several are written at once.
+fn copy_narrowed(wide: &[i64], narrow: &mut [i32]) -> Narrowed
+    requires { length narrow.old ≡ length wide.now }
+    ensures written { result.all ≡ true → narrow.new ≡ wide.now }
+    ensures largest { result.all ≡ true → IsLargest result.largest wide.now }
+    ensures others { result.all ≡ false → (m : ℕ) → All (λ v. unsigned_abs v ≤ m) wide.now → 2 ^ 31 ≤ m }
+{
+    let mut all = true;
+    let mut largest = 0u32;
+    for n in 0..wide.len() {
+        let one = put_narrowed(wide, n, narrow);
+        all &= one.all;
+        largest = largest.max(one.largest);
+    }
+    Narrowed { all, largest }
+}
+
+/// Appends a row of numbers in 32 bits, where they fit, by way of a line of its length.
+fn append_narrowed(
+    row: &[i64],
+    line: &mut [i32],
+    values: &mut Vec<i32>,
+) -> Result<Narrowed, NoMemory>
+    requires { length line.old ≡ length row.now }
+    ensures written { IfOk result (λ n. n.all ≡ true → values.new.items ≡ values.old.items ++ row.now) }
+    ensures largest { IfOk result (λ n. n.all ≡ true → IsLargest n.largest row.now) }
+    ensures others { IfOk result (λ n. n.all ≡ false → (m : ℕ) → All (λ v. unsigned_abs v ≤ m) row.now → 2 ^ 31 ≤ m) }
+{
+    let narrowed = copy_narrowed(row, line);
+    values.extend_from_slice(line)?;
+    Ok(narrowed)
+}
+
+/// Appends all rows of numbers in 32 bits, where they fit.
+fn narrow_rows(
+    alloc: Global,
+    table: &BandTable,
+    values: &mut Vec<i32>,
+) -> Result<Narrowed, NoMemory>
+    requires { values.old.items ≡ [] }
+    ensures written { IfOk result (λ n. n.all ≡ true → values.new.items ≡ table.now.values) }
+    ensures largest { IfOk result (λ n. n.all ≡ true → IsLargest n.largest table.now.values) }
+    ensures others { IfOk result (λ n. n.all ≡ false → (m : ℕ) → All (λ v. unsigned_abs v ≤ m) table.now.values
+        → 2 ^ 31 ≤ m) }
+{
+    let mut row = vec![in alloc; 0i32; table.width() as usize]?;
+    let line = row.as_mut_slice();
+    let mut all = true;
+    let mut largest = 0u32;
+    for y in 0..table.height() {
+        let next = append_narrowed(table.row(y), line, values)?;
+        all &= next.all;
+        largest = largest.max(next.largest);
+    }
+    Ok(Narrowed { all, largest })
+}
+
+/// The largest magnitude.
+fn largest_of(values: &[i64]) -> u64
+    ensures { IsLargest result values.now }
+{
+    let mut largest = 0u64;
+    for n in 0..values.len() {
+        largest = largest.max(values[n].unsigned_abs());
+    }
+    largest
+}
+
+fn copy_widened(narrow: &[i32], wide: &mut [i64])
+    requires { length wide.old ≡ length narrow.now }
+    ensures { wide.new ≡ narrow.now }
+{
+    for n in 0..narrow.len() {
+        wide[n] = i64::from(narrow[n]);
+    }
+}
+
+fn copy(values: &[i64], others: &mut [i64])
+    requires { length others.old ≡ length values.now }
+    ensures { others.new ≡ values.now }
+{
+    for n in 0..values.len() {
+        others[n] = values[n];
+    }
+}
