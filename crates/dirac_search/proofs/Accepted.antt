@@ -1,5 +1,5 @@
 -- What accepted settings give to a search.
-use Rattle.std.proofs.Common.{◌≡◌, ◌+◌, ◌≤◌, length, arith}
+use Rattle.std.proofs.Common.{◌≡◌, ◌+◌, ◌≤◌, length}
 use Rattle.dirac_types.specs.Settings.{IsAccepted}
 use Rattle.dirac_types.proofs.Accepted.{in_range}
 use Rattle.dirac_types.specs.declared.settings.Settings.{Settings}

@@ -103,7 +103,7 @@ rows_sub g q w v s es =
     sum_same (λ r. sub_row_apart s g.up q w.x (w.y + r) v w.columns) (λ r. sum_below (λ x. difference g (stage.Sub q) v (w.x + x) (w.y + r)) w.columns) w.rows
     (λ r _. sub_row_is g q v w.x (w.y + r) w.columns s es)
 
--- the bits and the differences are the cost
-pub cost_is : (g : Searched) (bias : ℕ) (st : Stage) (w : Window) (v : Vector) (bits d : ℕ) → bits ≡ bits_of_vector v → d ≡ distortion g st w v → bias * bits + d ≡ window_cost g bias st w v
+-- what the bits cost and the differences are the cost
+pub cost_is : (g : Searched) (bias : ℕ) (st : Stage) (w : Window) (v : Vector) (bits : ℕ) → bits ≡ bias * bits_of_vector v → bits + distortion g st w v ≡ window_cost g bias st w v
 unfolding window_cost
-cost_is g bias st w v bits d eb ed = ap₂ (λ (b e : ℕ). bias * b + e) eb ed
+cost_is g bias st w v bits e = ap (λ b. b + distortion g st w v) e

@@ -1,5 +1,5 @@
 -- Sums of eight columns at a time, in lanes, and of four rows at a time.
-use Rattle.std.proofs.Common.{◌≡◌, ◌≢◌, ℕ, suc, ℤ, pos, ◌+◌, ◌*◌, ◌^◌, ◌<◌, ◌≤◌, ◌+ℤ◌, ◌-ℤ◌, unsigned_abs, List, length, get_or, set, refl, ap, ap₂, sym, ◌∙◌, arith, inl, inr, get_or-set_same, get_or-set_other}
+use Rattle.std.proofs.Common.{◌≡◌, ◌≢◌, ℕ, suc, ℤ, pos, ◌+◌, ◌-◌, ◌*◌, ◌^◌, ◌<◌, ◌≤◌, ◌+ℤ◌, ◌-ℤ◌, unsigned_abs, List, length, get_or, set, refl, ap, ap₂, sym, ◌∙◌, arith, inl, inr, get_or-set_same, get_or-set_other, subst}
 use Rattle.std.specs.List.{slice_range}
 use Rattle.std.proofs.lemmas.Int.{ints}
 use Rattle.std.proofs.lemmas.List.Edits.{get_or-between}
@@ -11,8 +11,8 @@ use Rattle.dirac_windows.specs.Sums.{sum_below}
 use Rattle.dirac_windows.specs.Windows.{row_from, values_apart, values_from}
 use Rattle.dirac_windows.specs.declared.window.Window.{Window}
 use Rattle.dirac_windows.proofs.Sums.{sum_added, sum_same}
-use Rattle.dirac_search.specs.Rows.{IsRowNearest, apart_at, four_rows_apart, four_rows_from, four_sub_rows_apart, row_apart, sub_row_apart, sub_row_from, sub_rows, whole_rows}
-use Rattle.dirac_search.proofs.Differences.{apart_same, inside_place, rows_inside}
+use Rattle.dirac_search.specs.Rows.{IsRowNearest, apart_at, clamped_row, four_rows_apart, four_rows_from, four_sub_rows_apart, row_apart, sub_row_apart, sub_row_from, sub_rows, whole_rows}
+use Rattle.dirac_search.proofs.Differences.{apart_same, inside_place}
 
 -- the lanes before place k have been added to, the others not yet
 pub record LanesAt (lanes init : List ℕ) (f : ℕ → ℕ) (k : ℕ) : Type 0 where
@@ -52,29 +52,52 @@ four_lanes l0 l1 l2 l3 l4 a b c d none ha hb hc hd =
     ∙ sum_added (λ k. (a k + b k) + c k) d 8
     ∙ ap (λ n. n + sum_below d 8) (sum_added (λ k. a k + b k) c 8 ∙ ap (λ n. n + sum_below c 8) (sum_added a b 8))
 
--- eight samples of two rows that have them
-eight_apart : (s r : Table) (x y across : ℕ) (down : ℤ) (a b : List ℤ) → IsRowNearest s (pos y) a → IsRowNearest r down b → x + 8 ≤ s.width → across + 8 ≤ r.width
-    → sum_below (apart_at a x b across) 8 ≡ row_apart s r (pos x) (pos y) (pos across) down 8
-unfolding apart_at
-eight_apart s r x y across down a b ha hb fx fa =
-    rows_inside s r (pos x) (pos y) (pos across) down a b x across 8 ha hb refl refl (omega (arith, ints)) (omega (arith, ints))
+-- four rows of eight samples that a table has stand among its values
+fitting : (w y d x : ℕ) → x + 8 ≤ w → ((y * w + x) + 3 * w) + 8 ≤ w * ((y + 4) + d)
+fitting w y d x l = omega (arith, l)
+
+pub four_rows_fit : (w h y x n : ℕ) → y + 4 ≤ h → x + 8 ≤ w → n ≡ w * h → ((y * w + x) + 3 * w) + 8 ≤ n
+four_rows_fit w h y x n inside l e =
+    let rows : (y + 4) + (h - (y + 4)) ≡ h = omega arith in
+    let whole : w * ((y + 4) + (h - (y + 4))) ≡ n = ap (λ k. w * k) rows ∙ sym e in
+    subst (λ m. ((y * w + x) + 3 * w) + 8 ≤ m) whole (fitting w y (h - (y + 4)) x l)
+
+-- a sample of a row that a table has, among its values
+inner_place : (t : Table) (values : List ℤ) (x y first k : ℕ) → values ≡ t.values → first ≡ y * t.width + x → y < t.height → x + 8 ≤ t.width → k < 8
+    → values_from values first k ≡ clamped_row t (pos x) (pos y) k
+inner_place t values x y first k ev e inside fits l =
+    let column : clamped_to (pos x +ℤ pos k) t.width ≡ x + k = inside_place (pos x +ℤ pos k) (x + k) t.width (omega (arith, ints)) (omega arith) in
+    let row : clamped_to (pos y) t.height ≡ y = inside_place (pos y) y t.height refl inside in
+    let at : first + k ≡ y * t.width + (x + k) = omega (arith, e) in
+    ap₂ (λ (vs : List ℤ) (i : ℕ). get_or vs i (pos 0)) ev at ∙ ap₂ (λ (i j : ℕ). get_or t.values (j * t.width + i) (pos 0)) (sym column) (sym row)
+
+-- eight samples of rows that two tables have
+eight_apart : (s r : Table) (a b : List ℤ) (x y across down first second : ℕ) (place : ℤ) → a ≡ s.values → b ≡ r.values → first ≡ y * s.width + x → second ≡ down * r.width + across
+    → place ≡ pos down → y < s.height → down < r.height → x + 8 ≤ s.width → across + 8 ≤ r.width
+    → sum_below (apart_at a first b second) 8 ≡ row_apart s r (pos x) (pos y) (pos across) place 8
+unfolding apart_at row_apart
+eight_apart s r a b x y across down first second place ea eb ef es ep sy ry fx fa =
+    apart_same (values_from a first) (clamped_row s (pos x) (pos y)) (values_from b second) (clamped_row r (pos across) (pos down)) 8
+    (λ k l. inner_place s a x y first k ea ef sy fx l) (λ k l. inner_place r b across down second k eb es ry fa l)
+    ∙ ap (λ z. values_apart (clamped_row s (pos x) (pos y)) (clamped_row r (pos across) z) 8) (sym ep)
 
 -- four rows of eight samples, added in lanes
-pub four_rows_are : (s r : Table) (x across y sum : ℕ) (p : ℤ) (l0 l1 l2 l3 l4 : List ℕ) (a0 a1 a2 a3 b0 b1 b2 b3 : List ℤ)
+pub four_rows_are : (s r : Table) (a b : List ℤ) (x across y down first second w u sum : ℕ) (l0 l1 l2 l3 l4 : List ℕ)
     → sum ≡ sum_below (λ k. get_or l4 k 0) 8 → ((k : ℕ) → k < 8 → get_or l0 k 0 ≡ 0)
-    → ((k : ℕ) → k < 8 → get_or l1 k 0 ≡ get_or l0 k 0 + apart_at a0 x b0 across k) → ((k : ℕ) → k < 8 → get_or l2 k 0 ≡ get_or l1 k 0 + apart_at a1 x b1 across k)
-    → ((k : ℕ) → k < 8 → get_or l3 k 0 ≡ get_or l2 k 0 + apart_at a2 x b2 across k) → ((k : ℕ) → k < 8 → get_or l4 k 0 ≡ get_or l3 k 0 + apart_at a3 x b3 across k)
-    → IsRowNearest s (pos y) a0 → IsRowNearest s (pos (y + 1)) a1 → IsRowNearest s (pos (y + 2)) a2 → IsRowNearest s (pos (y + 3)) a3
-    → IsRowNearest r (pos y +ℤ p) b0 → IsRowNearest r (pos (y + 1) +ℤ p) b1 → IsRowNearest r (pos (y + 2) +ℤ p) b2 → IsRowNearest r (pos (y + 3) +ℤ p) b3
-    → x + 8 ≤ s.width → across + 8 ≤ r.width → sum ≡ four_rows_apart s r x across y p 8
-four_rows_are s r x across y sum p l0 l1 l2 l3 l4 a0 a1 a2 a3 b0 b1 b2 b3 e none h0 h1 h2 h3 sa0 sa1 sa2 sa3 rb0 rb1 rb2 rb3 fx fa =
-    let first : y ≡ y + 0 = omega arith in
-    e ∙ four_lanes l0 l1 l2 l3 l4 (apart_at a0 x b0 across) (apart_at a1 x b1 across) (apart_at a2 x b2 across) (apart_at a3 x b3 across) none h0 h1 h2 h3
-    ∙ ap₂ (λ (a b : ℕ). a + b) (ap₂ (λ (a b : ℕ). a + b) (ap₂ (λ (a b : ℕ). a + b)
-    (eight_apart s r x y across (pos y +ℤ p) a0 b0 sa0 rb0 fx fa ∙ ap (λ n. row_apart s r (pos x) (pos n) (pos across) (pos n +ℤ p) 8) first)
-    (eight_apart s r x (y + 1) across (pos (y + 1) +ℤ p) a1 b1 sa1 rb1 fx fa))
-    (eight_apart s r x (y + 2) across (pos (y + 2) +ℤ p) a2 b2 sa2 rb2 fx fa))
-    (eight_apart s r x (y + 3) across (pos (y + 3) +ℤ p) a3 b3 sa3 rb3 fx fa)
+    → ((k : ℕ) → k < 8 → get_or l1 k 0 ≡ get_or l0 k 0 + apart_at a first b second k)
+    → ((k : ℕ) → k < 8 → get_or l2 k 0 ≡ get_or l1 k 0 + apart_at a (first + w) b (second + u) k)
+    → ((k : ℕ) → k < 8 → get_or l3 k 0 ≡ get_or l2 k 0 + apart_at a (first + 2 * w) b (second + 2 * u) k)
+    → ((k : ℕ) → k < 8 → get_or l4 k 0 ≡ get_or l3 k 0 + apart_at a (first + 3 * w) b (second + 3 * u) k)
+    → a ≡ s.values → b ≡ r.values → w ≡ s.width → u ≡ r.width → first ≡ y * s.width + x → second ≡ down * r.width + across
+    → y + 4 ≤ s.height → down + 4 ≤ r.height → x + 8 ≤ s.width → across + 8 ≤ r.width → sum ≡ four_rows_apart s r x across y (pos down -ℤ pos y) 8
+four_rows_are s r a b x across y down first second w u sum l0 l1 l2 l3 l4 e none h0 h1 h2 h3 ea eb ew eu ef es sy ry fx fa =
+    let p : ℤ = pos down -ℤ pos y in
+    e ∙ four_lanes l0 l1 l2 l3 l4 (apart_at a first b second) (apart_at a (first + w) b (second + u)) (apart_at a (first + 2 * w) b (second + 2 * u)) (apart_at a (first + 3 * w) b (second + 3 * u)) none h0 h1 h2 h3
+    ∙ ap₂ (λ (m n : ℕ). m + n) (ap₂ (λ (m n : ℕ). m + n) (ap₂ (λ (m n : ℕ). m + n)
+    (eight_apart s r a b x (y + 0) across (down + 0) first second (pos (y + 0) +ℤ p) ea eb (omega (arith, ef)) (omega (arith, es)) (omega (arith, ints)) (omega arith) (omega arith) fx fa)
+    (eight_apart s r a b x (y + 1) across (down + 1) (first + w) (second + u) (pos (y + 1) +ℤ p) ea eb (omega (arith, ef, ew)) (omega (arith, es, eu)) (omega (arith, ints)) (omega arith) (omega arith) fx fa))
+    (eight_apart s r a b x (y + 2) across (down + 2) (first + 2 * w) (second + 2 * u) (pos (y + 2) +ℤ p) ea eb (omega (arith, ef, ew)) (omega (arith, es, eu)) (omega (arith, ints)) (omega arith) (omega arith) fx fa))
+    (eight_apart s r a b x (y + 3) across (down + 3) (first + 3 * w) (second + 3 * u) (pos (y + 3) +ℤ p) ea eb (omega (arith, ef, ew)) (omega (arith, es, eu)) (omega (arith, ints)) (omega arith) (omega arith) fx fa)
 
 -- eight samples of a row, beside eight of a list
 eight_beside : (s : Table) (x y from : ℕ) (a b : List ℤ) → IsRowNearest s (pos y) a → x + 8 ≤ s.width → sum_below (apart_at a x b from) 8 ≡ values_apart (row_from s x y) (values_from b from) 8

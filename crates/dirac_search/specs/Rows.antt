@@ -1,12 +1,13 @@
 -- Sums of absolute differences by the rows of a window.
-use Rattle.std.specs.Prelude.{◌≡◌, ℕ, ℤ, pos, ◌+◌, ◌*◌, ◌^◌, ◌<◌, ◌+ℤ◌, ◌-ℤ◌, unsigned_abs, List, slice_index}
-use Rattle.std.specs.Prelude.{slice_index_or}
+use Rattle.std.specs.Prelude.{◌≡◌, ℕ, ℤ, pos, ◌+◌, ◌*◌, ◌^◌, ◌<◌, ◌≤◌, ◌+ℤ◌, ◌-ℤ◌, ◌≤ℤ◌, unsigned_abs, List, slice_index}
+use Rattle.std.specs.Prelude.{slice_index_or, true}
 use Rattle.dirac_types.specs.Table.{Table, clamped_at, clamped_to, table_at}
 use Rattle.dirac_types.specs.declared.formats.Vector.{Vector}
 use Rattle.dirac_upconvert.specs.SubSamples.{Up, sub_sample}
 use Rattle.dirac_windows.specs.Sums.{sum_below}
 use Rattle.dirac_windows.specs.Windows.{row_from, values_apart, values_from}
 use Rattle.dirac_windows.specs.declared.window.Window.{Window}
+use Rattle.dirac_search.specs.declared.whole_sums.Columns.{Columns}
 
 -- a list of the samples of the row of a plane that is nearest to place y
 abbrev pub IsRowNearest : Table → ℤ → List ℤ → Type 0
@@ -26,6 +27,14 @@ row_apart source reference x y across down count =
 abbrev pub whole_row_apart : Table → Table → ℕ → ℕ → Vector → ℕ → ℕ
 whole_row_apart source reference x y v count =
     row_apart source reference (pos x) (pos y) (pos x +ℤ v.x) (pos y +ℤ v.y) count
+
+-- at most 16 columns from column x on; where they are inside, one plane has all of them, and the other one all of those
+-- to which a vector leads
+pub record AreColumns (source reference : Table) (x : ℕ) (v : Vector) (c : Columns) : Type 0 where
+  pub at_most_16 : c.count ≤ 16
+  pub inside : c.are_inside ≡ true → x + c.count ≤ source.width
+  pub left : c.are_inside ≡ true → pos 0 ≤ℤ (pos x +ℤ v.x)
+  pub right : c.are_inside ≡ true → ((pos x +ℤ v.x) +ℤ pos c.count) ≤ℤ pos reference.width
 
 -- the samples to which a vector in parts of a sample leads from column x of row y on
 abbrev pub sub_row_from : Up → ℕ → ℕ → ℕ → Vector → ℕ → ℤ

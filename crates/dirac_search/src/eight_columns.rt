@@ -1,8 +1,8 @@
-ghost use Rattle.std.specs.Prelude.{◌≡◌, ℕ, pos, ◌+◌, ◌^◌, ◌<◌, ◌≤◌, ◌+ℤ◌, unsigned_abs, length, slice_index};
+ghost use Rattle.std.specs.Prelude.{◌≡◌, ℕ, pos, ◌+◌, ◌^◌, ◌*◌, ◌<◌, ◌≤◌, ◌-ℤ◌, length, slice_index};
 ghost use Rattle.dirac_windows.specs.Sums.{sum_below};
 ghost use Rattle.dirac_search.specs.Rows.{AddsEight, IsRowNearest, apart_at, four_rows_apart, four_rows_from};
 
-use crate::places::{moved, nearest_row};
+use crate::places::nearest_row;
 use dirac_types::Plane;
 use dirac_windows::difference;
 
@@ -59,64 +59,46 @@ fn source_row(source: &Plane, y: u32) -> &[i16]
     nearest_row(source, i64::from(y))
 }
 
-/// Lends the row of the reference to which a component of a vector leads from row `y`, or the nearest one.
+/// The place among a plane's values, by rows, of the first of eight samples of four rows that it has.
 #[inline(always)]
-fn reference_row(reference: &Plane, y: u32, component: i32) -> &[i16]
-    requires y { y ≤ 2 ^ 20 }
-    requires component { unsigned_abs component ≤ 2 ^ 24 }
-    ensures value { IsRowNearest reference.now (pos y +ℤ component) result.now }
-    ensures len { length result.now ≡ reference.now.width }
+fn place(plane: &Plane, x: usize, y: u32) -> usize
+    requires x { x + 8 ≤ plane.now.width }
+    requires y { y + 4 ≤ plane.now.height }
+    ensures value { result ≡ y * plane.now.width + x }
+    ensures inside { result + 3 * plane.now.width + 8 ≤ length plane.now.values }
 {
-    nearest_row(reference, moved(y, component))
+    y as usize * plane.width() as usize + x
 }
 
-/// The sum of absolute differences of eight samples of four rows of the source, from row `y` on, and of those of the
-/// reference to which a component of a vector leads, where all these columns lie inside.
+/// The sum of absolute differences of eight samples of four rows of the source, from row `y` on, and of four rows of
+/// the reference, from row `down` on, all of them inside.
 #[inline(always)]
 pub fn four_rows(
     source: &Plane,
     x: usize,
+    y: u32,
     reference: &Plane,
     across: usize,
-    y: u32,
-    component: i32,
+    down: u32,
 ) -> u32
-    requires y { y ≤ 2 ^ 19 }
-    requires component { unsigned_abs component ≤ 2 ^ 24 }
     requires x { x + 8 ≤ source.now.width }
+    requires y { y + 4 ≤ source.now.height }
     requires across { across + 8 ≤ reference.now.width }
-    ensures value { result ≡ four_rows_apart source.now reference.now x across y component 8 }
+    requires down { down + 4 ≤ reference.now.height }
+    ensures value { result ≡ four_rows_apart source.now reference.now x across y (pos down -ℤ pos y) 8 }
     ensures at_most_2097120 { result ≤ 2097120 }
 {
+    let first = place(source, x, y);
+    let second = place(reference, across, down);
+    let left = source.width() as usize;
+    let right = reference.width() as usize;
+    let a = source.values();
+    let b = reference.values();
     let mut lanes = [0u32; 8];
-    add_eight(
-        &mut lanes,
-        source_row(source, y),
-        x,
-        reference_row(reference, y, component),
-        across,
-    );
-    add_eight(
-        &mut lanes,
-        source_row(source, y + 1),
-        x,
-        reference_row(reference, y + 1, component),
-        across,
-    );
-    add_eight(
-        &mut lanes,
-        source_row(source, y + 2),
-        x,
-        reference_row(reference, y + 2, component),
-        across,
-    );
-    add_eight(
-        &mut lanes,
-        source_row(source, y + 3),
-        x,
-        reference_row(reference, y + 3, component),
-        across,
-    );
+    add_eight(&mut lanes, a, first, b, second);
+    add_eight(&mut lanes, a, first + left, b, second + right);
+    add_eight(&mut lanes, a, first + 2 * left, b, second + 2 * right);
+    add_eight(&mut lanes, a, first + 3 * left, b, second + 3 * right);
     sum_of_eight(&lanes)
 }
 

@@ -60,6 +60,17 @@ pub fn column(place: i64) -> usize
     place as usize
 }
 
+/// The place to which a component of a vector leads, where it isn't left of the plane or above it.
+#[inline(always)]
+pub fn moved_inside(place: u32, component: i32) -> u32
+    requires place { place ≤ 2 ^ 23 }
+    requires component { unsigned_abs component ≤ 2 ^ 24 }
+    requires inside { pos 0 ≤ℤ (pos place +ℤ component) }
+    ensures { pos place +ℤ component ≡ pos result }
+{
+    moved(place, component) as u32
+}
+
 /// The place `count` samples behind another one.
 #[inline(always)]
 fn behind(place: i64, count: usize) -> i64

@@ -1,11 +1,11 @@
 ghost use Rattle.std.specs.Prelude.{◌≡◌, pos, ◌+◌, ◌*◌, ◌%◌, ◌^◌, ◌<◌, ◌≤◌, ◌+ℤ◌, ◌-ℤ◌, ◌≤ℤ◌, IfSome, IfNone};
-ghost use Rattle.std.specs.Prelude.{unsigned_abs, length};
+ghost use Rattle.std.specs.Prelude.{unsigned_abs, length, false};
 ghost use Rattle.dirac_search.specs.Candidates.{IsWithinReach};
 ghost use Rattle.dirac_search.specs.Costs.{IsBlockWindow, Reaches, IsBelow};
-ghost use Rattle.dirac_search.specs.Rows.{clamped_row, row_apart, whole_row_apart, whole_rows};
+ghost use Rattle.dirac_search.specs.Rows.{AreColumns, clamped_row, row_apart, whole_row_apart, whole_rows};
 
 use crate::eight_columns::four_rows;
-use crate::places::{column, is_inside, moved, nearest_row, sample_behind};
+use crate::places::{column, is_inside, moved, moved_inside, nearest_row, sample_behind};
 use dirac_types::{Plane, Vector};
 use dirac_windows::{Window, difference, values_differences};
 
@@ -83,63 +83,72 @@ fn sum_inside(
     )
 }
 
-/// The sum of absolute differences of `count` samples of a row of the source and of one of the reference.
-fn sum_row(
-    source: &Plane,
-    x: i64,
-    y: i64,
-    reference: &Plane,
-    across: i64,
-    down: i64,
-    count: usize,
-) -> u32
-    requires x { unsigned_abs x ≤ 2 ^ 22 }
-    requires across { unsigned_abs across ≤ 2 ^ 25 }
-    requires at_most_16 { count ≤ 16 }
-    ensures value { result ≡ row_apart source.now reference.now x y across down count }
-    ensures at_most_65535_each { result ≤ 65535 * count }
-{
-    if is_inside(x, count, source.width()) && is_inside(across, count, reference.width()) {
-        sum_inside(source, x, y, reference, across, down, count)
-    } else {
-        sum_clamped(source, x, y, reference, across, down, count)
-    }
+/// How many columns a window has, and whether it is known that both planes have all of them.
+#[derive(Clone, Copy)]
+pub struct Columns {
+    pub count: usize,
+    pub are_inside: bool,
 }
 
-/// The sum of absolute differences of `count` samples of row `y` of the source, from column `x` on, and of those to
-/// which a vector in whole samples leads.
+/// The sum of absolute differences of the samples of row `y` of the source, from column `x` on, and of those to which a
+/// vector in whole samples leads.
 #[inline(always)]
-fn sum_whole_row(source: &Plane, reference: &Plane, x: u32, y: u32, v: Vector, count: usize) -> u32
+fn sum_whole_row(
+    source: &Plane,
+    reference: &Plane,
+    x: u32,
+    y: u32,
+    v: Vector,
+    columns: Columns,
+) -> u32
     requires x { x ≤ 2 ^ 20 }
     requires y { y ≤ 2 ^ 20 }
     requires v { IsWithinReach (2 ^ 24) v }
-    requires at_most_16 { count ≤ 16 }
-    ensures value { result ≡ whole_row_apart source.now reference.now x y v count }
-    ensures at_most_65535_each { result ≤ 65535 * count }
+    requires columns { AreColumns source.now reference.now x v columns }
+    ensures value { result ≡ whole_row_apart source.now reference.now x y v columns.count }
+    ensures at_most_65535_each { result ≤ 65535 * columns.count }
 {
-    sum_row(
-        source,
-        i64::from(x),
-        i64::from(y),
-        reference,
-        moved(x, v.x),
-        moved(y, v.y),
-        count,
-    )
+    let across = moved(x, v.x);
+    let down = moved(y, v.y);
+    if columns.are_inside {
+        sum_inside(
+            source,
+            i64::from(x),
+            i64::from(y),
+            reference,
+            across,
+            down,
+            columns.count,
+        )
+    } else {
+        sum_clamped(
+            source,
+            i64::from(x),
+            i64::from(y),
+            reference,
+            across,
+            down,
+            columns.count,
+        )
+    }
 }
 
 /// `first` and the absolute differences of a window and of the whole samples to which a vector leads, where all of it
 /// is below a limit: row by row.
+#[inline(always)]
 fn whole_below_by_rows(
     source: &Plane,
     reference: &Plane,
     window: Window,
     v: Vector,
+    columns: Columns,
     first: u32,
     limit: u32,
 ) -> Option<u32>
     requires window { IsBlockWindow window }
     requires v { IsWithinReach (2 ^ 24) v }
+    requires columns { AreColumns source.now reference.now window.x v columns }
+    requires of_the_window { columns.count ≡ window.columns }
     requires at_most_66300 { first ≤ 66300 }
     ensures below { IfSome result (IsBelow limit (first + whole_rows source.now reference.now window v window.rows)) }
     ensures above { IfNone result (Reaches limit (first + whole_rows source.now reference.now window v window.rows)) }
@@ -149,25 +158,75 @@ fn whole_below_by_rows(
         if sum >= limit {
             return None;
         }
-        sum += sum_whole_row(
-            source,
-            reference,
-            window.x,
-            window.y + k,
-            v,
-            window.columns as usize,
-        );
+        sum += sum_whole_row(source, reference, window.x, window.y + k, v, columns);
     }
     if sum < limit { Some(sum) } else { None }
 }
 
-/// The same for a window of eight columns inside both planes: four rows at a time.
+/// Columns that both planes have.
+#[inline(always)]
+fn inner(count: usize) -> Columns
+    ensures count { result.count ≡ count }
+{
+    Columns {
+        count,
+        are_inside: true,
+    }
+}
+
+/// Columns of which it isn't known whether both planes have them.
+#[inline(always)]
+fn outer(count: usize) -> Columns
+    ensures count { result.count ≡ count }
+    ensures are_outside { result.are_inside ≡ false }
+{
+    Columns {
+        count,
+        are_inside: false,
+    }
+}
+
+/// The same for a window all of whose columns both planes have. The sums over a row are compiled anew for each number
+/// of columns that is common on the levels.
+fn whole_below_by_columns(
+    source: &Plane,
+    reference: &Plane,
+    window: Window,
+    v: Vector,
+    first: u32,
+    limit: u32,
+) -> Option<u32>
+    requires window { IsBlockWindow window }
+    requires v { IsWithinReach (2 ^ 24) v }
+    requires at_most_66300 { first ≤ 66300 }
+    requires x { window.x + window.columns ≤ source.now.width }
+    requires left { pos 0 ≤ℤ (pos window.x +ℤ v.x) }
+    requires right { ((pos window.x +ℤ v.x) +ℤ pos window.columns) ≤ℤ pos reference.now.width }
+    ensures below { IfSome result (IsBelow limit (first + whole_rows source.now reference.now window v window.rows)) }
+    ensures above { IfNone result (Reaches limit (first + whole_rows source.now reference.now window v window.rows)) }
+{
+    match window.columns {
+        1 => whole_below_by_rows(source, reference, window, v, inner(1), first, limit),
+        2 => whole_below_by_rows(source, reference, window, v, inner(2), first, limit),
+        4 => whole_below_by_rows(source, reference, window, v, inner(4), first, limit),
+        count => whole_below_by_rows(
+            source,
+            reference,
+            window,
+            v,
+            inner(count as usize),
+            first,
+            limit,
+        ),
+    }
+}
+
+/// The same for a window of eight columns all of whose samples both planes have: four rows at a time.
 fn whole_below_by_four(
     source: &Plane,
     reference: &Plane,
     window: Window,
     v: Vector,
-    across: usize,
     first: u32,
     limit: u32,
 ) -> Option<u32>
@@ -177,11 +236,16 @@ fn whole_below_by_four(
     requires v { IsWithinReach (2 ^ 24) v }
     requires at_most_66300 { first ≤ 66300 }
     requires x { window.x + 8 ≤ source.now.width }
-    requires moved_by_v { pos across ≡ pos window.x +ℤ v.x }
-    requires across { across + 8 ≤ reference.now.width }
+    requires y { window.y + window.rows ≤ source.now.height }
+    requires left { pos 0 ≤ℤ (pos window.x +ℤ v.x) }
+    requires right { ((pos window.x +ℤ v.x) +ℤ pos 8) ≤ℤ pos reference.now.width }
+    requires top { pos 0 ≤ℤ (pos window.y +ℤ v.y) }
+    requires bottom { ((pos window.y +ℤ v.y) +ℤ pos window.rows) ≤ℤ pos reference.now.height }
     ensures below { IfSome result (IsBelow limit (first + whole_rows source.now reference.now window v window.rows)) }
     ensures above { IfNone result (Reaches limit (first + whole_rows source.now reference.now window v window.rows)) }
 {
+    let across = moved_inside(window.x, v.x);
+    let down = moved_inside(window.y, v.y);
     let mut sum = first;
     'fours: for k in 0..window.rows / 4 {
         if sum >= limit {
@@ -190,13 +254,45 @@ fn whole_below_by_four(
         sum += four_rows(
             source,
             window.x as usize,
-            reference,
-            across,
             window.y + 4 * k,
-            v.y,
+            reference,
+            across as usize,
+            down + 4 * k,
         );
     }
     if sum < limit { Some(sum) } else { None }
+}
+
+/// The same for a window all of whose columns both planes have: four rows at a time where they also have all its rows
+/// and there are eight columns.
+fn whole_below_inside(
+    source: &Plane,
+    reference: &Plane,
+    window: Window,
+    v: Vector,
+    first: u32,
+    limit: u32,
+) -> Option<u32>
+    requires window { IsBlockWindow window }
+    requires v { IsWithinReach (2 ^ 24) v }
+    requires at_most_66300 { first ≤ 66300 }
+    requires x { window.x + window.columns ≤ source.now.width }
+    requires left { pos 0 ≤ℤ (pos window.x +ℤ v.x) }
+    requires right { ((pos window.x +ℤ v.x) +ℤ pos window.columns) ≤ℤ pos reference.now.width }
+    ensures below { IfSome result (IsBelow limit (first + whole_rows source.now reference.now window v window.rows)) }
+    ensures above { IfNone result (Reaches limit (first + whole_rows source.now reference.now window v window.rows)) }
+{
+    let down = moved(window.y, v.y);
+    let rows = window.rows as usize;
+    if window.columns == 8
+        && window.rows % 4 == 0
+        && window.y + window.rows <= source.height()
+        && is_inside(down, rows, reference.height())
+    {
+        whole_below_by_four(source, reference, window, v, first, limit)
+    } else {
+        whole_below_by_columns(source, reference, window, v, first, limit)
+    }
 }
 
 /// `first` and the absolute differences of a window and of the whole samples to which a vector leads, where all of it
@@ -216,13 +312,10 @@ pub fn whole_below(
     ensures above { IfNone result (Reaches limit (first + whole_rows source.now reference.now window v window.rows)) }
 {
     let across = moved(window.x, v.x);
-    if window.columns == 8
-        && window.rows % 4 == 0
-        && window.x + 8 <= source.width()
-        && is_inside(across, 8, reference.width())
-    {
-        whole_below_by_four(source, reference, window, v, column(across), first, limit)
+    let count = window.columns as usize;
+    if window.x + window.columns > source.width() || !is_inside(across, count, reference.width()) {
+        whole_below_by_rows(source, reference, window, v, outer(count), first, limit)
     } else {
-        whole_below_by_rows(source, reference, window, v, first, limit)
+        whole_below_inside(source, reference, window, v, first, limit)
     }
 }

@@ -1,5 +1,6 @@
 ghost use Rattle.std.specs.Prelude.{◌≡◌, ◌+◌, ◌*◌, ◌^◌, ◌<◌, ◌≤◌, length, IfSome, IfNone};
 ghost use Rattle.dirac_search.specs.declared.stage.Stage.TheVariants as stage;
+ghost use Rattle.dirac_windows.specs.Bits.{bits_of_vector};
 ghost use Rattle.dirac_search.specs.Candidates.{IsWithinReach};
 ghost use Rattle.dirac_search.specs.Costs.{HasLevel, HasPrecision, IsBlockWindow, Reaches, IsBelow, cost_of};
 ghost use Rattle.dirac_search.specs.Costs.{distortion, level_of_stage, window_cost, window_of, window_size};
@@ -91,7 +92,52 @@ fn whole_cost_below(
     )
 }
 
-/// What a vector costs a window, where that is below a limit. The summing ends as soon as it isn't.
+/// `bits` and the differences of a window at a stage, where all of it is below a limit. The summing ends as soon as it
+/// isn't.
+fn stage_cost_below(
+    search: &Search<'_>,
+    stage: Stage,
+    window: Window,
+    v: Vector,
+    bits: u32,
+    limit: u32,
+) -> Option<u32>
+    requires levels { HasLevel (given search.now) stage }
+    requires precision { HasPrecision stage }
+    requires window { IsBlockWindow window }
+    requires v { IsWithinReach (2 ^ 24) v }
+    requires at_most_66300 { bits ≤ 66300 }
+    ensures below { IfSome result (IsBelow limit (bits + distortion (given search.now) stage window v)) }
+    ensures above { IfNone result (Reaches limit (bits + distortion (given search.now) stage window v)) }
+{
+    match stage {
+        Stage::Coarse(level) => whole_cost_below(search, level, window, v, bits, limit),
+        Stage::Finer(level) => whole_cost_below(search, level, window, v, bits, limit),
+        Stage::Sub(precision) => sub_below(
+            search.source.level(0),
+            search.up,
+            precision,
+            window,
+            v,
+            bits,
+            limit,
+        ),
+    }
+}
+
+/// What a vector's bits cost.
+#[inline(always)]
+fn bits_cost(bias: u32, v: Vector) -> u32
+    requires at_most_255 { bias ≤ 255 }
+    ensures value { result ≡ bias * bits_of_vector v }
+    ensures at_most_66300 { result ≤ 66300 }
+{
+    bias * vector_bits(v)
+}
+
+/// What a vector costs a window, where that is below a limit. Where its bits alone cost as much, which is so of most
+/// vectors that lead far off, no sample is read.
+#[inline(always)]
 pub fn cost_below(
     search: &Search<'_>,
     stage: Stage,
@@ -108,19 +154,11 @@ pub fn cost_below(
     ensures below { IfSome result (IsBelow limit (window_cost (given search.now) bias stage window v)) }
     ensures above { IfNone result (Reaches limit (window_cost (given search.now) bias stage window v)) }
 {
-    let bits = bias * vector_bits(v);
-    match stage {
-        Stage::Coarse(level) => whole_cost_below(search, level, window, v, bits, limit),
-        Stage::Finer(level) => whole_cost_below(search, level, window, v, bits, limit),
-        Stage::Sub(precision) => sub_below(
-            search.source.level(0),
-            search.up,
-            precision,
-            window,
-            v,
-            bits,
-            limit,
-        ),
+    let bits = bits_cost(bias, v);
+    if bits < limit {
+        stage_cost_below(search, stage, window, v, bits, limit)
+    } else {
+        None
     }
 }
 

@@ -1,5 +1,6 @@
 use crate::ended::{Ended, ended_text, status};
 use crate::tries::{Left, Outside, counts_its_fault, pieces, tried, words_of};
+use dirac_io::{Got, Source};
 use dirac_types::{BadSetting, Cause, Fault, Name};
 use std::alloc::Global;
 use std::process::Abort;
@@ -151,6 +152,32 @@ fn names_each_fault_at_its_place(rt: HostRuntime) -> Result<(), Fail> {
         let bytes = joined(alloc, &[&header(code, 14, 7), &[9], &header(0x10, 0, 14)])?;
         let lines = format!(in alloc; "0 0 {code:02X} auxiliary 14 7\n1 14 10 end 0 14\n")?;
         runs(&rt, alloc, &["list"], &bytes, Ended::Done, lines.as_str())?;
+    }
+    Ok(())
+}
+
+#[test]
+fn reads_nothing_behind_a_fault(rt: HostRuntime) -> Result<(), Fail> {
+    let alloc = rt.alloc();
+    let words = words_of(alloc, &["list"])?;
+    let line = "0 0 00 sequence 19 0\n";
+    let no_prefix = [0x42, 0x42, 0x43, 0x45, 0x0C, 0, 0, 0, 31, 0, 0, 0, 19];
+    for (info, fault) in [
+        (no_prefix, faulty(1, 19, Cause::BadPrefix)),
+        (header(0x4C, 31, 19), faulty(1, 23, Cause::Vlc)),
+        (header(0x0C, 5, 19), faulty(1, 24, Cause::OffsetMissing)),
+    ] {
+        let bytes = joined(alloc, &[&STREAM[..19], &info, &[1, 2, 3, 4, 5, 6, 7, 8]])?;
+        for most in [1, 7, 4096] {
+            let mut left = tried(&rt, alloc, &words, &bytes, &pieces(most))?;
+            assert_eq!(rt; left.ended, fault, "pieces of {most}");
+            assert_eq!(rt; left.out.taken(), line.as_bytes(), "pieces of {most}");
+            // the source still holds each byte behind the parse info
+            let mut next = [0u8; 8];
+            let got = left.source.read(&mut next);
+            assert_eq!(rt; got, Got::Bytes(most.min(8)), "pieces of {most}");
+            assert_eq!(rt; next[0], 1, "pieces of {most}");
+        }
     }
     Ok(())
 }

@@ -1,9 +1,9 @@
-use Rattle.std.proofs.Common.{◌≡◌, ℕ, ◌+◌, ◌*◌, to_z, of_z, arith, refl}
-use Rattle.std.specs.Int.{w32}
+use Rattle.std.proofs.Common.{◌≡◌, ℕ, pos, ◌+◌, ◌*◌, ◌+ℤ◌, ◌-ℤ◌, arith, refl, ap, sym, ◌∙◌}
+use Rattle.std.proofs.lemmas.Int.{ints}
 use Rattle.dirac_search.specs.Rows.{whole_row_apart, whole_rows}
 use Rattle.dirac_windows.proofs.Sums.{sum_grows}
-use Rattle.dirac_search.proofs.Differences.{plain_component}
 use Rattle.dirac_search.proofs.InLanes.{four_more_rows}
+use Rattle.dirac_search.proofs.Differences.{plain_component}
 use Rattle.dirac_search.proofs.whole_sums.whole_below_by_four.Goals as goal
 
 pub returns-then-sum-limit-clause-above : goal.returns-then-sum-limit-clause-above
@@ -14,8 +14,11 @@ returns-then-sum-limit-clause-above c =
 
 pub fours-preserved : goal.fours-preserved
 fours-preserved c =
-    let told = four_more_rows c.args.source.now c.args.reference.now c.args.window c.args.v c.args.across (to_z w32 (of_z w32 c.args.v.y)) c.fours.k (c.fours.k + 1) c.four_rows-sum.result (c.args.window.y + 4 * c.fours.k)
-    refl c.requires.moved_by_v (plain_component c.args.v.y c.requires.v.down) c.requires.eight_columns refl c.four_rows-sum.ensures.value in
+    let y = c.args.window.y + 4 * c.fours.k in
+    let down = c.moved_inside-down.result + 4 * c.fours.k in
+    let told = four_more_rows c.args.source.now c.args.reference.now c.args.window c.args.v c.moved_inside-across.result (pos down -ℤ pos y) c.fours.k (c.fours.k + 1) c.four_rows-sum.result y
+    refl (sym c.moved_inside-across.ensures ∙ ap (λ q. pos c.args.window.x +ℤ q) (plain_component c.args.v.x c.requires.v.across))
+    (omega (arith, ints, c.moved_inside-down.ensures, plain_component c.args.v.y c.requires.v.down)) c.requires.eight_columns refl c.four_rows-sum.ensures.value in
     record {
       value = add_up c.args.first (whole_rows c.args.source.now c.args.reference.now c.args.window c.args.v (4 * c.fours.k)) _ _ _ c.fours.invariant.value told;
       small = omega (arith, c.fours.invariant.small, c.four_rows-sum.ensures.at_most_2097120);
