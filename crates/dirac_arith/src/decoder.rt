@@ -1,5 +1,6 @@
 //! Arithmetic decoding of one block.
-ghost use Rattle.std.specs.Prelude.{◌≡◌, ◌≢◌, ◌↔◌, ◌+◌, ◌-◌, ◌*◌, ◌/◌, ◌^◌, ◌<◌, ◌≤◌, ◌⊎◌, ℕ, ℤ, nat_abs, Bool, true, false};
+ghost use Rattle.std.specs.Prelude.{◌≡◌, ◌≢◌, ◌↔◌, ◌+◌, ◌-◌, ◌*◌, ◌/◌, ◌^◌, ◌<◌, ◌≤◌, ◌⊎◌, ℕ, ℤ, nat_abs, Bool, true};
+ghost use Rattle.std.specs.Prelude.{false};
 ghost use Rattle.std.specs.Prelude.{List, length, slice_index, IfOk, IfErr, OnErr, Ok, Err};
 ghost use Rattle.dirac_arith.specs.Carried.{Lies};
 ghost use Rattle.dirac_arith.specs.Deciding.{Gives, decided, number_read, signed_read};
@@ -206,8 +207,8 @@ impl<'a> Decoder<'a> {
         Ok(with_sign(magnitude, negative))
     }
 
-    /// A signed number behind its first follow decision, which was false: as `signed` reads it from there on. It isn't
-    /// 0, which has no other decision.
+    /// A signed number behind its first follow decision, which was false: as `signed` reads it from there on. The
+    /// number isn't 0, which one true follow decision spells.
     pub fn signed_behind(&mut self, follow: &[u8], bits: u8, sign: u8) -> Result<i64, Cause>
         requires not_empty { 0 < length follow.now }
         requires follow { AreContexts follow.now }
@@ -223,7 +224,7 @@ impl<'a> Decoder<'a> {
         Ok(with_sign(magnitude, negative))
     }
 
-    // Reads digits, of which there is one, until a true follow decision.
+    // Reads the first digit, and further ones until a true follow decision.
     #[inline(always)]
     fn magnitude_behind(&mut self, follow: &[u8], bits: u8) -> Result<u64, Cause>
         requires not_empty { 0 < length follow.now }

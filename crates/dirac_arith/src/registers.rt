@@ -139,7 +139,7 @@ pub fn doublings(range: u32) -> u32
     14 + most / 32768 - (31 - most.leading_zeros())
 }
 
-/// A number less another where it isn't below that, else the number itself: without a branch.
+/// A number less another one where it isn't below that, else the number itself. It has no branch.
 #[inline(always)]
 fn less_where_not_below(number: u64, other: u64) -> u64
     ensures not_below { other ≤ number → result ≡ number - other }

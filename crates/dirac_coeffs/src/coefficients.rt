@@ -65,7 +65,7 @@ impl Coefficients {
         }
     }
 
-    /// These coefficients.
+    /// The coefficients of this table: in 32 bits where all of them fit, and without a list where all are zeros.
     pub fn try_of(alloc: Global, table: BandTable) -> Result<Coefficients, NoMemory>
         requires across { table.width ≤ LARGEST_TABLE_SIDE }
         requires down { table.height ≤ LARGEST_TABLE_SIDE }

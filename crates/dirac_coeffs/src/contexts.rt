@@ -101,7 +101,7 @@ pub fn follow_contexts(parent_is_zero: bool, neighbours_are_zero: bool) -> &'sta
     }
 }
 
-/// The first of them, which is of the decision whether the value is 0.
+/// The first follow context of a coefficient's magnitude, under which it is decided whether the coefficient is 0.
 #[inline(always)]
 pub fn first_context(parent_is_zero: bool, neighbours_are_zero: bool) -> u8
     ensures value { result ≡ follow_at (follow_of parent_is_zero neighbours_are_zero) 0 }
@@ -110,7 +110,7 @@ pub fn first_context(parent_is_zero: bool, neighbours_are_zero: bool) -> u8
     2 * u8::from(!parent_is_zero) + u8::from(!neighbours_are_zero)
 }
 
-/// The follow contexts whose first one this is.
+/// The follow contexts of a coefficient's magnitude, by the first of them, which is below 4.
 #[inline(always)]
 pub fn follow_from(first: u8) -> &'static [u8; 6]
     ensures value { (parent neighbours : Bool) → first ≡ follow_at (follow_of parent neighbours) 0

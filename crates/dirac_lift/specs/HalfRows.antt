@@ -12,4 +12,6 @@ column_of width place = if nat_lt place (width / 2) then 2 * place else 2 * (pla
 abbrev pub analysed_rows : ℕ → ℕ → Table → Table
 analysed_rows wavelet first t =
     table_of t.width (t.height / 2)
-    (λ x y. slice_index_or (analyse wavelet (begun wavelet (row_in t.values t.width (2 * y + first)))) (column_of t.width x) (pos 0))
+    (λ x y.
+    let row = analyse wavelet (begun wavelet (row_in t.values t.width (2 * y + first))) in
+    slice_index_or row (column_of t.width x) (pos 0))

@@ -35,7 +35,8 @@ pub record Vectors : Type 0 where
 
 -- a vector for each of this many blocks
 abbrev pub HasAllBlocks : ℕ → ℕ → List Vector → Type 0
-HasAllBlocks across down vectors = (length vectors ≡ 4 * across * (4 * down)) × (across ≤ MOST_SUPERBLOCKS) × (down ≤ MOST_SUPERBLOCKS)
+HasAllBlocks across down vectors =
+    (length vectors ≡ 4 * across * (4 * down)) × (across ≤ MOST_SUPERBLOCKS) × (down ≤ MOST_SUPERBLOCKS)
 
 -- the vector of block i of row j
 abbrev pub vector_at : Vectors → ℕ → ℕ → Vector

@@ -1,5 +1,5 @@
 ghost use Rattle.std.specs.Prelude.{◌≡◌, pos, ◌+◌, ◌*◌, ◌%◌, ◌^◌, ◌<◌, ◌≤◌, ◌+ℤ◌, ◌-ℤ◌, ◌≤ℤ◌, IfSome, IfNone};
-ghost use Rattle.std.specs.Prelude.{unsigned_abs, length, false};
+ghost use Rattle.std.specs.Prelude.{unsigned_abs, length, false, true};
 ghost use Rattle.dirac_search.specs.Candidates.{IsWithinReach};
 ghost use Rattle.dirac_search.specs.Costs.{IsBlockWindow, Reaches, IsBelow};
 ghost use Rattle.dirac_search.specs.Rows.{AreColumns, clamped_row, row_apart, whole_row_apart, whole_rows};
@@ -167,6 +167,7 @@ fn whole_below_by_rows(
 #[inline(always)]
 fn inner(count: usize) -> Columns
     ensures count { result.count ≡ count }
+    ensures are_inside { result.are_inside ≡ true }
 {
     Columns {
         count,
@@ -178,7 +179,7 @@ fn inner(count: usize) -> Columns
 #[inline(always)]
 fn outer(count: usize) -> Columns
     ensures count { result.count ≡ count }
-    ensures are_outside { result.are_inside ≡ false }
+    ensures not_known { result.are_inside ≡ false }
 {
     Columns {
         count,

@@ -157,7 +157,7 @@ fn names_each_fault_at_its_place(rt: HostRuntime) -> Result<(), Fail> {
 }
 
 #[test]
-fn reads_nothing_behind_a_fault(rt: HostRuntime) -> Result<(), Fail> {
+fn list_reads_nothing_behind_a_faulty_parse_info(rt: HostRuntime) -> Result<(), Fail> {
     let alloc = rt.alloc();
     let words = words_of(alloc, &["list"])?;
     let line = "0 0 00 sequence 19 0\n";
@@ -165,6 +165,8 @@ fn reads_nothing_behind_a_fault(rt: HostRuntime) -> Result<(), Fail> {
     for (info, fault) in [
         (no_prefix, faulty(1, 19, Cause::BadPrefix)),
         (header(0x4C, 31, 19), faulty(1, 23, Cause::Vlc)),
+        (header(0x0B, 31, 19), faulty(1, 23, Cause::UnknownCode)),
+        (header(0xC8, 31, 19), faulty(1, 23, Cause::LowDelay)),
         (header(0x0C, 5, 19), faulty(1, 24, Cause::OffsetMissing)),
     ] {
         let bytes = joined(alloc, &[&STREAM[..19], &info, &[1, 2, 3, 4, 5, 6, 7, 8]])?;

@@ -146,6 +146,21 @@ fn bands_of_one_value(rt: HostRuntime) {
     let alloc = rt.alloc();
     assert_eq!(rt; single(alloc, [0x30u8, 0x2E].as_slice()), Ok((0, 1)));
     assert_eq!(rt; single(alloc, [0x80u8].as_slice()), Ok((0, 0)));
+    // the last values that 32 bits hold, the first that they don't, and the last of all
+    for (last, value) in [
+        ([0x00u8, 0x00, 0x00, 0x00, 0xBF], (1i64 << 31) - 1),
+        ([0x00, 0x00, 0x00, 0x00, 0xF1], -(1 << 31)),
+        ([0x00, 0x00, 0x00, 0x00, 0xEF], 1 << 31),
+        ([0x00, 0x00, 0x00, 0x01, 0x43], -(1 << 31) - 1),
+        ([0x54, 0x2F, 0x10, 0xFC, 0x35], (1 << 39) - 2),
+        ([0x54, 0x2F, 0x10, 0xFC, 0x37], 2 - (1 << 39)),
+    ] {
+        let [a, b, c, d, e] = last;
+        assert_eq!(rt;
+            single(alloc, [0x4C, a, b, c, d, e].as_slice()),
+            Ok((0, value))
+        );
+    }
     let code_word = Refusal {
         at: 1,
         cause: Cause::CodeWord,
