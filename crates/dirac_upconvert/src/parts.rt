@@ -24,6 +24,7 @@ pub fn place(position: i64, bits: u32) -> i64
     requires position { unsigned_abs position < 2 ^ 34 }
     ensures value { result ≡ place_at position bits }
     ensures bound { unsigned_abs result ≤ 2 ^ 34 }
+    ensures no_further { unsigned_abs result ≤ unsigned_abs position }
 {
     position >> bits
 }

@@ -1,4 +1,4 @@
-ghost use Rattle.std.specs.Prelude.{◌≡◌, ℕ, pos, ◌+◌, ◌-◌, ◌*◌, ◌%◌, ◌^◌, ◌<◌, ◌≤◌, ◌+ℤ◌, ◌≤ℤ◌, IsTrue, unsigned_abs};
+ghost use Rattle.std.specs.Prelude.{◌≡◌, ℕ, pos, ◌+◌, ◌-◌, ◌*◌, ◌/◌, ◌%◌, ◌^◌, ◌<◌, ◌≤◌, ◌+ℤ◌, ◌≤ℤ◌, IsTrue, unsigned_abs};
 ghost use Rattle.std.specs.Prelude.{length, slice_index_or};
 ghost use Rattle.std.specs.List.{All};
 ghost use Rattle.dirac_types.specs.Table.{clamped_at};
@@ -173,7 +173,9 @@ fn all_between_rows(
 #[inline(always)]
 pub fn put(lanes: &[i16], out: &mut [i16], first: usize)
     requires inside { first + length lanes.now ≤ length out.old }
-    ensures { PutFrom first (length lanes.now) (λ k. slice_index_or lanes.now k (pos 0)) out.old out.new }
+    ensures put { PutFrom first (length lanes.now) (λ k. slice_index_or lanes.now k (pos 0)) out.old out.new }
+    ensures behind { (k : ℕ) → first + length lanes.now ≤ k → slice_index_or out.new k (pos 0)
+        ≡ slice_index_or out.old k (pos 0) }
 {
     for k in 0..lanes.len() {
         out[first + k] = lanes[k];
@@ -473,6 +475,38 @@ pub fn row_parts(table: &Phases, rests: Rests, across: i64, down: i64, out: &mut
     }
 }
 
+/// Writes the samples behind every second place of every second row, from place `across` of row `down` on, into eight
+/// columns of rows of `width`, from column `first` on.
+fn eight_columns(
+    table: &Phases,
+    rests: Rests,
+    across: i64,
+    down: i64,
+    width: usize,
+    first: usize,
+    out: &mut [i16],
+)
+    requires samples { All IsSample table.now.values }
+    requires bits { rests.bits ≤ 2 }
+    requires across { unsigned_abs across ≤ 2 ^ 34 }
+    requires down { unsigned_abs down ≤ 2 ^ 34 }
+    requires right { IsRest rests.bits rests.right }
+    requires below { IsRest rests.bits rests.below }
+    requires columns { first + 8 ≤ width }
+    requires at_most_4096 { length out.old ≤ LARGEST_SIDE }
+    ensures eight { (j k : ℕ) → j < length out.old / width → k < 8 → slice_index_or out.new (j * width + (first + k))
+        (pos 0) ≡ rounded (2 * rests.bits) (bilinear table.now (2 ^ rests.bits) (across +ℤ pos (2 * k)) (down +ℤ pos
+        (2 * j)) rests.right rests.below) }
+    ensures before { (j k : ℕ) → k < first → slice_index_or out.new (j * width + k) (pos 0)
+        ≡ slice_index_or out.old (j * width + k) (pos 0) }
+{
+    for j in 0..out.len() / width {
+        let mut lanes = [0i16; 8];
+        row_parts(table, rests, across, ahead(down, j), &mut lanes);
+        put(&lanes, out, j * width + first);
+    }
+}
+
 /// The samples behind every second place of every second row, from place `across` of row `down` on: rows of `width`.
 pub fn rows_of_parts(
     table: &Phases,
@@ -484,7 +518,7 @@ pub fn rows_of_parts(
 )
     requires samples { All IsSample table.now.values }
     requires bits { rests.bits ≤ 2 }
-    requires across { unsigned_abs across ≤ 2 ^ 34 }
+    requires across { unsigned_abs across ≤ 2 ^ 33 }
     requires down { unsigned_abs down ≤ 2 ^ 34 }
     requires right { IsRest rests.bits rests.right }
     requires below { IsRest rests.bits rests.below }
@@ -493,6 +527,12 @@ pub fn rows_of_parts(
     requires at_most_4096 { length out.old ≤ LARGEST_SIDE }
     ensures { ArePartsByRows table.now rests.bits across down rests.right rests.below width out.new }
 {
+    if width % 8 == 0 && width <= LARGEST_SIDE as usize {
+        for c in 0..width / 8 {
+            eight_columns(table, rests, ahead(across, 8 * c), down, width, 8 * c, out);
+        }
+        return;
+    }
     for j in 0..out.len() / width {
         let start = j * width;
         row_parts(
