@@ -1,11 +1,11 @@
 -- Rows of sums to which values are added.
-use Rattle.std.proofs.Common.{◌≡◌, ℕ, ℤ, pos, suc, ◌+◌, ◌<◌, ◌≤◌, ◌+ℤ◌, unsigned_abs, List, length, get_or, set, arith, refl, inl, inr, ap, sym, subst, ◌∙◌}
+use Rattle.std.proofs.Common.{◌≡◌, ℕ, ℤ, pos, suc, ◌+◌, ◌-◌, ◌<◌, ◌≤◌, ◌+ℤ◌, unsigned_abs, List, length, get_or, set, arith, refl, inl, inr, ap, ap₂, sym, subst, ◌∙◌}
 use Rattle.std.specs.Int.{int_shr}
 use Rattle.std.specs.List.{All}
-use Rattle.std.proofs.lemmas.Bool.{cases_eq}
+use Rattle.std.proofs.lemmas.Bool.{cases_eq, cases_lt}
 use Rattle.std.proofs.lemmas.Int.{ints}
 use Rattle.std.proofs.lemmas.List.{get_or-set_same, get_or-set_other, length-set, get_or_default}
-use Rattle.dirac_obmc.specs.Adding.{Adds, AddsPart}
+use Rattle.dirac_obmc.specs.Adding.{Adds, AddsPart, PutOver}
 use Rattle.dirac_obmc.specs.Compensation.{total}
 
 -- 0 more is the same
@@ -32,13 +32,64 @@ part_more start f n m xs ys v a fits next e = record {
   rest = λ x l. get_or-set_other ys (start + n) x v (pos 0) (omega arith) ∙ a.rest x (omega arith);
 }
 
--- a sum that hasn't grown yet
-pub part_next : (start : ℕ) (f : ℕ → ℤ) (n b : ℕ) (xs ys : List ℤ) → AddsPart start f n xs ys → All (λ v. unsigned_abs v ≤ b) xs → start + n < length xs → unsigned_abs (get_or ys (start + n) (pos 0)) ≤ b
-part_next start f n b xs ys a h inside =
-    rw (a.rest (start + n) (omega arith)) (h (start + n) (pos 0) inside)
-
 pub part_all : (start : ℕ) (f : ℕ → ℤ) (n count : ℕ) (xs ys : List ℤ) → AddsPart start f n xs ys → n ≡ count → AddsPart start f count xs ys
 part_all start f n count xs ys a e = subst (λ (i : ℕ). AddsPart start f i xs ys) e a
+
+-- one more place of a list is written
+pub written_more : (f : ℕ → ℤ) (out : List ℤ) (n m : ℕ) (v : ℤ) → ((k : ℕ) → k < n → get_or out k (pos 0) ≡ f k) → n < length out → m ≡ n + 1 → v ≡ f n → (k : ℕ) → k < m → get_or (set out n v) k (pos 0) ≡ f k
+written_more f out n m v h fits next e k l = elim (cases_eq k n) [
+  | inl here ↦ ap (λ i. get_or (set out n v) i (pos 0)) here ∙ get_or-set_same out n v (pos 0) fits ∙ e ∙ ap f (sym here)
+  | inr other ↦ get_or-set_other out n k v (pos 0) other ∙ h k (omega arith)
+]
+
+-- a sum further on hasn't grown yet
+pub part_ahead : (start : ℕ) (f : ℕ → ℤ) (n b p : ℕ) (xs ys : List ℤ) → AddsPart start f n xs ys → All (λ v. unsigned_abs v ≤ b) xs → start + n ≤ p → p < length xs → unsigned_abs (get_or ys p (pos 0)) ≤ b
+part_ahead start f n b p xs ys a h behind inside = rw (a.rest p behind) (h p (pos 0) inside)
+
+pub part_unmoved : (start : ℕ) (f : ℕ → ℤ) (n b : ℕ) (xs ys : List ℤ) → AddsPart start f n xs ys → unsigned_abs (get_or xs (start + n) (pos 0)) ≤ b → unsigned_abs (get_or ys (start + n) (pos 0)) ≤ b
+part_unmoved start f n b xs ys a h = rw (a.rest (start + n) (omega arith)) h
+
+-- the next few sums have grown
+pub part_joined : (start place : ℕ) (f g : ℕ → ℤ) (n m k : ℕ) (xs ys zs : List ℤ) → AddsPart start f n xs ys → AddsPart place g m ys zs → place ≡ start + n → k ≡ n + m → ((i : ℕ) → i < m → g i ≡ f (n + i))
+    → AddsPart start f k xs zs
+part_joined start place f g n m k xs ys zs a b e next same = record {
+  len = b.len ∙ a.len;
+  before = λ x l. b.before x (omega (arith, l, e)) ∙ a.before x l;
+  done = λ i l. elim (cases_lt i n) [
+    | inl here ↦ b.before (start + i) (omega (arith, here, e)) ∙ a.done i here
+    | inr past ↦
+        let at : start + i ≡ place + (i - n) = omega (arith, past, e) in
+        let there : n + (i - n) ≡ i = omega (arith, past) in
+        ap (λ p. get_or zs p (pos 0)) at ∙ b.done (i - n) (omega (arith, l, past, next))
+        ∙ ap₂ (λ (u v : ℤ). u +ℤ v) (ap (λ p. get_or ys p (pos 0)) (sym at) ∙ a.rest (start + i) (omega (arith, past))) (same (i - n) (omega (arith, l, past, next)) ∙ ap f there)
+  ];
+  rest = λ x l. b.rest x (omega (arith, l, e, next)) ∙ a.rest x (omega (arith, l, next));
+}
+
+-- sums that are written over have grown
+pub part_put : (place : ℕ) (f : ℕ → ℤ) (n m : ℕ) (values xs ys : List ℤ) → PutOver place values n xs ys → n ≡ m → ((k : ℕ) → k < m → get_or values k (pos 0) ≡ get_or xs (place + k) (pos 0) +ℤ f k) → AddsPart place f m xs ys
+part_put place f n m values xs ys h e g = record {
+  len = h.len;
+  before = h.before;
+  done = λ k l. h.done k (omega (arith, l, e)) ∙ g k l;
+  rest = λ x l. h.rest x (omega (arith, l, e));
+}
+
+pub over_none : (place : ℕ) (values xs : List ℤ) → PutOver place values 0 xs xs
+over_none place values xs = record { len = refl; before = λ x l. refl; done = λ k l. absurd (omega arith); rest = λ x l. refl }
+
+pub over_more : (place : ℕ) (values : List ℤ) (n m : ℕ) (xs ys : List ℤ) (v : ℤ) → PutOver place values n xs ys → place + n < length ys → m ≡ n + 1 → v ≡ get_or values n (pos 0) → PutOver place values m xs (set ys (place + n) v)
+over_more place values n m xs ys v h fits next e = record {
+  len = length-set ys (place + n) v ∙ h.len;
+  before = λ x l. get_or-set_other ys (place + n) x v (pos 0) (omega arith) ∙ h.before x l;
+  done = λ k l. elim (cases_eq k n) [
+    | inl here ↦
+        ap (λ i. get_or (set ys (place + n) v) (place + i) (pos 0)) here
+        ∙ get_or-set_same ys (place + n) v (pos 0) fits ∙ e ∙ ap (λ i. get_or values i (pos 0)) (sym here)
+    | inr other ↦ get_or-set_other ys (place + n) (place + k) v (pos 0) (omega arith) ∙ h.done k (omega arith)
+  ];
+  rest = λ x l. get_or-set_other ys (place + n) x v (pos 0) (omega arith) ∙ h.rest x (omega arith);
+}
 
 -- nothing is added
 pub adds_none : (f : ℕ → ℤ) (n : ℕ) (xs : List ℤ) → ((x : ℕ) → x < n → f x ≡ pos 0) → Adds f n xs xs

@@ -12,3 +12,10 @@ pub record AddsPart (start : ℕ) (f : ℕ → ℤ) (n : ℕ) (old new : List �
   pub before : (x : ℕ) → x < start → slice_index_or new x (pos 0) ≡ slice_index_or old x (pos 0)
   pub done : (k : ℕ) → k < n → slice_index_or new (start + k) (pos 0) ≡ slice_index_or old (start + k) (pos 0) +ℤ f k
   pub rest : (x : ℕ) → start + n ≤ x → slice_index_or new x (pos 0) ≡ slice_index_or old x (pos 0)
+
+-- n values of a list stand from a place on, all others are as they were
+pub record PutOver (place : ℕ) (values : List ℤ) (n : ℕ) (old new : List ℤ) : Type 0 where
+  pub len : length new ≡ length old
+  pub before : (x : ℕ) → x < place → slice_index_or new x (pos 0) ≡ slice_index_or old x (pos 0)
+  pub done : (k : ℕ) → k < n → slice_index_or new (place + k) (pos 0) ≡ slice_index_or values k (pos 0)
+  pub rest : (x : ℕ) → place + n ≤ x → slice_index_or new x (pos 0) ≡ slice_index_or old x (pos 0)

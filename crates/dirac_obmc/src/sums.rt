@@ -2,7 +2,7 @@ ghost use Rattle.std.specs.Prelude.{◌≡◌, ℕ, pos, ◌+◌, ◌-◌, ◌*�
 ghost use Rattle.std.specs.Prelude.{slice_index, slice_index_or};
 ghost use Rattle.std.specs.Int.{int_shr};
 ghost use Rattle.std.specs.List.{All};
-ghost use Rattle.dirac_obmc.specs.Adding.{AddsPart};
+ghost use Rattle.dirac_obmc.specs.Adding.{AddsPart, PutOver};
 
 /// A value times its weights across and down.
 #[inline(always)]
@@ -35,6 +35,103 @@ pub struct Weighed<'a> {
     pub down: u8,
 }
 
+/// A sum and value `k` times its weights.
+#[inline(always)]
+fn grown(sums: &[i32], place: usize, weighed: Weighed<'_>, k: usize) -> i32
+    requires inside { place < length sums.now }
+    requires sum { unsigned_abs (slice_index_or sums.now place (pos 0)) ≤ 2 ^ 23 }
+    requires enough { weighed.at + k < length weighed.values.now }
+    requires value { unsigned_abs (slice_index_or weighed.values.now (weighed.at + k) (pos 0)) ≤ 2 ^ 15 }
+    requires listed { weighed.first + k < length weighed.weights.now }
+    requires weights { All (λ w. w ≤ 8) weighed.weights.now }
+    requires down { weighed.down ≤ 8 }
+    ensures { result ≡ slice_index_or sums.now place (pos 0) +ℤ pos (slice_index weighed.entry.weights.now
+        (weighed.entry.first + k) * weighed.entry.down) *ℤ slice_index_or weighed.entry.values.now (weighed.entry.at
+        + k) (pos 0) }
+{
+    sum(
+        sums[place],
+        weigh(
+            weighed.weights[weighed.first + k],
+            weighed.down,
+            weighed.values[weighed.at + k],
+        ),
+    )
+}
+
+/// The sums from a place on, each with a value times its weights, from value `at` on.
+#[inline(always)]
+fn all_grown(sums: &[i32], place: usize, weighed: Weighed<'_>, at: usize, out: &mut [i32])
+    requires inside { place + length out.old ≤ length sums.now }
+    requires sums { (k : ℕ) → k < length out.old → unsigned_abs (slice_index_or sums.now (place + k) (pos 0))
+        ≤ 2 ^ 23 }
+    requires enough { weighed.at + (at + length out.old) ≤ length weighed.values.now }
+    requires values { (k : ℕ) → k < length out.old → unsigned_abs (slice_index_or weighed.values.now (weighed.at
+        + (at + k)) (pos 0)) ≤ 2 ^ 15 }
+    requires listed { weighed.first + (at + length out.old) ≤ length weighed.weights.now }
+    requires weights { All (λ w. w ≤ 8) weighed.weights.now }
+    requires down { weighed.down ≤ 8 }
+    ensures { (k : ℕ) → k < length out.old → slice_index_or out.new k (pos 0) ≡ slice_index_or sums.now (place + k)
+        (pos 0) +ℤ pos (slice_index weighed.entry.weights.now (weighed.entry.first + (at + k)) * weighed.entry.down)
+        *ℤ slice_index_or weighed.entry.values.now (weighed.entry.at + (at + k)) (pos 0) }
+{
+    for k in 0..out.len() {
+        out[k] = grown(sums, place + k, weighed, at + k);
+    }
+}
+
+/// Writes sums over those from a place on.
+#[inline(always)]
+fn put_sums(grown: &[i32], sums: &mut [i32], place: usize)
+    requires inside { place + length grown.now ≤ length sums.old }
+    ensures { PutOver place grown.now (length grown.now) sums.old sums.new }
+{
+    for k in 0..grown.len() {
+        sums[place + k] = grown[k];
+    }
+}
+
+/// Adds four values, from value `at` on, to the sums from a place on. The sums stand in a list of their own first, so
+/// that they are computed side by side.
+#[inline(always)]
+fn add_four(sums: &mut [i32], place: usize, weighed: Weighed<'_>, at: usize)
+    requires inside { place + 4 ≤ length sums.old }
+    requires sums { (k : ℕ) → k < 4 → unsigned_abs (slice_index_or sums.old (place + k) (pos 0)) ≤ 2 ^ 23 }
+    requires enough { weighed.at + (at + 4) ≤ length weighed.values.now }
+    requires values { (k : ℕ) → k < 4 → unsigned_abs (slice_index_or weighed.values.now (weighed.at + (at + k)) (pos 0))
+        ≤ 2 ^ 15 }
+    requires listed { weighed.first + (at + 4) ≤ length weighed.weights.now }
+    requires weights { All (λ w. w ≤ 8) weighed.weights.now }
+    requires down { weighed.down ≤ 8 }
+    ensures { AddsPart place (λ k. pos (slice_index weighed.entry.weights.now (weighed.entry.first + (at + k))
+        * weighed.entry.down) *ℤ slice_index_or weighed.entry.values.now (weighed.entry.at + (at + k)) (pos 0)) 4
+        sums.old sums.new }
+{
+    let mut lanes = [0i32; 4];
+    all_grown(sums, place, weighed, at, &mut lanes);
+    put_sums(&lanes, sums, place);
+}
+
+/// Adds `count` values, from value `at` on, to the sums from a place on, one by one.
+#[inline(always)]
+fn add_singly(sums: &mut [i32], place: usize, weighed: Weighed<'_>, at: usize, count: usize)
+    requires inside { place + count ≤ length sums.old }
+    requires sums { (k : ℕ) → k < count → unsigned_abs (slice_index_or sums.old (place + k) (pos 0)) ≤ 2 ^ 23 }
+    requires enough { weighed.at + (at + count) ≤ length weighed.values.now }
+    requires values { (k : ℕ) → k < count → unsigned_abs (slice_index_or weighed.values.now (weighed.at + (at + k))
+        (pos 0)) ≤ 2 ^ 15 }
+    requires listed { weighed.first + (at + count) ≤ length weighed.weights.now }
+    requires weights { All (λ w. w ≤ 8) weighed.weights.now }
+    requires down { weighed.down ≤ 8 }
+    ensures { AddsPart place (λ k. pos (slice_index weighed.entry.weights.now (weighed.entry.first + (at + k))
+        * weighed.entry.down) *ℤ slice_index_or weighed.entry.values.now (weighed.entry.at + (at + k)) (pos 0)) count
+        sums.old sums.new }
+{
+    for k in 0..count {
+        sums[place + k] = grown(sums, place + k, weighed, at + k);
+    }
+}
+
 /// Adds `count` values, each times its weights, to the sums from place `start` on.
 pub fn add_values(sums: &mut [i32], start: usize, weighed: Weighed<'_>, count: usize)
     requires sums { All (λ v. unsigned_abs v ≤ 2 ^ 23) sums.old }
@@ -49,16 +146,12 @@ pub fn add_values(sums: &mut [i32], start: usize, weighed: Weighed<'_>, count: u
         * weighed.entry.down) *ℤ slice_index_or weighed.entry.values.now (weighed.entry.at + k) (pos 0)) count sums.old
         sums.new }
 {
-    for k in 0..count {
-        sums[start + k] = sum(
-            sums[start + k],
-            weigh(
-                weighed.weights[weighed.first + k],
-                weighed.down,
-                weighed.values[weighed.at + k],
-            ),
-        );
+    let fours = count / 4;
+    for c in 0..fours {
+        add_four(sums, start + 4 * c, weighed, 4 * c);
     }
+    let done = 4 * fours;
+    add_singly(sums, start + done, weighed, done, count - done);
 }
 
 /// A sum of values times weights of 64 in all, divided by 64 to the nearest.

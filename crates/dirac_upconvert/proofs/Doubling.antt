@@ -2,10 +2,13 @@
 use Rattle.std.proofs.Common.{◌≡◌, ◌≢◌, ℕ, ℤ, pos, ◌+◌, ◌-◌, ◌*◌, ◌/◌, ◌%◌, ◌<◌, ◌≤◌, ◌+ℤ◌, List, length, get_or, set, arith, refl, inl, inr, ap, sym, ◌∙◌, eq-eqb, min}
 use Rattle.std.specs.Int.{int_shr}
 use Rattle.std.proofs.lemmas.Int.{ints, clamps}
-use Rattle.std.proofs.lemmas.List.{get_or-set_same, get_or-set_other, length-set}
-use Rattle.std.proofs.lemmas.Bool.{cases_eq, ne_eqb}
+use Rattle.std.proofs.lemmas.List.{get_or-set_same, get_or-set_other}
+use Rattle.std.proofs.lemmas.Bool.{cases_eq, cases_lt, ne_eqb}
 use Rattle.dirac_types.specs.Samples.{clip}
 use Rattle.dirac_upconvert.specs.HalfSamples.{IsSample, between, weighted, half_behind, doubled_at}
+use Rattle.dirac_upconvert.specs.Phases.{place_in_row}
+use Rattle.dirac_upconvert.specs.SubSamples.{PutFrom}
+use Rattle.dirac_upconvert.proofs.Phased.{place_even, place_odd}
 
 -- samples stand at even places
 pub at_even : (f : ℕ → ℤ) (last n p : ℕ) → p ≡ 2 * n → doubled_at f last p ≡ f n
@@ -21,60 +24,50 @@ at_odd f last n p e =
     let quot : p / 2 ≡ n = omega arith in
     rw (ne_eqb (p % 2) 0 rem, quot) refl
 
--- the places below place n are those of the doubled line
-pub record DoubledBelow (line out : List ℤ) (n : ℕ) : Type 0 where
-  pub done : (p : ℕ) → p < n → get_or out p (pos 0) ≡ doubled_at (λ k. get_or line k (pos 0)) (length line - 1) p
+-- a line's samples stand first, and behind them the first n of its half samples
+pub record HalvesBelow (line out : List ℤ) (n : ℕ) : Type 0 where
+  pub wholes : (k : ℕ) → k < length line → get_or out k (pos 0) ≡ get_or line k (pos 0)
+  pub halves : (k : ℕ) → k < n → get_or out (length line + k) (pos 0) ≡ half_behind (λ i. get_or line i (pos 0)) (length line - 1) k
 
--- a sample and the half sample behind it are written
-pub doubled_more : (line out : List ℤ) (i m : ℕ) (a b : ℤ) → DoubledBelow line out (2 * i) → 2 * i + 1 < length out → m ≡ 2 * (i + 1)
-    → a ≡ get_or line i (pos 0) → b ≡ half_behind (λ k. get_or line k (pos 0)) (length line - 1) i → DoubledBelow line (set (set out (2 * i) a) (2 * i + 1) b) m
-doubled_more line out i m a b before fits next ea eb = record {
-  done = λ p l. elim (cases_eq p (2 * i + 1)) [
+-- one more half sample is written
+pub halves_more : (line out : List ℤ) (n m place : ℕ) (v : ℤ) → HalvesBelow line out n → place ≡ length line + n → place < length out → m ≡ n + 1
+    → v ≡ half_behind (λ i. get_or line i (pos 0)) (length line - 1) n → HalvesBelow line (set out place v) m
+halves_more line out n m place v h e fits next ev = record {
+  wholes = λ k l. get_or-set_other out place k v (pos 0) (omega (arith, e, l)) ∙ h.wholes k l;
+  halves = λ k l. elim (cases_eq k n) [
     | inl here ↦
-        ap (λ q. get_or (set (set out (2 * i) a) (2 * i + 1) b) q (pos 0)) here
-        ∙ get_or-set_same (set out (2 * i) a) (2 * i + 1) b (pos 0) (omega (arith, length-set out (2 * i) a))
-        ∙ eb ∙ sym (at_odd (λ k. get_or line k (pos 0)) (length line - 1) i p here)
-    | inr other ↦
-        get_or-set_other (set out (2 * i) a) (2 * i + 1) p b (pos 0) other
-        ∙ elim (cases_eq p (2 * i)) [
-          | inl first ↦
-              ap (λ q. get_or (set out (2 * i) a) q (pos 0)) first
-              ∙ get_or-set_same out (2 * i) a (pos 0) (omega arith)
-              ∙ ea ∙ sym (at_even (λ k. get_or line k (pos 0)) (length line - 1) i p first)
-          | inr old ↦ get_or-set_other out (2 * i) p a (pos 0) old ∙ before.done p (omega arith)
-        ]
+        let at : length line + k ≡ place = omega arith in
+        ap (λ i. get_or (set out place v) i (pos 0)) at ∙ get_or-set_same out place v (pos 0) fits ∙ ev
+        ∙ ap (half_behind (λ i. get_or line i (pos 0)) (length line - 1)) (sym here)
+    | inr other ↦ get_or-set_other out place (length line + k) v (pos 0) (omega arith) ∙ h.halves k (omega arith)
   ];
 }
 
--- the same of a list of its own, which is to stand from place 2 * i on
-pub pairs_more : (line lanes : List ℤ) (i k m : ℕ) (a b : ℤ) → ((p : ℕ) → p < 2 * k → get_or lanes p (pos 0) ≡ doubled_at (λ n. get_or line n (pos 0)) (length line - 1) (2 * i + p)) → 2 * k + 1 < length lanes
-    → m ≡ k + 1 → a ≡ get_or line (i + k) (pos 0) → b ≡ half_behind (λ n. get_or line n (pos 0)) (length line - 1) (i + k)
-    → (p : ℕ) → p < 2 * m → get_or (set (set lanes (2 * k) a) (2 * k + 1) b) p (pos 0) ≡ doubled_at (λ n. get_or line n (pos 0)) (length line - 1) (2 * i + p)
-pairs_more line lanes i k m a b before fits next ea eb p l = elim (cases_eq p (2 * k + 1)) [
-  | inl here ↦
-      ap (λ q. get_or (set (set lanes (2 * k) a) (2 * k + 1) b) q (pos 0)) here
-      ∙ get_or-set_same (set lanes (2 * k) a) (2 * k + 1) b (pos 0) (omega (arith, length-set lanes (2 * k) a))
-      ∙ eb ∙ sym (at_odd (λ n. get_or line n (pos 0)) (length line - 1) (i + k) (2 * i + p) (omega arith))
-  | inr other ↦
-      get_or-set_other (set lanes (2 * k) a) (2 * k + 1) p b (pos 0) other
-      ∙ elim (cases_eq p (2 * k)) [
-        | inl there ↦
-            ap (λ q. get_or (set lanes (2 * k) a) q (pos 0)) there
-            ∙ get_or-set_same lanes (2 * k) a (pos 0) (omega arith)
-            ∙ ea ∙ sym (at_even (λ n. get_or line n (pos 0)) (length line - 1) (i + k) (2 * i + p) (omega arith))
-        | inr old ↦ get_or-set_other lanes (2 * k) p a (pos 0) old ∙ before p (omega arith)
-      ]
-]
+-- a few more
+pub halves_joined : (line mid after : List ℤ) (n m place count : ℕ) (f : ℕ → ℤ) → HalvesBelow line mid n → PutFrom place count f mid after → place ≡ length line + n → m ≡ n + count
+    → ((k : ℕ) → k < count → f k ≡ half_behind (λ i. get_or line i (pos 0)) (length line - 1) (n + k)) → HalvesBelow line after m
+halves_joined line mid after n m place count f h p e next same = record {
+  wholes = λ k l. p.kept k (omega (arith, e, l)) ∙ h.wholes k l;
+  halves = λ k l. elim (cases_lt k n) [
+    | inl before ↦ p.kept (length line + k) (omega (arith, e, before)) ∙ h.halves k before
+    | inr past ↦
+        let at : length line + k ≡ place + (k - n) = omega (arith, e, past) in
+        let there : n + (k - n) ≡ k = omega (arith, past) in
+        ap (λ i. get_or after i (pos 0)) at ∙ p.value (k - n) (omega (arith, l, past, next)) ∙ same (k - n) (omega (arith, l, past, next))
+        ∙ ap (half_behind (λ i. get_or line i (pos 0)) (length line - 1)) there
+  ];
+}
 
--- the last sample is written
-pub doubled_end : (line out : List ℤ) (i n : ℕ) (a : ℤ) → DoubledBelow line out n → n ≡ 2 * i → length out ≡ 2 * i + 1 → a ≡ get_or line i (pos 0)
-    → (p : ℕ) → p < length out → get_or (set out (2 * i) a) p (pos 0) ≡ doubled_at (λ k. get_or line k (pos 0)) (length line - 1) p
-doubled_end line out i n a before same len e p l = elim (cases_eq p (2 * i)) [
-  | inl here ↦
-      ap (λ q. get_or (set out (2 * i) a) q (pos 0)) here
-      ∙ get_or-set_same out (2 * i) a (pos 0) (omega arith)
-      ∙ e ∙ sym (at_even (λ k. get_or line k (pos 0)) (length line - 1) i p here)
-  | inr other ↦ get_or-set_other out (2 * i) p a (pos 0) other ∙ before.done p (omega arith)
+-- all of them
+pub halves_all : (line out : List ℤ) (n : ℕ) → HalvesBelow line out n → length line ≤ n + 1 → length out ≡ 2 * length line
+    → (p : ℕ) → p + 1 < length out → get_or out (place_in_row (length out) p) (pos 0) ≡ doubled_at (λ k. get_or line k (pos 0)) (length line - 1) p
+halves_all line out n h all len p l = elim (cases_eq (p % 2) 0) [
+  | inl even ↦
+      let at : place_in_row (length out) p ≡ p / 2 = place_even (length out) p even in
+      ap (λ i. get_or out i (pos 0)) at ∙ h.wholes (p / 2) (omega arith) ∙ sym (at_even (λ k. get_or line k (pos 0)) (length line - 1) (p / 2) p (omega (arith, even)))
+  | inr odd ↦
+      let at : place_in_row (length out) p ≡ length line + p / 2 = omega (arith, place_odd (length out) p odd, len) in
+      ap (λ i. get_or out i (pos 0)) at ∙ h.halves (p / 2) (omega (arith, l, len, all, odd)) ∙ sym (at_odd (λ k. get_or line k (pos 0)) (length line - 1) (p / 2) p (omega (arith, odd)))
 ]
 
 -- a half sample depends on the places of its line alone

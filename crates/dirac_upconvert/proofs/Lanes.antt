@@ -1,7 +1,7 @@
 -- Rows that are written a few samples at a time.
 use Rattle.std.proofs.Common.{◌≡◌, ◌≢◌, ℕ, ℤ, pos, suc, ◌+◌, ◌-◌, ◌*◌, ◌/◌, ◌%◌, ◌^◌, ◌<◌, ◌≤◌, ◌+ℤ◌, List, length, get_or, set, take, to_z, of_z, arith, refl, inl, inr, ap, sym, ◌∙◌}
 use Rattle.std.specs.Int.{w16}
-use Rattle.std.specs.List.{All, slice_range}
+use Rattle.std.specs.List.{slice_range}
 use Rattle.std.proofs.lemmas.Bool.{cases_eq, cases_lt}
 use Rattle.std.proofs.lemmas.Int.{ints, to_z-of_z, fits_signed_from_abs}
 use Rattle.std.proofs.lemmas.List.{get_or-set_same, get_or-set_other, get_or-take, get_or-append_right, length-take-le}
@@ -12,9 +12,7 @@ use Rattle.std.proofs.Math.Nat.{suc-mul}
 use Rattle.std.proofs.Math.Pow.{pow_mono}
 use borrow.Rule.Slice.PartMut.{put_mid}
 use Rattle.dirac_types.specs.Table.{Table}
-use Rattle.dirac_upconvert.specs.HalfSamples.{IsSample}
-use Rattle.dirac_upconvert.specs.SubSamples.{IsRest, PutFrom, between_at, bilinear, four, rounded}
-use Rattle.dirac_upconvert.proofs.Halves.{all_samples, sample_at}
+use Rattle.dirac_upconvert.specs.SubSamples.{IsRest, PutFrom, bilinear, rounded}
 
 -- a rest, through its bits
 pub plain_rest : (bits : ℕ) (r : ℤ) → bits ≤ 2 → IsRest bits r → to_z w16 (of_z w16 r) ≡ r
@@ -54,22 +52,8 @@ joined last count g f mid after h p e k l = elim (cases_lt k last) [
 ]
 
 -- a part of two rows
-part_read : (xs : List ℤ) (i j k p : ℕ) → i + k < j → p ≡ i + k → get_or (slice_range xs i j) k (pos 0) ≡ get_or xs p (pos 0)
+pub part_read : (xs : List ℤ) (i j k p : ℕ) → i + k < j → p ≡ i + k → get_or (slice_range xs i j) k (pos 0) ≡ get_or xs p (pos 0)
 part_read xs i j k p inside e = get_or-between xs i j k (pos 0) inside ∙ ap (λ n. get_or xs n (pos 0)) (sym e)
-
-pub between_part : (bits : ℕ) (right below : ℤ) (above under : List ℤ) (at end k : ℕ) → at + (2 * k + 1) < end → between_at bits right below (slice_range above at end) (slice_range under at end) (0 + 2 * k) ≡ between_at bits right below above under (at + 2 * k)
-between_part bits right below above under at end k inside =
-    let f : ℤ → ℤ → ℤ → ℤ → ℤ = λ a b c d. rounded (2 * bits) (four (2 ^ bits) right below a b c d) in
-    let a = part_read above at end (0 + 2 * k) (at + 2 * k) (omega arith) (omega arith) in
-    let b = part_read above at end (0 + 2 * k + 1) (at + 2 * k + 1) (omega arith) (omega arith) in
-    let c = part_read under at end (0 + 2 * k) (at + 2 * k) (omega arith) (omega arith) in
-    let d = part_read under at end (0 + 2 * k + 1) (at + 2 * k + 1) (omega arith) (omega arith) in
-    rw (a, b, c, d) refl
-
-pub part_samples : (xs : List ℤ) (i j : ℕ) → All IsSample xs → j ≤ length xs → All IsSample (slice_range xs i j)
-part_samples xs i j h fits =
-    all_samples (slice_range xs i j)
-    (λ k l. let inside : i + k < j = omega (arith, length-between xs i j fits) in rw (part_read xs i j k (i + k) inside refl) (sample_at xs h (i + k)))
 
 pub part_length : (xs : List ℤ) (i j : ℕ) → j ≤ length xs → length (slice_range xs i j) ≡ j - i
 part_length xs i j fits = length-between xs i j fits
@@ -88,12 +72,12 @@ row_by_row_at t bits across down right below j k l =
     ap (λ a. f a ((8 * j + k) / 8)) column ∙ ap (f k) row
 
 -- a list of which a part is written over: before that part, and in it
-part_before : (a k n : ℕ) (xs ws : List ℤ) → n < a → a ≤ length xs → get_or (put_mid a k xs ws) n (pos 0) ≡ get_or xs n (pos 0)
+pub part_before : (a k n : ℕ) (xs ws : List ℤ) → n < a → a ≤ length xs → get_or (put_mid a k xs ws) n (pos 0) ≡ get_or xs n (pos 0)
 part_before a k n xs ws l fits =
     sym (get_or-take a (put_mid a k xs ws) n (pos 0) l) ∙ ap (λ ys. get_or ys n (pos 0)) (take-put_mid_below a k xs ws a (omega arith) fits)
     ∙ get_or-take a xs n (pos 0) l
 
-part_inside : (a k n : ℕ) (xs ws : List ℤ) → n < length ws → a ≤ length xs → get_or (put_mid a k xs ws) (a + n) (pos 0) ≡ get_or ws n (pos 0)
+pub part_inside : (a k n : ℕ) (xs ws : List ℤ) → n < length ws → a ≤ length xs → get_or (put_mid a k xs ws) (a + n) (pos 0) ≡ get_or ws n (pos 0)
 part_inside a k n xs ws l fits =
     let same : a + n - a ≡ n = omega arith in
     sym (get_or-take (a + length ws) (put_mid a k xs ws) (a + n) (pos 0) (omega arith))

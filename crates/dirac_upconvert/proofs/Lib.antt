@@ -4,4 +4,5 @@ pub mod Halves
 mod Lanes
 pub mod Mixing
 pub mod PartRows
+pub mod Phased
 pub mod SampleRows

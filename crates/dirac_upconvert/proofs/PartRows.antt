@@ -7,7 +7,9 @@ use Rattle.std.proofs.lemmas.Nat.{pow_pos}
 use Rattle.std.proofs.Math.IntN.{zero-*ℤ, *ℤ-zero}
 use lib.Signed.{shr_z}
 use Rattle.dirac_types.specs.Table.{Table, clamped_at, clamped_to, table_at}
-use Rattle.dirac_upconvert.specs.SubSamples.{AreParts, ArePlaces, IsRest, bilinear, four, part_sample, place_at, rest_at, rounded}
+use Rattle.dirac_upconvert.specs.Phases.{place_in_row}
+use Rattle.dirac_upconvert.specs.SubSamples.{AreParts, ArePlaces, IsRest, between_sides, bilinear, four, part_sample, place_at, rest_at, rounded}
+use Rattle.dirac_upconvert.proofs.Phased.{held_more}
 use Rattle.dirac_upconvert.proofs.Mixing.{remainder_is, remainder_rest}
 
 rest_is : (x : ℤ) (bits : ℕ) → IsRest bits (rest_at x bits)
@@ -87,8 +89,10 @@ parts_at_places t bits across down right below out few er eb h k l =
 inside_place : (x : ℤ) (i size : ℕ) → x ≡ pos i → i < size → clamped_to x size ≡ i
 inside_place x i size e l = rw e (grind (arith, ints))
 
-pub row_place : (t : Table) (row : List ℤ) (x y : ℤ) (i : ℕ) → ((j : ℕ) → j < t.width → get_or row j (pos 0) ≡ table_at t j (clamped_to y t.height)) → x ≡ pos i → i < t.width → get_or row i (pos 0) ≡ clamped_at t x y
-row_place t row x y i h e l = h i l ∙ ap (λ j. table_at t j (clamped_to y t.height)) (sym (inside_place x i t.width e l))
+pub row_place : (t : Table) (row : List ℤ) (x y : ℤ) (i place : ℕ) → ((j : ℕ) → j < t.width → get_or row (place_in_row (length row) j) (pos 0) ≡ table_at t j (clamped_to y t.height)) → place ≡ place_in_row (length row) i
+    → x ≡ pos i → i < t.width → get_or row place (pos 0) ≡ clamped_at t x y
+row_place t row x y i place h there e l =
+    ap (λ p. get_or row p (pos 0)) there ∙ h i l ∙ ap (λ j. table_at t j (clamped_to y t.height)) (sym (inside_place x i t.width e l))
 
 -- one more place of a row is written
 pub written_more : (f : ℕ → ℤ) (out : List ℤ) (n m : ℕ) (v : ℤ) → ((k : ℕ) → k < n → get_or out k (pos 0) ≡ f k) → n < length out → m ≡ n + 1 → v ≡ f n
@@ -112,19 +116,31 @@ parts_told t bits a b c d p q r s out n h all ea eb ec ed k l =
     ∙ ap (λ z. rounded (2 * bits) (bilinear t (2 ^ bits) (p +ℤ pos (2 * k)) q z d)) ec
     ∙ ap (λ z. rounded (2 * bits) (bilinear t (2 ^ bits) (p +ℤ pos (2 * k)) q r z)) ed
 
--- rows of parts that are read from two rows of the table
-pub parts_inside : (t : Table) (bits : ℕ) (across down right below : ℤ) (above under out : List ℤ) (at : ℕ)
-    → ((j : ℕ) → j < t.width → get_or above j (pos 0) ≡ table_at t j (clamped_to down t.height)) → ((j : ℕ) → j < t.width → get_or under j (pos 0) ≡ table_at t j (clamped_to (down +ℤ pos 1) t.height))
-    → across ≡ pos at → at + 2 * length out ≤ t.width
-    → ((k : ℕ) → k < length out → get_or out k (pos 0) ≡ rounded (2 * bits) (four (2 ^ bits) right below (get_or above (at + 2 * k) (pos 0)) (get_or above (at + 2 * k + 1) (pos 0)) (get_or under (at + 2 * k) (pos 0)) (get_or under (at + 2 * k + 1) (pos 0))))
-    → AreParts t bits across down right below out
-parts_inside t bits across down right below above under out at ha hu e fits h k l =
+-- rows of places that are read from a row of the table
+pub places_inside : (t : Table) (across down : ℤ) (row out : List ℤ) (at left : ℕ)
+    → ((j : ℕ) → j < t.width → get_or row (place_in_row (length row) j) (pos 0) ≡ table_at t j (clamped_to down t.height)) → across ≡ pos at → at + 2 * length out ≤ t.width → left ≡ place_in_row (length row) at
+    → ((k : ℕ) → k < length out → get_or out k (pos 0) ≡ get_or row (left + k) (pos 0)) → ArePlaces t across down out
+places_inside t across down row out at left h e fits el all k l =
     let here : across +ℤ pos (2 * k) ≡ pos (at + 2 * k) = omega (arith, ints) in
-    let next : (across +ℤ pos (2 * k)) +ℤ pos 1 ≡ pos (at + 2 * k + 1) = omega (arith, ints) in
+    all k l ∙ row_place t row (across +ℤ pos (2 * k)) down (at + 2 * k) (left + k) h (omega (arith, el, held_more (length row) at k (at + 2 * k) refl)) here (omega arith)
+
+-- rows of parts that are read from two rows of the table
+pub parts_inside : (t : Table) (bits : ℕ) (across down right below : ℤ) (above under out : List ℤ) (at left next : ℕ)
+    → ((j : ℕ) → j < t.width → get_or above (place_in_row (length above) j) (pos 0) ≡ table_at t j (clamped_to down t.height))
+    → ((j : ℕ) → j < t.width → get_or under (place_in_row (length under) j) (pos 0) ≡ table_at t j (clamped_to (down +ℤ pos 1) t.height))
+    → length under ≡ length above → across ≡ pos at → at + 2 * length out ≤ t.width → left ≡ place_in_row (length above) at → next ≡ place_in_row (length above) (at + 1)
+    → ((k : ℕ) → k < length out → get_or out k (pos 0) ≡ between_sides bits right below above under (left + k) (next + k)) → AreParts t bits across down right below out
+parts_inside t bits across down right below above under out at left next ha hu same e fits el en h k l =
+    let here : across +ℤ pos (2 * k) ≡ pos (at + 2 * k) = omega (arith, ints) in
+    let beside : (across +ℤ pos (2 * k)) +ℤ pos 1 ≡ pos (at + 2 * k + 1) = omega (arith, ints) in
+    let p : left + k ≡ place_in_row (length above) (at + 2 * k) = omega (arith, el, held_more (length above) at k (at + 2 * k) refl) in
+    let q : next + k ≡ place_in_row (length above) (at + 2 * k + 1) = omega (arith, en, held_more (length above) (at + 1) k (at + 2 * k + 1) (omega arith)) in
+    let p_under : left + k ≡ place_in_row (length under) (at + 2 * k) = p ∙ ap (λ n. place_in_row n (at + 2 * k)) (sym same) in
+    let q_under : next + k ≡ place_in_row (length under) (at + 2 * k + 1) = q ∙ ap (λ n. place_in_row n (at + 2 * k + 1)) (sym same) in
     h k l
     ∙ rw (
-      row_place t above (across +ℤ pos (2 * k)) down (at + 2 * k) ha here (omega arith),
-      row_place t above ((across +ℤ pos (2 * k)) +ℤ pos 1) down (at + 2 * k + 1) ha next (omega arith),
-      row_place t under (across +ℤ pos (2 * k)) (down +ℤ pos 1) (at + 2 * k) hu here (omega arith),
-      row_place t under ((across +ℤ pos (2 * k)) +ℤ pos 1) (down +ℤ pos 1) (at + 2 * k + 1) hu next (omega arith),
+      row_place t above (across +ℤ pos (2 * k)) down (at + 2 * k) (left + k) ha p here (omega arith),
+      row_place t above ((across +ℤ pos (2 * k)) +ℤ pos 1) down (at + 2 * k + 1) (next + k) ha q beside (omega arith),
+      row_place t under (across +ℤ pos (2 * k)) (down +ℤ pos 1) (at + 2 * k) (left + k) hu p_under here (omega arith),
+      row_place t under ((across +ℤ pos (2 * k)) +ℤ pos 1) (down +ℤ pos 1) (at + 2 * k + 1) (next + k) hu q_under beside (omega arith),
     ) refl

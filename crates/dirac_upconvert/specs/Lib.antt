@@ -1,2 +1,3 @@
 pub mod HalfSamples
+pub mod Phases
 pub mod SubSamples

@@ -91,12 +91,12 @@ AreParts t bits across down right below out =
     (k : ℕ) → k < length out → slice_index_or out k (pos 0) ≡ rounded (2 * bits)
     (bilinear t (2 ^ bits) (across +ℤ pos (2 * k)) down right below)
 
--- the sample behind place p of two rows, one above the other
-abbrev pub between_at : ℕ → ℤ → ℤ → List ℤ → List ℤ → ℕ → ℤ
-between_at bits right below above under p =
+-- the sample between those at places p and q of two rows, one above the other
+abbrev pub between_sides : ℕ → ℤ → ℤ → List ℤ → List ℤ → ℕ → ℕ → ℤ
+between_sides bits right below above under p q =
     rounded (2 * bits) (four (2 ^ bits) right below
-    (slice_index_or above p (pos 0)) (slice_index_or above (p + 1) (pos 0))
-    (slice_index_or under p (pos 0)) (slice_index_or under (p + 1) (pos 0)))
+    (slice_index_or above p (pos 0)) (slice_index_or above q (pos 0))
+    (slice_index_or under p (pos 0)) (slice_index_or under q (pos 0)))
 
 -- a list in which from place `first` on that many values were written, and none before it
 pub record PutFrom (first count : ℕ) (f : ℕ → ℤ) (before after : List ℤ) : Type 0 where

@@ -6,6 +6,7 @@
 mod half_sample;
 mod lines;
 mod parts;
+mod phases;
 mod plane;
 mod rows;
 mod shared;

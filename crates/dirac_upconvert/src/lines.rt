@@ -1,10 +1,10 @@
 ghost use Rattle.std.specs.Prelude.{◌≡◌, ℕ, pos, ◌+◌, ◌-◌, ◌*◌, ◌<◌, ◌≤◌, length, slice_index_or};
 ghost use Rattle.std.specs.List.{All};
 ghost use Rattle.dirac_upconvert.specs.HalfSamples.{IsSample, between, doubled_at, half_behind};
+ghost use Rattle.dirac_upconvert.specs.Phases.{place_in_row};
 ghost use Rattle.dirac_upconvert.specs.SubSamples.{PutFrom};
 
 use crate::half_sample::half_sample;
-use crate::rows::put;
 
 /// The sample at place `k` of a line.
 #[inline(always)]
@@ -98,7 +98,8 @@ pub fn half_of_rows(
 fn half_clamped(line: &[i16], i: usize) -> i16
     requires inside { i < length line.now }
     requires samples { All IsSample line.now }
-    ensures { result ≡ half_behind (λ k. slice_index_or line.now k (pos 0)) (length line.now - 1) i }
+    ensures value { result ≡ half_behind (λ k. slice_index_or line.now k (pos 0)) (length line.now - 1) i }
+    ensures sample { IsSample result }
 {
     let last = line.len() - 1;
     half_sample(
@@ -119,7 +120,8 @@ fn half_inside(line: &[i16], i: usize) -> i16
     requires before { 3 ≤ i }
     requires behind { i + 4 < length line.now }
     requires samples { All IsSample line.now }
-    ensures { result ≡ half_behind (λ k. slice_index_or line.now k (pos 0)) (length line.now - 1) i }
+    ensures value { result ≡ half_behind (λ k. slice_index_or line.now k (pos 0)) (length line.now - 1) i }
+    ensures sample { IsSample result }
 {
     half_sample(
         sample_at(line, i - 3),
@@ -133,64 +135,82 @@ fn half_inside(line: &[i16], i: usize) -> i16
     )
 }
 
-/// The samples of a line from place `i` on, as many as half of `out`, each with the half sample behind it.
+/// The half samples behind the places of a line from place `i` on.
 #[inline(always)]
-fn pairs_inside(line: &[i16], i: usize, count: usize, out: &mut [i16])
+fn halves_inside(line: &[i16], i: usize, out: &mut [i16])
     requires before { 3 ≤ i }
-    requires behind { i + count + 3 < length line.now }
-    requires len { length out.old ≡ 2 * count }
+    requires behind { i + length out.old + 3 < length line.now }
     requires samples { All IsSample line.now }
-    ensures { (p : ℕ) → p < 2 * count → slice_index_or out.new p (pos 0)
-        ≡ doubled_at (λ k. slice_index_or line.now k (pos 0)) (length line.now - 1) (2 * i + p) }
+    ensures value { (k : ℕ) → k < length out.old → slice_index_or out.new k (pos 0)
+        ≡ half_behind (λ n. slice_index_or line.now n (pos 0)) (length line.now - 1) (i + k) }
+    ensures samples { All IsSample out.new }
 {
-    for k in 0..count {
-        out[2 * k] = line[i + k];
-        out[2 * k + 1] = half_inside(line, i + k);
+    for k in 0..out.len() {
+        out[k] = half_inside(line, i + k);
     }
 }
 
-/// Writes eight samples of a line from place `i` on, each with the half sample behind it. They stand in a list of their
-/// own first, so that they are computed side by side.
+/// A sample in eight bits.
 #[inline(always)]
-fn put_eight(line: &[i16], i: usize, out: &mut [i16])
-    requires before { 3 ≤ i }
-    requires behind { i + 11 < length line.now }
-    requires len { length out.old + 1 ≡ 2 * length line.now }
-    requires samples { All IsSample line.now }
-    ensures { PutFrom (2 * i) 16 (λ p. doubled_at (λ k. slice_index_or line.now k (pos 0)) (length line.now - 1) (2 * i
-        + p)) out.old out.new }
+fn narrowed(sample: i16) -> i8
+    requires { IsSample sample }
+    ensures { result ≡ sample }
 {
-    let mut lanes = [0i16; 16];
-    pairs_inside(line, i, 8, &mut lanes);
-    put(&lanes, out, 2 * i);
+    sample as i8
 }
 
-/// Writes a line with its half samples between.
-pub fn double_line(line: &[i16], out: &mut [i16])
-    requires not_empty { 1 ≤ length line.now }
-    requires len { length out.old + 1 ≡ 2 * length line.now }
+/// Writes samples in eight bits into a list from place `first` on.
+#[inline(always)]
+fn put_narrowed(samples: &[i16], out: &mut [i8], first: usize)
+    requires samples { All IsSample samples.now }
+    requires inside { first + length samples.now ≤ length out.old }
+    ensures { PutFrom first (length samples.now) (λ k. slice_index_or samples.now k (pos 0)) out.old out.new }
+{
+    for k in 0..samples.len() {
+        out[first + k] = narrowed(samples[k]);
+    }
+}
+
+/// Writes the half samples behind eight places of a line from place `i` on, into a list from place `first` on. They
+/// stand in a list of their own first, so that they are computed side by side.
+#[inline(always)]
+fn put_eight(line: &[i16], i: usize, out: &mut [i8], first: usize)
+    requires before { 3 ≤ i }
+    requires behind { i + 11 < length line.now }
+    requires inside { first + 8 ≤ length out.old }
     requires samples { All IsSample line.now }
-    ensures { (p : ℕ) → p < length out.old → slice_index_or out.new p (pos 0)
+    ensures { PutFrom first 8 (λ k. half_behind (λ n. slice_index_or line.now n (pos 0)) (length line.now - 1) (i + k))
+        out.old out.new }
+{
+    let mut lanes = [0i16; 8];
+    halves_inside(line, i, &mut lanes);
+    put_narrowed(&lanes, out, first);
+}
+
+/// Writes the samples of a line, and then the half samples behind all of them but the last.
+pub fn double_line(line: &[i16], out: &mut [i8])
+    requires not_empty { 1 ≤ length line.now }
+    requires len { length out.old ≡ 2 * length line.now }
+    requires samples { All IsSample line.now }
+    ensures { (p : ℕ) → p + 1 < length out.old → slice_index_or out.new (place_in_row (length out.old) p) (pos 0)
         ≡ doubled_at (λ k. slice_index_or line.now k (pos 0)) (length line.now - 1) p }
 {
-    let last = line.len() - 1;
+    let count = line.len();
+    put_narrowed(line, out, 0);
+    let last = count - 1;
     let low = last.min(3);
     let high = last.saturating_sub(3).max(low);
     'left: for i in 0..low {
-        out[2 * i] = line[i];
-        out[2 * i + 1] = half_clamped(line, i);
+        out[count + i] = narrowed(half_clamped(line, i));
     }
     let eights = (high - low) / 8;
     'eights: for c in 0..eights {
-        put_eight(line, low + 8 * c, out);
+        put_eight(line, low + 8 * c, out, count + (low + 8 * c));
     }
     'inside: for i in low + 8 * eights..high {
-        out[2 * i] = line[i];
-        out[2 * i + 1] = half_inside(line, i);
+        out[count + i] = narrowed(half_inside(line, i));
     }
     'right: for i in high..last {
-        out[2 * i] = line[i];
-        out[2 * i + 1] = half_clamped(line, i);
+        out[count + i] = narrowed(half_clamped(line, i));
     }
-    out[2 * last] = line[last];
 }

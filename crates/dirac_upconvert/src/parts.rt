@@ -6,7 +6,7 @@ ghost use Rattle.dirac_upconvert.specs.HalfSamples.{IsSample};
 ghost use Rattle.dirac_upconvert.specs.SubSamples.{IsRest, IsWithin, bilinear, mixed, part_sample, place_at, rest_at};
 ghost use Rattle.dirac_upconvert.specs.SubSamples.{rounded};
 
-use dirac_types::Plane;
+use crate::phases::Phases;
 
 /// How many positions a place has.
 #[inline(always)]
@@ -24,6 +24,7 @@ pub fn place(position: i64, bits: u32) -> i64
     requires position { unsigned_abs position < 2 ^ 34 }
     ensures value { result ≡ place_at position bits }
     ensures bound { unsigned_abs result ≤ 2 ^ 34 }
+    ensures no_further { unsigned_abs result ≤ unsigned_abs position }
 {
     position >> bits
 }
@@ -77,7 +78,7 @@ pub fn rounded_sum(sum: i16, bits: u32) -> i16
 
 /// The sample at a place that is clamped to the table.
 #[inline(always)]
-pub fn sample(table: &Plane, x: i64, y: i64) -> i16
+pub fn sample(table: &Phases, x: i64, y: i64) -> i16
     requires { All IsSample table.now.values }
     ensures value { result ≡ clamped_at table.now x y }
     ensures sample { IsSample result }
@@ -95,7 +96,7 @@ fn next(place: i64) -> i64
 
 /// The samples of row `y` at places `across` and the next, each times its weight.
 #[inline(always)]
-fn mixed_row(table: &Plane, bits: u32, right: i16, across: i64, y: i64) -> i16
+fn mixed_row(table: &Phases, bits: u32, right: i16, across: i64, y: i64) -> i16
     requires bits { bits ≤ 2 }
     requires right { IsRest bits right }
     requires across { unsigned_abs across ≤ 2 ^ 34 }
@@ -114,7 +115,7 @@ fn mixed_row(table: &Plane, bits: u32, right: i16, across: i64, y: i64) -> i16
 
 /// The sum of the four samples round a position, each times its two weights.
 #[inline(always)]
-fn mixed_rows(table: &Plane, bits: u32, x: i64, y: i64) -> i16
+fn mixed_rows(table: &Phases, bits: u32, x: i64, y: i64) -> i16
     requires bits { bits ≤ 2 }
     requires x { unsigned_abs x < 2 ^ 34 }
     requires y { unsigned_abs y < 2 ^ 34 }
@@ -133,7 +134,7 @@ fn mixed_rows(table: &Plane, bits: u32, x: i64, y: i64) -> i16
 
 /// The sample at a position of the table that is counted in parts, 2 to the power `bits` to a place.
 #[inline(always)]
-pub fn part(table: &Plane, bits: u32, x: i64, y: i64) -> i16
+pub fn part(table: &Phases, bits: u32, x: i64, y: i64) -> i16
     requires bits { bits ≤ 2 }
     requires x { unsigned_abs x < 2 ^ 34 }
     requires y { unsigned_abs y < 2 ^ 34 }
@@ -154,7 +155,7 @@ pub fn twice(position: i64) -> i64
 
 /// The whole sample at a position, which stands at an even column of an even row.
 #[inline(always)]
-pub fn whole_sample(table: &Plane, x: i64, y: i64) -> i16
+pub fn whole_sample(table: &Phases, x: i64, y: i64) -> i16
     requires x { unsigned_abs x < 2 ^ 34 }
     requires y { unsigned_abs y < 2 ^ 34 }
     requires samples { All IsSample table.now.values }

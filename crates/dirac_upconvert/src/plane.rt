@@ -3,10 +3,12 @@ ghost use Rattle.std.specs.Prelude.{slice_index_or, IfOk};
 ghost use Rattle.std.specs.List.{All};
 ghost use Rattle.dirac_types.specs.Table.{Table, clamped_at, table_at};
 ghost use Rattle.dirac_upconvert.specs.HalfSamples.{IsSample, half, half_at, half_behind};
+ghost use Rattle.dirac_upconvert.specs.Phases.{phase_at, place_in_row};
 ghost use Rattle.dirac_upconvert.specs.SubSamples.{ArePartsByFour, IsRest, IsUp, Up, sub_sample};
 
 use crate::lines::{double_line, half_of_rows};
 use crate::parts::{part, place, twice, whole_sample};
+use crate::phases::Phases;
 use crate::rows::{Rests, ahead, parts, places, put, rests_of, row_parts, rows_of_parts};
 use dirac_types::{LARGEST_SIDE, NoMemory, Plane};
 use std::alloc::Global;
@@ -17,7 +19,7 @@ use std::marker::Model;
 pub struct UpPlane {
     width: u32,
     height: u32,
-    table: Plane,
+    table: Phases,
 }
 
 impl Model for UpPlane {
@@ -67,20 +69,38 @@ fn half_row(plane: &Plane, y: u32, line: &mut [i16])
 }
 
 /// Row `y` of the upconverted plane; `line` is room for one row of half samples.
-fn double_row(plane: &Plane, y: u32, line: &mut [i16], out: &mut [i16])
+fn double_row(plane: &Plane, y: u32, line: &mut [i16], out: &mut [i8])
     requires inside { y + 1 < 2 * plane.now.height }
     requires at_least_1 { 1 ≤ plane.now.width }
     requires at_most_4096 { plane.now.height ≤ LARGEST_SIDE }
     requires line { length line.old ≡ plane.now.width }
-    requires out { length out.old + 1 ≡ 2 * plane.now.width }
+    requires out { length out.old ≡ 2 * plane.now.width }
     requires samples { All IsSample plane.now.values }
-    ensures { (x : ℕ) → x < length out.old → slice_index_or out.new x (pos 0) ≡ half_at plane.now x y }
+    ensures { (x : ℕ) → x + 1 < length out.old → slice_index_or out.new (place_in_row (length out.old) x) (pos 0)
+        ≡ half_at plane.now x y }
 {
     if y % 2 == 0 {
         double_line(row_of_samples(plane, y / 2), out);
     } else {
         half_row(plane, y / 2, line);
         double_line(line, out);
+    }
+}
+
+/// All rows of the upconverted plane; `line` is room for one row of half samples.
+fn double_rows(plane: &Plane, line: &mut [i16], out: &mut [i8])
+    requires at_least_1 { 1 ≤ plane.now.width }
+    requires at_most_4096 { plane.now.height ≤ LARGEST_SIDE }
+    requires line { length line.old ≡ plane.now.width }
+    requires out { length out.old ≡ (2 * plane.now.height - 1) * (2 * plane.now.width) }
+    requires samples { All IsSample plane.now.values }
+    ensures { (x y : ℕ) → x + 1 < 2 * plane.now.width → y + 1 < 2 * plane.now.height
+        → phase_at plane.now.width out.new x y ≡ half_at plane.now x y }
+{
+    let places = 2 * plane.width() as usize;
+    for y in 0..2 * plane.height() - 1 {
+        let start = y as usize * places;
+        double_row(plane, y, line, &mut out[start..start + places]);
     }
 }
 
@@ -100,10 +120,10 @@ pub fn upconvert(alloc: Global, plane: &Plane) -> Result<UpPlane, NoMemory>
     let width = plane.width();
     let height = plane.height();
     let mut line = vec![in alloc; 0i16; width as usize]?;
-    let mut table = Plane::try_new(alloc, 2 * width - 1, 2 * height - 1, 0)?;
-    for y in 0..2 * height - 1 {
-        double_row(plane, y, line.as_mut_slice(), table.row_mut(y));
-    }
+    let count = (2 * height - 1) as usize * (2 * width as usize);
+    let mut samples = vec![in alloc; 0i8; count]?;
+    double_rows(plane, line.as_mut_slice(), samples.as_mut_slice());
+    let table = Phases::of_rows(width, height, samples);
     Ok(UpPlane {
         width,
         height,
@@ -113,7 +133,7 @@ pub fn upconvert(alloc: Global, plane: &Plane) -> Result<UpPlane, NoMemory>
 
 /// Writes the samples behind every second place of every second row, from place `across` of row `down` on: four rows
 /// of eight.
-fn eight_by_four(table: &Plane, rests: Rests, across: i64, down: i64, out: &mut [i16])
+fn eight_by_four(table: &Phases, rests: Rests, across: i64, down: i64, out: &mut [i16])
     requires samples { All IsSample table.now.values }
     requires bits { rests.bits ≤ 2 }
     requires across { unsigned_abs across ≤ 2 ^ 34 }

@@ -1,13 +1,15 @@
-ghost use Rattle.std.specs.Prelude.{◌≡◌, ℕ, pos, ◌+◌, ◌-◌, ◌*◌, ◌%◌, ◌^◌, ◌<◌, ◌≤◌, ◌+ℤ◌, ◌≤ℤ◌, IsTrue, unsigned_abs};
+ghost use Rattle.std.specs.Prelude.{◌≡◌, ℕ, pos, ◌+◌, ◌-◌, ◌*◌, ◌/◌, ◌%◌, ◌^◌, ◌<◌, ◌≤◌, ◌+ℤ◌, ◌≤ℤ◌, IsTrue, unsigned_abs};
 ghost use Rattle.std.specs.Prelude.{length, slice_index_or};
 ghost use Rattle.std.specs.List.{All};
-ghost use Rattle.dirac_types.specs.Table.{clamped_at, clamped_to, table_at};
+ghost use Rattle.dirac_types.specs.Table.{clamped_at};
 ghost use Rattle.dirac_upconvert.specs.HalfSamples.{IsSample};
+ghost use Rattle.dirac_upconvert.specs.Phases.{place_in_row};
 ghost use Rattle.dirac_upconvert.specs.SubSamples.{AreParts, ArePartsByRows, ArePlaces, IsRest, IsWithin, PutFrom};
-ghost use Rattle.dirac_upconvert.specs.SubSamples.{between_at, bilinear, four, mixed, place_at, rest_at, rounded};
+ghost use Rattle.dirac_upconvert.specs.SubSamples.{between_sides, bilinear, four, mixed, place_at, rest_at, rounded};
 
 use crate::parts::{mix, place, rest, rounded_sum, sample};
-use dirac_types::{LARGEST_SIDE, Plane};
+use crate::phases::{Phases, held_at, widened};
+use dirac_types::LARGEST_SIDE;
 
 /// The place `count` whole samples behind another one.
 #[inline(always)]
@@ -35,33 +37,6 @@ fn is_inside(place: i64, count: usize, width: u32) -> bool
     ensures { IsTrue result → (pos 0 ≤ℤ place) × ((place +ℤ pos (2 * count)) ≤ℤ pos width) }
 {
     0 <= place && ahead(place, count) <= i64::from(width)
-}
-
-/// The place from 0 to `size - 1` that is nearest.
-fn nearest(place: i64, size: u32) -> u32
-    requires { 1 ≤ size }
-    ensures value { result ≡ clamped_to place size }
-    ensures inside { result < size }
-{
-    let last = size - 1;
-    if place < 0 {
-        0
-    } else if place >= i64::from(last) {
-        last
-    } else {
-        place as u32
-    }
-}
-
-/// Lends the row that is nearest to place `y`.
-fn nearest_row(table: &Plane, y: i64) -> &[i16]
-    requires { All IsSample table.now.values }
-    ensures value { (x : ℕ) → x < table.now.width → slice_index_or result.now x (pos 0)
-        ≡ table_at table.now x (clamped_to y table.now.height) }
-    ensures len { length result.now ≡ table.now.width }
-    ensures samples { All IsSample result.now }
-{
-    table.row(nearest(y, table.height()))
 }
 
 /// Two sums of two samples, one above the other, weighted by the nearness of their places, and divided.
@@ -109,51 +84,87 @@ fn between_four(bits: u32, right: i16, below: i16, v00: i16, v10: i16, v01: i16,
     )
 }
 
-/// The sample between those of two rows at places `at` and the next.
+/// The sample between those of two rows at places `left` and `next`.
 #[inline(always)]
-fn between_rows(bits: u32, right: i16, below: i16, above: &[i16], under: &[i16], at: usize) -> i16
+fn between_rows(
+    bits: u32,
+    right: i16,
+    below: i16,
+    above: &[i8],
+    under: &[i8],
+    left: usize,
+    next: usize,
+) -> i16
     requires bits { bits ≤ 2 }
     requires right { IsRest bits right }
     requires below { IsRest bits below }
-    requires above { All IsSample above.now }
-    requires under { All IsSample under.now }
-    requires inside { (at + 1 < length above.now) × (at + 1 < length under.now) }
-    ensures { result ≡ between_at bits right below above.now under.now at }
+    requires left { (left < length above.now) × (left < length under.now) }
+    requires next { (next < length above.now) × (next < length under.now) }
+    ensures { result ≡ between_sides bits right below above.now under.now left next }
 {
     between_four(
         bits,
         right,
         below,
-        above[at],
-        above[at + 1],
-        under[at],
-        under[at + 1],
+        widened(above[left]),
+        widened(above[next]),
+        widened(under[left]),
+        widened(under[next]),
     )
 }
 
-/// The samples between those of two rows at every second place, from place `at` on.
+/// Where the samples on the left of a few positions stand in a row, and where those on their right: each sample stands
+/// behind the one of the position before.
+#[derive(Clone, Copy)]
+pub struct Sides {
+    pub left: usize,
+    pub next: usize,
+}
+
+/// The sides of the positions behind so many others.
+#[inline(always)]
+fn further(sides: Sides, count: usize) -> Sides
+    requires left { sides.left + count < 2 ^ 63 }
+    requires next { sides.next + count < 2 ^ 63 }
+    ensures left { result.left ≡ sides.left + count }
+    ensures next { result.next ≡ sides.next + count }
+{
+    Sides {
+        left: sides.left + count,
+        next: sides.next + count,
+    }
+}
+
+/// The samples between those of two rows.
 #[inline(always)]
 fn all_between_rows(
     bits: u32,
     right: i16,
     below: i16,
-    above: &[i16],
-    under: &[i16],
-    at: usize,
+    above: &[i8],
+    under: &[i8],
+    sides: Sides,
     out: &mut [i16],
 )
     requires bits { bits ≤ 2 }
     requires right { IsRest bits right }
     requires below { IsRest bits below }
-    requires above { All IsSample above.now }
-    requires under { All IsSample under.now }
-    requires inside { at + 2 * length out.old ≤ length above.now }
+    requires inside { (sides.left + length out.old ≤ length above.now) × (sides.next + length out.old
+        ≤ length above.now) }
     requires same { length under.now ≡ length above.now }
     ensures { (k : ℕ) → k < length out.old → slice_index_or out.new k (pos 0)
-        ≡ between_at bits right below above.now under.now (at + 2 * k) }
+        ≡ between_sides bits right below above.now under.now (sides.left + k) (sides.next + k) }
 {
     for k in 0..out.len() {
-        out[k] = between_rows(bits, right, below, above, under, at + 2 * k);
+        out[k] = between_rows(
+            bits,
+            right,
+            below,
+            above,
+            under,
+            sides.left + k,
+            sides.next + k,
+        );
     }
 }
 
@@ -162,7 +173,9 @@ fn all_between_rows(
 #[inline(always)]
 pub fn put(lanes: &[i16], out: &mut [i16], first: usize)
     requires inside { first + length lanes.now ≤ length out.old }
-    ensures { PutFrom first (length lanes.now) (λ k. slice_index_or lanes.now k (pos 0)) out.old out.new }
+    ensures put { PutFrom first (length lanes.now) (λ k. slice_index_or lanes.now k (pos 0)) out.old out.new }
+    ensures behind { (k : ℕ) → first + length lanes.now ≤ k → slice_index_or out.new k (pos 0)
+        ≡ slice_index_or out.old k (pos 0) }
 {
     for k in 0..lanes.len() {
         out[first + k] = lanes[k];
@@ -177,14 +190,13 @@ pub struct Rests {
     pub below: i16,
 }
 
-/// Writes as many samples between those of two rows as there are lanes: those behind every second place from place
-/// `at` on, into a list from place `first` on.
+/// Writes as many samples between those of two rows as there are lanes, into a list from place `first` on.
 #[inline(always)]
 fn put_between(
     rests: Rests,
-    above: &[i16],
-    under: &[i16],
-    at: usize,
+    above: &[i8],
+    under: &[i8],
+    sides: Sides,
     lanes: &mut [i16],
     out: &mut [i16],
     first: usize,
@@ -192,22 +204,20 @@ fn put_between(
     requires bits { rests.bits ≤ 2 }
     requires right { IsRest rests.bits rests.right }
     requires below { IsRest rests.bits rests.below }
-    requires above { All IsSample above.now }
-    requires under { All IsSample under.now }
-    requires inside { at + 2 * length lanes.old ≤ length above.now }
+    requires inside { (sides.left + length lanes.old ≤ length above.now) × (sides.next + length lanes.old
+        ≤ length above.now) }
     requires same { length under.now ≡ length above.now }
     requires lanes_inside { first + length lanes.old ≤ length out.old }
-    ensures { PutFrom first (length lanes.old) (λ k. between_at rests.bits rests.right rests.below above.now under.now
-        (at + 2 * k)) out.old out.new }
+    ensures { PutFrom first (length lanes.old) (λ k. between_sides rests.bits rests.right rests.below above.now
+        under.now (sides.left + k) (sides.next + k)) out.old out.new }
 {
-    let end = at + 2 * lanes.len();
     all_between_rows(
         rests.bits,
         rests.right,
         rests.below,
-        &above[at..end],
-        &under[at..end],
-        0,
+        above,
+        under,
+        sides,
         lanes,
     );
     put(lanes, out, first);
@@ -215,85 +225,114 @@ fn put_between(
 
 /// A row of four to eight samples between those of two rows: the last four may be some that were written before.
 #[inline(always)]
-fn by_fours(rests: Rests, above: &[i16], under: &[i16], at: usize, out: &mut [i16])
+fn by_fours(rests: Rests, above: &[i8], under: &[i8], sides: Sides, out: &mut [i16])
     requires bits { rests.bits ≤ 2 }
     requires right { IsRest rests.bits rests.right }
     requires below { IsRest rests.bits rests.below }
-    requires above { All IsSample above.now }
-    requires under { All IsSample under.now }
-    requires inside { at + 2 * length out.old ≤ length above.now }
+    requires inside { (sides.left + length out.old ≤ length above.now) × (sides.next + length out.old
+        ≤ length above.now) }
     requires same { length under.now ≡ length above.now }
     requires at_least_4 { 4 ≤ length out.old }
     requires at_most_8 { length out.old ≤ 8 }
     ensures { (k : ℕ) → k < length out.old → slice_index_or out.new k (pos 0)
-        ≡ between_at rests.bits rests.right rests.below above.now under.now (at + 2 * k) }
+        ≡ between_sides rests.bits rests.right rests.below above.now under.now (sides.left + k) (sides.next + k) }
 {
     let last = out.len() - 4;
     let mut first = [0i16; 4];
-    put_between(rests, above, under, at, &mut first, out, 0);
+    put_between(rests, above, under, sides, &mut first, out, 0);
     let mut more = [0i16; 4];
-    put_between(rests, above, under, at + 2 * last, &mut more, out, last);
+    put_between(
+        rests,
+        above,
+        under,
+        further(sides, last),
+        &mut more,
+        out,
+        last,
+    );
 }
 
 /// A row of at least eight samples between those of two rows: the last eight may be some that were written before.
 #[inline(always)]
-fn by_eights(rests: Rests, above: &[i16], under: &[i16], at: usize, out: &mut [i16])
+fn by_eights(rests: Rests, above: &[i8], under: &[i8], sides: Sides, out: &mut [i16])
     requires bits { rests.bits ≤ 2 }
     requires right { IsRest rests.bits rests.right }
     requires below { IsRest rests.bits rests.below }
-    requires above { All IsSample above.now }
-    requires under { All IsSample under.now }
-    requires inside { at + 2 * length out.old ≤ length above.now }
+    requires inside { (sides.left + length out.old ≤ length above.now) × (sides.next + length out.old
+        ≤ length above.now) }
     requires same { length under.now ≡ length above.now }
     requires at_least_8 { 8 ≤ length out.old }
     ensures { (k : ℕ) → k < length out.old → slice_index_or out.new k (pos 0)
-        ≡ between_at rests.bits rests.right rests.below above.now under.now (at + 2 * k) }
+        ≡ between_sides rests.bits rests.right rests.below above.now under.now (sides.left + k) (sides.next + k) }
 {
     let last = out.len() - 8;
     for i in 0..(last + 7) / 8 {
         let mut lanes = [0i16; 8];
-        put_between(rests, above, under, at + 16 * i, &mut lanes, out, 8 * i);
+        put_between(
+            rests,
+            above,
+            under,
+            further(sides, 8 * i),
+            &mut lanes,
+            out,
+            8 * i,
+        );
     }
     let mut lanes = [0i16; 8];
-    put_between(rests, above, under, at + 2 * last, &mut lanes, out, last);
+    put_between(
+        rests,
+        above,
+        under,
+        further(sides, last),
+        &mut lanes,
+        out,
+        last,
+    );
 }
 
-/// The samples between those of two rows at every second place, from place `at` on: eight or four side by side.
+/// The samples between those of two rows: eight or four side by side.
 #[inline(always)]
-fn in_lanes(rests: Rests, above: &[i16], under: &[i16], at: usize, out: &mut [i16])
+fn in_lanes(rests: Rests, above: &[i8], under: &[i8], sides: Sides, out: &mut [i16])
     requires bits { rests.bits ≤ 2 }
     requires right { IsRest rests.bits rests.right }
     requires below { IsRest rests.bits rests.below }
-    requires above { All IsSample above.now }
-    requires under { All IsSample under.now }
-    requires inside { at + 2 * length out.old ≤ length above.now }
+    requires inside { (sides.left + length out.old ≤ length above.now) × (sides.next + length out.old
+        ≤ length above.now) }
     requires same { length under.now ≡ length above.now }
     ensures { (k : ℕ) → k < length out.old → slice_index_or out.new k (pos 0)
-        ≡ between_at rests.bits rests.right rests.below above.now under.now (at + 2 * k) }
+        ≡ between_sides rests.bits rests.right rests.below above.now under.now (sides.left + k) (sides.next + k) }
 {
     if out.len() >= 8 {
-        by_eights(rests, above, under, at, out);
+        by_eights(rests, above, under, sides, out);
     } else if out.len() >= 4 {
-        by_fours(rests, above, under, at, out);
+        by_fours(rests, above, under, sides, out);
     } else {
-        all_between_rows(rests.bits, rests.right, rests.below, above, under, at, out);
+        all_between_rows(
+            rests.bits,
+            rests.right,
+            rests.below,
+            above,
+            under,
+            sides,
+            out,
+        );
     }
 }
 
-/// The samples of a row at every second place, from place `at` on.
+/// The samples of a row from place `at` on.
 #[inline(always)]
-fn every_second(row: &[i16], at: usize, out: &mut [i16])
-    requires inside { at + 2 * length out.old ≤ length row.now }
+fn copy_widened(row: &[i8], at: usize, out: &mut [i16])
+    requires inside { at + length out.old ≤ length row.now }
     ensures { (k : ℕ) → k < length out.old → slice_index_or out.new k (pos 0)
-        ≡ slice_index_or row.now (at + 2 * k) (pos 0) }
+        ≡ slice_index_or row.now (at + k) (pos 0) }
 {
     for k in 0..out.len() {
-        out[k] = row[at + 2 * k];
+        out[k] = widened(row[at + k]);
     }
 }
 
 /// The samples at every second place of row `down`, from a place on that may lie outside.
-fn clamped_places(table: &Plane, across: i64, down: i64, out: &mut [i16])
+fn clamped_places(table: &Phases, across: i64, down: i64, out: &mut [i16])
     requires across { unsigned_abs across ≤ 2 ^ 34 }
     requires at_most_4096 { length out.old ≤ LARGEST_SIDE }
     ensures { ArePlaces table.now across down out.new }
@@ -313,16 +352,16 @@ fn column(across: i64) -> usize
 }
 
 /// The samples at every second place of row `down`, where all lie inside the row.
-fn inner_places(table: &Plane, across: i64, down: i64, out: &mut [i16])
-    requires samples { All IsSample table.now.values }
+fn inner_places(table: &Phases, across: i64, down: i64, out: &mut [i16])
     requires inside { (pos 0 ≤ℤ across) × ((across +ℤ pos (2 * length out.old)) ≤ℤ pos table.now.width) }
     ensures { ArePlaces table.now across down out.new }
 {
-    every_second(nearest_row(table, down), column(across), out);
+    let row = table.nearest_row(down);
+    copy_widened(row, held_at(row.len(), column(across)), out);
 }
 
 /// The samples at every second place of row `down`, from place `across` on.
-pub fn places(table: &Plane, across: i64, down: i64, out: &mut [i16])
+pub fn places(table: &Phases, across: i64, down: i64, out: &mut [i16])
     requires samples { All IsSample table.now.values }
     requires across { unsigned_abs across ≤ 2 ^ 34 }
     requires at_most_4096 { length out.old ≤ LARGEST_SIDE }
@@ -336,7 +375,7 @@ pub fn places(table: &Plane, across: i64, down: i64, out: &mut [i16])
 }
 
 /// The sample behind a place of the table that may lie outside.
-fn clamped_part(table: &Plane, bits: u32, across: i64, down: i64, right: i16, below: i16) -> i16
+fn clamped_part(table: &Phases, bits: u32, across: i64, down: i64, right: i16, below: i16) -> i16
     requires samples { All IsSample table.now.values }
     requires bits { bits ≤ 2 }
     requires across { unsigned_abs across ≤ 2 ^ 35 }
@@ -359,7 +398,7 @@ fn clamped_part(table: &Plane, bits: u32, across: i64, down: i64, right: i16, be
 }
 
 /// The samples behind every second place of row `down`, from a place on that may lie outside.
-fn clamped_parts(table: &Plane, rests: Rests, across: i64, down: i64, out: &mut [i16])
+fn clamped_parts(table: &Phases, rests: Rests, across: i64, down: i64, out: &mut [i16])
     requires samples { All IsSample table.now.values }
     requires bits { rests.bits ≤ 2 }
     requires across { unsigned_abs across ≤ 2 ^ 34 }
@@ -381,10 +420,22 @@ fn clamped_parts(table: &Plane, rests: Rests, across: i64, down: i64, out: &mut 
     }
 }
 
+/// The sides of the positions behind column `x` of a row, and behind those that are two columns apart from it.
+#[inline(always)]
+fn sides_of(places: usize, x: usize) -> Sides
+    requires { x + 1 ≤ places }
+    ensures left { result.left ≡ place_in_row places x }
+    ensures next { result.next ≡ place_in_row places (x + 1) }
+{
+    Sides {
+        left: held_at(places, x),
+        next: held_at(places, x + 1),
+    }
+}
+
 /// The samples behind every second place of row `down`, where all lie inside the row.
 #[inline(always)]
-fn inner_parts(table: &Plane, rests: Rests, across: i64, down: i64, out: &mut [i16])
-    requires samples { All IsSample table.now.values }
+fn inner_parts(table: &Phases, rests: Rests, across: i64, down: i64, out: &mut [i16])
     requires bits { rests.bits ≤ 2 }
     requires inside { (pos 0 ≤ℤ across) × ((across +ℤ pos (2 * length out.old)) ≤ℤ pos table.now.width) }
     requires down { unsigned_abs down ≤ 2 ^ 35 }
@@ -392,18 +443,20 @@ fn inner_parts(table: &Plane, rests: Rests, across: i64, down: i64, out: &mut [i
     requires below { IsRest rests.bits rests.below }
     ensures { AreParts table.now rests.bits across down rests.right rests.below out.new }
 {
+    let above = table.nearest_row(down);
+    let under = table.nearest_row(beside(down));
     in_lanes(
         rests,
-        nearest_row(table, down),
-        nearest_row(table, beside(down)),
-        column(across),
+        above,
+        under,
+        sides_of(above.len(), column(across)),
         out,
     );
 }
 
 /// The samples behind every second place of row `down`, from place `across` on.
 #[inline(always)]
-pub fn row_parts(table: &Plane, rests: Rests, across: i64, down: i64, out: &mut [i16])
+pub fn row_parts(table: &Phases, rests: Rests, across: i64, down: i64, out: &mut [i16])
     requires samples { All IsSample table.now.values }
     requires bits { rests.bits ≤ 2 }
     requires across { unsigned_abs across ≤ 2 ^ 34 }
@@ -422,13 +475,15 @@ pub fn row_parts(table: &Plane, rests: Rests, across: i64, down: i64, out: &mut 
     }
 }
 
-/// The samples behind every second place of every second row, from place `across` of row `down` on: rows of `width`.
-pub fn rows_of_parts(
-    table: &Plane,
+/// Writes the samples behind every second place of every second row, from place `across` of row `down` on, into eight
+/// columns of rows of `width`, from column `first` on.
+fn eight_columns(
+    table: &Phases,
     rests: Rests,
     across: i64,
     down: i64,
     width: usize,
+    first: usize,
     out: &mut [i16],
 )
     requires samples { All IsSample table.now.values }
@@ -437,11 +492,47 @@ pub fn rows_of_parts(
     requires down { unsigned_abs down ≤ 2 ^ 34 }
     requires right { IsRest rests.bits rests.right }
     requires below { IsRest rests.bits rests.below }
+    requires columns { first + 8 ≤ width }
+    requires at_most_4096 { length out.old ≤ LARGEST_SIDE }
+    ensures eight { (j k : ℕ) → j < length out.old / width → k < 8 → slice_index_or out.new (j * width + (first + k))
+        (pos 0) ≡ rounded (2 * rests.bits) (bilinear table.now (2 ^ rests.bits) (across +ℤ pos (2 * k)) (down +ℤ pos
+        (2 * j)) rests.right rests.below) }
+    ensures before { (j k : ℕ) → k < first → slice_index_or out.new (j * width + k) (pos 0)
+        ≡ slice_index_or out.old (j * width + k) (pos 0) }
+{
+    for j in 0..out.len() / width {
+        let mut lanes = [0i16; 8];
+        row_parts(table, rests, across, ahead(down, j), &mut lanes);
+        put(&lanes, out, j * width + first);
+    }
+}
+
+/// The samples behind every second place of every second row, from place `across` of row `down` on: rows of `width`.
+pub fn rows_of_parts(
+    table: &Phases,
+    rests: Rests,
+    across: i64,
+    down: i64,
+    width: usize,
+    out: &mut [i16],
+)
+    requires samples { All IsSample table.now.values }
+    requires bits { rests.bits ≤ 2 }
+    requires across { unsigned_abs across ≤ 2 ^ 33 }
+    requires down { unsigned_abs down ≤ 2 ^ 34 }
+    requires right { IsRest rests.bits rests.right }
+    requires below { IsRest rests.bits rests.below }
     requires at_least_1 { 1 ≤ width }
     requires whole_rows { length out.old % width ≡ 0 }
     requires at_most_4096 { length out.old ≤ LARGEST_SIDE }
     ensures { ArePartsByRows table.now rests.bits across down rests.right rests.below width out.new }
 {
+    if width % 8 == 0 && width <= LARGEST_SIDE as usize {
+        for c in 0..width / 8 {
+            eight_columns(table, rests, ahead(across, 8 * c), down, width, 8 * c, out);
+        }
+        return;
+    }
     for j in 0..out.len() / width {
         let start = j * width;
         row_parts(
@@ -473,7 +564,7 @@ pub fn rests_of(bits: u32, x: i64, y: i64) -> Rests
 
 /// The samples at positions of the table that are a whole sample apart, from a position on that is counted in parts,
 /// 2 to the power `bits` to a place.
-pub fn parts(table: &Plane, bits: u32, x: i64, y: i64, out: &mut [i16])
+pub fn parts(table: &Phases, bits: u32, x: i64, y: i64, out: &mut [i16])
     requires samples { All IsSample table.now.values }
     requires bits { bits ≤ 2 }
     requires x { unsigned_abs x < 2 ^ 34 }

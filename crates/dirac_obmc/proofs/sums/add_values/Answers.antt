@@ -1,28 +1,27 @@
-use Rattle.std.proofs.Common.{◌≡◌, ◌+◌, ◌*◌, ◌*ℤ◌, ◌≤◌, ◌^◌, pos, unsigned_abs, to_z, of_z, slice_index, slice_index_or, arith, refl, ◌∙◌}
-use Rattle.std.specs.Int.{w32}
-use Rattle.std.proofs.lemmas.Int.{to_z-of_z, fits_signed_from_abs}
-use Rattle.dirac_obmc.proofs.AddLemmas.{part_none, part_more, part_next, part_all}
+use Rattle.std.proofs.Common.{◌≡◌, ◌+◌, ◌-◌, ◌*◌, ◌/◌, ◌^◌, ◌*ℤ◌, pos, slice_index, slice_index_or, arith, refl, ap, sym}
+use Rattle.dirac_obmc.proofs.AddLemmas.{part_ahead, part_joined, part_none}
 use Rattle.dirac_obmc.proofs.sums.add_values.Goals as goal
 
-pub loop-k-init : goal.loop-k-init
-loop-k-init c = part_none _ _ _
+pub loop-c-init : goal.loop-c-init
+loop-c-init c = part_none _ _ _
 
-pub sum-requires-clause-sum : goal.sum-requires-clause-sum
-sum-requires-clause-sum c =
-    let small : unsigned_abs (slice_index_or c.loop-k.sums (c.args.start + c.loop-k.k) (pos 0)) ≤ 2 ^ 23 = part_next _ _ c.loop-k.k (2 ^ 23) _ _ c.loop-k.invariant c.requires.sums (omega arith) in
-    rw (to_z-of_z w32 _ (fits_signed_from_abs w32 (slice_index_or c.loop-k.sums (c.args.start + c.loop-k.k) (pos 0)) (omega (arith, small)))) small
+pub add_four-requires-clause-sums : goal.add_four-requires-clause-sums
+add_four-requires-clause-sums c k l = part_ahead _ _ (4 * c.loop-c.c) (2 ^ 23) _ _ _ c.loop-c.invariant c.requires.sums (omega (arith, l)) (omega (arith, l))
 
-pub loop-k-preserved : goal.loop-k-preserved
-loop-k-preserved c =
-    let small : unsigned_abs (slice_index_or c.loop-k.sums (c.args.start + c.loop-k.k) (pos 0)) ≤ 2 ^ 23 = part_next _ _ c.loop-k.k (2 ^ 23) _ _ c.loop-k.invariant c.requires.sums (omega arith) in
-    let old : to_z w32 (of_z w32 (slice_index_or c.loop-k.sums (c.args.start + c.loop-k.k) (pos 0))) ≡ slice_index_or c.loop-k.sums (c.args.start + c.loop-k.k) (pos 0) =
-    to_z-of_z w32 _ (fits_signed_from_abs w32 (slice_index_or c.loop-k.sums (c.args.start + c.loop-k.k) (pos 0)) (omega (arith, small))) in
-    let value : to_z w32 (of_z w32 (slice_index_or c.args.weighed.values.now (c.args.weighed.at + c.loop-k.k) (pos 0))) ≡ slice_index_or c.args.weighed.values.now (c.args.weighed.at + c.loop-k.k) (pos 0) =
-    to_z-of_z w32 _ (fits_signed_from_abs w32 (slice_index_or c.args.weighed.values.now (c.args.weighed.at + c.loop-k.k) (pos 0)) (omega (arith, c.requires.values c.loop-k.k (omega arith)))) in
-    let more : to_z w32 (of_z w32 c.weigh.result) ≡ pos (slice_index c.args.weighed.weights.now (c.args.weighed.first + c.loop-k.k) * c.args.weighed.down) *ℤ slice_index_or c.args.weighed.values.now (c.args.weighed.at + c.loop-k.k) (pos 0) =
-    to_z-of_z w32 _ (record { sfits = c.weigh.type_inv }) ∙ c.weigh.ensures.value ∙ rw value refl in
-    part_more _ _ c.loop-k.k _ _ _ _ c.loop-k.invariant (omega arith) refl
-    (to_z-of_z w32 _ (record { sfits = c.sum.type_inv }) ∙ c.sum.ensures ∙ rw (old, more) refl)
+pub add_four-requires-clause-values : goal.add_four-requires-clause-values
+add_four-requires-clause-values c k l = c.requires.values (4 * c.loop-c.c + k) (omega (arith, l))
+
+pub loop-c-preserved : goal.loop-c-preserved
+loop-c-preserved c = part_joined _ _ _ _ (4 * c.loop-c.c) 4 _ _ _ _ c.loop-c.invariant c.add_four.ensures refl (omega arith) (λ i l. refl)
+
+pub add_singly-requires-clause-sums : goal.add_singly-requires-clause-sums
+add_singly-requires-clause-sums c k l = part_ahead _ _ (4 * c.loop-c.c) (2 ^ 23) _ _ _ c.loop-c.invariant c.requires.sums (omega (arith, l)) (omega (arith, l))
+
+pub add_singly-requires-clause-values : goal.add_singly-requires-clause-values
+add_singly-requires-clause-values c k l = c.requires.values (4 * (c.args.count / 4) + k) (omega (arith, l))
 
 pub returns : goal.returns
-returns c = part_all _ _ c.loop-k.k _ _ _ c.loop-k.invariant (omega arith)
+returns c =
+    let all : c.loop-c.c ≡ c.args.count / 4 = omega arith in
+    part_joined _ _ _ _ (4 * c.loop-c.c) (c.args.count - 4 * (c.args.count / 4)) _ _ _ _ c.loop-c.invariant c.add_singly.ensures (omega (arith, all)) (omega (arith, all))
+    (λ i l. ap (λ n. pos (slice_index c.args.weighed.weights.now (c.args.weighed.first + (4 * n + i)) * c.args.weighed.down) *ℤ slice_index_or c.args.weighed.values.now (c.args.weighed.at + (4 * n + i)) (pos 0)) (sym all))

@@ -16,7 +16,7 @@ loop-j-preserved c n l =
     let row : AreParts t r.bits across (down +ℤ pos (2 * c.loop-j.j)) r.right r.below c.row_parts.new.out =
     parts_told t r.bits _ _ _ _ _ _ _ _ c.row_parts.new.out (length c.row_parts.new.out) c.row_parts.ensures (omega arith) refl lower refl refl in
     joined (8 * c.loop-j.j) (length c.row_parts.new.out) (row_by_row t r.bits across down r.right r.below) (λ k. slice_index_or c.row_parts.new.out k (pos 0)) c.loop-j.out c.put.new.out
-    c.loop-j.invariant c.put.ensures
+    c.loop-j.invariant c.put.ensures.put
     (λ k i. row k i ∙ sym (row_by_row_at t r.bits across down r.right r.below c.loop-j.j k (omega (arith, i, c.row_parts.auto.out)))) n
     (omega (arith, l, c.row_parts.auto.out))
 

@@ -9,7 +9,7 @@ pub loop-k-preserved : goal.loop-k-preserved
 loop-k-preserved c =
     let across : to_z w64 (of_z w64 c.ahead.result) ≡ to_z w64 (of_z w64 c.args.across) +ℤ pos (2 * c.loop-k.k) = to_z-of_z w64 _ (record { sfits = c.ahead.type_inv }) ∙ c.ahead.ensures.value in
     written_more (λ k. clamped_at c.args.table.now (to_z w64 (of_z w64 c.args.across) +ℤ pos (2 * k)) (to_z w64 (of_z w64 c.args.down))) _ c.loop-k.k _ _ c.loop-k.invariant (omega arith) refl
-    (to_z-of_z w16 _ (record { sfits = c.clamped.type_inv }) ∙ c.clamped.ensures ∙ rw across refl)
+    (to_z-of_z w16 _ (record { sfits = c.clamped.type_inv }) ∙ c.clamped.ensures.value ∙ rw across refl)
 
 pub returns : goal.returns
 returns c =

@@ -1,0 +1,72 @@
+-- Rows that hold their even columns first and then their odd ones.
+use Rattle.std.proofs.Common.{◌≡◌, ◌≢◌, ℕ, ℤ, pos, suc, ◌+◌, ◌-◌, ◌*◌, ◌/◌, ◌%◌, ◌<◌, ◌≤◌, List, length, get_or, arith, refl, inl, inr, ap, sym, ◌∙◌}
+use Rattle.std.specs.List.{slice_range}
+use Rattle.std.proofs.lemmas.Bool.{cases_eq, cases_lt}
+use Rattle.std.proofs.lemmas.List.FromFn.{length-map-range_with_len}
+use Rattle.std.proofs.lemmas.Nat.{row_fits}
+use borrow.Rule.Slice.PartMut.{put_mid}
+use Rattle.dirac_types.specs.Table.{filled, table_at, table_of}
+use Rattle.dirac_types.proofs.Rows.{RowsFilled, filled_at, rows_all}
+use Rattle.dirac_upconvert.specs.Phases.{phase_at, place_in_row, table_of_phases}
+use Rattle.dirac_upconvert.proofs.Lanes.{part_before, part_inside, part_read}
+
+-- even columns stand first, odd ones behind them
+pub place_even : (places x : ℕ) → x % 2 ≡ 0 → place_in_row places x ≡ x / 2
+place_even places x e = rw e (omega arith)
+
+pub place_odd : (places x : ℕ) → x % 2 ≢ 0 → place_in_row places x ≡ places / 2 + x / 2
+place_odd places x e = let one : x % 2 ≡ 1 = omega arith in rw one (omega arith)
+
+-- columns that are two apart stand side by side
+pub held_more : (places x k p : ℕ) → p ≡ x + 2 * k → place_in_row places p ≡ place_in_row places x + k
+held_more places x k p e =
+    let rem : p % 2 ≡ x % 2 = omega arith in
+    let quot : p / 2 ≡ x / 2 + k = omega arith in
+    rw (rem, quot) (omega arith)
+
+pub held_inside : (places x n : ℕ) → places % 2 ≡ 0 → x + 2 * n ≤ places → place_in_row places x + n ≤ places
+held_inside places x n even fits = elim (cases_eq (x % 2) 0) [
+  | inl e ↦ omega (arith, place_even places x e)
+  | inr e ↦ omega (arith, place_odd places x e)
+]
+
+pub held_below : (places x : ℕ) → places % 2 ≡ 0 → x < places → place_in_row places x < places
+held_below places x even fits = elim (cases_eq (x % 2) 0) [
+  | inl e ↦ omega (arith, place_even places x e)
+  | inr e ↦ omega (arith, place_odd places x e)
+]
+
+-- a row of them, as a column of the table
+pub held_row : (columns rows y start end x : ℕ) (samples : List ℤ) → x < 2 * columns - 1 → y < 2 * rows - 1 → start ≡ y * (2 * columns) → end ≡ start + 2 * columns → end ≤ length samples
+    → get_or (slice_range samples start end) (place_in_row (2 * columns) x) (pos 0) ≡ table_at (table_of_phases columns rows samples) x y
+held_row columns rows y start end x samples across down es ee fits =
+    let even : 2 * columns % 2 ≡ 0 = omega arith in
+    let below = held_below (2 * columns) x even (omega arith) in
+    part_read samples start end (place_in_row (2 * columns) x) (y * (2 * columns) + place_in_row (2 * columns) x) (omega (arith, below, ee)) (omega (arith, es))
+    ∙ sym (filled_at (phase_at columns samples) (2 * columns - 1) (2 * rows - 1) x y across down)
+
+-- one more row is written
+pub phases_more : (w j m a k : ℕ) (f : ℕ → ℕ → ℤ) (xs ws : List ℤ) → ((x y : ℕ) → x + 1 < 2 * w → y < j → phase_at w xs x y ≡ f x y) → a ≡ j * (2 * w) → length ws ≡ 2 * w → a + 2 * w ≤ length xs → m ≡ suc j
+    → ((x : ℕ) → x + 1 < 2 * w → get_or ws (place_in_row (2 * w) x) (pos 0) ≡ f x j) → (x y : ℕ) → x + 1 < 2 * w → y < m → phase_at w (put_mid a k xs ws) x y ≡ f x y
+phases_more w j m a k f xs ws h start len fits next row x y across l =
+    let even : 2 * w % 2 ≡ 0 = omega arith in
+    let below = held_below (2 * w) x even (omega arith) in
+    elim (cases_lt y j) [
+      | inl before ↦
+          part_before a k (y * (2 * w) + place_in_row (2 * w) x) xs ws (omega (arith, row_fits y (2 * w) j (2 * w) before (omega arith), below, start)) (omega (arith, fits)) ∙ h x y across before
+      | inr past ↦
+          let here : y ≡ j = omega (arith, l, past, next) in
+          rw here (ap (λ i. get_or (put_mid a k xs ws) (i + place_in_row (2 * w) x) (pos 0)) (sym start) ∙ part_inside a k (place_in_row (2 * w) x) xs ws (omega (arith, below, len)) (omega (arith, fits)) ∙ row x across)
+    ]
+
+-- all rows
+pub phases_all : (columns rows : ℕ) (f : ℕ → ℕ → ℤ) (samples : List ℤ) → 1 ≤ columns → 1 ≤ rows → ((x y : ℕ) → x + 1 < 2 * columns → y + 1 < 2 * rows → phase_at columns samples x y ≡ f x y)
+    → table_of_phases columns rows samples ≡ table_of (2 * columns - 1) (2 * rows - 1) f
+unfolding filled
+phases_all columns rows f samples across down h =
+    let t = table_of_phases columns rows samples in
+    let told : RowsFilled f (2 * columns - 1) (2 * rows - 1) t.values (2 * rows - 1) = record {
+      len = length-map-range_with_len (λ p. phase_at columns samples (p % (2 * columns - 1)) (p / (2 * columns - 1))) 0 ((2 * columns - 1) * (2 * rows - 1));
+      done = λ x y a b. filled_at (phase_at columns samples) (2 * columns - 1) (2 * rows - 1) x y a b ∙ h x y (omega arith) (omega arith);
+    } in
+    rows_all f t (2 * columns - 1) (2 * rows - 1) (2 * rows - 1) refl refl (omega arith) (omega arith) told
