@@ -7,8 +7,8 @@ use dirac_upconvert::{UpPlane, upconvert};
 use std::alloc::Global;
 use std::marker::Model;
 
-/// The most samples of a plane whose half samples are kept: those of 2,048 by 1,088. Half samples take four times the
-/// room of their plane, so those of larger pictures are made plane by plane, when they are needed.
+/// The most samples of a plane whose half samples are kept: those of 2,048 by 1,088. Half samples take twice the room
+/// of their plane, so those of larger pictures are made plane by plane, when they are needed.
 pub const MOST_KEPT_SAMPLES: u32 = 2_228_224;
 
 /// The planes of a picture with their half samples.
