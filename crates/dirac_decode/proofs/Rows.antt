@@ -1,7 +1,6 @@
 -- Planes as bytes, one after another.
-use Rattle.std.proofs.Common.{◌≡◌, ◌∙◌, ℕ, ◌<◌, ◌≤◌, ℤ, pos, List, [], ◌++◌, length, get_or, map, Option, refl, sym, ap, arith, append_assoc}
-use Rattle.std.specs.Io.KnownBytes.{Appends}
-use Rattle.std.proofs.KnownBytes.{Appends-nil, Appends-trans}
+use Rattle.std.proofs.Common.{◌≡◌, ◌∙◌, ℕ, ◌<◌, ◌≤◌, ℤ, pos, List, [], length, get_or, map, Option, refl, sym, arith}
+use Rattle.std.proofs.KnownBytes.{Appends-nil}
 use Rattle.std.proofs.lemmas.List.{ext_get_or, get_or-map, length-map}
 use Rattle.dirac_io.specs.Writing.{AppendsFront}
 pub use Rattle.dirac_units.proofs.Appended.{behind_front, front_then}

@@ -1,18 +1,17 @@
 -- Sequences that are joined while they're written are the joined ones.
-use Rattle.std.proofs.Common.{◌≡◌, ◌∙◌, ℕ, ℤ, pos, ◌+ℤ◌, ◌+◌, ◌-◌, ◌%◌, ◌<◌, ◌≤◌, ◌^◌, ◌&&◌, nat_le, nat_lt, if◌then◌else◌, Bool, true, false, List, [], ◌∷◌, ◌++◌, drop, map, length, get_or, Option, None, Some, refl, sym, ap, ap₂, subst, arith, append_assoc, append-nil}
-use Rattle.std.specs.Prelude.{int_le, ◌≤ℤ◌, ◌-ℤ◌, ⊤}
+use Rattle.std.proofs.Common.{◌≡◌, ◌∙◌, ℕ, ℤ, pos, ◌+ℤ◌, ◌+◌, ◌-◌, ◌%◌, ◌<◌, ◌≤◌, ◌^◌, ◌&&◌, nat_lt, if◌then◌else◌, Bool, true, false, List, [], ◌∷◌, ◌++◌, drop, map, length, get_or, Option, None, Some, refl, sym, ap, ap₂, subst, arith, append_assoc, append-nil}
+use Rattle.std.specs.Prelude.{int_le, ◌≤ℤ◌, ◌-ℤ◌}
 use Rattle.std.proofs.lemmas.Bool.{cond-false, cond-true, le-ltb, lt-ltb}
 use Rattle.std.proofs.lemmas.Int.{ints}
 use Rattle.std.proofs.lemmas.List.{drop_all, map-append}
 use Rattle.dirac_units.specs.declared.codes.TheConstants.{SEQUENCE_HEADER}
 use Rattle.dirac_decode.specs.StreamState.{is_same}
 use Rattle.dirac_stream.specs.Stream.{end_unit, unit}
-use Rattle.dirac_edit_laws.specs.Joined.{Group, Keyed, bare, bytes_or_bare, first_number, group_of, groups_behind, groups_of, high, joined, keyed_from, low, may_merge, merged, moved_key, renumbered, shift, text_of}
+use Rattle.dirac_edit_laws.specs.Joined.{Group, bare, bytes_or_bare, first_number, group_of, groups_behind, groups_of, high, joined, low, may_merge, merged, moved_key, renumbered, shift, text_of}
 use Rattle.dirac_edit_laws.specs.Texts.{PictureText, SequenceText, with_pictures}
 use Rattle.dirac_edit_laws.specs.Units.{pictures_bytes, sequence_bytes, sequences_bytes}
-use Rattle.dirac_edit_laws.proofs.Keys.{AreAtMost, Merges, below_high, keys_in, merges}
-use Rattle.dirac_edit.specs.declared.keys.Keys.{Keys}
-use Rattle.dirac_edit.specs.Merged.{Added, Latest, Progress, above, added, added_behind, below, keys_among, length_behind, may_follow, moved_on, onto, own, own_bytes, own_length, shift_onto, units_behind, way_onto}
+use Rattle.dirac_edit_laws.proofs.Keys.{Merges, below_high, merges}
+use Rattle.dirac_edit.specs.Merged.{Added, Latest, Progress, added, added_behind, below, keys_among, length_behind, may_follow, moved_on, onto, own, own_bytes, own_length, shift_onto, units_behind, way_onto}
 use Rattle.dirac_edit.proofs.Going.{left_at}
 use Rattle.dirac_edit.proofs.Placed.{high_is, high_onto, low_is, moved_texts_are, own_texts}
 

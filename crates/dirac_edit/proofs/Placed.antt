@@ -1,6 +1,6 @@
 -- Where keys lie, and how they move.
-use Rattle.std.proofs.Common.{◌≡◌, ◌∙◌, ℕ, ℤ, suc, pos, negsuc, ◌+ℤ◌, ◌+◌, ◌-◌, ◌%◌, ◌<◌, ◌≤◌, ◌^◌, max, List, [], ◌∷◌, ◌++◌, drop, map, length, get_or, refl, sym, ap, ap₂, subst, arith}
-use Rattle.std.specs.Prelude.{◌≤ℤ◌, ◌-ℤ◌}
+use Rattle.std.proofs.Common.{◌≡◌, ◌∙◌, ℕ, ℤ, pos, negsuc, ◌+ℤ◌, ◌+◌, ◌-◌, ◌%◌, ◌<◌, ◌≤◌, ◌^◌, max, List, [], ◌∷◌, ◌++◌, drop, map, length, get_or, refl, sym, ap, ap₂, arith}
+use Rattle.std.specs.Prelude.{◌≤ℤ◌}
 use Rattle.std.specs.Int.{cast_signed, int_max, int_min, to_be_bytes, w32}
 use Rattle.std.proofs.lemmas.Int.{int_max_is, int_min_is, ints}
 use Rattle.std.proofs.lemmas.List.{drop_all}

@@ -1,13 +1,13 @@
 -- Sequences joined as they are written, one behind another.
 -- Inner: for the proofs of this crate.
-use Rattle.std.specs.Prelude.{ℕ, ℤ, ◌+◌, ◌-◌, ◌%◌, ◌^◌, max, nat_le, ◌&&◌, if◌then◌else◌, Bool, List, [], ◌∷◌, ◌++◌}
+use Rattle.std.specs.Prelude.{ℕ, ◌+◌, ◌-◌, ◌%◌, ◌^◌, max, nat_le, ◌&&◌, if◌then◌else◌, Bool, List, [], ◌∷◌, ◌++◌}
 use Rattle.std.specs.Prelude.{length, drop, map, Option, None, Some}
 use Rattle.std.specs.Int.{to_be_bytes, w32}
 use borrow.Author.Differences.{up, down}
 use Rattle.dirac_units.specs.declared.codes.TheConstants.{SEQUENCE_HEADER}
 use Rattle.dirac_decode.specs.StreamState.{is_same}
 use Rattle.dirac_stream.specs.Stream.{end_unit, unit}
-use Rattle.dirac_edit_laws.specs.Joined.{Group, Keyed, first_number, high, keyed_from, number_of}
+use Rattle.dirac_edit_laws.specs.Joined.{Keyed, first_number, keyed_from, number_of}
 use Rattle.dirac_edit_laws.specs.Texts.{PictureText, SequenceText}
 use Rattle.dirac_edit.specs.declared.keys.Keys.{Keys}
 

@@ -11,7 +11,7 @@ use Rattle.dirac_picture.specs.Grammar.{are_listed, is_listed}
 use Rattle.dirac_plan.specs.declared.planned.Planned.{Planned}
 use Rattle.dirac_refs.specs.References.{append, appended, as_reference, committed, listed, retire, without}
 use Rattle.dirac_refs.proofs.Listed.{few_committed, few_without}
-use Rattle.dirac_stream.specs.Coding.{Made, coded_under, job_of, made, refs_after}
+use Rattle.dirac_stream.specs.Coding.{coded_under, job_of, made, refs_after}
 use Rattle.dirac_stream.specs.Laws.{AreMade}
 use Rattle.dirac_edit_laws.specs.Cut.{open_from}
 use Rattle.dirac_edit_laws.specs.Rebuilt.{list_behind}

@@ -1,5 +1,4 @@
-use Rattle.std.proofs.Common.{◌≡◌, ap, sym, ◌∙◌}
-use Rattle.dirac_coeffs.specs.Written.{is_zero_band}
+use Rattle.std.proofs.Common.{◌≡◌, sym, ◌∙◌}
 use Rattle.dirac_analysis.specs.Coded.{reduced_table}
 use Rattle.dirac_analysis.proofs.ReducedRows.{coded_none, coded_other, numbers_are}
 use Rattle.dirac_analysis.proofs.finer.code_finer.Goals as goal
