@@ -79,8 +79,7 @@ fn choose_from_two<R: Threads + Sync, G: RowGate>(
 
 /// The block table of a picture with these references, whose luma is upconverted already.
 ///
-/// The gate is called before each row of superblocks of each stage of the search, in reference 1, then in
-/// reference 2.
+/// The gate is called before each row of superblocks of each stage of the search, in one reference after the other.
 pub fn choose_from<R: Threads + Sync, G: RowGate>(
     rt: &R,
     alloc: Global,
@@ -129,8 +128,7 @@ fn choose_for<R: Threads + Sync, G: RowGate>(
 
 /// The block table of a planned picture, whose references are listed: `None` exactly for an intra picture.
 ///
-/// The gate is called before each row of superblocks of each stage of the search, in reference 1, then in
-/// reference 2.
+/// The gate is called before each row of superblocks of each stage of the search, in one reference after the other.
 pub fn choose_blocks<R: Threads + Sync, G: RowGate>(
     rt: &R,
     alloc: Global,
