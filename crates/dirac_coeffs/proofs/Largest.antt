@@ -130,13 +130,13 @@ rows_taken t y =
 
 -- rows in 32 bits are held where they are those of a table
 pub held_narrow : (r : NarrowRows) (table : Table) (largest : ℕ) → r.size.width ≡ table.width → r.size.height ≡ table.height → r.values.items ≡ table.values → length table.values ≡ table.width * table.height
-    → (1 ≤ table.width) × (table.width ≤ LARGEST_TABLE_SIDE) → (1 ≤ table.height) × (table.height ≤ LARGEST_TABLE_SIDE) → IsLargest largest table.values → IsHeld (Narrow r) largest
-held_narrow r table largest across down same whole wide high is = record {
+    → (1 ≤ table.width) × (table.width ≤ LARGEST_TABLE_SIDE) → (1 ≤ table.height) × (table.height ≤ LARGEST_TABLE_SIDE) → IsLargest largest table.values → 1 ≤ largest → IsHeld (Narrow r) largest
+held_narrow r table largest across down same whole wide high is some = record {
   across = rw across wide;
   down = rw down high;
   whole = rw (same, across, down) whole;
   most = rw same is;
-  wide = tt;
+  form = some;
 }
 
 -- what is known of the rows that were narrowed, and of one more

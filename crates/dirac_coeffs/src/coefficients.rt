@@ -23,7 +23,7 @@ pub struct NarrowRows {
     values: Vec<i32>,
 }
 
-/// Coefficients in 32 bits where these are enough, else wide; no list of them where all are zeros.
+/// Coefficients in 32 bits where each of them fits, else wide; no list of them where all are zeros.
 #[derive(Debug, Drop)]
 pub enum Held {
     Zeros(BandSize),
@@ -65,7 +65,8 @@ impl Coefficients {
         }
     }
 
-    /// The coefficients of this table: in 32 bits where all of them fit, and without a list where all are zeros.
+    /// The coefficients of this table: in 32 bits where all magnitudes are below 2^31, and without a list where all are
+    /// zeros.
     pub fn try_of(alloc: Global, table: BandTable) -> Result<Coefficients, NoMemory>
         requires across { table.width ≤ LARGEST_TABLE_SIDE }
         requires down { table.height ≤ LARGEST_TABLE_SIDE }
@@ -76,7 +77,7 @@ impl Coefficients {
             height: table.height(),
         };
         let mut values = Vec::with_capacity(alloc, table.values().len())?;
-        let narrowed = narrow_rows(alloc, &table, &mut values)?;
+        let narrowed = append_all_narrowed(alloc, &table, &mut values)?;
         if !narrowed.all {
             let largest = largest_of(table.values());
             return Ok(Coefficients {
@@ -159,6 +160,7 @@ impl Coefficients {
         ensures value { IfSome result (λ row. row.now ≡ row_of self.now y) }
         ensures len { IfSome result (λ row. length row.now ≡ self.now.width) }
         ensures zeros { result ≡ None → All (λ v. v ≡ pos 0) self.now.values }
+        ensures no_list { All (λ v. v ≡ pos 0) self.now.values → result ≡ None }
     {
         match &self.held {
             Held::Zeros(_size) => None,
@@ -178,7 +180,7 @@ impl Coefficients {
         match &self.held {
             Held::Zeros(_size) => {}
             Held::Narrow(rows) => copy_widened(rows.values.as_slice(), wide.values_mut()),
-            Held::Wide(table) => copy(table.values(), wide.values_mut()),
+            Held::Wide(table) => wide.values_mut().copy_from_slice(table.values()),
         }
         Ok(wide)
     }
@@ -191,7 +193,7 @@ struct Narrowed {
     largest: u32,
 }
 
-/// The lower 32 bits of a number, which are the number where it fits.
+/// The lower 32 bits of a number, which are the number where its magnitude is below 2^31.
 #[inline(always)]
 fn lower_half(value: i64) -> i32
     ensures { unsigned_abs value < 2 ^ 31 → result ≡ value }
@@ -234,7 +236,8 @@ fn copy_narrowed(wide: &[i64], narrow: &mut [i32]) -> Narrowed
     Narrowed { all, largest }
 }
 
-/// Appends a row of numbers in 32 bits, where they fit, by way of a line of its length.
+/// Appends a row of numbers in 32 bits, where they fit. They are written into a line of its length first, several at
+/// once.
 fn append_narrowed(
     row: &[i64],
     line: &mut [i32],
@@ -250,8 +253,8 @@ fn append_narrowed(
     Ok(narrowed)
 }
 
-/// Appends all rows of numbers in 32 bits, where they fit.
-fn narrow_rows(
+/// Appends all rows of a table in 32 bits, where its numbers fit, to an empty list.
+fn append_all_narrowed(
     alloc: Global,
     table: &BandTable,
     values: &mut Vec<i32>,
@@ -262,8 +265,8 @@ fn narrow_rows(
     ensures others { IfOk result (λ n. n.all ≡ false → (m : ℕ) → All (λ v. unsigned_abs v ≤ m) table.now.values
         → 2 ^ 31 ≤ m) }
 {
-    let mut row = vec![in alloc; 0i32; table.width() as usize]?;
-    let line = row.as_mut_slice();
+    let mut buffer = vec![in alloc; 0i32; table.width() as usize]?;
+    let line = buffer.as_mut_slice();
     let mut all = true;
     let mut largest = 0u32;
     for y in 0..table.height() {
@@ -285,20 +288,12 @@ fn largest_of(values: &[i64]) -> u64
     largest
 }
 
+/// Writes each number in 64 bits.
 fn copy_widened(narrow: &[i32], wide: &mut [i64])
     requires { length wide.old ≡ length narrow.now }
     ensures { wide.new ≡ narrow.now }
 {
     for n in 0..narrow.len() {
         wide[n] = i64::from(narrow[n]);
-    }
-}
-
-fn copy(values: &[i64], others: &mut [i64])
-    requires { length others.old ≡ length values.now }
-    ensures { others.new ≡ values.now }
-{
-    for n in 0..values.len() {
-        others[n] = values[n];
     }
 }

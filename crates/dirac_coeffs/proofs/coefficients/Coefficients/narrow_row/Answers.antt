@@ -1,11 +1,22 @@
-use Rattle.std.proofs.Common.{◌-◌, ◌^◌, ◌≤◌, unsigned_abs, arith, subst, sym}
+use Rattle.std.proofs.Common.{◌≡◌, ℕ, pos, ◌-◌, ◌^◌, ◌≤◌, List, ℤ, unsigned_abs, arith, subst, sym}
 use Rattle.std.specs.List.{All}
 use Rattle.dirac_types.specs.Table.{Table}
+use Rattle.dirac_coeffs.specs.Held.{IsLargest}
 use Rattle.dirac_coeffs.proofs.coefficients.Coefficients.narrow_row.Goals as goal
 
 pub returns-in-Wide-clause-zeros : goal.returns-in-Wide-clause-zeros
 returns-in-Wide-clause-zeros c = λ e.
-    let wide : 2 ^ 31 ≤ c.self.inside.largest = rw c.in-Wide.is at c.self.invariant.wide in
+    let wide : 2 ^ 31 ≤ c.self.inside.largest = rw c.in-Wide.is at c.self.invariant.form in
     let fits : All (λ v. unsigned_abs v ≤ 2 ^ 31 - 1) c.args.self.now.values = λ k d l. omega (arith, c.requires.fits k d l) in
     let small : c.self.inside.largest ≤ 2 ^ 31 - 1 = c.self.invariant.most.least (2 ^ 31 - 1) (subst (λ (t : Table). All (λ v. unsigned_abs v ≤ 2 ^ 31 - 1) t.values) (sym c.self.view_is) fits) in
     absurd (omega (arith, wide, small))
+
+-- the largest magnitude of zeros
+none_in_zeros : (largest : ℕ) (xs : List ℤ) → IsLargest largest xs → All (λ v. v ≡ pos 0) xs → largest ≤ 0
+none_in_zeros largest xs is all = is.least 0 (λ k d l. rw (all k d l) (omega arith))
+
+pub returns-in-Narrow-clause-no_list : goal.returns-in-Narrow-clause-no_list
+returns-in-Narrow-clause-no_list c = λ all.
+    let some : 1 ≤ c.self.inside.largest = rw c.in-Narrow.is at c.self.invariant.form in
+    let most : IsLargest c.self.inside.largest c.args.self.now.values = subst (λ (t : Table). IsLargest c.self.inside.largest t.values) c.self.view_is c.self.invariant.most in
+    absurd (omega (arith, some, none_in_zeros c.self.inside.largest c.args.self.now.values most all))

@@ -17,4 +17,4 @@ invariant_of-result-2 c =
     let all = fitted narrowed.narrowed.all c.if-not-narrowed.false in
     rw c.from.ensures
     (held_narrow _ c.args.table narrowed.narrowed.largest c.width.ensures.value c.height.ensures.value (narrowed.ensures.written all)
-    (omega arith) (omega arith, c.requires.across) (omega arith, c.requires.down) (narrowed.ensures.largest all))
+    (omega arith) (omega arith, c.requires.across) (omega arith, c.requires.down) (narrowed.ensures.largest all) (omega arith))

@@ -1,6 +1,6 @@
 use Rattle.std.proofs.Common.{◌≡◌, ◌*◌, length, take}
 use Rattle.dirac_coeffs.proofs.Largest.{AreNarrowed}
-use Rattle.dirac_coeffs.proofs.coefficients.narrow_rows.Given as goal
+use Rattle.dirac_coeffs.proofs.coefficients.append_all_narrowed.Given as goal
 
 abbrev pub invariant-loop-y : goal.invariant-loop-y
 invariant-loop-y l = record {

@@ -4,7 +4,7 @@ use Rattle.std.proofs.lemmas.List.{take_all}
 use Rattle.dirac_types.specs.Table.{Table}
 use Rattle.dirac_coeffs.specs.Held.{IsLargest}
 use Rattle.dirac_coeffs.proofs.Largest.{row_narrowed}
-use Rattle.dirac_coeffs.proofs.coefficients.narrow_rows.Goals as goal
+use Rattle.dirac_coeffs.proofs.coefficients.append_all_narrowed.Goals as goal
 
 pub loop-y-preserved : goal.loop-y-preserved
 loop-y-preserved c =
