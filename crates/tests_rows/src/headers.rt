@@ -186,3 +186,39 @@ fn bands_of_one_value(rt: HostRuntime) {
         Err(Stop::Refused(short))
     );
 }
+
+/// The answer of a band of one column and two rows, or its refusal.
+fn column(alloc: Global, bytes: &[u8]) -> Result<[i64; 2], Stop> {
+    let layout = BandLayout {
+        band: Band::LL,
+        width: 1,
+        height: 2,
+        across: 1,
+        down: 1,
+        mode: 0,
+    };
+    let coded = read_band(alloc, &mut BitReader::new(bytes), layout, None)?;
+    if coded.index == 0 && coded.table.width() == 1 && coded.table.height() == 2 {
+        return Ok([coded.table.at(0, 0), coded.table.at(0, 1)]);
+    }
+    Err(Stop::NoMemory)
+}
+
+#[test]
+fn bands_of_two_values(rt: HostRuntime) {
+    let alloc = rt.alloc();
+    assert_eq!(rt; column(alloc, [0x30u8, 0xFE].as_slice()), Ok([0, 0]));
+    // one value that 32 bits don't hold, above or below one that they do
+    for (bytes, values) in [
+        ([0x00u8, 0x00, 0x00, 0x00, 0xAC, 0x03], [1i64 << 32, 7]),
+        ([0x02, 0x5A, 0xC0, 0x00, 0x03, 0xBD], [7, 1 << 32]),
+        ([0x00, 0x00, 0x00, 0x01, 0x42, 0x40], [-(1 << 31) - 1, 3]),
+        ([0x08, 0x77, 0xC0, 0x00, 0x0E, 0xEB], [3, -(1 << 31) - 1]),
+    ] {
+        let [a, b, c, d, e, f] = bytes;
+        assert_eq!(rt;
+            column(alloc, [0x5C, a, b, c, d, e, f].as_slice()),
+            Ok(values)
+        );
+    }
+}
