@@ -137,7 +137,7 @@ impl<'a> Decoder<'a> {
         ensures few_doublings { self.new.at.doublings ≤ self.old.at.doublings + 693 }
     {
         let mut value: u64 = 1;
-        'digits: for i in 0..38usize {
+        'digits: for i in 0..MOST_DIGITS {
             let last = self.decision(follow_context(follow, i))?;
             if last {
                 return Ok(value - 1);
@@ -239,7 +239,7 @@ impl<'a> Decoder<'a> {
     {
         let first = self.decision(bits)?;
         let mut value: u64 = 2 + u64::from(first);
-        'digits: for i in 1..38usize {
+        'digits: for i in 1..MOST_DIGITS {
             let last = self.decision(follow_context(follow, i))?;
             if last {
                 return Ok(value - 1);

@@ -49,7 +49,8 @@ fn read_coded(
 
 /// Reads a subband (wavelet coefficients, Dirac specification, section 13): passes to the next byte, and takes the
 /// length of its block, the quantiser index and the block. What an arithmetic block doesn't hold is refused at its
-/// first byte.
+/// first byte. `parent` is the subband of this orientation one level lower, whose values contexts go by; none for the
+/// lowest band and those of the first level.
 #[tactic(auto, unfolding(crate::specs::Grammar::band))]
 pub fn read_band(
     alloc: Global,

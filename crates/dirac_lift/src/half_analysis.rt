@@ -203,7 +203,8 @@ pub fn analyse_half_line(wavelet: u8, low: &mut [i32], high: &mut [i32])
     requires alike { length high.old ≡ length low.old }
     requires low_at_most_8190 { All (λ v. unsigned_abs v ≤ 2 * LARGEST_NARROW) low.old }
     requires high_at_most_8190 { All (λ v. unsigned_abs v ≤ 2 * LARGEST_NARROW) high.old }
-    ensures { (line : List ℤ) → AreHalves 0 low.old high.old line → AreHalves 0 low.new high.new (analyse wavelet line) }
+    ensures { (line : List ℤ) → AreHalves 0 low.old high.old line
+        → AreHalves 0 low.new high.new (analyse wavelet line) }
 {
     let half = low.len();
     analyse_halves(wavelet, low, high, 1, half);

@@ -1,5 +1,5 @@
-//! The encoder under a budget: each picture gets the least quantiser index by which its unit has no more bytes than it
-//! allows.
+//! The encoder under a budget: each picture gets the least quantiser index, from the settings' on, by which its unit
+//! has no more bytes than it allows, and the last one where there is none.
 #![tactic(auto)]
 
 mod stream;
