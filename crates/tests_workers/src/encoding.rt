@@ -93,7 +93,7 @@ fn encoding_deals_rows_as_workers_come_free(rt: HostRuntime) -> Result<(), NoMem
 
 #[test]
 fn no_gate_is_passed_by_one_thread(rt: HostRuntime) -> Result<(), NoMemory> {
-    let gate = HoldsRows::new(FIRST, FIRST | SECOND);
+    let gate = HoldsRows::for_turns(1, FIRST, FIRST | SECOND);
     let made = encoded(&rt, rt.alloc(), 40, 1, &gate)?;
     assert!(rt; !gate.all_came());
     assert_eq!(rt; made.ended, Encoded::Done);

@@ -1,6 +1,7 @@
 use dirac_io::RowGate;
 use std::sync::atomic::Ordering::SeqCst;
 use std::sync::atomic::{AtomicBool, AtomicU64};
+use std::thread;
 
 // rows 0, 1 and 2 as bits of a set
 pub const FIRST: u64 = 1;
@@ -19,14 +20,34 @@ fn bit_of(row: u32) -> u64 {
     }
 }
 
-// how many turns a gate holds a row for, at most
-const TURNS: u32 = 100_000_000;
+// How many turns a gate holds a row for at most: seconds even where each is over at once. Behind each turn other threads
+// get the processor, so that on a busy machine a turn is as long as they need.
+const TURNS: u32 = 1_000_000;
+
+// How often a turn looks at what has come.
+const LOOKS: u32 = 10_000;
+
+// Whether something comes to pass within that many turns.
+fn comes<F: Fn() -> bool>(turns: u32, has_come: F) -> bool
+    requires { F.IsAlwaysCallable has_come }
+{
+    for _ in 0..turns {
+        for _ in 0..LOOKS {
+            if has_come() {
+                return true;
+            }
+        }
+        thread::yield_now();
+    }
+    false
+}
 
 /// A gate that holds some rows until all rows were entered, or the turns run out.
 #[derive(Drop)]
 pub struct HoldsRows {
     held: u64,
     all: u64,
+    turns: u32,
     entered: AtomicU64,
     came: AtomicBool,
     ran_out: AtomicBool,
@@ -35,9 +56,15 @@ pub struct HoldsRows {
 impl HoldsRows {
     /// A gate over these rows, which holds those of `held`.
     pub fn new(held: u64, all: u64) -> HoldsRows {
+        HoldsRows::for_turns(TURNS, held, all)
+    }
+
+    /// The same for that many turns.
+    pub fn for_turns(turns: u32, held: u64, all: u64) -> HoldsRows {
         HoldsRows {
             held,
             all,
+            turns,
             entered: AtomicU64::new(0),
             came: AtomicBool::new(false),
             ran_out: AtomicBool::new(false),
@@ -62,13 +89,11 @@ impl RowGate for HoldsRows {
         if self.held & own == 0 {
             return;
         }
-        for _ in 0..TURNS {
-            if self.entered.load(SeqCst) == self.all {
-                self.came.store(true, SeqCst);
-                return;
-            }
+        if comes(self.turns, || self.entered.load(SeqCst) == self.all) {
+            self.came.store(true, SeqCst);
+        } else {
+            self.ran_out.store(true, SeqCst);
         }
-        self.ran_out.store(true, SeqCst);
     }
 }
 
@@ -116,11 +141,8 @@ impl RowGate for HoldsEachCall {
         if row != self.held {
             return;
         }
-        for _ in 0..TURNS {
-            if call < other.load(SeqCst) {
-                return;
-            }
+        if !comes(TURNS, || call < other.load(SeqCst)) {
+            self.ran_out.store(true, SeqCst);
         }
-        self.ran_out.store(true, SeqCst);
     }
 }
