@@ -20,8 +20,8 @@ fn bit_of(row: u32) -> u64 {
     }
 }
 
-// How many turns a gate holds a row for at most: seconds even where each is over at once. Behind each turn other threads
-// get the processor, so that on a busy machine a turn is as long as they need.
+// How many turns a gate holds a row for at most: seconds even where each is over at once. Behind each turn other
+// threads get the processor, so that on a busy machine a turn is as long as they need.
 const TURNS: u32 = 1_000_000;
 
 // How often a turn looks at what has come.
