@@ -17,8 +17,8 @@ use Rattle.dirac_coeffs.specs.Grammar.{IsCodedBand}
 use Rattle.dirac_coeffs.specs.Indices.{all_equal, index_at, index_before, place_of}
 use Rattle.dirac_coeffs.specs.Written.{AreIndicesOf, is_zero_band}
 use Rattle.dirac_coeffs.proofs.Indexed.{equal_same, place_inside}
-use Rattle.dirac_residual.specs.Codeblocks.{codeblock_of}
-use Rattle.dirac_residual.proofs.ByCodeblock.{value_small}
+use Rattle.dirac_synthesis.specs.Codeblocks.{codeblock_of}
+use Rattle.dirac_synthesis.proofs.ByCodeblock.{value_small}
 use Rattle.dirac_coeffs.specs.Layouts.{is_parted}
 use Rattle.dirac_analysis.specs.Coded.{chosen_at, chosen_index, coded, coded_as, coded_by_one, coded_indices, each_passes, index_behind, is_flat, is_skipped, reduced_at, reduced_table}
 use Rattle.dirac_analysis.specs.Fits.{IsLaidOut, IsLevelBand}

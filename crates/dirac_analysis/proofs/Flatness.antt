@@ -11,8 +11,8 @@ use Rattle.dirac_bands.specs.Geometry.{edge_of}
 use Rattle.dirac_coeffs.specs.Contexts.{is_zero}
 use Rattle.dirac_coeffs.specs.Written.{all_below}
 use Rattle.dirac_coeffs.proofs.Edges.{edge_most}
-use Rattle.dirac_residual.specs.Codeblocks.{codeblock_of}
-use Rattle.dirac_residual.proofs.ByCodeblock.{only}
+use Rattle.dirac_synthesis.specs.Codeblocks.{codeblock_of}
+use Rattle.dirac_synthesis.proofs.ByCodeblock.{only}
 use Rattle.dirac_coeffs.specs.Layouts.{is_parted}
 use Rattle.dirac_analysis.specs.Coded.{chosen_at, chosen_index, each_passes, index_behind, is_flat, is_skipped, is_small, reduced_at, reduced_table}
 

@@ -13,8 +13,8 @@ use Rattle.dirac_coeffs.specs.declared.layout.CodedBand.{CodedBand}
 use Rattle.dirac_coeffs.specs.Indices.{index_at}
 use Rattle.dirac_coeffs.specs.Written.{is_zero_band}
 use Rattle.dirac_coeffs.proofs.Edges.{edge_most}
-use Rattle.dirac_residual.specs.Codeblocks.{codeblock_of}
-use Rattle.dirac_residual.proofs.ByCodeblock.{holds, only, value_small}
+use Rattle.dirac_synthesis.specs.Codeblocks.{codeblock_of}
+use Rattle.dirac_synthesis.proofs.ByCodeblock.{holds, only, value_small}
 use Rattle.dirac_analysis.specs.Coded.{chosen_at, chosen_index, coded, coded_as, coded_indices, reduced_at, reduced_table}
 
 -- ---- rows

@@ -22,10 +22,10 @@ use Rattle.dirac_coeffs.specs.declared.layout.CodedBand.{CodedBand}
 use Rattle.dirac_coeffs.specs.Indices.{index_at}
 use Rattle.dirac_coeffs.specs.Written.{is_zero_band}
 use Rattle.dirac_lift.specs.Level.{analysed, level}
-use Rattle.dirac_residual.specs.Codeblocks.{codeblock_of, index_in, restored_band}
-use Rattle.dirac_residual.specs.Residual.{after_levels, cut, restored_among, summed}
-use Rattle.dirac_residual.proofs.LevelLemmas.{more_levels}
-use Rattle.dirac_residual.proofs.Sizes.{size_within}
+use Rattle.dirac_synthesis.specs.Codeblocks.{codeblock_of, index_in, restored_band}
+use Rattle.dirac_synthesis.specs.Residual.{after_levels, cut, restored_among, summed}
+use Rattle.dirac_synthesis.proofs.LevelLemmas.{more_levels}
+use Rattle.dirac_synthesis.proofs.Sizes.{size_within}
 use Rattle.dirac_analysis.specs.Analysis.{coded_bands, coded_level, coded_lowest, differences, padded, plane_bands}
 use Rattle.dirac_analysis.specs.Coded.{coded, coded_by_one, index_coded, reduced_values}
 use Rattle.dirac_analysis.specs.Fits.{IsDivisible}

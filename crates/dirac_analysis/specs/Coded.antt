@@ -10,7 +10,7 @@ use Rattle.dirac_coeffs.specs.declared.layout.CodedBand.{CodedBand}
 use Rattle.dirac_coeffs.specs.Contexts.{is_zero}
 use Rattle.dirac_coeffs.specs.Layouts.{is_parted, span_of}
 use Rattle.dirac_coeffs.specs.Written.{all_below, is_zero_band}
-use Rattle.dirac_residual.specs.Codeblocks.{codeblock_of}
+use Rattle.dirac_synthesis.specs.Codeblocks.{codeblock_of}
 use Rattle.dirac_analysis.specs.declared.choosing.TheConstants.{FLAT_BELOW}
 
 -- whether the values of codeblock cx of row cy all pass a test, as they do where it has none

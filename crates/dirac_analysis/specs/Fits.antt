@@ -11,7 +11,7 @@ use Rattle.dirac_header.specs.Counts.{counts_at}
 use Rattle.dirac_coeffs.specs.declared.layout.BandLayout.{BandLayout}
 use Rattle.dirac_coeffs.specs.declared.layout.CodedBand.{CodedBand}
 use Rattle.dirac_coeffs.specs.Written.{AreIndicesOf, is_zero_band}
-pub use Rattle.dirac_residual.specs.Residual.{AreSamples}
+pub use Rattle.dirac_synthesis.specs.Residual.{AreSamples}
 use Rattle.dirac_analysis.specs.Analysis.{Analysis}
 
 -- two samples are at most 255 apart: samples less what is predicted for them, or samples themselves

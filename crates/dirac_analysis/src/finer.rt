@@ -6,7 +6,7 @@ ghost use Rattle.dirac_types.specs.Table.{table_at, table_of};
 ghost use Rattle.dirac_quant.specs.Quantiser.{reduced};
 ghost use Rattle.dirac_bands.specs.Geometry.{edge_of};
 ghost use Rattle.dirac_coeffs.specs.Indices.{index_at};
-ghost use Rattle.dirac_residual.specs.Codeblocks.{codeblock_of};
+ghost use Rattle.dirac_synthesis.specs.Codeblocks.{codeblock_of};
 ghost use Rattle.dirac_analysis.specs.Coded.{coded as coded_band};
 ghost use Rattle.dirac_analysis.specs.Fits.{IsQuantisable};
 
@@ -14,7 +14,7 @@ use crate::choosing::{Choices, choose_all};
 use crate::coded::reduce_part;
 use dirac_bands::edge;
 use dirac_coeffs::{CodedBand, Coefficients, Indices};
-use dirac_residual::first_codeblock;
+use dirac_synthesis::first_codeblock;
 use dirac_types::{BandTable, LARGEST_TABLE_SIDE, MOST_CODEBLOCKS, NoMemory, Wide};
 use std::alloc::Global;
 

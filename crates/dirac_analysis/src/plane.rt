@@ -1,7 +1,7 @@
 ghost use Rattle.std.specs.Prelude.{◌≡◌, ◌-◌, ◌+◌, ◌*◌, ◌≤◌, ◌<◌, ◌^◌, unsigned_abs, IfOk};
 ghost use Rattle.dirac_types.specs.Limits.{IsEncodedDepth, IsIndex, IsWavelet};
 ghost use Rattle.dirac_bands.specs.Geometry.{lowest_size};
-ghost use Rattle.dirac_residual.specs.Residual.{residual};
+ghost use Rattle.dirac_synthesis.specs.Residual.{residual};
 ghost use Rattle.dirac_picture.specs.Fits.{IsLayout};
 ghost use Rattle.dirac_analysis.specs.Analysis.{plane_analysis, plane_bands};
 ghost use Rattle.dirac_analysis.specs.Fits.{AreDifferences, AreLevelBands, AreQuantisable};

@@ -2,8 +2,8 @@
 use Rattle.std.proofs.Common.{◌≡◌, ℕ, ◌+◌, ◌<◌, ◌≤◌, ◌^◌, arith, ap, sym, ◌∙◌}
 use Rattle.dirac_types.specs.declared.formats.Vector.{Vector}
 use Rattle.dirac_vectors.specs.Predictions.{IsShortVector}
-use Rattle.dirac_windows.specs.Least.{IsToldBelow, first_least_to}
-use Rattle.dirac_windows.proofs.Least.{least_kept, least_repeated, least_taken}
+use Rattle.dirac_costs.specs.Least.{IsToldBelow, first_least_to}
+use Rattle.dirac_costs.proofs.Least.{least_kept, least_repeated, least_taken}
 use Rattle.dirac_decide.specs.Choosing.{IsBestTo}
 use Rattle.dirac_decide.specs.Deciding.{Deciding, View}
 use Rattle.dirac_decide.specs.Units.{candidate, candidate_cost, vector_cost}

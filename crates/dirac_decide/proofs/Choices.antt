@@ -2,7 +2,7 @@
 use Rattle.std.proofs.Common.{◌≡◌, ℕ, Option, Some, None, refl}
 use Rattle.dirac_types.specs.declared.formats.Vector.{Vector}
 use Rattle.dirac_blocks.specs.declared.block.Block.{Block}
-use Rattle.dirac_windows.specs.Least.{first_least}
+use Rattle.dirac_costs.specs.Least.{first_least}
 use Rattle.dirac_decide.specs.Choosing.{cheaper, costing, motion_mode}
 use Rattle.dirac_decide.specs.Deciding.{Deciding, View}
 use Rattle.dirac_decide.specs.Modes.{both_cost, both_mode, dc_block, dc_cost, dc_mode, first_mode, from_both, from_second, other_modes, second_mode}

@@ -8,8 +8,8 @@ use Rattle.std.proofs.lemmas.List.FromFn.{get_or-map-range_with_len, length-map-
 use Rattle.dirac_blocks.specs.declared.block.Block.{Block}
 use Rattle.dirac_blocks.specs.Tables.{unit_of, unit_size}
 use Rattle.dirac_upconvert.specs.HalfSamples.{IsSample}
-use Rattle.dirac_windows.proofs.Least.{is_first_least}
-use Rattle.dirac_windows.proofs.Totals.{mean_over_sample}
+use Rattle.dirac_costs.proofs.Least.{is_first_least}
+use Rattle.dirac_costs.proofs.Totals.{mean_over_sample}
 use Rattle.dirac_decide.specs.Deciding.{Deciding, IsDeciding, View}
 use Rattle.dirac_decide.specs.Choosing.{cheaper, motion_mode}
 use Rattle.dirac_decide.specs.Modes.{HasSamples, both_mode, chroma_window, choice_of, dc_mode, first_mode, second_mode}

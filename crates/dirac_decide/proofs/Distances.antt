@@ -2,10 +2,10 @@
 use Rattle.std.proofs.Common.{◌≡◌, ℕ, ℤ, pos, ◌+◌, List, length, slice_index_or, arith, ap, ◌∙◌}
 use Rattle.std.specs.Prelude.{unsigned_abs, ◌-ℤ◌}
 use Rattle.dirac_types.specs.Table.{Table}
-use Rattle.dirac_windows.specs.Windows.{apart, over, row_from, sample_at, values_apart, values_from}
-use Rattle.dirac_windows.specs.Sums.{sum_below}
-use Rattle.dirac_windows.proofs.Sums.{sum_same}
-use Rattle.dirac_windows.proofs.Tiles.{tiles}
+use Rattle.dirac_costs.specs.Windows.{apart, over, row_from, sample_at, values_apart, values_from}
+use Rattle.dirac_costs.specs.Sums.{sum_below}
+use Rattle.dirac_costs.proofs.Sums.{sum_same}
+use Rattle.dirac_costs.proofs.Tiles.{tiles}
 use Rattle.dirac_decide.specs.Deciding.{Deciding}
 use Rattle.dirac_decide.specs.Predictors.{RowHolds, predicted, unit_cost, window_cost}
 use Rattle.dirac_decide.specs.Units.{distortion, unit_window}

@@ -1,7 +1,7 @@
 -- Best vectors, modes and splits cost least.
 use Rattle.std.proofs.Common.{◌≡◌, ℕ, ◌*◌, ◌-◌, ◌≤◌, List, Option, Some, None, arith, subst, sym}
-use Rattle.dirac_windows.specs.Least.{first_least}
-use Rattle.dirac_windows.proofs.Least.{first_least_min, is_first_least}
+use Rattle.dirac_costs.specs.Least.{first_least}
+use Rattle.dirac_costs.proofs.Least.{first_least_min, is_first_least}
 use Rattle.dirac_decide.specs.Deciding.{Deciding, View}
 use Rattle.dirac_decide.specs.Laws.{IsLeastMode, IsLeastSplit, IsLeastVector}
 use Rattle.dirac_decide.specs.Modes.{both_mode, choice_of, dc_mode, first_mode, other_modes, second_mode}

@@ -11,7 +11,7 @@ use Rattle.dirac_decide.specs.Deciding.{Deciding}
 use Rattle.dirac_decide.specs.Modes.{choice_of}
 use Rattle.dirac_decide.specs.Rooms.{IsTableFor}
 use Rattle.dirac_decide.specs.Splits.{DecidedTo, IsBefore, IsDecided, SuperblockDecided, UnitsChosen, best_block, best_split, split_cost, unit_in}
-use Rattle.dirac_windows.specs.Least.{first_least_to}
+use Rattle.dirac_costs.specs.Least.{first_least_to}
 
 -- one more unit
 pub units_more : (d : Deciding) (sx sy split n : ℕ) (units : List Block) (b : Block) → n < length units → b ≡ (choice_of d (unit_in split sx sy n)).block

@@ -1,7 +1,7 @@
 -- The split of least cost, from costs that are told below limits.
 use Rattle.std.proofs.Common.{◌≡◌, ℕ, ◌<◌, ◌≤◌, arith, ap, ◌∙◌}
-use Rattle.dirac_windows.specs.Least.{IsToldBelow, first_least_to}
-use Rattle.dirac_windows.proofs.Least.{least_kept, least_taken}
+use Rattle.dirac_costs.specs.Least.{IsToldBelow, first_least_to}
+use Rattle.dirac_costs.proofs.Least.{least_kept, least_taken}
 
 first_one : (f : ℕ → ℕ) (one four : ℕ) → one ≡ f 0 → IsToldBelow one (f 1) four → four < one → first_least_to f 1 ≡ 1
 first_one f one four e t less =

@@ -1,8 +1,8 @@
 -- Costs that are told where they are below a limit.
 use Rattle.std.proofs.Common.{◌≡◌, ℕ, ◌+◌, ◌≤◌, arith, subst}
-use Rattle.dirac_windows.specs.Least.{IsToldBelow}
-use Rattle.dirac_windows.specs.Sums.{sum_below}
-use Rattle.dirac_windows.proofs.Sums.{sum_grows}
+use Rattle.dirac_costs.specs.Least.{IsToldBelow}
+use Rattle.dirac_costs.specs.Sums.{sum_below}
+use Rattle.dirac_costs.proofs.Sums.{sum_grows}
 
 -- a sum that isn't below the limit any more
 pub told_early : (limit bits cost : ℕ) (f : ℕ → ℕ) (k n : ℕ) → cost ≡ bits + sum_below f k → k ≤ n → limit ≤ cost → IsToldBelow limit (bits + sum_below f n) cost

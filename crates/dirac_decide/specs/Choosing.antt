@@ -2,7 +2,7 @@
 use Rattle.std.specs.Prelude.{◌≡◌, ℕ, ◌≤◌, ◌^◌, nat_lt, if◌then◌else◌, Option, Some, None}
 use Rattle.dirac_vectors.specs.Predictions.{IsShortVector}
 use Rattle.dirac_blocks.specs.declared.block.Block.{Block}
-use Rattle.dirac_windows.specs.Least.{first_least_to}
+use Rattle.dirac_costs.specs.Least.{first_least_to}
 use Rattle.dirac_decide.specs.Deciding.{Deciding, View}
 use Rattle.dirac_decide.specs.Modes.{both_mode, first_mode, second_mode}
 use Rattle.dirac_decide.specs.Units.{candidate, candidate_cost}

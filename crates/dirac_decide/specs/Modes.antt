@@ -5,10 +5,10 @@ use Rattle.dirac_types.specs.declared.formats.Vector.{Vector}
 use Rattle.dirac_upconvert.specs.HalfSamples.{IsSample}
 use Rattle.dirac_blocks.specs.declared.block.Block.{Block}
 use Rattle.dirac_blocks.specs.Tables.{grey}
-use Rattle.dirac_windows.specs.declared.window.Window.{Window}
-use Rattle.dirac_windows.specs.Bits.{bits_of, bits_of_vector}
-use Rattle.dirac_windows.specs.Least.{first_least}
-use Rattle.dirac_windows.specs.Windows.{mean_over}
+use Rattle.dirac_costs.specs.declared.window.Window.{Window}
+use Rattle.dirac_costs.specs.Bits.{bits_of, bits_of_vector}
+use Rattle.dirac_costs.specs.Least.{first_least}
+use Rattle.dirac_costs.specs.Windows.{mean_over}
 use Rattle.dirac_decide.specs.Deciding.{Deciding, View}
 use Rattle.dirac_decide.specs.Units.{best_vector, distortion, least_cost, moved, unit_window}
 use Rattle.dirac_decide.specs.declared.prediction_unit.PredictionUnit.{PredictionUnit}

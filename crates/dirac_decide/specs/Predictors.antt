@@ -3,8 +3,8 @@ use Rattle.std.specs.Prelude.{◌≡◌, ℕ, ℤ, pos, ◌<◌, ◌≤◌, ◌*
 use Rattle.std.specs.List.{All}
 use Rattle.dirac_vectors.specs.Predictions.{IsShortVector}
 use Rattle.dirac_types.specs.Table.{Table}
-use Rattle.dirac_windows.specs.declared.window.Window.{Window}
-use Rattle.dirac_windows.specs.Windows.{apart, over, sample_at}
+use Rattle.dirac_costs.specs.declared.window.Window.{Window}
+use Rattle.dirac_costs.specs.Windows.{apart, over, sample_at}
 use Rattle.dirac_decide.specs.Deciding.{Deciding, IsFieldSize, View}
 use Rattle.dirac_decide.specs.Modes.{between, mean_of_two}
 use Rattle.dirac_decide.specs.Units.{distortion, moved}

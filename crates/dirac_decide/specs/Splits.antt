@@ -3,8 +3,8 @@ use Rattle.std.specs.Prelude.{◌≡◌, ℕ, ◌+◌, ◌*◌, ◌/◌, ◌%◌
 use Rattle.std.specs.List.{range_with_len}
 use Rattle.dirac_blocks.specs.declared.block.Block.{Block}
 use Rattle.dirac_blocks.specs.Tables.{BlockTable, block_in, grey, split_at, unit_of, unit_size}
-use Rattle.dirac_windows.specs.Least.{first_least_to}
-use Rattle.dirac_windows.specs.Sums.{sum_below}
+use Rattle.dirac_costs.specs.Least.{first_least_to}
+use Rattle.dirac_costs.specs.Sums.{sum_below}
 use Rattle.dirac_types.specs.declared.settings.Settings.{Settings}
 use Rattle.dirac_types.specs.declared.picture.Picture.{Picture}
 use Rattle.dirac_decide.specs.Deciding.{Deciding, View, deciding}

@@ -3,11 +3,11 @@ use Rattle.std.specs.Prelude.{ℕ, ℤ, pos, ◌+◌, ◌-◌, ◌*◌, ◌/◌,
 use Rattle.dirac_types.specs.declared.formats.Vector.{Vector}
 use Rattle.dirac_types.specs.declared.formats.BlockGrid.{BlockGrid}
 use Rattle.dirac_upconvert.specs.SubSamples.{Up, sub_sample}
-use Rattle.dirac_windows.specs.declared.window.Window.{Window}
-use Rattle.dirac_windows.specs.Bits.{bits_of_vector}
-use Rattle.dirac_windows.specs.Least.{first_least_to}
-use Rattle.dirac_windows.specs.Sums.{sum_below}
-use Rattle.dirac_windows.specs.Windows.{apart, over, sample_at}
+use Rattle.dirac_costs.specs.declared.window.Window.{Window}
+use Rattle.dirac_costs.specs.Bits.{bits_of_vector}
+use Rattle.dirac_costs.specs.Least.{first_least_to}
+use Rattle.dirac_costs.specs.Sums.{sum_below}
+use Rattle.dirac_costs.specs.Windows.{apart, over, sample_at}
 use Rattle.dirac_search.specs.Candidates.{vector_at}
 use Rattle.dirac_decide.specs.Deciding.{Deciding, View}
 use Rattle.dirac_decide.specs.declared.prediction_unit.PredictionUnit.{PredictionUnit}

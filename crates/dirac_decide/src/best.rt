@@ -1,6 +1,6 @@
 ghost use Rattle.std.specs.Prelude.{◌≡◌, ℕ, ◌+◌, ◌*◌, ◌^◌, ◌<◌, ◌≤◌, true};
 ghost use Rattle.dirac_vectors.specs.Predictions.{IsShortVector};
-ghost use Rattle.dirac_windows.specs.Least.{IsToldBelow};
+ghost use Rattle.dirac_costs.specs.Least.{IsToldBelow};
 ghost use Rattle.dirac_decide.specs.Choosing.{IsBestTo};
 ghost use Rattle.dirac_decide.specs.Deciding.{IsDeciding, IsView};
 ghost use Rattle.dirac_decide.specs.Given.{given, view_of};
@@ -12,7 +12,7 @@ use crate::inputs::{Inputs, RefView};
 use crate::prediction_unit::PredictionUnit;
 use crate::predictor::{Moved, Predictor};
 use dirac_types::Vector;
-use dirac_windows::vector_bits;
+use dirac_costs::vector_bits;
 
 /// A vector and what it costs.
 #[derive(Clone, Copy)]

@@ -1,6 +1,6 @@
 ghost use Rattle.std.specs.Prelude.{◌≡◌, ℕ, ◌≤◌};
 ghost use Rattle.dirac_blocks.specs.Tables.{IsBlock};
-ghost use Rattle.dirac_windows.specs.Least.{IsToldBelow};
+ghost use Rattle.dirac_costs.specs.Least.{IsToldBelow};
 ghost use Rattle.dirac_decide.specs.Choosing.{cheaper, costing};
 
 use dirac_blocks::Block;

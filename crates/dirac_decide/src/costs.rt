@@ -1,5 +1,5 @@
 ghost use Rattle.std.specs.Prelude.{◌≡◌, ◌+◌, ◌*◌, ◌^◌, ◌≤◌};
-ghost use Rattle.dirac_windows.specs.Least.{IsToldBelow};
+ghost use Rattle.dirac_costs.specs.Least.{IsToldBelow};
 ghost use Rattle.dirac_decide.specs.Deciding.{IsDeciding};
 ghost use Rattle.dirac_decide.specs.Given.{given};
 ghost use Rattle.dirac_decide.specs.Predictors as predictors;
@@ -8,7 +8,7 @@ use crate::inputs::Inputs;
 use crate::prediction_unit::{PredictionUnit, unit_window};
 use crate::predictor::{Predictor, predicted_row};
 use dirac_types::Plane;
-use dirac_windows::{Window, row_differences};
+use dirac_costs::{Window, row_differences};
 
 /// What a predictor costs in a window of the source: `bits` and the sum of the absolute differences. Where this isn't
 /// below `limit`, it may end before it knows the sum, with a number that isn't below it either.

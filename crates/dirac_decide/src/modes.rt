@@ -2,7 +2,7 @@ ghost use Rattle.std.specs.Prelude.{◌≡◌, ℕ, ◌+◌, ◌^◌, ◌≤◌}
 ghost use Rattle.dirac_vectors.specs.Predictions.{IsShortVector};
 ghost use Rattle.dirac_blocks.specs.Tables.{IsBlock};
 ghost use Rattle.dirac_upconvert.specs.HalfSamples.{IsSample};
-ghost use Rattle.dirac_windows.specs.Bits.{bits_of};
+ghost use Rattle.dirac_costs.specs.Bits.{bits_of};
 ghost use Rattle.dirac_decide.specs.Choosing as choosing;
 ghost use Rattle.dirac_decide.specs.Deciding.{IsDeciding, IsView};
 ghost use Rattle.dirac_decide.specs.Given.{given, view_of};
@@ -18,7 +18,7 @@ use crate::prediction_unit::{PredictionUnit, unit_window};
 use crate::predictor::{Moved, Predictor};
 use dirac_blocks::{Block, grey_block};
 use dirac_types::Vector;
-use dirac_windows::{Window, mean, signed_bits, vector_bits};
+use dirac_costs::{Window, mean, signed_bits, vector_bits};
 
 /// A block that is predicted from reference 1.
 fn from_first(vector: Vector) -> Block

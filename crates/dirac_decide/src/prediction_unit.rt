@@ -5,7 +5,7 @@ ghost use Rattle.dirac_decide.specs.Predictors.{IsPredictionUnit, IsUnitWindow};
 ghost use Rattle.dirac_decide.specs.Units as units;
 
 use crate::inputs::Inputs;
-use dirac_windows::Window;
+use dirac_costs::Window;
 
 /// A prediction unit: `size` by `size` blocks, from block `i` of row `j` on.
 #[derive(Clone, Copy)]

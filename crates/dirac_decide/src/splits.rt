@@ -1,6 +1,6 @@
 ghost use Rattle.std.specs.Prelude.{◌≡◌, ◌+◌, ◌*◌, ◌^◌, ◌<◌, ◌≤◌, length};
 ghost use Rattle.dirac_blocks.specs.Tables.{unit_size};
-ghost use Rattle.dirac_windows.specs.Least.{IsToldBelow};
+ghost use Rattle.dirac_costs.specs.Least.{IsToldBelow};
 ghost use Rattle.dirac_decide.specs.Deciding.{IsDeciding};
 ghost use Rattle.dirac_decide.specs.Given.{given};
 ghost use Rattle.dirac_decide.specs.Predictors.{IsPredictionUnit};

@@ -1,5 +1,5 @@
 ghost use Rattle.std.specs.Prelude.{◌≡◌, ◌^◌, ◌<◌, ◌≤◌, IfOk};
-ghost use Rattle.dirac_windows.specs.Least.{IsToldBelow};
+ghost use Rattle.dirac_costs.specs.Least.{IsToldBelow};
 ghost use Rattle.dirac_decide.specs.Deciding.{IsDeciding};
 ghost use Rattle.dirac_decide.specs.Given.{given};
 ghost use Rattle.dirac_decide.specs.Best.{IsBestRow, IsBestSplit};

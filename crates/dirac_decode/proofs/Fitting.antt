@@ -14,7 +14,7 @@ use Rattle.dirac_coeffs.specs.declared.layout.CodedBand.{CodedBand}
 use Rattle.dirac_picture.specs.Bands.{layout_of}
 use Rattle.dirac_picture.specs.Fits as picture
 use Rattle.dirac_picture.proofs.Lawful.{layout_lawful}
-use Rattle.dirac_residual.specs.Fits as plane
+use Rattle.dirac_synthesis.specs.Fits as plane
 
 pub bands_of_plane : (t : Transform) (width height : ℕ) (bands : List CodedBand) → picture.IsLayout t → picture.AreBandsOf t width height bands → plane.AreBandsOf t width height bands
 unfolding layout_of

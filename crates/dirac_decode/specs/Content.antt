@@ -20,9 +20,9 @@ use Rattle.dirac_picture.specs.declared.coded.CodedPicture.{CodedPicture}
 use Rattle.dirac_picture.specs.declared.coded.CodedResidual.{CodedResidual}
 pub use Rattle.dirac_picture.specs.Bands.{bands_of}
 use Rattle.dirac_picture.specs.Grammar.{are_listed}
-use Rattle.dirac_residual.specs.Residual.{residual, clipped, with_prediction}
+use Rattle.dirac_synthesis.specs.Residual.{residual, clipped, with_prediction}
 pub use Rattle.dirac_refs.specs.Halves.{up_of}
-pub use Rattle.dirac_residual.specs.Zeros.{zeros}
+pub use Rattle.dirac_synthesis.specs.Zeros.{zeros}
 
 -- the columns of a plane
 abbrev pub width_of : Sequence → Component → ℕ

@@ -10,7 +10,7 @@ use Rattle.dirac_types.specs.declared.formats.Component.{Component}
 use Rattle.dirac_types.specs.declared.formats.Component.TheVariants as component
 use Rattle.dirac_picture.specs.declared.coded.CodedMotion.{CodedMotion}
 use Rattle.dirac_picture.specs.declared.coded.CodedResidual.{CodedResidual}
-use Rattle.dirac_residual.specs.Residual.{clipped, with_prediction}
+use Rattle.dirac_synthesis.specs.Residual.{clipped, with_prediction}
 use Rattle.dirac_decode.specs.Content.{height_of, intra_samples, predicted_among, residual_among, width_of}
 
 -- an upconverted plane of this part's size

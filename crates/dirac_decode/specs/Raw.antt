@@ -9,7 +9,7 @@ use Rattle.dirac_types.specs.Sizes.{picture_height}
 use Rattle.dirac_types.specs.Table.{Table}
 use Rattle.dirac_sequence.specs.Sizes.{chroma_height, chroma_width}
 use Rattle.dirac_sequence.specs.Written.{sequence_of}
-use Rattle.dirac_residual.specs.Residual.{AreSamples}
+use Rattle.dirac_synthesis.specs.Residual.{AreSamples}
 
 -- the byte of a sample: it is 128 more, modulo 256, and samples are from -128 to 127
 abbrev pub byte_of : ℤ → ℕ

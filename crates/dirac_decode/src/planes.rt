@@ -6,7 +6,7 @@ ghost use Rattle.dirac_decode.specs.Content as content;
 
 use dirac_obmc::Component;
 use dirac_picture::CodedResidual;
-use dirac_residual::{Residual, plane_residual};
+use dirac_synthesis::{Residual, plane_residual};
 use dirac_sequence::Sequence;
 use dirac_types::{Kind, LARGEST_SIDE, NoMemory, Picture, Plane};
 use std::alloc::Global;

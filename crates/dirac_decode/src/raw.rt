@@ -6,7 +6,7 @@ ghost use Rattle.dirac_types.specs.Sizes.{picture_height};
 ghost use Rattle.dirac_sequence.specs.Lawful.{IsSequence};
 ghost use Rattle.dirac_picture.specs.Fits.{IsPlaneSize};
 ghost use Rattle.dirac_picture.specs.Grammar.{chroma_height, chroma_width};
-ghost use Rattle.dirac_residual.specs.Residual.{AreSamples, clip};
+ghost use Rattle.dirac_synthesis.specs.Residual.{AreSamples, clip};
 ghost use Rattle.dirac_decode.specs.Raw.{IsSource, picture_from, picture_in, plane_from, raw as raw_of};
 ghost use Rattle.dirac_decode.specs.Raw.{raw_length as length_of, sample_of};
 

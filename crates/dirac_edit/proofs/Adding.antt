@@ -1,7 +1,7 @@
 -- One sequence more, by what is written of it.
 use Rattle.std.proofs.Common.{◌≡◌, ◌∙◌, ℕ, ◌+◌, Bool, true, false, List, [], map, Option, None, Some, ap, ap₂, sym}
 use Rattle.std.proofs.lemmas.Bool.{cond-false, cond-true}
-use Rattle.dirac_stream.specs.Stream.{end_unit}
+use Rattle.dirac_encode_laws.specs.Stream.{end_unit}
 use Rattle.dirac_edit_laws.specs.Texts.{PictureText, SequenceText}
 use Rattle.dirac_edit.specs.declared.joining.Merge.{Merge}
 use Rattle.dirac_edit.specs.declared.keys.Keys.{Keys}

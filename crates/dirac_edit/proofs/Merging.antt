@@ -6,7 +6,7 @@ use Rattle.std.proofs.lemmas.Int.{ints}
 use Rattle.std.proofs.lemmas.List.{drop_all, map-append}
 use Rattle.dirac_units.specs.declared.codes.TheConstants.{SEQUENCE_HEADER}
 use Rattle.dirac_decode.specs.StreamState.{is_same}
-use Rattle.dirac_stream.specs.Stream.{end_unit, unit}
+use Rattle.dirac_encode_laws.specs.Stream.{end_unit, unit}
 use Rattle.dirac_edit_laws.specs.Joined.{Group, bare, bytes_or_bare, first_number, group_of, groups_behind, groups_of, high, joined, low, may_merge, merged, moved_key, renumbered, shift, text_of}
 use Rattle.dirac_edit_laws.specs.Texts.{PictureText, SequenceText, with_pictures}
 use Rattle.dirac_edit_laws.specs.Units.{pictures_bytes, sequence_bytes, sequences_bytes}

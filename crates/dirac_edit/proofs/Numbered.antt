@@ -5,7 +5,7 @@ use Rattle.std.specs.Int.{to_be_bytes, w32}
 use Rattle.std.proofs.lemmas.List.{drop_all}
 use Rattle.dirac_units.specs.declared.codes.TheConstants.{SEQUENCE_HEADER}
 use Rattle.dirac_units.specs.Writing.{info_bytes}
-use Rattle.dirac_stream.specs.Stream.{end_unit, info_for, unit}
+use Rattle.dirac_encode_laws.specs.Stream.{end_unit, info_for, unit}
 use Rattle.dirac_edit_laws.specs.Joined.{bare, number_of}
 use Rattle.dirac_edit_laws.specs.Texts.{PictureText, SequenceText}
 use Rattle.dirac_edit.specs.Merged.{length_behind, moved_on, units_behind}

@@ -3,7 +3,7 @@ use Rattle.std.proofs.Common.{◌≡◌, ◌∙◌, ℕ, ◌+◌, ◌<◌, ◌�
 use Rattle.std.specs.Prelude.{is_none}
 use Rattle.std.specs.Io.KnownBytes.{Appends}
 use Rattle.dirac_io.specs.Writing.{AppendsFront}
-use Rattle.dirac_stream.specs.Stream.{end_unit}
+use Rattle.dirac_encode_laws.specs.Stream.{end_unit}
 use Rattle.dirac_edit_laws.specs.Joined.{Group, bare, bytes_or_bare, first_number, group_of, joined}
 use Rattle.dirac_edit_laws.specs.Texts.{SequenceText, with_pictures}
 use Rattle.dirac_edit.specs.Merged.{Latest, Progress, added, behind}

@@ -2,7 +2,7 @@
 use Rattle.std.proofs.Common.{◌≡◌, ◌∙◌, ℕ, ◌+◌, ◌<◌, ◌≤◌, ◌==◌, Bool, false, List, [], ◌++◌, length, drop, get_or, nat_lt, ap, ap₂, arith, sym}
 use Rattle.std.proofs.lemmas.Bool.{cond-false, cond-true, eqb-false, le-ltb, lt-ltb}
 use Rattle.std.proofs.lemmas.List.{drop_all}
-use Rattle.dirac_stream.specs.Stream.{end_unit, unit}
+use Rattle.dirac_encode_laws.specs.Stream.{end_unit, unit}
 use Rattle.dirac_edit_laws.specs.Texts.{PictureText, SequenceText, with_pictures}
 use Rattle.dirac_edit_laws.specs.Units.{pictures_bytes, sequence_bytes, sequences_bytes}
 use Rattle.dirac_edit.proofs.Going.{left_at}

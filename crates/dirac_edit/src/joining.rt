@@ -7,7 +7,7 @@ ghost use Rattle.std.specs.Io.KnownBytes.{Appends};
 ghost use Rattle.dirac_io.specs.Faults.{Rose};
 ghost use Rattle.dirac_io.specs.Writing.{AppendsFront};
 ghost use Rattle.dirac_decode.specs.StreamState.{is_same as same_header};
-ghost use Rattle.dirac_stream.specs.Stream.{end_unit, unit};
+ghost use Rattle.dirac_encode_laws.specs.Stream.{end_unit, unit};
 ghost use Rattle.dirac_edit_laws.specs.Joined.{bare, bytes_or_bare, first_number, joined};
 ghost use Rattle.dirac_edit.specs.Merged.{added, behind, length_behind, may_follow, moved_on, own_bytes, own_length};
 ghost use Rattle.dirac_edit.specs.Merged.{shift_onto, units_behind, way_onto};

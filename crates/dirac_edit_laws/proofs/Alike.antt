@@ -22,7 +22,7 @@ use Rattle.dirac_picture.proofs.Every.{Every, every_any, every_read, every_then}
 use Rattle.dirac_types.specs.declared.formats.Component.{Component}
 use Rattle.dirac_types.specs.declared.formats.Component.TheVariants as component
 use Rattle.dirac_decode.specs.Content.{named, plane_samples, predicted_among, rebuilt, residual_among, samples_from}
-use Rattle.dirac_residual.specs.Residual.{clipped, with_prediction}
+use Rattle.dirac_synthesis.specs.Residual.{clipped, with_prediction}
 use Rattle.dirac_types.specs.declared.formats.Kind.TheVariants.{Inter}
 use Rattle.dirac_types.specs.Table.{Table}
 use Rattle.dirac_edit_laws.specs.Restricted.{IsRestricted}

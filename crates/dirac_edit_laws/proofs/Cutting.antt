@@ -15,9 +15,9 @@ use Rattle.dirac_units.specs.Writing.{IsReadAsWritten, info_bytes}
 use Rattle.dirac_units.proofs.Fronts.{chosen, err_is_no_ok, front_whole, ok_same}
 use Rattle.dirac_plan_laws.specs.Headers.{IsPictureCode}
 use Rattle.dirac_plan_laws.proofs.Each.{each_append, each_drop, each_take}
-use Rattle.dirac_stream.specs.Stream.{end_info, end_unit, info_for, unit}
-use Rattle.dirac_stream.proofs.Cutting.{nothing_left, one_cut, unit_front_is}
-use Rattle.dirac_stream.proofs.Showing.{header_lawful, picture_cut}
+use Rattle.dirac_encode_laws.specs.Stream.{end_info, end_unit, info_for, unit}
+use Rattle.dirac_encode_laws.proofs.Cutting.{nothing_left, one_cut, unit_front_is}
+use Rattle.dirac_encode_laws.proofs.Showing.{header_lawful, picture_cut}
 use Rattle.dirac_edit_laws.specs.Texts.{PictureText, SequenceText, closed_off, opened_by, picture_text, points_with, sequences_from, with_picture}
 use Rattle.dirac_edit_laws.specs.Units.{end_for, pictures_bytes, pictures_units, sequences_bytes, sequences_units, text_for}
 use Rattle.dirac_edit_laws.proofs.UnitKinds.{behind_end, behind_header, behind_other, behind_picture, kind_of, of_end, of_header, of_other, of_picture}

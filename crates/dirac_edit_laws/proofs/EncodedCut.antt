@@ -31,13 +31,13 @@ use Rattle.dirac_plan_laws.specs.Headers.{IsPictureCode}
 use Rattle.dirac_plan_laws.specs.Order.{as_waiting}
 use Rattle.dirac_plan_laws.specs.Plans.{PlansCanBeCoded}
 use Rattle.dirac_plan_laws.proofs.Each.{each_append, each_more}
-use Rattle.dirac_stream.specs.Coding.{Made, coded_under, coding, job_of, made, own_index, pushed, reconstructions, refs_after, shown_of}
-use Rattle.dirac_stream.specs.Laws.{AreMade, AreSources, Begins, JobsAreRead}
+use Rattle.dirac_encode_laws.specs.Coding.{Made, coded_under, coding, job_of, made, own_index, pushed, reconstructions, refs_after, shown_of}
+use Rattle.dirac_encode_laws.specs.Laws.{AreMade, AreSources, Begins, JobsAreRead}
 use Rattle.dirac_picture.specs.Written.{payload_of, with_picture as picture_bits}
-use Rattle.dirac_stream.specs.Stream.{end_text, header_text, picture_length, picture_text as made_unit, stream_units, units_from, units_in}
-use Rattle.dirac_stream.proofs.Headers.{header_read, header_short}
-use Rattle.dirac_stream.proofs.Indices.{own_gives, sources_under}
-use Rattle.dirac_stream.proofs.Sourcing.{jobs_read_under, sources_leave, sources_made}
+use Rattle.dirac_encode_laws.specs.Stream.{end_text, header_text, picture_length, picture_text as made_unit, stream_units, units_from, units_in}
+use Rattle.dirac_encode_laws.proofs.Headers.{header_read, header_short}
+use Rattle.dirac_encode_laws.proofs.Indices.{own_gives, sources_under}
+use Rattle.dirac_encode_laws.proofs.Sourcing.{jobs_read_under, sources_leave, sources_made}
 use Rattle.dirac_edit_laws.specs.Cut.{cut_bytes, first_of, open_among, open_cut, open_from, part_rebuilt, part_shown_of, restricted}
 use Rattle.dirac_edit_laws.specs.Encoded.{EncodedCutsShowTheirGroups, groups_in, of_groups}
 use Rattle.dirac_edit_laws.specs.Laws.{ShowsJust}

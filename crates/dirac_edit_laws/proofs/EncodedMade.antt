@@ -8,8 +8,8 @@ use Rattle.dirac_sequence.specs.Written.{sequence_of}
 use Rattle.dirac_refs.specs.References.{as_reference, committed}
 use Rattle.dirac_decode.specs.Content.{rebuilt}
 use Rattle.dirac_plan.specs.declared.planned.Planned.{Planned}
-use Rattle.dirac_stream.specs.Coding.{Job, Made, coded_under, job_of, made, own_index, refs_after, shown_of}
-use Rattle.dirac_stream.specs.Laws.{AreMade}
+use Rattle.dirac_encode_laws.specs.Coding.{Job, Made, coded_under, job_of, made, own_index, refs_after, shown_of}
+use Rattle.dirac_encode_laws.specs.Laws.{AreMade}
 use Rattle.dirac_edit_laws.specs.Cut.{is_between}
 use Rattle.dirac_edit_laws.specs.Rebuilt.{AreRead, RebuiltText, picture_in, rebuilt_from}
 use Rattle.dirac_edit_laws.specs.Texts.{PictureText}

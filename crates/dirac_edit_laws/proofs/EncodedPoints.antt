@@ -4,8 +4,8 @@ use Rattle.dirac_types.specs.declared.settings.Settings.{Settings}
 use Rattle.dirac_units.specs.Codes.{is_intra}
 use Rattle.dirac_units.specs.Cut.{UnitText}
 use Rattle.dirac_plan.specs.Plan.{plan}
-use Rattle.dirac_stream.specs.Coding.{Made, coding}
-use Rattle.dirac_stream.specs.Stream.{end_text, header_text, picture_length, picture_text, units_from, units_in}
+use Rattle.dirac_encode_laws.specs.Coding.{Made, coding}
+use Rattle.dirac_encode_laws.specs.Stream.{end_text, header_text, picture_length, picture_text, units_from, units_in}
 use Rattle.dirac_edit_laws.specs.Encoded.{EncodedStreamsHaveAPointAGroup, groups_in}
 use Rattle.dirac_edit_laws.specs.Texts.{points_of}
 use Rattle.dirac_edit_laws.proofs.EncodedMade.{made_points, points_behind}

@@ -11,8 +11,8 @@ use Rattle.dirac_picture.specs.Grammar.{are_listed, is_listed}
 use Rattle.dirac_plan.specs.declared.planned.Planned.{Planned}
 use Rattle.dirac_refs.specs.References.{append, appended, as_reference, committed, listed, retire, without}
 use Rattle.dirac_refs.proofs.Listed.{few_committed, few_without}
-use Rattle.dirac_stream.specs.Coding.{coded_under, job_of, made, refs_after}
-use Rattle.dirac_stream.specs.Laws.{AreMade}
+use Rattle.dirac_encode_laws.specs.Coding.{coded_under, job_of, made, refs_after}
+use Rattle.dirac_encode_laws.specs.Laws.{AreMade}
 use Rattle.dirac_edit_laws.specs.Cut.{open_from}
 use Rattle.dirac_edit_laws.specs.Rebuilt.{list_behind}
 use Rattle.dirac_edit_laws.proofs.EncodedMade.{all_rebuilt, coded_from, index_up, points_up, rebuilt_made, refs_behind}

@@ -20,9 +20,9 @@ use Rattle.dirac_plan_laws.proofs.Each.{each_append, each_drop}
 use Rattle.dirac_decode.specs.Raw.{raw, raws}
 use Rattle.dirac_decode.specs.Shown.{IsShown, Outcome, outcome}
 use Rattle.dirac_decode.specs.StreamState.{begun, ended}
-use Rattle.dirac_stream.specs.Stream.{end_info, end_unit}
-use Rattle.dirac_stream.proofs.Cutting.{nothing_left}
-use Rattle.dirac_stream.proofs.Showing.{outcome_more}
+use Rattle.dirac_encode_laws.specs.Stream.{end_info, end_unit}
+use Rattle.dirac_encode_laws.proofs.Cutting.{nothing_left}
+use Rattle.dirac_encode_laws.proofs.Showing.{outcome_more}
 use Rattle.dirac_edit_laws.specs.Joined.{Group, Keyed, bare, bytes_or_bare, first_number, group_of, groups_behind, groups_of, high, keyed_from, low, may_merge, merged, moved_key, number_of, renumbered, text_of}
 use Rattle.dirac_edit_laws.specs.Laws.{JoinedStreamsShowTheSame, ShowsJust}
 use Rattle.dirac_edit_laws.specs.Rebuilt.{AreRead, IsRead, RebuiltText, all_shown, in_order, list_behind, picture_in, rebuilt_from, rebuilt_of, rebuilt_text, shown_of, waiting_from, with_keys}

@@ -16,7 +16,7 @@ use Rattle.dirac_decode.specs.Content.{rebuilt}
 use Rattle.dirac_decode.specs.Sequences.{IsBetween}
 use Rattle.dirac_decode.specs.Shown.{Outcome, outcome}
 use Rattle.dirac_decode.specs.StreamState.{StreamState, ended, header_step, made, opening, picture_step, shows, staying, unit_step}
-use Rattle.dirac_stream.proofs.Showing.{outcome_more}
+use Rattle.dirac_encode_laws.proofs.Showing.{outcome_more}
 use Rattle.dirac_edit_laws.specs.Rebuilt.{AreRead, IsRead, all_shown, rebuilt_from, shown_of}
 use Rattle.dirac_edit_laws.specs.Texts.{PictureText, SequenceText}
 use Rattle.dirac_edit_laws.specs.Units.{end_for, pictures_units, sequences_units, text_for}

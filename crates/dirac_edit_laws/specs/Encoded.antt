@@ -4,9 +4,9 @@ use Rattle.dirac_types.specs.declared.picture.Picture.{Picture}
 use Rattle.dirac_types.specs.declared.settings.Settings.{Settings}
 use Rattle.dirac_plan.specs.Plan.{group_count}
 use Rattle.dirac_plan.specs.Planning.{group_pictures}
-use Rattle.dirac_stream.specs.Coding.{reconstructions}
-use Rattle.dirac_stream.specs.Laws.{AreSources}
-use Rattle.dirac_stream.specs.Stream.{stream_units}
+use Rattle.dirac_encode_laws.specs.Coding.{reconstructions}
+use Rattle.dirac_encode_laws.specs.Laws.{AreSources}
+use Rattle.dirac_encode_laws.specs.Stream.{stream_units}
 use Rattle.dirac_edit_laws.specs.Cut.{cut_bytes, open_cut}
 use Rattle.dirac_edit_laws.specs.Laws.{ShowsJust}
 use Rattle.dirac_edit_laws.specs.Texts.{points_of}

@@ -1,7 +1,7 @@
 -- Examples of cuts and joins, whatever the payloads; then of a stream of two pictures, byte for byte.
 use Rattle.std.specs.Prelude.{◌≡◌, ℕ, ◌+◌, List, [], ◌∷◌, ◌++◌, length}
 use Rattle.dirac_units.specs.Cut.{UnitText}
-use Rattle.dirac_stream.specs.Stream.{end_unit, unit}
+use Rattle.dirac_encode_laws.specs.Stream.{end_unit, unit}
 use Rattle.dirac_edit_laws.specs.Texts.{points_of}
 use Rattle.dirac_edit_laws.specs.Units.{end_for, text_for}
 use Rattle.dirac_edit_laws.specs.Cut.{cut_bytes}

@@ -12,7 +12,7 @@ ghost use Rattle.dirac_edit_laws.specs.Rows.{TheFirstPointIsCut, TheLastPointIsC
 ghost use Rattle.dirac_edit_laws.specs.Rows.{TwoPointsStand};
 
 use dirac_plan_laws::plans_can_be_coded;
-use dirac_stream::streams_show_their_pictures;
+use dirac_encode_laws::streams_show_their_pictures;
 use dirac_units::infos_are_read_as_written;
 
 /// The reference list of a part is the list of the whole, restricted to the part.

@@ -4,10 +4,10 @@ use Rattle.std.proofs.lemmas.Bool.{cases_lt}
 use Rattle.dirac_types.specs.declared.picture.Picture.{Picture}
 use Rattle.dirac_types.specs.declared.settings.Settings.{Settings}
 use Rattle.dirac_types.specs.Settings.{IsAccepted}
-use Rattle.dirac_choose.specs.Chosen.{at_index}
-use Rattle.dirac_stream.specs.Coding.{Job, made, made_under}
-use Rattle.dirac_stream.specs.Fit.{IsLeast, fit, length_at}
-use Rattle.dirac_stream.proofs.Fitting.{fit_is}
+use Rattle.dirac_motion.specs.Chosen.{at_index}
+use Rattle.dirac_encode_laws.specs.Coding.{Job, made, made_under}
+use Rattle.dirac_encode_laws.specs.Fit.{IsLeast, fit, length_at}
+use Rattle.dirac_encode_laws.proofs.Fitting.{fit_is}
 
 -- one index more at which the unit is too long
 pub more_long : (lengths : ℕ → ℕ) (budget first n : ℕ) → ((i : ℕ) → first ≤ i → i < n → budget < lengths i) → budget < lengths n → (i : ℕ) → first ≤ i → i < n + 1 → budget < lengths i

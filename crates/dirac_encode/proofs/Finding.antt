@@ -11,11 +11,11 @@ use Rattle.dirac_picture.specs.Grammar.{are_listed}
 use Rattle.dirac_refs.specs.References.{committed}
 use Rattle.dirac_decode.specs.StreamState.{as_reference}
 use Rattle.dirac_plan.specs.declared.planned.Planned.{Planned}
-use Rattle.dirac_stream.specs.Coded.{IsSource}
-use Rattle.dirac_stream.specs.Coding.{IndexRule, blank, made_under}
-use Rattle.dirac_stream.specs.Steps.{IsCoded, Progress}
-use Rattle.dirac_stream.proofs.Encodings.{all_more}
-use Rattle.dirac_stream.proofs.Sourcing.{all_committed, shown_source}
+use Rattle.dirac_encode_laws.specs.Coded.{IsSource}
+use Rattle.dirac_encode_laws.specs.Coding.{IndexRule, blank, made_under}
+use Rattle.dirac_encode_laws.specs.Steps.{IsCoded, Progress}
+use Rattle.dirac_encode_laws.proofs.Encodings.{all_more}
+use Rattle.dirac_encode_laws.proofs.Sourcing.{all_committed, shown_source}
 use Rattle.dirac_encode.proofs.Going.{taken}
 use Rattle.dirac_plan_laws.specs.References.{AreFound, planned_number}
 use Rattle.dirac_plan_laws.specs.Plans.{PlansCanBeCoded}

@@ -7,13 +7,13 @@ use Rattle.dirac_types.specs.declared.picture.Picture.{Picture}
 use Rattle.dirac_types.specs.declared.settings.Settings.{Settings}
 use Rattle.dirac_decode.specs.Raw.{sources}
 use Rattle.dirac_plan.specs.declared.planned.Planned.{Planned}
-use Rattle.dirac_stream.specs.declared.answers.Encoded.{Encoded}
-use Rattle.dirac_stream.specs.declared.answers.Encoded.TheVariants as encoded
-use Rattle.dirac_stream.specs.Coding.{IndexRule, made_under}
-use Rattle.dirac_stream.specs.Standing.{AreAmong, jobs_in}
-use Rattle.dirac_stream.specs.Steps.{IsCoded, Progress}
-use Rattle.dirac_stream.proofs.Streams.{breaks_off, job_is, stands_more, too_long}
-use Rattle.dirac_stream.specs.Steps.{StopsPicture}
+use Rattle.dirac_encode_laws.specs.declared.answers.Encoded.{Encoded}
+use Rattle.dirac_encode_laws.specs.declared.answers.Encoded.TheVariants as encoded
+use Rattle.dirac_encode_laws.specs.Coding.{IndexRule, made_under}
+use Rattle.dirac_encode_laws.specs.Standing.{AreAmong, jobs_in}
+use Rattle.dirac_encode_laws.specs.Steps.{IsCoded, Progress}
+use Rattle.dirac_encode_laws.proofs.Streams.{breaks_off, job_is, stands_more, too_long}
+use Rattle.dirac_encode_laws.specs.Steps.{StopsPicture}
 use Rattle.dirac_plan.specs.Planning.{Planning, Takes, with_end}
 use Rattle.dirac_plan.specs.Plan.{plan}
 use Rattle.dirac_encode.specs.Going.{Goes, LeadsOn, Stops}

@@ -10,22 +10,22 @@ use Rattle.dirac_types.specs.declared.settings.Settings.{Settings}
 use Rattle.dirac_types.specs.Settings.{IsAccepted}
 use Rattle.dirac_refs.specs.Delivery.{flush}
 use Rattle.dirac_decode.specs.Raw.{left_over, picture_from, pictures_in, raw_length, sources, whole_pictures}
-use Rattle.dirac_stream.specs.declared.answers.Encoded.{Encoded}
-use Rattle.dirac_stream.specs.declared.answers.Encoded.TheVariants as encoded
-use Rattle.dirac_stream.specs.Coding.{IndexRule, Job, coded_under, coding_under, job_of, made_under, pushed, refs_after, shown_of}
-use Rattle.dirac_stream.specs.Encoding.{AnswersEncode, Encoding, EndsStream, IsRecoveredUnder, WritesAll, WritesFront, behind, encoding_under, ending, first_long}
-use Rattle.dirac_stream.specs.Stream.{StreamsAreCut}
-use Rattle.dirac_stream.specs.Laws.{GivesIndices, StreamsShowTheirPictures}
-use Rattle.dirac_stream.specs.Tables.{TablesAreChosen}
-use Rattle.dirac_stream.proofs.Recovered.{AreBytes, below_more, recovered}
-use Rattle.dirac_stream.specs.Standing.{AreAmong, Leave, coding_in, jobs_in}
-use Rattle.dirac_stream.specs.Steps.{EndsEarly, IsEnded, Progress}
-use Rattle.dirac_stream.proofs.Accepted.{most_pictures}
-use Rattle.dirac_stream.proofs.Encodings.{all_more, coded_all, none_long}
-use Rattle.dirac_stream.proofs.Sources.{front_more, left_count, length-pictures_in, rest_more, whole_count, whole_more}
-use Rattle.dirac_stream.proofs.Sourcing.{sources_leave}
-use Rattle.dirac_stream.proofs.Streams.{ended_all, ended_early, source_read, stands_first, stops_between}
-use Rattle.dirac_stream.specs.Steps.{IsFault, StopsCoding}
+use Rattle.dirac_encode_laws.specs.declared.answers.Encoded.{Encoded}
+use Rattle.dirac_encode_laws.specs.declared.answers.Encoded.TheVariants as encoded
+use Rattle.dirac_encode_laws.specs.Coding.{IndexRule, Job, coded_under, coding_under, job_of, made_under, pushed, refs_after, shown_of}
+use Rattle.dirac_encode_laws.specs.Encoding.{AnswersEncode, Encoding, EndsStream, IsRecoveredUnder, WritesAll, WritesFront, behind, encoding_under, ending, first_long}
+use Rattle.dirac_encode_laws.specs.Stream.{StreamsAreCut}
+use Rattle.dirac_encode_laws.specs.Laws.{GivesIndices, StreamsShowTheirPictures}
+use Rattle.dirac_encode_laws.specs.Tables.{TablesAreChosen}
+use Rattle.dirac_encode_laws.proofs.Recovered.{AreBytes, below_more, recovered}
+use Rattle.dirac_encode_laws.specs.Standing.{AreAmong, Leave, coding_in, jobs_in}
+use Rattle.dirac_encode_laws.specs.Steps.{EndsEarly, IsEnded, Progress}
+use Rattle.dirac_encode_laws.proofs.Accepted.{most_pictures}
+use Rattle.dirac_encode_laws.proofs.Encodings.{all_more, coded_all, none_long}
+use Rattle.dirac_encode_laws.proofs.Sources.{front_more, left_count, length-pictures_in, rest_more, whole_count, whole_more}
+use Rattle.dirac_encode_laws.proofs.Sourcing.{sources_leave}
+use Rattle.dirac_encode_laws.proofs.Streams.{ended_all, ended_early, source_read, stands_first, stops_between}
+use Rattle.dirac_encode_laws.specs.Steps.{IsFault, StopsCoding}
 use Rattle.dirac_plan_laws.specs.Plans.{PlansCanBeCoded}
 use Rattle.dirac_plan_laws.specs.Order.{by_number}
 use Rattle.dirac_plan.specs.Planning.{Planning, empty_planning, is_closed, must_be_taken_first, waiting_places, with_picture}

@@ -14,12 +14,12 @@ use Rattle.dirac_refs.specs.References.{committed}
 use Rattle.dirac_units.proofs.Appended.{behind_front}
 use Rattle.dirac_decode.specs.StreamState.{as_reference}
 use Rattle.dirac_decode.specs.Raw.{raws}
-use Rattle.dirac_stream.specs.declared.answers.Encoded.{Encoded}
-use Rattle.dirac_stream.specs.declared.answers.Encoded.TheVariants as encoded
-use Rattle.dirac_stream.specs.Coding.{IndexRule, Job, made_under}
-use Rattle.dirac_stream.specs.Steps.{BreaksOff, IsCoded, IsFault, IsTooLong, Progress, StopsPicture}
-use Rattle.dirac_stream.specs.Stream.{header_before, length_before, picture_length, picture_unit, unit}
-use Rattle.dirac_stream.proofs.Headers.{header_few}
+use Rattle.dirac_encode_laws.specs.declared.answers.Encoded.{Encoded}
+use Rattle.dirac_encode_laws.specs.declared.answers.Encoded.TheVariants as encoded
+use Rattle.dirac_encode_laws.specs.Coding.{IndexRule, Job, made_under}
+use Rattle.dirac_encode_laws.specs.Steps.{BreaksOff, IsCoded, IsFault, IsTooLong, Progress, StopsPicture}
+use Rattle.dirac_encode_laws.specs.Stream.{header_before, length_before, picture_length, picture_unit, unit}
+use Rattle.dirac_encode_laws.proofs.Headers.{header_few}
 use Rattle.dirac_encode.specs.Going.{joined}
 
 pub header_fits : (t : Settings) (header : List ℕ) → header ≡ sequence_payload t → 13 + length header < 2 ^ 32

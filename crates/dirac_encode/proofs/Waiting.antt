@@ -8,7 +8,7 @@ use Rattle.dirac_io.specs.Writing.{AppendsFront}
 use Rattle.dirac_refs.specs.declared.waiting.Waiting.{Waiting}
 use Rattle.dirac_refs.specs.Delivery.{flushed, flushed_by, least, others}
 use Rattle.dirac_decode.specs.Raw.{raw, raws}
-use Rattle.dirac_stream.proofs.Sources.{raws_more}
+use Rattle.dirac_encode_laws.proofs.Sources.{raws_more}
 
 -- these left and were written, and the others wait on
 pub record Flushes (first now : List Waiting) (side0 side : Option (List ℕ)) : Type 0 where

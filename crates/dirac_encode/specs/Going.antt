@@ -11,12 +11,12 @@ use Rattle.dirac_plan.specs.declared.planned.Planned.{Planned}
 use Rattle.dirac_plan.specs.Plan.{plan}
 use Rattle.dirac_plan.specs.Planning.{Planning}
 use Rattle.dirac_plan_laws.specs.References.{ArePlanned, list_with}
-use Rattle.dirac_stream.specs.declared.answers.Encoded.{Encoded}
-use Rattle.dirac_stream.specs.Coded.{IsSource}
-use Rattle.dirac_stream.specs.Coding.{IndexRule, coding_under}
-use Rattle.dirac_stream.specs.Encoding.{AnswersEncode, encoding_under}
-use Rattle.dirac_stream.specs.Standing.{AreAmong, Leave, Stands}
-use Rattle.dirac_stream.specs.Steps as steps
+use Rattle.dirac_encode_laws.specs.declared.answers.Encoded.{Encoded}
+use Rattle.dirac_encode_laws.specs.Coded.{IsSource}
+use Rattle.dirac_encode_laws.specs.Coding.{IndexRule, coding_under}
+use Rattle.dirac_encode_laws.specs.Encoding.{AnswersEncode, encoding_under}
+use Rattle.dirac_encode_laws.specs.Standing.{AreAmong, Leave, Stands}
+use Rattle.dirac_encode_laws.specs.Steps as steps
 use Rattle.dirac_encode.specs.declared.progress.Progress.{Progress}
 
 -- what the code holds of its progress

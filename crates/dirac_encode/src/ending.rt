@@ -3,7 +3,7 @@
 ghost use Rattle.std.specs.Prelude.{◌≡◌, ◌≤◌, Err, IfErr, OnOk};
 ghost use Rattle.dirac_io.specs.Faults.{Rose};
 ghost use Rattle.dirac_sequence.specs.Written.{sequence_payload};
-ghost use Rattle.dirac_stream.specs.Steps.{EndsEarly, IsEnded, IsFault};
+ghost use Rattle.dirac_encode_laws.specs.Steps.{EndsEarly, IsEnded, IsFault};
 ghost use Rattle.dirac_encode.specs.Going.{so_far};
 
 use crate::coder::Coder;
@@ -11,7 +11,7 @@ use crate::delivering::put_waiting;
 use crate::progress::Progress;
 use crate::units::put_end_units;
 use dirac_io::{Sink, Unwritten};
-use dirac_stream::Encoded;
+use dirac_encode_laws::Encoded;
 
 /// Writes what stands behind the pictures: where there is none a sequence header, then the end unit; and all pictures
 /// that wait.

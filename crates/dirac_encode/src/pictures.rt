@@ -8,9 +8,9 @@ ghost use Rattle.dirac_types.specs.Settings.{IsAccepted};
 ghost use Rattle.dirac_sequence.specs.Written.{sequence_payload};
 ghost use Rattle.dirac_decode.specs.Raw.{raw_length as length_of};
 ghost use Rattle.dirac_plan.specs.Planning.{empty_planning};
-ghost use Rattle.dirac_stream.specs.Encoding.{AnswersEncode, EndsStream, IsRecoveredUnder, behind, encoding_under};
-ghost use Rattle.dirac_stream.specs.Fit.{rule_of};
-ghost use Rattle.dirac_stream.specs.Steps.{no_progress};
+ghost use Rattle.dirac_encode_laws.specs.Encoding.{AnswersEncode, EndsStream, IsRecoveredUnder, behind, encoding_under};
+ghost use Rattle.dirac_encode_laws.specs.Fit.{rule_of};
+ghost use Rattle.dirac_encode_laws.specs.Steps.{no_progress};
 ghost use Rattle.dirac_encode.specs.Going.{so_far};
 
 use crate::coder::Coder;
@@ -21,7 +21,7 @@ use dirac_decode::picture_of;
 use dirac_io::{Filled, RowGate, Sink, Source, fill};
 use dirac_plan::Planner;
 use dirac_plan_laws::plans_can_be_coded;
-use dirac_stream::{Encoded, streams_show_their_pictures};
+use dirac_encode_laws::{Encoded, streams_show_their_pictures};
 use std::thread::Threads;
 
 /// Bytes are below 256.

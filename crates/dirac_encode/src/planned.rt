@@ -5,8 +5,8 @@ ghost use Rattle.dirac_io.specs.Faults.{Rose};
 ghost use Rattle.dirac_types.specs.Settings.{IsAccepted};
 ghost use Rattle.dirac_sequence.specs.Written.{sequence_payload};
 ghost use Rattle.dirac_plan.specs.Planning.{is_closed};
-ghost use Rattle.dirac_stream.specs.Fit.{rule_of};
-ghost use Rattle.dirac_stream.specs.Steps.{StopsCoding};
+ghost use Rattle.dirac_encode_laws.specs.Fit.{rule_of};
+ghost use Rattle.dirac_encode_laws.specs.Steps.{StopsCoding};
 ghost use Rattle.dirac_encode.specs.Going.{LeadsOn, Lists, Stops, so_far};
 
 use crate::coder::Coder;
@@ -15,7 +15,7 @@ use crate::source::put_source;
 use dirac_io::{RowGate, Sink};
 use dirac_plan::Planner;
 use dirac_plan_laws::plans_can_be_coded;
-use dirac_stream::Encoded;
+use dirac_encode_laws::Encoded;
 use std::thread::Threads;
 
 /// Codes all pictures that can be coded by now; where the pictures have ended, all that are left.

@@ -1,6 +1,6 @@
 ghost use Rattle.std.specs.Prelude.{◌≡◌};
 ghost use Rattle.dirac_encode.specs.Going.{so_far};
-ghost use Rattle.dirac_stream.specs.Steps.{no_progress};
+ghost use Rattle.dirac_encode_laws.specs.Steps.{no_progress};
 
 use dirac_refs::{Delivery, RefBuffer};
 use std::alloc::Global;

@@ -4,9 +4,9 @@ ghost use Rattle.std.specs.Prelude.{◌≡◌, ◌≤◌, ℕ, length, IfSome, I
 ghost use Rattle.std.specs.Io.KnownBytes.{IsAtEnd};
 ghost use Rattle.dirac_io.specs.Faults.{Rose};
 ghost use Rattle.dirac_types.specs.Settings.{IsAccepted};
-ghost use Rattle.dirac_stream.specs.Encoding.{AnswersEncode, EndsStream, IsRecovered, IsRecoveredUnder, encoding};
-ghost use Rattle.dirac_stream.specs.Encoding.{encoding_under};
-ghost use Rattle.dirac_stream.specs.Fit.{rule_of};
+ghost use Rattle.dirac_encode_laws.specs.Encoding.{AnswersEncode, EndsStream, IsRecovered, IsRecoveredUnder, encoding};
+ghost use Rattle.dirac_encode_laws.specs.Encoding.{encoding_under};
+ghost use Rattle.dirac_encode_laws.specs.Fit.{rule_of};
 
 use crate::coder::Coder;
 use crate::pictures::put_pictures;
@@ -15,7 +15,7 @@ use dirac_decode::raw_length;
 use dirac_io::{RowGate, Sink, Source};
 use dirac_plan::Planner;
 use dirac_sequence::write_sequence;
-use dirac_stream::Encoded;
+use dirac_encode_laws::Encoded;
 use dirac_types::{NoMemory, Settings};
 use std::alloc::Global;
 use std::thread::Threads;

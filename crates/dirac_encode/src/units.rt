@@ -6,8 +6,8 @@ ghost use Rattle.dirac_io.specs.Faults.{Rose};
 ghost use Rattle.dirac_io.specs.Writing.{AppendsFront};
 ghost use Rattle.dirac_sequence.specs.Written.{sequence_payload};
 ghost use Rattle.dirac_picture.specs.Grammar as grammar;
-ghost use Rattle.dirac_stream.specs.Steps.{last_units};
-ghost use Rattle.dirac_stream.specs.Stream.{header_unit};
+ghost use Rattle.dirac_encode_laws.specs.Steps.{last_units};
+ghost use Rattle.dirac_encode_laws.specs.Stream.{header_unit};
 
 use dirac_io::{Sink, Unwritten};
 use dirac_picture::is_intra;

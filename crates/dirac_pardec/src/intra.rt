@@ -11,7 +11,7 @@ ghost use Rattle.dirac_pardec.specs.Planes.{IsResidualAt};
 use crate::residuals::residuals;
 use dirac_io::RowGate;
 use dirac_picture::{CodedPicture, CodedResidual};
-use dirac_residual::{Residual, clipped};
+use dirac_synthesis::{Residual, clipped};
 use dirac_sequence::Sequence;
 use dirac_types::{Kind, NoMemory, Picture, Plane};
 use std::alloc::Global;

@@ -8,7 +8,7 @@ use crate::places::component_at;
 use dirac_decode::residual_of;
 use dirac_io::RowGate;
 use dirac_picture::CodedResidual;
-use dirac_residual::Residual;
+use dirac_synthesis::Residual;
 use dirac_rows::map_rows;
 use dirac_sequence::Sequence;
 use dirac_types::{Kind, NoMemory};

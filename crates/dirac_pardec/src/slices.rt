@@ -2,7 +2,7 @@ ghost use Rattle.std.specs.Prelude.{◌≡◌, ℕ, ℤ, ◌+◌, ◌*◌, ◌/�
 ghost use Rattle.std.specs.List.{All};
 ghost use Rattle.dirac_types.specs.Table.{filled};
 ghost use Rattle.dirac_types.specs.declared.formats.Kind.TheVariants.{Inter as OfInter};
-ghost use Rattle.dirac_residual.specs.Residual.{clipped, with_prediction};
+ghost use Rattle.dirac_synthesis.specs.Residual.{clipped, with_prediction};
 ghost use Rattle.dirac_decode.specs.Content as content;
 ghost use Rattle.dirac_decode.specs.Predicting.{inter_plane};
 ghost use Rattle.dirac_rows.specs.Answers.{AnswerRows};
@@ -15,7 +15,7 @@ use crate::inter::Inter;
 use crate::places::{component_at, first_slice, slices_in};
 use dirac_decode::{height_of, width_of};
 use dirac_obmc::Predicted;
-use dirac_residual::{Residual, clipped_sum};
+use dirac_synthesis::{Residual, clipped_sum};
 use dirac_types::{LARGEST_TABLE_SIDE, NoMemory, Plane};
 use std::alloc::Global;
 

@@ -4,9 +4,9 @@ ghost use Rattle.std.specs.Prelude.{◌≡◌, ◌≤◌, ℕ, List, [], IfSome}
 ghost use Rattle.std.specs.Io.KnownBytes.{IsAtEnd};
 ghost use Rattle.dirac_io.specs.Faults.{Rose};
 ghost use Rattle.dirac_types.specs.Settings.{IsAccepted};
-ghost use Rattle.dirac_stream.specs.Encoding.{AnswersEncode, EndsStream, IsRecoveredUnder, encoding_under};
-ghost use Rattle.dirac_stream.specs.Fit.{AllFitOrNone, fit};
-ghost use Rattle.dirac_stream.specs.Standing.{jobs_in};
+ghost use Rattle.dirac_encode_laws.specs.Encoding.{AnswersEncode, EndsStream, IsRecoveredUnder, encoding_under};
+ghost use Rattle.dirac_encode_laws.specs.Fit.{AllFitOrNone, fit};
+ghost use Rattle.dirac_encode_laws.specs.Standing.{jobs_in};
 
 use dirac_encode::{Encoded, StreamCoder, encode_by, streams_show_their_pictures};
 use dirac_io::{RowGate, Sink, Source};

@@ -7,7 +7,7 @@ use Rattle.dirac_types.specs.declared.formats.Vector.{Vector}
 use Rattle.dirac_types.specs.declared.settings.Settings.{Settings}
 use Rattle.dirac_vectors.specs.Neighbours.{IsShort}
 use Rattle.dirac_vectors.specs.Predictions.{IsShortVector}
-use Rattle.dirac_windows.specs.Least.{first_least}
+use Rattle.dirac_costs.specs.Least.{first_least}
 use Rattle.dirac_search.specs.declared.stage.Stage.TheVariants as stage
 use Rattle.dirac_search.specs.Candidates.{IsWithinReach, Vectors, around, finer_candidates, no_motion, sub_candidates}
 use Rattle.dirac_search.specs.Costs.{cost_of}

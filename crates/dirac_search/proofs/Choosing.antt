@@ -4,8 +4,8 @@ use Rattle.std.proofs.Math.Seq.{take-suc}
 use Rattle.std.proofs.lemmas.Bool.{lt-ltb, le-ltb}
 use Rattle.dirac_types.specs.declared.formats.Vector.{Vector}
 use Rattle.dirac_types.specs.declared.settings.Settings.{Settings}
-use Rattle.dirac_windows.specs.Least.{first_least}
-use Rattle.dirac_windows.proofs.Least.{first_least_more}
+use Rattle.dirac_costs.specs.Least.{first_least}
+use Rattle.dirac_costs.proofs.Least.{first_least_more}
 use Rattle.dirac_search.specs.declared.stage.Stage.{Stage}
 use Rattle.dirac_search.specs.declared.stage.Stage.TheVariants as stage
 use Rattle.dirac_search.specs.Costs.{HasPrecision, level_of_stage}

@@ -5,11 +5,11 @@ use Rattle.std.proofs.lemmas.Int.{ints, to_z-of_z}
 use Rattle.dirac_types.specs.Table.{Table, table_at, clamped_to, clamped_at}
 use Rattle.dirac_types.specs.declared.formats.Vector.{Vector}
 use Rattle.dirac_upconvert.specs.SubSamples.{Up, sub_sample}
-use Rattle.dirac_windows.specs.Bits.{bits_of_vector}
-use Rattle.dirac_windows.specs.Sums.{sum_below}
-use Rattle.dirac_windows.specs.Windows.{row_from, values_apart, values_from}
-use Rattle.dirac_windows.specs.declared.window.Window.{Window}
-use Rattle.dirac_windows.proofs.Sums.{sum_same}
+use Rattle.dirac_costs.specs.Bits.{bits_of_vector}
+use Rattle.dirac_costs.specs.Sums.{sum_below}
+use Rattle.dirac_costs.specs.Windows.{row_from, values_apart, values_from}
+use Rattle.dirac_costs.specs.declared.window.Window.{Window}
+use Rattle.dirac_costs.proofs.Sums.{sum_same}
 use Rattle.dirac_pyramid.specs.Pyramid.{no_plane}
 use Rattle.dirac_search.specs.declared.stage.Stage.{Stage}
 use Rattle.dirac_search.specs.declared.stage.Stage.TheVariants as stage

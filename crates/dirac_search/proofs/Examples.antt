@@ -2,7 +2,7 @@
 use Rattle.std.proofs.Common.{◌≡◌, pos, negsuc, ◌∷◌, [], refl}
 use Rattle.dirac_types.specs.Numbers.{digits_of, digits_within}
 use Rattle.dirac_types.specs.Table.{Table}
-use Rattle.dirac_windows.specs.Least.{first_least}
+use Rattle.dirac_costs.specs.Least.{first_least}
 use Rattle.dirac_search.specs.declared.stage.Stage.TheVariants as stage
 use Rattle.dirac_search.specs.ByRows.{by_rows}
 use Rattle.dirac_search.specs.Candidates.{around, candidates_of, no_motion, vector}

@@ -7,10 +7,10 @@ use Rattle.std.proofs.lemmas.Bool.{cases_eq}
 use Rattle.dirac_types.specs.Table.{Table, clamped_to, table_at}
 use Rattle.dirac_types.specs.declared.formats.Vector.{Vector}
 use Rattle.dirac_upconvert.specs.SubSamples.{Up, sub_sample}
-use Rattle.dirac_windows.specs.Sums.{sum_below}
-use Rattle.dirac_windows.specs.Windows.{row_from, values_apart, values_from}
-use Rattle.dirac_windows.specs.declared.window.Window.{Window}
-use Rattle.dirac_windows.proofs.Sums.{sum_added, sum_same}
+use Rattle.dirac_costs.specs.Sums.{sum_below}
+use Rattle.dirac_costs.specs.Windows.{row_from, values_apart, values_from}
+use Rattle.dirac_costs.specs.declared.window.Window.{Window}
+use Rattle.dirac_costs.proofs.Sums.{sum_added, sum_same}
 use Rattle.dirac_search.specs.Rows.{IsRowNearest, apart_at, clamped_row, four_rows_apart, four_rows_from, four_sub_rows_apart, row_apart, sub_row_apart, sub_row_from, sub_rows, whole_rows}
 use Rattle.dirac_search.proofs.Differences.{apart_same, inside_place}
 

@@ -7,8 +7,8 @@ use Rattle.std.proofs.lemmas.Grind.{flat_map-append}
 use Rattle.std.proofs.lemmas.List.{append-nil, get_or_append_left, get_or-take, length-take-le}
 use Rattle.dirac_types.specs.declared.formats.Vector.{Vector}
 use Rattle.dirac_search.specs.Candidates.{around, no_motion}
-use Rattle.dirac_windows.specs.Least.{first_least}
-use Rattle.dirac_windows.proofs.Least.{first_least_min, first_least_more}
+use Rattle.dirac_costs.specs.Least.{first_least}
+use Rattle.dirac_costs.proofs.Least.{first_least_min, first_least_more}
 
 -- others that cost no less aren't taken
 others_kept : (cost : Vector → ℕ) (v : Vector) (ys : List Vector) → All (λ y. cost v ≤ cost y) ys → first_least cost v ys ≡ v

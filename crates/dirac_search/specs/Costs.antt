@@ -4,9 +4,9 @@ use Rattle.std.specs.Prelude.{if◌then◌else◌, length, slice_index_or}
 use Rattle.dirac_types.specs.Table.{Table, clamped_at}
 use Rattle.dirac_types.specs.declared.formats.Vector.{Vector}
 use Rattle.dirac_upconvert.specs.SubSamples.{sub_sample}
-use Rattle.dirac_windows.specs.Bits.{bits_of_vector}
-use Rattle.dirac_windows.specs.Windows.{over, sample_at}
-use Rattle.dirac_windows.specs.declared.window.Window.{Window}
+use Rattle.dirac_costs.specs.Bits.{bits_of_vector}
+use Rattle.dirac_costs.specs.Windows.{over, sample_at}
+use Rattle.dirac_costs.specs.declared.window.Window.{Window}
 use Rattle.dirac_pyramid.specs.Pyramid.{no_plane}
 use Rattle.dirac_search.specs.declared.stage.Stage.{Stage}
 use Rattle.dirac_search.specs.declared.stage.Stage.TheVariants as stage

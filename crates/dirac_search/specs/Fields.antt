@@ -8,7 +8,7 @@ use Rattle.dirac_search.specs.declared.stage.Stage.{Stage}
 use Rattle.dirac_search.specs.declared.stage.Stage.TheVariants as stage
 use Rattle.dirac_search.specs.ByRows.{by_rows}
 use Rattle.dirac_search.specs.Candidates.{IsWithinReach, Vectors, further_candidates, no_motion}
-use Rattle.dirac_windows.specs.Least.{first_least}
+use Rattle.dirac_costs.specs.Least.{first_least}
 use Rattle.dirac_search.specs.Costs.{cost_of}
 use Rattle.dirac_search.specs.Given.{Searched}
 

@@ -5,9 +5,9 @@ use Rattle.std.specs.Prelude.{slice_index_or, true}
 use Rattle.dirac_types.specs.Table.{Table, clamped_at, clamped_to, table_at}
 use Rattle.dirac_types.specs.declared.formats.Vector.{Vector}
 use Rattle.dirac_upconvert.specs.SubSamples.{Up, sub_sample}
-use Rattle.dirac_windows.specs.Sums.{sum_below}
-use Rattle.dirac_windows.specs.Windows.{row_from, values_apart, values_from}
-use Rattle.dirac_windows.specs.declared.window.Window.{Window}
+use Rattle.dirac_costs.specs.Sums.{sum_below}
+use Rattle.dirac_costs.specs.Windows.{row_from, values_apart, values_from}
+use Rattle.dirac_costs.specs.declared.window.Window.{Window}
 use Rattle.dirac_search.specs.declared.whole_sums.Columns.{Columns}
 
 -- a list of the samples of the row of a plane that is nearest to place y

@@ -1,10 +1,10 @@
 ghost use Rattle.std.specs.Prelude.{◌≡◌, ℕ, pos, ◌+◌, ◌^◌, ◌*◌, ◌<◌, ◌≤◌, ◌-ℤ◌, length, slice_index};
-ghost use Rattle.dirac_windows.specs.Sums.{sum_below};
+ghost use Rattle.dirac_costs.specs.Sums.{sum_below};
 ghost use Rattle.dirac_search.specs.Rows.{AddsEight, IsRowNearest, apart_at, four_rows_apart, four_rows_from};
 
 use crate::places::nearest_row;
 use dirac_types::Plane;
-use dirac_windows::difference;
+use dirac_costs::difference;
 
 /// How far two samples are apart, `k` places behind two places.
 #[inline(always)]

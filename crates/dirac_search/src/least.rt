@@ -1,6 +1,6 @@
 ghost use Rattle.std.specs.Prelude.{◌≡◌, ◌*◌, ◌^◌, ◌<◌, ◌≤◌, IsTrue, IfOk, IfSome, IfNone};
 ghost use Rattle.std.specs.List.{All};
-ghost use Rattle.dirac_windows.specs.Least.{first_least};
+ghost use Rattle.dirac_costs.specs.Least.{first_least};
 ghost use Rattle.dirac_search.specs.Candidates.{HasFormer, IsWithinReach, no_motion};
 ghost use Rattle.dirac_search.specs.Costs.{HasLevel, HasPrecision, IsBlockWindow, IsBelow, window_cost};
 ghost use Rattle.dirac_search.specs.Fields.{IsSearch, IsStage, best_of};
@@ -12,7 +12,7 @@ use crate::stage::{Search, Stage};
 use crate::stage_candidates::push_choice;
 use crate::window_costs::{cost_below, whole_cost, window};
 use dirac_types::{NoMemory, Settings, Vector};
-use dirac_windows::Window;
+use dirac_costs::Window;
 use std::alloc::Global;
 
 /// Whether two vectors are the same.

@@ -7,7 +7,7 @@ use crate::eight_columns::four_rows_beside;
 use crate::places::moved;
 use dirac_types::{Plane, Vector};
 use dirac_upconvert::UpPlane;
-use dirac_windows::{Window, row_differences};
+use dirac_costs::{Window, row_differences};
 
 /// A place counted in 2 to the power `precision` parts of a sample.
 #[inline(always)]

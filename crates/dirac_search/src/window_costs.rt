@@ -1,6 +1,6 @@
 ghost use Rattle.std.specs.Prelude.{◌≡◌, ◌+◌, ◌*◌, ◌^◌, ◌<◌, ◌≤◌, length, IfSome, IfNone};
 ghost use Rattle.dirac_search.specs.declared.stage.Stage.TheVariants as stage;
-ghost use Rattle.dirac_windows.specs.Bits.{bits_of_vector};
+ghost use Rattle.dirac_costs.specs.Bits.{bits_of_vector};
 ghost use Rattle.dirac_search.specs.Candidates.{IsWithinReach};
 ghost use Rattle.dirac_search.specs.Costs.{HasLevel, HasPrecision, IsBlockWindow, Reaches, IsBelow, cost_of};
 ghost use Rattle.dirac_search.specs.Costs.{distortion, level_of_stage, window_cost, window_of, window_size};
@@ -12,7 +12,7 @@ use crate::stage::{Search, Stage};
 use crate::sub_sums::sub_below;
 use crate::whole_sums::whole_below;
 use dirac_types::{Settings, Vector};
-use dirac_windows::{Window, vector_bits};
+use dirac_costs::{Window, vector_bits};
 
 /// The level of the pyramids on which a stage compares.
 fn level_of(stage: Stage) -> u8

@@ -18,10 +18,10 @@ use Rattle.dirac_sequence.specs.Ratios.{ratio_across, ratio_down}
 use Rattle.dirac_sequence.specs.Written.{sequence_of}
 use Rattle.dirac_picture.specs.Grammar.{chroma_height, chroma_width}
 use Rattle.dirac_decode.specs.Raw.{left_over, raw_length, sources, whole_pictures}
-use Rattle.dirac_stream.specs.declared.answers.Encoded.{Encoded}
-use Rattle.dirac_stream.specs.declared.answers.Encoded.TheVariants as encoded
-use Rattle.dirac_stream.specs.Coding.{Made}
-use Rattle.dirac_stream.specs.Encoding.{Encoding, behind, encoding, encoding_by, encoding_under, ending}
+use Rattle.dirac_encode_laws.specs.declared.answers.Encoded.{Encoded}
+use Rattle.dirac_encode_laws.specs.declared.answers.Encoded.TheVariants as encoded
+use Rattle.dirac_encode_laws.specs.Coding.{Made}
+use Rattle.dirac_encode_laws.specs.Encoding.{Encoding, behind, encoding, encoding_by, encoding_under, ending}
 use Rattle.dirac_generator.specs.Generated.{chroma_across, chroma_down, generated_from, picture_count}
 use Rattle.dirac_generator.proofs.Lengths.{pictures_length}
 use Rattle.dirac_tool.specs.Making.{first_bad_for_make, line_with, making}

@@ -1,9 +1,9 @@
 -- What `encode` answers and writes.
 use Rattle.std.specs.Prelude.{◌≡◌, ℕ, List, Option, ⊤}
 use Rattle.dirac_types.specs.declared.settings.Settings.{Settings}
-use Rattle.dirac_stream.specs.declared.answers.Encoded.{Encoded}
-use Rattle.dirac_stream.specs.declared.answers.Encoded.TheVariants as encoded
-use Rattle.dirac_stream.specs.Encoding.{Encoding, IsRecovered, WritesAll, WritesFront, encoding}
+use Rattle.dirac_encode_laws.specs.declared.answers.Encoded.{Encoded}
+use Rattle.dirac_encode_laws.specs.declared.answers.Encoded.TheVariants as encoded
+use Rattle.dirac_encode_laws.specs.Encoding.{Encoding, IsRecovered, WritesAll, WritesFront, encoding}
 use Rattle.dirac_tool.specs.declared.ended.Ended.{Ended}
 use Rattle.dirac_tool.specs.declared.ended.Ended.TheVariants as ended
 

@@ -4,8 +4,8 @@ use Rattle.dirac_types.specs.declared.settings.BadSetting.{BadSetting}
 use Rattle.dirac_types.specs.declared.settings.Name.TheVariants as name
 use Rattle.dirac_types.specs.declared.settings.Settings.{Settings}
 use Rattle.dirac_types.specs.Settings.{first_bad, setting, table}
-use Rattle.dirac_stream.specs.Encoding.{IsRecoveredUnder, encoding_under}
-use Rattle.dirac_stream.specs.Fit.{fit}
+use Rattle.dirac_encode_laws.specs.Encoding.{IsRecoveredUnder, encoding_under}
+use Rattle.dirac_encode_laws.specs.Fit.{fit}
 use Rattle.dirac_tool.specs.declared.ended.Ended.{Ended}
 use Rattle.dirac_tool.specs.Encoding.{AnswersEncode, EndsStream}
 

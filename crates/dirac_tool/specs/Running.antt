@@ -4,8 +4,8 @@ use Rattle.std.specs.Io.KnownBytes.{IsAtEnd}
 use Rattle.dirac_types.specs.declared.settings.BadSetting.{BadSetting}
 use Rattle.dirac_types.specs.declared.settings.Settings.{Settings}
 use Rattle.dirac_types.specs.Settings.{first_bad, table}
-use Rattle.dirac_stream.specs.Fit.{AllFitOrNone}
-use Rattle.dirac_stream.specs.Standing.{jobs_in}
+use Rattle.dirac_encode_laws.specs.Fit.{AllFitOrNone}
+use Rattle.dirac_encode_laws.specs.Standing.{jobs_in}
 use Rattle.dirac_tool.specs.declared.ended.Ended.{Ended}
 use Rattle.dirac_tool.specs.declared.ended.Ended.TheVariants as ended
 use Rattle.dirac_tool.specs.declared.words.Command.{Command}

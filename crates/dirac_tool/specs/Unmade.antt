@@ -1,7 +1,7 @@
 -- Why generated pictures weren't made into a stream.
 use Rattle.std.specs.Prelude.{◌≡◌, ℕ, ⊤}
 use Rattle.dirac_types.specs.declared.settings.Settings.{Settings}
-use Rattle.dirac_stream.specs.declared.answers.Encoded.TheVariants as encoded
+use Rattle.dirac_encode_laws.specs.declared.answers.Encoded.TheVariants as encoded
 use Rattle.dirac_tool.specs.declared.make.Unmade.{Unmade}
 use Rattle.dirac_tool.specs.declared.make.Unmade.TheVariants as unmade
 use Rattle.dirac_tool.specs.Making.{making}

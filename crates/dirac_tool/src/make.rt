@@ -1,7 +1,7 @@
 ghost use Rattle.std.specs.Prelude.{◌≡◌, ◌≤◌, IfOk, IfErr, OnOk, string_bytes};
 ghost use Rattle.dirac_io.specs.Faults.{Rose};
 ghost use Rattle.dirac_types.specs.Settings.{IsAccepted, verdict};
-ghost use Rattle.dirac_stream.specs.declared.answers.Encoded.TheVariants as encoded;
+ghost use Rattle.dirac_encode_laws.specs.declared.answers.Encoded.TheVariants as encoded;
 ghost use Rattle.dirac_tool.specs.Making.{AnswersMake, first_bad_for_make, line_with, made_line, making};
 ghost use Rattle.dirac_tool.specs.Unmade.{AnswersUnmade};
 

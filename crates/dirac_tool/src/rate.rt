@@ -2,8 +2,8 @@ ghost use Rattle.std.specs.Prelude.{◌≡◌, ◌≤◌, ℕ, List, [], IfSome,
 ghost use Rattle.std.specs.Io.KnownBytes.{IsAtEnd};
 ghost use Rattle.dirac_io.specs.Faults.{Rose};
 ghost use Rattle.dirac_types.specs.Settings.{IsAccepted, verdict};
-ghost use Rattle.dirac_stream.specs.Fit.{AllFitOrNone};
-ghost use Rattle.dirac_stream.specs.Standing.{jobs_in};
+ghost use Rattle.dirac_encode_laws.specs.Fit.{AllFitOrNone};
+ghost use Rattle.dirac_encode_laws.specs.Standing.{jobs_in};
 ghost use Rattle.dirac_tool.specs.Encoding.{IsEncodeAnswer};
 ghost use Rattle.dirac_tool.specs.Rating.{IsRated, first_bad_for_rate};
 

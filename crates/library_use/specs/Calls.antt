@@ -7,7 +7,7 @@ use Rattle.dirac_decode.specs.declared.answers.Decoded.{Decoded}
 use Rattle.dirac_decode.specs.declared.answers.Decoded.TheVariants as decoded
 use Rattle.dirac_decode.specs.Raw.{raws}
 use Rattle.dirac_decode.specs.Shown.{Outcome, IsShown}
-use Rattle.dirac_stream.specs.declared.answers.Encoded.TheVariants as encoded
+use Rattle.dirac_encode_laws.specs.declared.answers.Encoded.TheVariants as encoded
 use Rattle.library_use.specs.declared.encode.NotCoded.{NotCoded}
 use Rattle.library_use.specs.declared.encode.NotCoded.TheVariants as not_coded
 

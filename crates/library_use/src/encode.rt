@@ -1,6 +1,6 @@
 ghost use Rattle.std.specs.Prelude.{◌≡◌, IfErr, IfOk};
 ghost use Rattle.dirac_types.specs.Settings.{IsAccepted};
-ghost use Rattle.dirac_stream.specs.Encoding.{IsRecovered, encoding};
+ghost use Rattle.dirac_encode_laws.specs.Encoding.{IsRecovered, encoding};
 ghost use Rattle.library_use.specs.Calls.{IsWhyNotCoded};
 
 use dirac_encode::{Encoded, encode_stream};

@@ -1,5 +1,5 @@
 use Rattle.std.proofs.Common.{sym, ap, ◌∙◌}
-use Rattle.dirac_residual.proofs.Maps.{ok_weaker}
+use Rattle.dirac_synthesis.proofs.Maps.{ok_weaker}
 use Rattle.dirac_analysis.specs.Coded.{coded}
 use Rattle.dirac_analysis.proofs.FinerBands.{coded_plain, coded_zero}
 use Rattle.dirac_analysis.proofs.band.code_band.Goals as goal

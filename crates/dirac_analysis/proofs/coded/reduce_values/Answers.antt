@@ -1,6 +1,6 @@
 use Rattle.std.proofs.Common.{length, arith}
 use Rattle.dirac_quant.specs.Quantiser.{reduced}
-use Rattle.dirac_residual.proofs.Maps.{mapped_all}
+use Rattle.dirac_synthesis.proofs.Maps.{mapped_all}
 use Rattle.dirac_analysis.proofs.coded.reduce_values.Goals as goal
 
 pub returns : goal.returns

@@ -3,7 +3,7 @@ use Rattle.dirac_types.specs.Table.{table_at}
 use Rattle.dirac_types.proofs.Rows.{row_at, rows_all, rows_more}
 use Rattle.dirac_quant.specs.Quantiser.{reduced}
 use Rattle.dirac_coeffs.specs.Indices.{index_at}
-use Rattle.dirac_residual.specs.Codeblocks.{codeblock_of}
+use Rattle.dirac_synthesis.specs.Codeblocks.{codeblock_of}
 use Rattle.dirac_analysis.proofs.finer.reduce_codeblocks.Goals as goal
 
 pub loop-y-preserved : goal.loop-y-preserved

@@ -2,7 +2,7 @@ use Rattle.std.proofs.Common.{◌≡◌, ◌+◌, ◌<◌, ℕ, pos, slice_index
 use Rattle.dirac_quant.specs.Quantiser.{reduced}
 use Rattle.dirac_bands.specs.Geometry.{edge_of}
 use Rattle.dirac_coeffs.specs.Indices.{index_at}
-use Rattle.dirac_residual.specs.Codeblocks.{codeblock_of}
+use Rattle.dirac_synthesis.specs.Codeblocks.{codeblock_of}
 use Rattle.dirac_analysis.proofs.finer.reduce_row.Given as goal
 
 abbrev pub invariant-loop-cx : goal.invariant-loop-cx

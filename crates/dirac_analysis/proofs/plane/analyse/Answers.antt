@@ -1,6 +1,6 @@
 use Rattle.std.proofs.Common.{◌-◌, ap, ◌∙◌}
 use Rattle.dirac_types.specs.Table.{Table}
-use Rattle.dirac_residual.proofs.Maps.{ok_weaker}
+use Rattle.dirac_synthesis.proofs.Maps.{ok_weaker}
 use Rattle.dirac_analysis.specs.Analysis.{analysis_of}
 use Rattle.dirac_analysis.proofs.Fitting.{padded_small}
 use Rattle.dirac_analysis.proofs.OneLevel.{padded_divisible}

@@ -1,5 +1,5 @@
 use Rattle.std.proofs.Common.{◌≡◌, ℕ, ap, ◌∙◌}
-use Rattle.dirac_residual.proofs.Maps.{ok_weaker}
+use Rattle.dirac_synthesis.proofs.Maps.{ok_weaker}
 use Rattle.dirac_analysis.specs.Analysis.{Analysis, plane_bands, quantised}
 use Rattle.dirac_analysis.proofs.Analysing.{plane_quantised}
 use Rattle.dirac_analysis.proofs.Fitting.{planes_fit}

@@ -1,5 +1,5 @@
 use Rattle.std.proofs.Common.{◌≡◌, ◌*◌, ◌-◌, arith, ap, ◌∙◌}
-use Rattle.dirac_windows.specs.Least.{first_least_to}
+use Rattle.dirac_costs.specs.Least.{first_least_to}
 use Rattle.dirac_decide.specs.Given.{given, view_of}
 use Rattle.dirac_decide.specs.Units.{best_vector, candidate, candidate_cost}
 use Rattle.dirac_decide.proofs.best.best_of.Goals as goal

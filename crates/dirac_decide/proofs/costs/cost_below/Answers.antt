@@ -1,7 +1,7 @@
 use Rattle.std.proofs.Common.{◌≡◌, ℕ, ◌+◌, length, arith, ◌∙◌}
-use Rattle.dirac_windows.specs.Sums.{sum_below}
-use Rattle.dirac_windows.specs.Windows.{apart, sample_at}
-use Rattle.dirac_windows.proofs.Sums.{sum_more}
+use Rattle.dirac_costs.specs.Sums.{sum_below}
+use Rattle.dirac_costs.specs.Windows.{apart, sample_at}
+use Rattle.dirac_costs.proofs.Sums.{sum_more}
 use Rattle.dirac_decide.specs.Predictors.{predicted}
 use Rattle.dirac_decide.proofs.Distances.{row_apart}
 use Rattle.dirac_decide.proofs.Told.{told_early}

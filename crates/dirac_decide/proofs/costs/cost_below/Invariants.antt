@@ -1,6 +1,6 @@
 use Rattle.std.proofs.Common.{◌≡◌, ◌+◌, ◌*◌, ◌≤◌, length}
-use Rattle.dirac_windows.specs.Sums.{sum_below}
-use Rattle.dirac_windows.specs.Windows.{apart, sample_at}
+use Rattle.dirac_costs.specs.Sums.{sum_below}
+use Rattle.dirac_costs.specs.Windows.{apart, sample_at}
 use Rattle.dirac_decide.specs.Predictors.{predicted}
 use Rattle.dirac_decide.proofs.costs.cost_below.Given as goal
 

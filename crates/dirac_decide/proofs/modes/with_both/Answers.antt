@@ -1,5 +1,5 @@
 use Rattle.std.proofs.Common.{◌≡◌, ◌+◌, ◌*◌, arith, ap, ◌∙◌}
-use Rattle.dirac_windows.specs.Bits.{bits_of_vector}
+use Rattle.dirac_costs.specs.Bits.{bits_of_vector}
 use Rattle.dirac_decide.specs.Given.{given, view_of}
 use Rattle.dirac_decide.specs.Modes.{between, both_cost}
 use Rattle.dirac_decide.specs.Units.{distortion, moved}

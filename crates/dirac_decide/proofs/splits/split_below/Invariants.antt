@@ -1,5 +1,5 @@
 use Rattle.std.proofs.Common.{◌≡◌, ◌*◌, ◌≤◌}
-use Rattle.dirac_windows.specs.Sums.{sum_below}
+use Rattle.dirac_costs.specs.Sums.{sum_below}
 use Rattle.dirac_decide.specs.Given.{given}
 use Rattle.dirac_decide.specs.Modes.{choice_of}
 use Rattle.dirac_decide.specs.Rooms.{IsRoom}

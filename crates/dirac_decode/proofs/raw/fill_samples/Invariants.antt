@@ -1,5 +1,5 @@
 use Rattle.std.proofs.Common.{◌≡◌, ◌<◌, ℕ, pos, slice_index_or}
-use Rattle.dirac_residual.specs.Residual.{clip}
+use Rattle.dirac_synthesis.specs.Residual.{clip}
 use Rattle.dirac_decode.specs.Raw.{sample_of}
 use Rattle.dirac_decode.proofs.raw.fill_samples.Given as goal
 

@@ -2,7 +2,7 @@ use Rattle.std.proofs.Common.{◌≡◌, ◌+◌, ◌*◌, length, ap, sym, ◌�
 use Rattle.dirac_types.specs.Sizes.{picture_height}
 use Rattle.dirac_sequence.specs.declared.sequence.Sequence.{Sequence}
 use Rattle.dirac_picture.specs.Grammar.{chroma_height, chroma_width}
-use Rattle.dirac_residual.proofs.Maps.{ok_weaker}
+use Rattle.dirac_synthesis.proofs.Maps.{ok_weaker}
 use Rattle.dirac_sequence.proofs.Accepted.{writable}
 use Rattle.dirac_decode.proofs.Raws.{raw_sizes, raw_source, ok_four}
 use Rattle.dirac_decode.specs.Raw.{picture_in, raw}

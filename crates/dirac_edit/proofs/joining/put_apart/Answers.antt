@@ -1,7 +1,7 @@
 use Rattle.std.proofs.KnownBytes.{Appends-trans}
 use Rattle.std.proofs.lemmas.Result.{on_ok_weaker}
 use Rattle.dirac_units.proofs.Appended.{behind_front, front_then}
-use Rattle.dirac_stream.specs.Stream.{end_unit}
+use Rattle.dirac_encode_laws.specs.Stream.{end_unit}
 use Rattle.dirac_edit.specs.Merged.{own_bytes}
 use Rattle.dirac_edit.proofs.joining.put_apart.Goals as goal
 

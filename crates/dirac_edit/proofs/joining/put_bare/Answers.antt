@@ -5,7 +5,7 @@ use Rattle.std.proofs.lemmas.Result.{on_ok_weaker}
 use Rattle.dirac_io.specs.Writing.{AppendsFront}
 use Rattle.dirac_units.specs.declared.codes.TheConstants.{SEQUENCE_HEADER}
 use Rattle.dirac_units.proofs.Appended.{behind_front, front_then}
-use Rattle.dirac_stream.specs.Stream.{end_unit, unit}
+use Rattle.dirac_encode_laws.specs.Stream.{end_unit, unit}
 use Rattle.dirac_edit.proofs.Numbered.{bare_is}
 use Rattle.dirac_edit.proofs.joining.put_bare.Goals as goal
 

@@ -3,7 +3,7 @@ use Rattle.std.proofs.lemmas.Bool.{eqb-true}
 use Rattle.std.proofs.lemmas.Result.{on_ok_weaker}
 use Rattle.std.specs.Io.KnownBytes.{Appends}
 use Rattle.dirac_io.specs.Writing.{AppendsFront}
-use Rattle.dirac_stream.specs.Stream.{end_unit}
+use Rattle.dirac_encode_laws.specs.Stream.{end_unit}
 use Rattle.dirac_edit_laws.specs.Joined.{bare, bytes_or_bare, joined}
 use Rattle.dirac_edit.proofs.Stepping.{here_bare, here_ended, here_first, here_next, here_passed, here_stopped}
 use Rattle.dirac_edit.proofs.Texts.{has_pictures}

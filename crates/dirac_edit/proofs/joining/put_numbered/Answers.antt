@@ -4,7 +4,7 @@ use Rattle.std.proofs.KnownBytes.{Appends-trans}
 use Rattle.std.proofs.lemmas.Result.{on_ok_weaker}
 use Rattle.dirac_io.specs.Writing.{AppendsFront}
 use Rattle.dirac_units.proofs.Appended.{behind_front, front_then}
-use Rattle.dirac_stream.specs.Stream.{unit}
+use Rattle.dirac_encode_laws.specs.Stream.{unit}
 use Rattle.dirac_edit.proofs.Numbered.{numbered, numbered_unit}
 use Rattle.dirac_edit.proofs.joining.put_numbered.Goals as goal
 

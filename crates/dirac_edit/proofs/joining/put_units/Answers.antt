@@ -1,5 +1,5 @@
 use Rattle.std.proofs.Common.{◌∙◌, ◌+◌, ◌%◌, ◌^◌, ◌++◌, ℕ, List, [], ap, arith, drop, length, map, refl, sym}
-use Rattle.dirac_stream.specs.Stream.{unit}
+use Rattle.dirac_encode_laws.specs.Stream.{unit}
 use Rattle.dirac_edit_laws.specs.Texts.{PictureText}
 use Rattle.dirac_edit.specs.Merged.{length_behind, moved_on, units_behind}
 use Rattle.dirac_edit.proofs.Numbered.{length_left, next_length, next_unit, no_length_left, no_unit_left, numbered}

@@ -1,6 +1,6 @@
 use Rattle.std.proofs.Common.{ℕ, List, ◌+◌, ◌++◌, arith, drop, length, refl}
 use Rattle.std.proofs.lemmas.Result.{on_ok_weaker}
-use Rattle.dirac_stream.specs.Stream.{end_unit, unit}
+use Rattle.dirac_encode_laws.specs.Stream.{end_unit, unit}
 use Rattle.dirac_edit_laws.specs.Units.{pictures_bytes}
 use Rattle.dirac_edit.proofs.Texts.{next_picture, no_picture_left}
 use Rattle.dirac_edit.proofs.Written.{all_written, last_part_written, left_as, part_written, piece_written}

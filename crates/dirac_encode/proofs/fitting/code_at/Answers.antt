@@ -1,12 +1,12 @@
 use Rattle.std.proofs.Common.{ap, ◌∙◌}
-use Rattle.dirac_residual.proofs.Maps.{ok_weaker}
+use Rattle.dirac_synthesis.proofs.Maps.{ok_weaker}
 use Rattle.dirac_sequence.specs.Written.{sequence_of}
 use Rattle.dirac_picture.specs.declared.coded.CodedPicture.{CodedPicture}
 use Rattle.dirac_picture.specs.Written.{payload_of}
 use Rattle.dirac_decode.specs.Content.{rebuilt}
-use Rattle.dirac_choose.specs.Chosen.{at_index}
-use Rattle.dirac_code.specs.Asked.{coded_by}
-use Rattle.dirac_code.proofs.Choices.{coded_chosen}
+use Rattle.dirac_motion.specs.Chosen.{at_index}
+use Rattle.dirac_encode_picture.specs.Asked.{coded_by}
+use Rattle.dirac_encode_picture.proofs.Choices.{coded_chosen}
 use Rattle.dirac_encode.proofs.fitting.code_at.Goals as goal
 
 pub returns-clause-payload : goal.returns-clause-payload

@@ -1,7 +1,7 @@
 use Rattle.std.proofs.Common.{◌<◌, ◌≤◌, length, ap, refl, inr, arith}
-use Rattle.dirac_stream.specs.Coding.{Job}
-use Rattle.dirac_stream.specs.Fit.{length_at}
-use Rattle.dirac_stream.proofs.Coding.{codable}
+use Rattle.dirac_encode_laws.specs.Coding.{Job}
+use Rattle.dirac_encode_laws.specs.Fit.{length_at}
+use Rattle.dirac_encode_laws.proofs.Coding.{codable}
 use Rattle.dirac_encode.proofs.AtIndex.{more_long}
 use Rattle.dirac_encode.proofs.fitting.fit_by.Goals as goal
 

@@ -1,5 +1,5 @@
 use Rattle.std.proofs.Common.{ℕ, ◌<◌, ◌≤◌}
-use Rattle.dirac_stream.specs.Fit.{length_at}
+use Rattle.dirac_encode_laws.specs.Fit.{length_at}
 use Rattle.dirac_encode.proofs.fitting.fit_by.Given as goal
 
 abbrev pub invariant-indices : goal.invariant-indices

@@ -1,5 +1,5 @@
-use Rattle.dirac_stream.specs.Coding.{Job}
-use Rattle.dirac_stream.proofs.Fitting.{fit_is}
+use Rattle.dirac_encode_laws.specs.Coding.{Job}
+use Rattle.dirac_encode_laws.proofs.Fitting.{fit_is}
 use Rattle.dirac_encode.proofs.AtIndex.{payload_at_fit, shown_at_fit}
 use Rattle.dirac_encode.proofs.fitting.fit_picture.Goals as goal
 

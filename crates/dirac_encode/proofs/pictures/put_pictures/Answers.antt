@@ -2,13 +2,13 @@ use Rattle.std.proofs.Common.{◌≡◌, ◌<◌, ◌∙◌, refl, sym, ap, subs
 use Rattle.dirac_decode.specs.Raw.{picture_from}
 use Rattle.dirac_plan.specs.Planning.{Planning, is_closed, with_picture}
 use Rattle.std.specs.Prelude.{IfSome}
-use Rattle.dirac_stream.specs.declared.answers.Encoded.{Encoded}
-use Rattle.dirac_stream.specs.declared.answers.Encoded.TheVariants as encoded
-use Rattle.dirac_stream.specs.Encoding.{AnswersEncode, encoding_under}
-use Rattle.dirac_stream.specs.Fit.{rule_of}
-use Rattle.dirac_stream.proofs.Fitting.{rule_gives}
-use Rattle.dirac_stream.specs.Steps.{Progress}
-use Rattle.dirac_stream.proofs.Accepted.{most_pictures, raw_some}
+use Rattle.dirac_encode_laws.specs.declared.answers.Encoded.{Encoded}
+use Rattle.dirac_encode_laws.specs.declared.answers.Encoded.TheVariants as encoded
+use Rattle.dirac_encode_laws.specs.Encoding.{AnswersEncode, encoding_under}
+use Rattle.dirac_encode_laws.specs.Fit.{rule_of}
+use Rattle.dirac_encode_laws.proofs.Fitting.{rule_gives}
+use Rattle.dirac_encode_laws.specs.Steps.{Progress}
+use Rattle.dirac_encode_laws.proofs.Accepted.{most_pictures, raw_some}
 use Rattle.dirac_encode.specs.Going.{so_far}
 use Rattle.dirac_encode.proofs.Finding.{lists_first, lists_pushed}
 use Rattle.dirac_encode.proofs.Reading.{behind_some, end_early, end_stops, ends_recovered, fault_stops_coding, many_ended, many_ends, next_leads, next_stops, open_at_first, part_ended, part_ends, so_far_first, stop_no_part, stopped_before_the_end, stops_here}

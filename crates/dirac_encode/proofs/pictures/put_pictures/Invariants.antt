@@ -1,7 +1,7 @@
 use Rattle.std.proofs.Common.{◌≡◌, ◌≤◌, ◌-◌, length, false}
 use Rattle.dirac_decode.specs.Raw.{raw_length}
 use Rattle.dirac_plan.specs.Planning.{is_closed}
-use Rattle.dirac_stream.specs.Fit.{rule_of}
+use Rattle.dirac_encode_laws.specs.Fit.{rule_of}
 use Rattle.dirac_encode.specs.Going.{Lists, so_far}
 use Rattle.dirac_encode.proofs.Reading.{SoFar}
 use Rattle.dirac_encode.proofs.pictures.put_pictures.Given as goal

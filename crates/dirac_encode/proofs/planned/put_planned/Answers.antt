@@ -1,5 +1,5 @@
 use Rattle.std.proofs.Common.{◌∙◌, sym, arith}
-use Rattle.dirac_stream.specs.Fit.{rule_of}
+use Rattle.dirac_encode_laws.specs.Fit.{rule_of}
 use Rattle.dirac_encode.specs.Going.{so_far}
 use Rattle.dirac_encode.proofs.Finding.{lists_found, lists_more, lists_told}
 use Rattle.dirac_encode.proofs.Going.{goes_more, goes_told, stops_more}

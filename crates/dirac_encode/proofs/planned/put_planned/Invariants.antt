@@ -1,5 +1,5 @@
 use Rattle.std.proofs.Common.{◌≡◌, ◌≤◌, length, true}
-use Rattle.dirac_stream.specs.Fit.{rule_of}
+use Rattle.dirac_encode_laws.specs.Fit.{rule_of}
 use Rattle.dirac_encode.specs.Going.{LeadsOn, Lists, so_far}
 use Rattle.dirac_encode.proofs.planned.put_planned.Given as goal
 

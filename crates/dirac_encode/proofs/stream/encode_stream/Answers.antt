@@ -1,10 +1,10 @@
 use Rattle.std.proofs.Common.{ℕ, List, Option, None, Some}
 use Rattle.std.specs.Prelude.{IfSome}
 use Rattle.dirac_types.specs.declared.settings.Settings.{Settings}
-use Rattle.dirac_stream.specs.declared.answers.Encoded.{Encoded}
-use Rattle.dirac_stream.specs.Coding.{own_index}
-use Rattle.dirac_stream.specs.Encoding.{EndsStream, IsRecovered, IsRecoveredUnder}
-use Rattle.dirac_stream.proofs.Recovered.{own_recovered}
+use Rattle.dirac_encode_laws.specs.declared.answers.Encoded.{Encoded}
+use Rattle.dirac_encode_laws.specs.Coding.{own_index}
+use Rattle.dirac_encode_laws.specs.Encoding.{EndsStream, IsRecovered, IsRecoveredUnder}
+use Rattle.dirac_encode_laws.proofs.Recovered.{own_recovered}
 use Rattle.dirac_encode.proofs.stream.encode_stream.Goals as goal
 
 -- with the settings' index

@@ -4,7 +4,7 @@ use Rattle.std.proofs.KnownBytes.{Appends-trans}
 use Rattle.std.proofs.lemmas.Result.{on_ok_weaker}
 use Rattle.dirac_io.specs.Writing.{AppendsFront}
 use Rattle.dirac_units.proofs.Appended.{behind_front, front_then}
-use Rattle.dirac_stream.specs.Stream.{end_unit, header_length, header_unit, unit}
+use Rattle.dirac_encode_laws.specs.Stream.{end_unit, header_length, header_unit, unit}
 use Rattle.dirac_encode.proofs.Stepping.{header_fits}
 use Rattle.dirac_encode.proofs.units.put_end_units.Goals as goal
 

@@ -2,7 +2,7 @@ use Rattle.std.proofs.Common.{◌≡◌, ◌∙◌, ℕ, Bool, true, List, [], i
 use Rattle.dirac_picture.specs.Grammar.{is_intra}
 use Rattle.std.specs.Io.KnownBytes.{Appends}
 use Rattle.std.proofs.lemmas.Result.{on_ok_weaker}
-use Rattle.dirac_stream.specs.Stream.{header_unit, unit}
+use Rattle.dirac_encode_laws.specs.Stream.{header_unit, unit}
 use Rattle.dirac_encode.proofs.Stepping.{header_fits}
 use Rattle.dirac_encode.proofs.units.put_header.Goals as goal
 

@@ -1,5 +1,5 @@
 use Rattle.std.proofs.Common.{[]}
-use Rattle.dirac_stream.specs.Standing.{jobs_in}
+use Rattle.dirac_encode_laws.specs.Standing.{jobs_in}
 use Rattle.dirac_rate.proofs.stream.rate_stream.Goals as goal
 
 pub returns-clause-fits : goal.returns-clause-fits

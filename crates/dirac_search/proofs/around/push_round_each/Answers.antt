@@ -1,7 +1,7 @@
 use Rattle.std.proofs.Common.{◌+◌, ◌^◌, ◌<◌, length, ap, sym, ◌∙◌, refl, arith, subst}
 use Rattle.std.specs.List.{All}
 use Rattle.std.proofs.lemmas.List.Elements.{All-append}
-use Rattle.dirac_windows.specs.Least.{first_least}
+use Rattle.dirac_costs.specs.Least.{first_least}
 use Rattle.dirac_search.specs.Candidates.{IsWithinReach, around, no_motion}
 use Rattle.dirac_search.proofs.Repeats.{round_new, round_again}
 use Rattle.dirac_search.proofs.Reaches.{around_within, weaker}

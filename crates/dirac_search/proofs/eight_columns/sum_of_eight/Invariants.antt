@@ -1,5 +1,5 @@
 use Rattle.std.proofs.Common.{◌≡◌, ◌≤◌, ◌*◌, get_or}
-use Rattle.dirac_windows.specs.Sums.{sum_below}
+use Rattle.dirac_costs.specs.Sums.{sum_below}
 use Rattle.dirac_search.proofs.eight_columns.sum_of_eight.Given as goal
 
 abbrev pub invariant-loop-k : goal.invariant-loop-k

@@ -1,6 +1,6 @@
 use Rattle.std.proofs.Common.{◌∙◌, ap}
-use Rattle.dirac_windows.specs.Least.{first_least}
-use Rattle.dirac_windows.specs.declared.window.Window.{Window}
+use Rattle.dirac_costs.specs.Least.{first_least}
+use Rattle.dirac_costs.specs.declared.window.Window.{Window}
 use Rattle.dirac_search.specs.Candidates.{no_motion}
 use Rattle.dirac_search.specs.Costs.{cost_of, window_cost}
 use Rattle.dirac_search.specs.Fields.{best_of}

@@ -1,5 +1,5 @@
 use Rattle.std.proofs.Common.{◌≡◌, take}
-use Rattle.dirac_windows.specs.Least.{first_least}
+use Rattle.dirac_costs.specs.Least.{first_least}
 use Rattle.dirac_search.specs.Candidates.{no_motion}
 use Rattle.dirac_search.specs.Costs.{window_cost}
 use Rattle.dirac_search.specs.Given.{given}

@@ -1,6 +1,6 @@
 use Rattle.std.proofs.Common.{◌≡◌, ℕ, ◌+◌, ◌*◌, arith, refl}
 use Rattle.dirac_search.specs.Rows.{sub_row_apart, sub_rows}
-use Rattle.dirac_windows.proofs.Sums.{sum_grows}
+use Rattle.dirac_costs.proofs.Sums.{sum_grows}
 use Rattle.dirac_search.proofs.InLanes.{four_more_sub_rows}
 use Rattle.dirac_search.proofs.sub_sums.sub_below_by_four.Goals as goal
 

@@ -1,5 +1,5 @@
 use Rattle.std.proofs.Common.{◌≡◌, ◌+◌, arith, ap, ◌∙◌}
-use Rattle.dirac_windows.proofs.Sums.{sum_grows}
+use Rattle.dirac_costs.proofs.Sums.{sum_grows}
 use Rattle.dirac_search.specs.Rows.{sub_row_apart, sub_rows}
 use Rattle.dirac_search.proofs.sub_sums.sub_below_by_rows.Goals as goal
 

@@ -1,7 +1,7 @@
 use Rattle.std.proofs.Common.{◌≡◌, ℕ, pos, ◌+◌, ◌*◌, ◌+ℤ◌, ◌-ℤ◌, arith, refl, ap, sym, ◌∙◌}
 use Rattle.std.proofs.lemmas.Int.{ints}
 use Rattle.dirac_search.specs.Rows.{whole_row_apart, whole_rows}
-use Rattle.dirac_windows.proofs.Sums.{sum_grows}
+use Rattle.dirac_costs.proofs.Sums.{sum_grows}
 use Rattle.dirac_search.proofs.InLanes.{four_more_rows}
 use Rattle.dirac_search.proofs.Differences.{plain_component}
 use Rattle.dirac_search.proofs.whole_sums.whole_below_by_four.Goals as goal

@@ -1,5 +1,5 @@
 use Rattle.std.proofs.Common.{◌≡◌, ◌+◌, arith, ap, ◌∙◌}
-use Rattle.dirac_windows.proofs.Sums.{sum_grows}
+use Rattle.dirac_costs.proofs.Sums.{sum_grows}
 use Rattle.dirac_search.specs.Rows.{whole_row_apart, whole_rows}
 use Rattle.dirac_search.proofs.whole_sums.whole_below_by_rows.Goals as goal
 

@@ -1,6 +1,6 @@
 use Rattle.std.proofs.Common.{ap, sym, ◌∙◌, length}
 use Rattle.dirac_decode.specs.Raw.{raws}
-use Rattle.dirac_stream.specs.Encoding.{encoding}
+use Rattle.dirac_encode_laws.specs.Encoding.{encoding}
 use Rattle.dirac_generator.specs.Generated.{exact_from}
 use Rattle.dirac_tool.proofs.Making.{came_out, never_partial, same_line, whole_raw}
 use Rattle.dirac_tool.proofs.make.line_of_made.Goals as goal

@@ -3,7 +3,7 @@ use Rattle.std.specs.Prelude.{OnOk}
 use Rattle.std.specs.Io.KnownBytes.{Appends}
 use Rattle.std.proofs.lemmas.Result.{on_ok_weaker}
 use Rattle.dirac_io.specs.Writing.{AppendsFront}
-use Rattle.dirac_stream.specs.Stream.{end_unit}
+use Rattle.dirac_encode_laws.specs.Stream.{end_unit}
 use Rattle.dirac_edit_laws.specs.Texts.{PictureText}
 use Rattle.dirac_edit.specs.declared.keys.Keys.{Keys}
 use Rattle.dirac_edit.specs.Merged.{Added, Progress, keys_among, may_follow, onto, own, own_bytes}

@@ -1,4 +1,0 @@
-use Rattle.dirac_choose.proofs.choose.choose_from.Goals as goal
-
-pub choose_from_two-requires-clause-second : goal.choose_from_two-requires-clause-second
-choose_from_two-requires-clause-second g c κs within = c.requires.references.second c.in-Some.second c.in-Some.is

@@ -1,0 +1,13 @@
+use Rattle.std.proofs.Common.{ℕ, subst, sym}
+use Rattle.dirac_motion.specs.Chosen.{at_index}
+use Rattle.dirac_encode_picture.specs.Prepared.{IsPrepared}
+use Rattle.dirac_encode_picture.proofs.Preparing.{prepared_at}
+use Rattle.dirac_encode_picture.proofs.picture.code_prepared.Goals as goal
+
+pub code_at-requires : goal.code_at-requires
+code_at-requires c = record {
+  shared = tt;
+  prepared =
+      subst (λ (i : ℕ). IsPrepared (at_index c.args.settings.now i) c.args.refs.now c.args.planned.now c.args.source.now c.args.prepared.now) (sym c.from.ensures)
+      (prepared_at c.args.settings.now c.args.index c.args.refs.now c.args.planned.now c.args.source.now c.args.prepared.now c.requires.prepared c.requires.index);
+}

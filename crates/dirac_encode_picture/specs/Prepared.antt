@@ -1,0 +1,42 @@
+-- What the coding of a picture shares between all quantiser indices.
+use Rattle.std.specs.Prelude.{◌≡◌, List, Option, IfSome, option_map}
+use Rattle.dirac_types.specs.declared.formats.Component.TheVariants as component
+use Rattle.dirac_types.specs.declared.picture.Picture.{Picture}
+use Rattle.dirac_types.specs.declared.settings.Settings.{Settings}
+use Rattle.dirac_sequence.specs.Written.{sequence_of}
+use Rattle.dirac_blocks.specs.Tables.{BlockTable}
+use Rattle.dirac_picture.specs.declared.coded.CodedMotion.{CodedMotion}
+use Rattle.dirac_decode.specs.Content.{named}
+use Rattle.dirac_plan.specs.declared.planned.Planned.{Planned}
+use Rattle.dirac_plan_laws.specs.Headers.{header_of}
+use Rattle.dirac_encode_laws.specs.Coded.{kind_of, left_of, motion_among, motion_with}
+use Rattle.dirac_encode_laws.specs.Laws.{IsWhole}
+use Rattle.dirac_encode_picture.specs.declared.prepared.Compensated.{Compensated}
+use Rattle.dirac_encode_picture.specs.declared.prepared.Prepared.{Prepared}
+use Rattle.dirac_encode_picture.specs.declared.residual.AnalysedPlanes.{AnalysedPlanes}
+use Rattle.dirac_encode_picture.specs.Analyses.{AreAnalysed}
+use Rattle.dirac_encode_picture.specs.Asked.{HasBlocks, IsAsked}
+use Rattle.dirac_encode_picture.specs.Predictions.{ArePredictions}
+
+-- the block table that a prepared picture is predicted by, if there is one
+abbrev pub blocks_in : Prepared → Option BlockTable
+blocks_in x = option_map (λ (c : Compensated). c.motion.blocks) x.compensated
+
+-- an inter picture's motion is that of its block table, and its planes are predicted by it
+pub record IsCompensated (t : Settings) (refs : List Picture) (q : Planned) (c : Compensated) : Type 0 where
+  pub motion : c.motion ≡ motion_with t c.motion.blocks
+  pub planes : ArePredictions (sequence_of t) (named refs q.ref1) (named refs q.ref2) c.motion c.predictions
+
+-- what is left of the planes of a source with this motion, analysed
+abbrev pub IsLeft : Settings → List Picture → Planned → Picture → Option CodedMotion → AnalysedPlanes → Type 0
+IsLeft t refs q p m a =
+    AreAnalysed t (kind_of m) (left_of t refs (header_of q) m p component.Y)
+    (left_of t refs (header_of q) m p component.U) (left_of t refs (header_of q) m p component.V) a
+
+-- a planned source is prepared to be coded with these settings, whatever their quantiser index
+pub record IsPrepared (t : Settings) (refs : List Picture) (q : Planned) (p : Picture) (x : Prepared) : Type 0 where
+  pub asked : IsAsked t refs q p
+  pub whole : IsWhole p
+  pub blocks : HasBlocks t q.code (blocks_in x)
+  pub compensated : IfSome x.compensated (IsCompensated t refs q)
+  pub left : IsLeft t refs q p (motion_among t (blocks_in x)) x.left

@@ -1,0 +1,21 @@
+//! A picture, coded as it is planned: its payload, and the picture that decoders show for it.
+#![tactic(auto)]
+
+mod beside;
+mod choosing;
+mod difference;
+mod making;
+mod motion;
+mod picture;
+mod predictions;
+mod prepared;
+mod residual;
+mod showing;
+mod texts;
+mod transform;
+mod workers;
+
+pub use choosing::{code_picture, prepare_picture};
+pub use dirac_motion::choose_blocks;
+pub use picture::{Coded, code_prepared, code_with_blocks};
+pub use prepared::{Prepared, prepare};

@@ -1,0 +1,196 @@
+//! What the coding of a picture shares between all quantiser indices: its prediction, and the analysis of what is left.
+
+ghost use Rattle.std.specs.Prelude.{◌≡◌, false, true, None, Some, IfOk};
+ghost use Rattle.std.specs.List.{AllByRecursion};
+ghost use Rattle.std.specs.Option.{ForSome, option_copied};
+ghost use Rattle.dirac_types.specs.Settings.{IsAccepted};
+ghost use Rattle.dirac_picture.specs.Grammar.{are_listed, is_intra};
+ghost use Rattle.dirac_plan_laws.specs.Headers.{IsPlanned, header_of};
+ghost use Rattle.dirac_encode_laws.specs.Coded.{IsSource};
+ghost use Rattle.dirac_encode_laws.specs.Laws.{IsWhole};
+ghost use Rattle.dirac_motion.specs.Chosen.{IsChosen};
+ghost use Rattle.dirac_encode_picture.specs.Asked.{HasBlocks, IsAsked, IsMoving, blocks_of};
+ghost use Rattle.dirac_encode_picture.specs.Prepared.{IsPrepared, blocks_in};
+
+use crate::motion::motion_of;
+use crate::predictions::Predictions;
+use crate::residual::AnalysedPlanes;
+use crate::workers::{OneWorker, Workers};
+use dirac_blocks::BlockData;
+use dirac_motion::{Lumas, References};
+use dirac_decode::named;
+use dirac_picture::CodedMotion;
+use dirac_plan::Planned;
+use dirac_refs::RefBuffer;
+use dirac_sequence::sequence_of;
+use dirac_types::{NoMemory, Picture, Settings};
+use std::alloc::Global;
+
+/// What an inter picture is predicted from, and the block table by which it is.
+#[derive(Clone, Copy)]
+pub(crate) struct Moving<'a> {
+    pub(crate) references: &'a References<'a>,
+    pub(crate) blocks: &'a BlockData,
+}
+
+/// The motion of an inter picture, and what is predicted by it for each plane.
+#[derive(Drop)]
+pub(crate) struct Compensated {
+    pub(crate) motion: CodedMotion,
+    pub(crate) predictions: Predictions,
+}
+
+/// A planned picture, ready to be coded at any quantiser index: what it is predicted by, and the analysis of what is
+/// left of its planes.
+#[derive(Drop)]
+pub struct Prepared {
+    /// Just inter pictures have it.
+    pub(crate) compensated: Option<Compensated>,
+    pub(crate) left: AnalysedPlanes,
+}
+
+/// The planes of a picture have as many samples as their sizes tell.
+fn are_whole(picture: &Picture)
+    ensures { IsWhole picture.now }
+{
+    let _y = picture.y.width();
+    let _u = picture.u.width();
+    let _v = picture.v.width();
+}
+
+/// Prepares an intra picture.
+fn prepare_intra<W: Workers>(
+    workers: &W,
+    alloc: Global,
+    planned: &Planned,
+    source: &Picture,
+    refs: &RefBuffer,
+    settings: &Settings,
+) -> Result<Prepared, NoMemory>
+    requires shared { W.are_shared workers.now }
+    requires asked { IsAsked settings.now refs.now planned.now source.now }
+    requires whole { IsWhole source.now }
+    requires intra { is_intra planned.now.code ≡ true }
+    ensures prepared { IfOk result (IsPrepared settings.now refs.now planned.now source.now) }
+    ensures blocks { IfOk result (λ x. blocks_in x ≡ None) }
+{
+    let left = workers.analyse(alloc, settings, source)?;
+    Ok(Prepared {
+        compensated: None,
+        left,
+    })
+}
+
+/// Prepares an inter picture, predicted by this block table from these references, which are among the listed pictures.
+fn prepare_inter<W: Workers>(
+    workers: &W,
+    alloc: Global,
+    planned: &Planned,
+    source: &Picture,
+    refs: &RefBuffer,
+    settings: &Settings,
+    moving: Moving<'_>,
+) -> Result<Prepared, NoMemory>
+    requires shared { W.are_shared workers.now }
+    requires asked { IsAsked settings.now refs.now planned.now source.now }
+    requires whole { IsWhole source.now }
+    requires inter { is_intra planned.now.code ≡ false }
+    requires moving { IsMoving settings.now refs.now planned.now moving }
+    requires blocks { IsChosen settings.now planned.now.code moving.blocks.now }
+    ensures prepared { IfOk result (IsPrepared settings.now refs.now planned.now source.now) }
+    ensures blocks { IfOk result (λ x. blocks_in x ≡ Some moving.entry.blocks.now) }
+{
+    let motion = motion_of(alloc, settings, moving.blocks)?;
+    let sequence = sequence_of(settings);
+    let references = moving.references;
+    let predictions = workers.predict(alloc, planned.code, &sequence, references, &motion)?;
+    let left = workers.analyse_rest(alloc, settings, source, &predictions)?;
+    let compensated = Compensated {
+        motion,
+        predictions,
+    };
+    Ok(Prepared {
+        compensated: Some(compensated),
+        left,
+    })
+}
+
+/// Prepares a picture as it is planned, an inter picture predicted by this block table from these references.
+pub(crate) fn prepare_by<W: Workers>(
+    workers: &W,
+    alloc: Global,
+    planned: &Planned,
+    source: &Picture,
+    refs: &RefBuffer,
+    settings: &Settings,
+    moving: Option<Moving<'_>>,
+) -> Result<Prepared, NoMemory>
+    requires shared { W.are_shared workers.now }
+    requires asked { IsAsked settings.now refs.now planned.now source.now }
+    requires moving { ForSome moving (IsMoving settings.now refs.now planned.now) }
+    requires blocks { HasBlocks settings.now planned.now.code (blocks_of moving) }
+    ensures prepared { IfOk result (IsPrepared settings.now refs.now planned.now source.now) }
+    ensures blocks { IfOk result (λ x. blocks_in x ≡ blocks_of moving.entry) }
+{
+    are_whole(source);
+    match moving {
+        None => prepare_intra(workers, alloc, planned, source, refs, settings),
+        Some(moving) => { prepare_inter(workers, alloc, planned, source, refs, settings, moving) }
+    }
+}
+
+/// Prepares an inter picture by this block table. Its references are looked up, and their luma is upconverted.
+fn prepare_looked_up(
+    alloc: Global,
+    planned: &Planned,
+    source: &Picture,
+    refs: &RefBuffer,
+    settings: &Settings,
+    blocks: &BlockData,
+) -> Result<Prepared, NoMemory>
+    requires asked { IsAsked settings.now refs.now planned.now source.now }
+    requires inter { is_intra planned.now.code ≡ false }
+    requires blocks { IsChosen settings.now planned.now.code blocks.now }
+    ensures prepared { IfOk result (IsPrepared settings.now refs.now planned.now source.now) }
+    ensures blocks { IfOk result (λ x. blocks_in x ≡ Some blocks.now) }
+{
+    let second = named(refs, planned.ref2);
+    match named(refs, planned.ref1) {
+        None => unreachable!(),
+        Some(first) => {
+            let lumas = Lumas::of(alloc, first, second)?;
+            let references = lumas.lend(first, second);
+            let moving = Moving {
+                references: &references,
+                blocks,
+            };
+            let moving = Some(moving);
+            prepare_by(&OneWorker, alloc, planned, source, refs, settings, moving)
+        }
+    }
+}
+
+/// Prepares a picture as it is planned, an inter picture predicted by this block table: `code_prepared` then codes it
+/// at any quantiser index.
+pub fn prepare(
+    alloc: Global,
+    planned: &Planned,
+    source: &Picture,
+    refs: &RefBuffer,
+    settings: &Settings,
+    blocks: Option<&BlockData>,
+) -> Result<Prepared, NoMemory>
+    requires accepted { IsAccepted settings.now }
+    requires listed { AllByRecursion (IsSource settings.now) refs.now }
+    requires source { IsSource settings.now source.now }
+    requires planned { IsPlanned planned.now }
+    requires found { are_listed refs.now (header_of planned.now) ≡ true }
+    requires blocks { HasBlocks settings.now planned.now.code (option_copied blocks) }
+    ensures prepared { IfOk result (IsPrepared settings.now refs.now planned.now source.now) }
+    ensures blocks { IfOk result (λ x. blocks_in x ≡ option_copied blocks.entry) }
+{
+    match blocks {
+        None => prepare_by(&OneWorker, alloc, planned, source, refs, settings, None),
+        Some(blocks) => prepare_looked_up(alloc, planned, source, refs, settings, blocks),
+    }
+}

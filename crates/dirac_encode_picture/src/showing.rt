@@ -1,0 +1,169 @@
+//! What a coded picture is finished with: the bytes of its bands, and the picture that decoders show for it.
+
+ghost use Rattle.std.specs.Prelude.{◌≡◌, ◌*◌, ◌≤◌, length, IfOk, IfSome};
+ghost use Rattle.std.specs.Thread.{IsSync};
+ghost use Rattle.dirac_types.specs.declared.formats.Component.TheVariants as component;
+ghost use Rattle.dirac_sequence.specs.Lawful.{IsSequence};
+ghost use Rattle.dirac_picture.specs.Fits.{IsResidual};
+ghost use Rattle.dirac_picture.specs.Writable.{IsWritten};
+ghost use Rattle.dirac_picture.specs.Texts.{AreTexts};
+ghost use Rattle.dirac_decode.specs.Content.{height_of, rebuilt, width_of};
+ghost use Rattle.dirac_encode_picture.specs.Finishing.{CanBeFinished};
+ghost use Rattle.dirac_encode_picture.specs.Predictions.{picture_from};
+
+use crate::predictions::Predictions;
+use crate::prepared::Compensated;
+use crate::texts::texts_side_by_side;
+use dirac_decode::{predicted_samples, rebuild};
+use dirac_obmc::Component;
+use dirac_picture::{CodedPicture, CodedResidual, Texts, texts_of};
+use dirac_refs::RefBuffer;
+use dirac_sequence::Sequence;
+use dirac_types::{NoMemory, Picture};
+use std::alloc::Global;
+use std::marker::Sync;
+use std::thread::{Threads, join};
+
+/// The bytes of a coded picture's bands, and the picture that decoders show for it.
+#[derive(Drop)]
+pub(crate) struct Finished {
+    pub(crate) texts: Texts,
+    pub(crate) shown: Picture,
+}
+
+/// The picture that a coded picture and its predictions stand for.
+pub(crate) fn show_predicted(
+    alloc: Global,
+    sequence: &Sequence,
+    coded: &CodedPicture,
+    predictions: &Predictions,
+) -> Result<Picture, NoMemory>
+    requires sequence { IsSequence sequence.now }
+    requires residual { IfSome coded.now.residual (IsResidual sequence.now) }
+    requires y { length predictions.now.y.values ≡ width_of sequence.now component.Y * height_of sequence.now
+        component.Y }
+    requires u { length predictions.now.u.values ≡ width_of sequence.now component.U * height_of sequence.now
+        component.U }
+    requires v { length predictions.now.v.values ≡ width_of sequence.now component.V * height_of sequence.now
+        component.V }
+    ensures value { IfOk result (λ p. p ≡ picture_from sequence.now coded.now predictions.now) }
+{
+    let residual = &coded.residual;
+    let y = predicted_samples(
+        alloc,
+        sequence,
+        residual,
+        predictions.y.values(),
+        Component::Y,
+    )?;
+    let u = predicted_samples(
+        alloc,
+        sequence,
+        residual,
+        predictions.u.values(),
+        Component::U,
+    )?;
+    let v = predicted_samples(
+        alloc,
+        sequence,
+        residual,
+        predictions.v.values(),
+        Component::V,
+    )?;
+    Ok(Picture {
+        number: coded.header.number,
+        y,
+        u,
+        v,
+    })
+}
+
+/// The picture that decoders show for a coded picture, from its predictions if it is predicted.
+pub(crate) fn show(
+    alloc: Global,
+    sequence: &Sequence,
+    refs: &RefBuffer,
+    coded: &CodedPicture,
+    compensated: &Option<Compensated>,
+) -> Result<Picture, NoMemory>
+    requires { CanBeFinished sequence.now refs.now coded.now compensated.now }
+    ensures { IfOk result (λ p. p ≡ rebuilt sequence.now refs.now coded.now) }
+{
+    match compensated {
+        None => {
+            let shown = rebuild(alloc, coded, sequence, refs)?;
+            Ok(shown)
+        }
+        Some(compensated) => {
+            let shown = show_predicted(alloc, sequence, coded, &compensated.predictions)?;
+            Ok(shown)
+        }
+    }
+}
+
+/// Writes the bands of a coded picture, and shows it.
+pub(crate) fn finish(
+    alloc: Global,
+    sequence: &Sequence,
+    refs: &RefBuffer,
+    coded: &CodedPicture,
+    compensated: &Option<Compensated>,
+) -> Result<Finished, NoMemory>
+    requires { CanBeFinished sequence.now refs.now coded.now compensated.now }
+    ensures texts { IfOk result (λ f. IfSome coded.now.residual (λ r. AreTexts sequence.now r f.texts)) }
+    ensures shown { IfOk result (λ f. f.shown ≡ rebuilt sequence.now refs.now coded.now) }
+{
+    let texts = texts_of(alloc, sequence, &coded.residual)?;
+    let shown = show(alloc, sequence, refs, coded, compensated)?;
+    Ok(Finished { texts, shown })
+}
+
+/// The bytes of a coded picture's bands, by that many workers.
+fn texts_by<R: Threads + Sync>(
+    rt: &R,
+    workers: u32,
+    alloc: Global,
+    sequence: &Sequence,
+    residual: &Option<CodedResidual>,
+) -> Result<Texts, NoMemory>
+    requires sequence { IsSequence sequence.now }
+    requires written { IfSome residual.now (IsWritten sequence.now) }
+    ensures { IfOk result (λ x. IfSome residual.now (λ r. AreTexts sequence.now r x)) }
+{
+    if workers <= 1 {
+        return texts_of(alloc, sequence, residual);
+    }
+    texts_side_by_side(rt, workers, alloc, sequence, residual)
+}
+
+/// Writes the bands of a coded picture, by all workers but one, and shows it beside that.
+pub(crate) fn finish_side_by_side<R: Threads + Sync>(
+    rt: &R,
+    workers: u32,
+    alloc: Global,
+    sequence: &Sequence,
+    refs: &RefBuffer,
+    coded: &CodedPicture,
+    compensated: &Option<Compensated>,
+) -> Result<Finished, NoMemory>
+    requires workers { 2 ≤ workers }
+    requires finishing { CanBeFinished sequence.now refs.now coded.now compensated.now }
+    ensures texts { IfOk result (λ f. IfSome coded.now.residual (λ r. AreTexts sequence.now r f.texts)) }
+    ensures shown { IfOk result (λ f. f.shown ≡ rebuilt sequence.now refs.now coded.now) }
+{
+    let (shown, texts) = join(
+        rt,
+        || -> Result<Picture, NoMemory>
+            requires { CanBeFinished sequence.now refs.now coded.now compensated.now }
+            ensures { IfOk result (λ p. p ≡ rebuilt sequence.entry.now refs.entry.now coded.entry.now) }
+        { show(alloc, sequence, refs, coded, compensated) },
+        || -> Result<Texts, NoMemory>
+            requires { IsSync R.row × (2 ≤ workers) × IsSequence sequence.now
+                × IfSome coded.now.residual (IsWritten sequence.now) }
+            ensures { IfOk result (λ x. IfSome coded.entry.now.residual (λ r. AreTexts sequence.entry.now r x)) }
+        { texts_by(rt, workers - 1, alloc, sequence, &coded.residual) },
+    );
+    let shown = shown?;
+    let texts = texts?;
+    Ok(Finished { texts, shown })
+}

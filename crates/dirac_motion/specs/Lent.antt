@@ -1,0 +1,47 @@
+-- The references of an inter picture, with their luma upconverted.
+use Rattle.std.specs.Prelude.{◌≡◌, ◌≤◌, List, Option, Some, option_map}
+use Rattle.std.specs.List.{All}
+use Rattle.std.specs.Option.{ForSome}
+use Rattle.dirac_types.specs.declared.limits.TheConstants.{LARGEST_SIDE}
+use Rattle.dirac_types.specs.declared.picture.Picture.{Picture}
+use Rattle.dirac_sequence.specs.declared.sequence.Sequence.{Sequence}
+use Rattle.dirac_upconvert.specs.HalfSamples.{IsSample}
+use Rattle.dirac_decode.specs.Content.{IsPicture, named, up_of}
+use Rattle.dirac_plan.specs.declared.planned.Planned.{Planned}
+use Rattle.dirac_motion.specs.declared.lent.Lumas.{Lumas}
+use Rattle.dirac_motion.specs.declared.lent.Reference.{Reference}
+use Rattle.dirac_motion.specs.declared.lent.References.{References}
+
+-- a picture whose luma can be upconverted
+pub record HasLuma (p : Picture) : Type 0 where
+  pub across : p.y.width ≤ LARGEST_SIDE
+  pub down : p.y.height ≤ LARGEST_SIDE
+  pub samples : All IsSample p.y.values
+
+-- the luma of these pictures with half samples
+pub record AreLumas (one : Picture) (other : Option Picture) (l : Lumas) : Type 0 where
+  pub first : l.first ≡ up_of one.y
+  pub second : l.second ≡ option_map (λ (p : Picture). up_of p.y) other
+
+-- a picture of this sequence, and its luma with half samples
+pub record IsReference (s : Sequence) (r : Reference) : Type 0 where
+  pub picture : IsPicture s r.picture.now
+  pub luma : r.luma.now ≡ up_of r.picture.now.y
+
+-- one of them or two
+pub record AreLent (s : Sequence) (r : References) : Type 0 where
+  pub first : IsReference s r.first
+  pub second : ForSome r.second (IsReference s)
+
+-- the first picture
+abbrev pub first_of : References → Picture
+first_of r = r.first.picture.now
+
+-- the second one, where there is one
+abbrev pub second_of : References → Option Picture
+second_of r = option_map (λ (x : Reference). x.picture.now) r.second
+
+-- they are the listed pictures that a planned picture refers to
+pub record AreNamed (refs : List Picture) (q : Planned) (r : References) : Type 0 where
+  pub first : named refs q.ref1 ≡ Some (first_of r)
+  pub second : named refs q.ref2 ≡ second_of r

@@ -1,0 +1,152 @@
+ghost use Rattle.std.specs.Prelude.{◌≡◌, IfOk, Some, None, false, is_none};
+ghost use Rattle.std.specs.Option.{ForSome};
+ghost use Rattle.dirac_types.specs.Settings.{IsAccepted};
+ghost use Rattle.dirac_sequence.specs.Written.{sequence_of};
+ghost use Rattle.dirac_picture.specs.Grammar.{is_intra as is_intra_code};
+ghost use Rattle.dirac_decode.specs.Content.{IsPicture};
+ghost use Rattle.dirac_motion.specs.Chosen.{IsChoosing, IsChosen, IsChosenAtEachIndex, blocks_from, chosen};
+ghost use Rattle.dirac_motion.specs.Chosen.{chosen_unless_intra};
+ghost use Rattle.dirac_motion.specs.Lent.{AreLent, IsReference, first_of, second_of};
+
+use crate::lent::{Lumas, Reference, References};
+use crate::search::vectors_in;
+use dirac_blocks::BlockData;
+use dirac_decide::{RefView, decide_by_workers};
+use dirac_decode::named;
+use dirac_io::RowGate;
+use dirac_picture::is_intra;
+use dirac_plan::Planned;
+use dirac_pyramid::Pyramid;
+use dirac_refs::RefBuffer;
+use dirac_types::{NoMemory, Picture, Settings};
+use std::alloc::Global;
+use std::marker::Sync;
+use std::thread::Threads;
+
+/// The block table of a picture with one reference.
+fn choose_from_one<R: Threads + Sync, G: RowGate>(
+    rt: &R,
+    alloc: Global,
+    source: &Picture,
+    first: Reference<'_>,
+    settings: &Settings,
+    gate: &G,
+) -> Result<BlockData, NoMemory>
+    requires settings { IsAccepted settings.now }
+    requires source { IsPicture (sequence_of settings.now) source.now }
+    requires first { IsReference (sequence_of settings.now) first }
+    ensures { IfOk result (λ t. t ≡ blocks_from settings.now source.now first.entry.picture.now None) }
+{
+    let pyramid = Pyramid::build(alloc, &source.y, settings.pyramid as u8)?;
+    let field = vectors_in(rt, alloc, source, &pyramid, first, settings, gate)?;
+    let view = RefView {
+        up: first.luma,
+        field: &field,
+    };
+    decide_by_workers(rt, alloc, source, settings, view, None)
+}
+
+/// The block table of a picture with two references.
+fn choose_from_two<R: Threads + Sync, G: RowGate>(
+    rt: &R,
+    alloc: Global,
+    source: &Picture,
+    first: Reference<'_>,
+    second: Reference<'_>,
+    settings: &Settings,
+    gate: &G,
+) -> Result<BlockData, NoMemory>
+    requires settings { IsAccepted settings.now }
+    requires source { IsPicture (sequence_of settings.now) source.now }
+    requires first { IsReference (sequence_of settings.now) first }
+    requires second { IsReference (sequence_of settings.now) second }
+    ensures { IfOk result (λ t. t
+        ≡ blocks_from settings.now source.now first.entry.picture.now (Some second.entry.picture.now)) }
+{
+    let pyramid = Pyramid::build(alloc, &source.y, settings.pyramid as u8)?;
+    let field1 = vectors_in(rt, alloc, source, &pyramid, first, settings, gate)?;
+    let field2 = vectors_in(rt, alloc, source, &pyramid, second, settings, gate)?;
+    let view1 = RefView {
+        up: first.luma,
+        field: &field1,
+    };
+    let view2 = RefView {
+        up: second.luma,
+        field: &field2,
+    };
+    decide_by_workers(rt, alloc, source, settings, view1, Some(view2))
+}
+
+/// The block table of a picture with these references, whose luma is upconverted already.
+///
+/// The gate is called before each row of superblocks of each stage of the search, in one reference after the other.
+pub fn choose_from<R: Threads + Sync, G: RowGate>(
+    rt: &R,
+    alloc: Global,
+    source: &Picture,
+    references: &References<'_>,
+    settings: &Settings,
+    gate: &G,
+) -> Result<BlockData, NoMemory>
+    requires settings { IsAccepted settings.now }
+    requires source { IsPicture (sequence_of settings.now) source.now }
+    requires references { AreLent (sequence_of settings.now) references.now }
+    ensures { IfOk result (λ t. t
+        ≡ blocks_from settings.now source.now (first_of references.now) (second_of references.now)) }
+{
+    let first = references.first;
+    match references.second {
+        None => choose_from_one(rt, alloc, source, first, settings, gate),
+        Some(second) => choose_from_two(rt, alloc, source, first, second, settings, gate),
+    }
+}
+
+/// The block table of a planned inter picture.
+fn choose_for<R: Threads + Sync, G: RowGate>(
+    rt: &R,
+    alloc: Global,
+    planned: &Planned,
+    source: &Picture,
+    refs: &RefBuffer,
+    settings: &Settings,
+    gate: &G,
+) -> Result<BlockData, NoMemory>
+    requires asked { IsChoosing settings.now refs.now planned.now source.now }
+    requires inter { is_intra_code planned.now.code ≡ false }
+    ensures { IfOk result (λ t. t ≡ chosen settings.now refs.now planned.now source.now) }
+{
+    let second = named(refs, planned.ref2);
+    match named(refs, planned.ref1) {
+        None => unreachable!(),
+        Some(first) => {
+            let lumas = Lumas::by_workers(rt, alloc, first, second, settings.workers)?;
+            let references = lumas.lend(first, second);
+            choose_from(rt, alloc, source, &references, settings, gate)
+        }
+    }
+}
+
+/// The block table of a planned picture, whose references are listed: `None` exactly for an intra picture.
+///
+/// The gate is called before each row of superblocks of each stage of the search, in one reference after the other.
+pub fn choose_blocks<R: Threads + Sync, G: RowGate>(
+    rt: &R,
+    alloc: Global,
+    planned: &Planned,
+    source: &Picture,
+    refs: &RefBuffer,
+    settings: &Settings,
+    gate: &G,
+) -> Result<Option<BlockData>, NoMemory>
+    requires { IsChoosing settings.now refs.now planned.now source.now }
+    ensures value { IfOk result (λ o. o ≡ chosen_unless_intra settings.now refs.now planned.now source.now) }
+    ensures fits { IfOk result (λ o. ForSome o (IsChosen settings.now planned.now.code)) }
+    ensures none_exactly_for_intra { IfOk result (λ o. is_none o ≡ is_intra_code planned.now.code) }
+    ensures without_index { IfOk result (IsChosenAtEachIndex settings.now refs.now planned.now source.now) }
+{
+    if is_intra(planned.code) {
+        return Ok(None);
+    }
+    let blocks = choose_for(rt, alloc, planned, source, refs, settings, gate)?;
+    Ok(Some(blocks))
+}

@@ -1,5 +1,0 @@
-use Rattle.dirac_residual.proofs.ByCodeblock.{one_restores}
-use Rattle.dirac_residual.proofs.laws.one_index_restores_all.Goals as goal
-
-pub returns : goal.returns
-returns c = record { values = one_restores }

@@ -1,5 +1,0 @@
-use Rattle.dirac_residual.proofs.ZeroBands.{zeros_stand}
-use Rattle.dirac_residual.proofs.laws.zero_bands_stand_for_zeros.Goals as goal
-
-pub returns : goal.returns
-returns c = record { zeros = zeros_stand }

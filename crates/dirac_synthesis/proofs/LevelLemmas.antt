@@ -1,0 +1,57 @@
+-- The LL band of one level more.
+use Rattle.std.proofs.Common.{◌≡◌, ℕ, suc, ◌+◌, ◌*◌, List, slice_get, Some, arith, refl, ap, sym, ◌∙◌, subst}
+use Rattle.dirac_types.specs.declared.formats.Kind.{Kind}
+use Rattle.dirac_types.specs.declared.formats.Kind.TheVariants.{Intra, Inter}
+use Rattle.dirac_types.specs.Table.{Table}
+use Rattle.dirac_bands.specs.Geometry.{level_of}
+use Rattle.dirac_header.specs.Counts.{counts_among, counts_at}
+use Rattle.dirac_header.specs.declared.transform.Transform.{Transform}
+use Rattle.dirac_coeffs.specs.declared.layout.CodedBand.{CodedBand}
+use Rattle.dirac_lift.specs.Level.{level}
+use Rattle.dirac_synthesis.specs.Codeblocks.{HasIndices, restored_band}
+use Rattle.dirac_synthesis.specs.Residual.{after_levels, restored_among, restored_at, summed}
+
+-- what a band of these counts stands for
+pub restored_is : (t : Transform) (kind : Kind) (bands : List CodedBand) (n level : ℕ) (counts : ℕ × ℕ) (b : CodedBand) → counts_at t.counts level ≡ counts → level_of n ≡ level → slice_get bands n ≡ Some b → restored_band kind counts b ≡ restored_at t kind bands n
+restored_is t kind bands n level counts b told at got =
+    ap (λ (c : ℕ × ℕ). restored_band kind c b) (sym told)
+    ∙ ap (λ l. restored_band kind (counts_at t.counts l) b) (sym at)
+    ∙ ap (restored_among kind (counts_at t.counts (level_of n))) (sym got)
+
+-- the indices of a band whose level has these counts
+pub counts_given : (t : Transform) (n level : ℕ) (counts : ℕ × ℕ) (b : CodedBand) → level_of n ≡ level → slice_get t.counts level ≡ Some counts → HasIndices (counts_at t.counts (level_of n)) b → HasIndices counts b
+counts_given t n level counts b at told has =
+    subst (λ (c : ℕ × ℕ). HasIndices c b) (ap (λ l. counts_at t.counts l) at ∙ ap counts_among told) has
+
+-- the band of level 0
+pub first_level : (t : Transform) (kind : Kind) (bands : List CodedBand) (counts : ℕ × ℕ) (a : CodedBand) (low : Table) → counts_at t.counts 0 ≡ counts → slice_get bands 0 ≡ Some a → low ≡ summed kind (restored_band kind counts a) → low ≡ after_levels t kind bands 0
+unfolding after_levels
+first_level t kind bands counts a low told got e = e ∙ ap (summed kind) (restored_is t kind bands 0 0 counts a told (omega arith) got)
+
+-- sums have the size of their differences
+pub summed_width : (kind : Kind) (t : Table) → (summed kind t).width ≡ t.width
+summed_width Intra t = refl
+summed_width Inter t = refl
+
+pub summed_height : (kind : Kind) (t : Table) → (summed kind t).height ≡ t.height
+summed_height Intra t = refl
+summed_height Inter t = refl
+
+pub more_levels : (t : Transform) (kind : Kind) (bands : List CodedBand) (n : ℕ) (counts : ℕ × ℕ) (a b d : CodedBand) (low next : Table) → counts_at t.counts (n + 1) ≡ counts → low ≡ after_levels t kind bands n
+    → slice_get bands (3 * n + 1) ≡ Some a → slice_get bands (3 * n + 2) ≡ Some b → slice_get bands (3 * n + 3) ≡ Some d
+    → next ≡ level t.wavelet low (restored_band kind counts a) (restored_band kind counts b) (restored_band kind counts d) → next ≡ after_levels t kind bands (n + 1)
+unfolding after_levels
+more_levels t kind bands n counts a b d low next told el ga gb gd e =
+    let one : suc n ≡ n + 1 = omega arith in
+    let right = restored_is t kind bands (3 * n + 1) (n + 1) counts a told (omega arith) ga in
+    let below = restored_is t kind bands (3 * n + 2) (n + 1) counts b told (omega arith) gb in
+    let both = restored_is t kind bands (3 * n + 3) (n + 1) counts d told (omega arith) gd in
+    e ∙ ap (λ l. level t.wavelet l (restored_band kind counts a) (restored_band kind counts b) (restored_band kind counts d)) el
+    ∙ ap (λ x. level t.wavelet (after_levels t kind bands n) x (restored_band kind counts b) (restored_band kind counts d)) right
+    ∙ ap (λ x. level t.wavelet (after_levels t kind bands n) (restored_at t kind bands (3 * n + 1)) x (restored_band kind counts d)) below
+    ∙ ap (level t.wavelet (after_levels t kind bands n) (restored_at t kind bands (3 * n + 1)) (restored_at t kind bands (3 * n + 2))) both
+    ∙ ap (after_levels t kind bands) one
+
+-- a level of equal bands
+pub same_level : (k : ℕ) (low a b d x y z : Table) → x ≡ a → y ≡ b → z ≡ d → level k low a b d ≡ level k low x y z
+same_level k low a b d x y z ea eb ed = rw (ea, eb, ed) refl

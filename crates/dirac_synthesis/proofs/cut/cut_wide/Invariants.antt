@@ -1,0 +1,11 @@
+use Rattle.std.proofs.Common.{◌≡◌}
+use Rattle.dirac_types.specs.Table.{table_at}
+use Rattle.dirac_types.proofs.Rows.{RowsFilled}
+use Rattle.dirac_synthesis.proofs.cut.cut_wide.Given as goal
+
+abbrev pub invariant-loop-y : goal.invariant-loop-y
+invariant-loop-y l = record {
+  across : l.part.width ≡ l.width;
+  down : l.part.height ≡ l.height;
+  rows : RowsFilled (table_at l.table) l.part.width l.part.height l.part.values l.y;
+}

@@ -1,0 +1,167 @@
+use Rattle.std.proofs.Common.{◌≡◌, ℕ, ◌+◌, ◌*◌, ◌^◌, slice_get, Some, arith, ap, sym, ◌∙◌, subst}
+use Rattle.dirac_types.specs.Table.{Table}
+use Rattle.dirac_types.proofs.Bounds.{all_weaker}
+use Rattle.dirac_bands.specs.Geometry.{lowest_size}
+use Rattle.dirac_header.specs.Counts.{counts_among}
+use Rattle.dirac_synthesis.specs.Codeblocks.{HasIndices}
+use Rattle.dirac_synthesis.specs.Fits.{IsBandOf}
+use Rattle.dirac_synthesis.proofs.Bounds.{cut_bound}
+use Rattle.dirac_synthesis.proofs.LevelLemmas.{counts_given, first_level, more_levels, summed_width, summed_height}
+use Rattle.dirac_synthesis.proofs.Maps.{got_band, ok_weaker}
+use Rattle.dirac_synthesis.proofs.Sizes.{lowest_length, level_length, quotient_bound, size_within, next_length, entry_bound, end_bound, bound_more, bound_least}
+use Rattle.dirac_synthesis.proofs.ZeroBands.{zeros_bound, zeros_stand_in}
+use Rattle.dirac_synthesis.proofs.plane.plane_residual.Goals as goal
+
+pub lowest_band-requires-clause-across : goal.lowest_band-requires-clause-across
+lowest_band-requires-clause-across c =
+    let got : slice_get c.args.bands.now 0 ≡ Some c.index-bands-0.result = got_band c.args.bands.now 0 c.index-bands-0.result (omega (arith, c.requires.bands.count)) c.index-bands-0.is in
+    let fits : IsBandOf c.args.transform.now c.args.width c.args.height 0 c.index-bands-0.result = c.requires.bands.each 0 c.index-bands-0.result got in
+    omega (arith, fits.across, lowest_length c.args.width c.args.transform.now.depth, quotient_bound c.args.width c.args.transform.now.depth 0 c.requires.across.1 c.requires.depth.0 c.requires.depth.1)
+
+pub lowest_band-requires-clause-down : goal.lowest_band-requires-clause-down
+lowest_band-requires-clause-down c =
+    let got : slice_get c.args.bands.now 0 ≡ Some c.index-bands-0.result = got_band c.args.bands.now 0 c.index-bands-0.result (omega (arith, c.requires.bands.count)) c.index-bands-0.is in
+    let fits : IsBandOf c.args.transform.now c.args.width c.args.height 0 c.index-bands-0.result = c.requires.bands.each 0 c.index-bands-0.result got in
+    omega (arith, fits.down, lowest_length c.args.height c.args.transform.now.depth, quotient_bound c.args.height c.args.transform.now.depth 0 c.requires.down.1 c.requires.depth.0 c.requires.depth.1)
+
+pub lowest_band-requires-clause-index : goal.lowest_band-requires-clause-index
+lowest_band-requires-clause-index c =
+    let got : slice_get c.args.bands.now 0 ≡ Some c.index-bands-0.result = got_band c.args.bands.now 0 c.index-bands-0.result (omega (arith, c.requires.bands.count)) c.index-bands-0.is in
+    (c.requires.bands.each 0 c.index-bands-0.result got).index
+
+pub lowest_band-requires-clause-indices : goal.lowest_band-requires-clause-indices
+lowest_band-requires-clause-indices c =
+    let got : slice_get c.args.bands.now 0 ≡ Some c.index-bands-0.result = got_band c.args.bands.now 0 c.index-bands-0.result (omega (arith, c.requires.bands.count)) c.index-bands-0.is in
+    let fits : IsBandOf c.args.transform.now c.args.width c.args.height 0 c.index-bands-0.result = c.requires.bands.each 0 c.index-bands-0.result got in
+    subst (λ (counts : ℕ × ℕ). HasIndices counts c.index-bands-0.result) (ap counts_among c.at.ensures) fits.indices
+
+pub lowest_band-requires-clause-magnitudes_below_2_39 : goal.lowest_band-requires-clause-magnitudes_below_2_39
+lowest_band-requires-clause-magnitudes_below_2_39 c =
+    let got : slice_get c.args.bands.now 0 ≡ Some c.index-bands-0.result = got_band c.args.bands.now 0 c.index-bands-0.result (omega (arith, c.requires.bands.count)) c.index-bands-0.is in
+    let fits : IsBandOf c.args.transform.now c.args.width c.args.height 0 c.index-bands-0.result = c.requires.bands.each 0 c.index-bands-0.result got in
+    fits.small
+
+pub loop-n-init : goal.loop-n-init
+loop-n-init c =
+    let got : slice_get c.args.bands.now 0 ≡ Some c.index-bands-0.result = got_band c.args.bands.now 0 c.index-bands-0.result (omega (arith, c.requires.bands.count)) c.index-bands-0.is in
+    let fits : IsBandOf c.args.transform.now c.args.width c.args.height 0 c.index-bands-0.result = c.requires.bands.each 0 c.index-bands-0.result got in
+    record {
+      value = first_level c.args.transform.now c.args.kind c.args.bands.now c.at.result c.index-bands-0.result c.in_ok-low.low (ap counts_among c.at.ensures) got (c.in_ok-low.ensures ∙ c.in_ok-lowest.ensures.value);
+      across =
+          ap (λ (t : Table). t.width) (c.in_ok-low.ensures ∙ c.in_ok-lowest.ensures.value) ∙ summed_width c.args.kind _ ∙ fits.across ∙ lowest_length c.args.width c.args.transform.now.depth
+          ∙ omega arith;
+      down =
+          ap (λ (t : Table). t.height) (c.in_ok-low.ensures ∙ c.in_ok-lowest.ensures.value) ∙ summed_height c.args.kind _ ∙ fits.down ∙ lowest_length c.args.height c.args.transform.now.depth
+          ∙ omega arith;
+      bound = rw c.in_ok-low.ensures c.in_ok-lowest.ensures.bound;
+    }
+
+pub next_level-requires-clause-across : goal.next_level-requires-clause-across
+next_level-requires-clause-across c =
+    omega (arith, c.loop-n.invariant.across, quotient_bound c.args.width c.args.transform.now.depth c.loop-n.n c.requires.across.1 c.loop-n-test.true c.requires.depth.1)
+
+pub next_level-requires-clause-down : goal.next_level-requires-clause-down
+next_level-requires-clause-down c =
+    omega (arith, c.loop-n.invariant.down, quotient_bound c.args.height c.args.transform.now.depth c.loop-n.n c.requires.down.1 c.loop-n-test.true c.requires.depth.1)
+
+pub next_level-requires-clause-magnitudes_at_most_2_103 : goal.next_level-requires-clause-magnitudes_at_most_2_103
+next_level-requires-clause-magnitudes_at_most_2_103 c =
+    all_weaker (2 ^ 77 * 73 ^ c.loop-n.n) (2 ^ 103) c.loop-n.low.values
+    (entry_bound c.loop-n.n (omega (arith, c.loop-n-test.true, c.requires.depth.1))) c.loop-n.invariant.bound
+
+pub next_level-requires-clause-hl : goal.next_level-requires-clause-hl
+next_level-requires-clause-hl c =
+    let got : slice_get c.args.bands.now (3 * c.loop-n.n + 1) ≡ Some c.index-bands-n.result =
+    got_band c.args.bands.now (3 * c.loop-n.n + 1) c.index-bands-n.result (omega (arith, c.requires.bands.count, c.loop-n-test.true)) c.index-bands-n.is in
+    let fits : IsBandOf c.args.transform.now c.args.width c.args.height (3 * c.loop-n.n + 1) c.index-bands-n.result = c.requires.bands.each (3 * c.loop-n.n + 1) c.index-bands-n.result got in (
+      record {
+        index = fits.index;
+        across = fits.across ∙ level_length c.args.width c.args.transform.now.depth c.loop-n.n (3 * c.loop-n.n + 1) c.loop-n-test.true (omega arith) (omega arith) ∙ sym c.loop-n.invariant.across;
+        down = fits.down ∙ level_length c.args.height c.args.transform.now.depth c.loop-n.n (3 * c.loop-n.n + 1) c.loop-n-test.true (omega arith) (omega arith) ∙ sym c.loop-n.invariant.down;
+        small = fits.small;
+      },
+      counts_given c.args.transform.now (3 * c.loop-n.n + 1) (c.loop-n.n + 1) c.at-in-loop-n.result c.index-bands-n.result (omega arith) c.at-in-loop-n.ensures fits.indices,
+    )
+
+pub next_level-requires-clause-lh : goal.next_level-requires-clause-lh
+next_level-requires-clause-lh c =
+    let got : slice_get c.args.bands.now (3 * c.loop-n.n + 2) ≡ Some c.index-bands-n-in-loop-n.result =
+    got_band c.args.bands.now (3 * c.loop-n.n + 2) c.index-bands-n-in-loop-n.result (omega (arith, c.requires.bands.count, c.loop-n-test.true)) c.index-bands-n-in-loop-n.is in
+    let fits : IsBandOf c.args.transform.now c.args.width c.args.height (3 * c.loop-n.n + 2) c.index-bands-n-in-loop-n.result = c.requires.bands.each (3 * c.loop-n.n + 2) c.index-bands-n-in-loop-n.result got in (
+      record {
+        index = fits.index;
+        across = fits.across ∙ level_length c.args.width c.args.transform.now.depth c.loop-n.n (3 * c.loop-n.n + 2) c.loop-n-test.true (omega arith) (omega arith) ∙ sym c.loop-n.invariant.across;
+        down = fits.down ∙ level_length c.args.height c.args.transform.now.depth c.loop-n.n (3 * c.loop-n.n + 2) c.loop-n-test.true (omega arith) (omega arith) ∙ sym c.loop-n.invariant.down;
+        small = fits.small;
+      },
+      counts_given c.args.transform.now (3 * c.loop-n.n + 2) (c.loop-n.n + 1) c.at-in-loop-n.result c.index-bands-n-in-loop-n.result (omega arith) c.at-in-loop-n.ensures fits.indices,
+    )
+
+pub next_level-requires-clause-hh : goal.next_level-requires-clause-hh
+next_level-requires-clause-hh c =
+    let got : slice_get c.args.bands.now (3 * c.loop-n.n + 3) ≡ Some c.index-bands-n-in-loop-n-2.result =
+    got_band c.args.bands.now (3 * c.loop-n.n + 3) c.index-bands-n-in-loop-n-2.result (omega (arith, c.requires.bands.count, c.loop-n-test.true)) c.index-bands-n-in-loop-n-2.is in
+    let fits : IsBandOf c.args.transform.now c.args.width c.args.height (3 * c.loop-n.n + 3) c.index-bands-n-in-loop-n-2.result = c.requires.bands.each (3 * c.loop-n.n + 3) c.index-bands-n-in-loop-n-2.result got in (
+      record {
+        index = fits.index;
+        across = fits.across ∙ level_length c.args.width c.args.transform.now.depth c.loop-n.n (3 * c.loop-n.n + 3) c.loop-n-test.true (omega arith) (omega arith) ∙ sym c.loop-n.invariant.across;
+        down = fits.down ∙ level_length c.args.height c.args.transform.now.depth c.loop-n.n (3 * c.loop-n.n + 3) c.loop-n-test.true (omega arith) (omega arith) ∙ sym c.loop-n.invariant.down;
+        small = fits.small;
+      },
+      counts_given c.args.transform.now (3 * c.loop-n.n + 3) (c.loop-n.n + 1) c.at-in-loop-n.result c.index-bands-n-in-loop-n-2.result (omega arith) c.at-in-loop-n.ensures fits.indices,
+    )
+
+pub loop-n-preserved : goal.loop-n-preserved
+loop-n-preserved c =
+    let a : slice_get c.args.bands.now (3 * c.loop-n.n + 1) ≡ Some c.index-bands-n.result =
+    got_band c.args.bands.now (3 * c.loop-n.n + 1) c.index-bands-n.result (omega (arith, c.requires.bands.count, c.loop-n-test.true)) c.index-bands-n.is in
+    let b : slice_get c.args.bands.now (3 * c.loop-n.n + 2) ≡ Some c.index-bands-n-in-loop-n.result =
+    got_band c.args.bands.now (3 * c.loop-n.n + 2) c.index-bands-n-in-loop-n.result (omega (arith, c.requires.bands.count, c.loop-n-test.true)) c.index-bands-n-in-loop-n.is in
+    let d : slice_get c.args.bands.now (3 * c.loop-n.n + 3) ≡ Some c.index-bands-n-in-loop-n-2.result =
+    got_band c.args.bands.now (3 * c.loop-n.n + 3) c.index-bands-n-in-loop-n-2.result (omega (arith, c.requires.bands.count, c.loop-n-test.true)) c.index-bands-n-in-loop-n-2.is in
+    record {
+      value =
+          more_levels c.args.transform.now c.args.kind c.args.bands.now c.loop-n.n c.at-in-loop-n.result c.index-bands-n.result c.index-bands-n-in-loop-n.result c.index-bands-n-in-loop-n-2.result
+          c.loop-n.low c.in_ok-next.next (ap counts_among c.at-in-loop-n.ensures) c.loop-n.invariant.value a b d c.in_ok-next.ensures.value;
+      across =
+          next_length (lowest_size c.args.width c.args.transform.now.depth) c.loop-n.n c.loop-n.low.width c.in_ok-next.next.width
+          (ap (λ (t : Table). t.width) c.in_ok-next.ensures.value) c.loop-n.invariant.across;
+      down =
+          next_length (lowest_size c.args.height c.args.transform.now.depth) c.loop-n.n c.loop-n.low.height c.in_ok-next.next.height
+          (ap (λ (t : Table). t.height) c.in_ok-next.ensures.value) c.loop-n.invariant.down;
+      bound =
+          all_weaker (72 * (2 ^ 77 * 73 ^ c.loop-n.n) + 40) (2 ^ 77 * 73 ^ (c.loop-n.n + 1)) c.in_ok-next.next.values (bound_more c.loop-n.n)
+          (c.in_ok-next.ensures.growth (2 ^ 77 * 73 ^ c.loop-n.n) (bound_least c.loop-n.n) c.loop-n.invariant.bound);
+    }
+
+pub cut_off-requires-clause-across : goal.cut_off-requires-clause-across
+cut_off-requires-clause-across c =
+    let last : c.loop-n.n ≡ c.args.transform.now.depth = omega arith in (
+      c.requires.across.0,
+      omega (arith, c.loop-n.invariant.across, ap (λ n. lowest_size c.args.width c.args.transform.now.depth * 2 ^ n) last, size_within c.args.width c.args.transform.now.depth),
+      c.requires.across.1,
+    )
+
+pub cut_off-requires-clause-down : goal.cut_off-requires-clause-down
+cut_off-requires-clause-down c =
+    let last : c.loop-n.n ≡ c.args.transform.now.depth = omega arith in (
+      c.requires.down.0,
+      omega (arith, c.loop-n.invariant.down, ap (λ n. lowest_size c.args.height c.args.transform.now.depth * 2 ^ n) last, size_within c.args.height c.args.transform.now.depth),
+      c.requires.down.1,
+    )
+
+pub returns-clause-bound : goal.returns-clause-bound
+returns-clause-bound c =
+    ok_weaker c.cut_off.result
+    (λ t e. rw e (cut_bound (2 ^ 108) c.args.width c.args.height c.loop-n.low
+    (all_weaker (2 ^ 77 * 73 ^ c.loop-n.n) (2 ^ 108) c.loop-n.low.values (end_bound c.loop-n.n (omega (arith, c.requires.depth.1))) c.loop-n.invariant.bound)))
+    c.cut_off.ensures
+
+pub returns-then-have_zeros_alone-clause-value : goal.returns-then-have_zeros_alone-clause-value
+returns-then-have_zeros_alone-clause-value c =
+    let zeros = c.have_zeros_alone.ensures c.if-have_zeros_alone.true in
+    ok_weaker c.try_zeros.result (λ t e. e ∙ sym (zeros_stand_in c.args.transform.now c.args.kind c.args.bands.now c.args.width c.args.height zeros)) c.try_zeros.ensures
+
+pub returns-then-have_zeros_alone-clause-bound : goal.returns-then-have_zeros_alone-clause-bound
+returns-then-have_zeros_alone-clause-bound c =
+    ok_weaker c.try_zeros.result (λ t e. rw e (zeros_bound c.args.width c.args.height)) c.try_zeros.ensures

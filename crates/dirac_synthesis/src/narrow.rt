@@ -1,0 +1,185 @@
+//! A level whose coefficients are at most 4,095, in 32 bits from the coded numbers on. The codeblocks of each band have
+//! its index.
+ghost use Rattle.std.specs.Prelude.{◌≡◌, ℕ, pos, true, ◌+◌, ◌*◌, ◌^◌, ◌<◌, ◌≤◌, length, slice_index_or, slice_set};
+ghost use Rattle.std.specs.Prelude.{unsigned_abs, IfOk};
+ghost use Rattle.std.specs.List.{All};
+ghost use Rattle.dirac_types.specs.Limits.{IsIndex, IsWavelet};
+ghost use Rattle.dirac_types.specs.Table.{table_at};
+ghost use Rattle.dirac_quant.specs.Quantiser.{scaled};
+ghost use Rattle.dirac_lift.specs.Level.{level};
+ghost use Rattle.dirac_synthesis.specs.Fits.{IsBesides};
+ghost use Rattle.dirac_synthesis.specs.Halves.{IsNarrowBand, IsRestorable, beside};
+ghost use Rattle.dirac_synthesis.specs.Codeblocks.{restored_by_one};
+
+use crate::scale::{Scale, scale_of};
+use dirac_coeffs::{CodedBand, Coefficients};
+use dirac_lift::synth_halves_level;
+use dirac_quant::{narrow_limit, restore_narrow};
+use dirac_types::{Kind, LARGEST_NARROW, LARGEST_SIDE, Narrow, NoMemory};
+use std::alloc::Global;
+
+/// Whether all values are at most 4,095 in magnitude.
+pub fn is_narrow(values: &[i32]) -> bool
+    ensures { result ≡ true → All (λ v. unsigned_abs v ≤ LARGEST_NARROW) values.now }
+{
+    values.iter().all(|v| v.unsigned_abs() <= LARGEST_NARROW)
+}
+
+/// Whether all coefficients of a band are at most 4,095 in magnitude.
+pub fn is_narrow_band(band: &CodedBand, kind: Kind) -> bool
+    requires { IsIndex band.now.index }
+    ensures { result ≡ true → IsNarrowBand kind band.now }
+{
+    band.table.largest() <= narrow_limit(band.index, kind)
+}
+
+/// Writes what one coded number stands for.
+#[inline(always)]
+fn put_restored(coded: &[i32], scale: Scale, n: usize, line: &mut [i32], at: usize)
+    requires coded { n < length coded.now }
+    requires inside { at < length line.old }
+    requires offset { scale.offset < 2 ^ 27 }
+    requires below { All (λ v. unsigned_abs v < 2 ^ 12) coded.now }
+    requires restorable { All (λ v. IsRestorable scale.factor scale.offset v) coded.now }
+    ensures { line.new ≡ slice_set line.old at (scaled (slice_index_or coded.now n (pos 0)) scale.factor scale.offset) }
+{
+    line[at] = restore_narrow(coded[n], scale.factor, scale.offset);
+}
+
+/// Writes what coded numbers stand for to the places of a line from one on.
+#[inline(always)]
+fn restore_from(coded: &[i32], scale: Scale, from: usize, line: &mut [i32])
+    requires line { length line.old ≡ 2 * length coded.now }
+    requires from { from ≤ length coded.now }
+    requires offset { scale.offset < 2 ^ 27 }
+    requires below { All (λ v. unsigned_abs v < 2 ^ 12) coded.now }
+    requires restorable { All (λ v. IsRestorable scale.factor scale.offset v) coded.now }
+    ensures written { (n : ℕ) → n < length coded.now → slice_index_or line.new (from + n) (pos 0)
+        ≡ scaled (slice_index_or coded.now n (pos 0)) scale.factor scale.offset }
+    ensures before { (x : ℕ) → x < from → slice_index_or line.new x (pos 0) ≡ slice_index_or line.old x (pos 0) }
+{
+    for n in 0..coded.len() {
+        put_restored(coded, scale, n, line, from + n);
+    }
+}
+
+/// Writes zeros to `count` places of a line from one on.
+#[inline(always)]
+fn clear_from(count: usize, from: usize, line: &mut [i32])
+    requires { from + count ≤ length line.old }
+    ensures written { (n : ℕ) → n < count → slice_index_or line.new (from + n) (pos 0) ≡ pos 0 }
+    ensures before { (x : ℕ) → x < from → slice_index_or line.new x (pos 0) ≡ slice_index_or line.old x (pos 0) }
+{
+    for n in 0..count {
+        line[from + n] = 0;
+    }
+}
+
+/// Writes what a row of a band stands for to the places of a line from one on.
+#[inline(always)]
+fn restore_row_from(band: &Coefficients, scale: Scale, y: u32, from: usize, line: &mut [i32])
+    requires row { y < band.now.height }
+    requires line { length line.old ≡ 2 * band.now.width }
+    requires from { from ≤ band.now.width }
+    requires offset { scale.offset < 2 ^ 27 }
+    requires below { All (λ v. unsigned_abs v < 2 ^ 12) band.now.values }
+    requires restorable { All (λ v. IsRestorable scale.factor scale.offset v) band.now.values }
+    ensures written { (n : ℕ) → n < band.now.width → slice_index_or line.new (from + n) (pos 0)
+        ≡ scaled (table_at band.now n y) scale.factor scale.offset }
+    ensures before { (x : ℕ) → x < from → slice_index_or line.new x (pos 0) ≡ slice_index_or line.old x (pos 0) }
+    ensures whole { length band.now.values ≡ band.now.width * band.now.height }
+{
+    let width = band.width() as usize;
+    match band.narrow_row(y) {
+        Some(coded) => restore_from(coded, scale, from, line),
+        None => clear_from(width, from, line),
+    }
+}
+
+/// Copies values to the first places of a line.
+#[inline(always)]
+fn copy_to_front(values: &[i32], line: &mut [i32])
+    requires { length line.old ≡ 2 * length values.now }
+    ensures { (n : ℕ) → n < length values.now → slice_index_or line.new n (pos 0)
+        ≡ slice_index_or values.now n (pos 0) }
+{
+    for n in 0..values.len() {
+        line[n] = values[n];
+    }
+}
+
+/// The even rows of a level's plane: those of LL, each before that of HL.
+fn even_rows(alloc: Global, low: &Narrow, hl: &CodedBand, kind: Kind) -> Result<Narrow, NoMemory>
+    requires across { low.now.width ≤ LARGEST_SIDE }
+    requires down { low.now.height ≤ LARGEST_SIDE }
+    requires hl { IsBesides low.now hl.now }
+    requires narrow { IsNarrowBand kind hl.now }
+    ensures { IfOk result (λ t. t ≡ beside low.now (restored_by_one kind hl.now)) }
+{
+    let width = low.width();
+    let scale = scale_of(hl.index, kind);
+    let mut rows = Narrow::try_new(alloc, 2 * width, low.height(), 0)?;
+    for y in 0..low.height() {
+        let line = rows.row_mut(y);
+        copy_to_front(low.row(y), line);
+        restore_row_from(&hl.table, scale, y, width as usize, line);
+    }
+    Ok(rows)
+}
+
+/// The odd rows of a level's plane: those of LH, each before that of HH.
+fn odd_rows(alloc: Global, lh: &CodedBand, hh: &CodedBand, kind: Kind) -> Result<Narrow, NoMemory>
+    requires across { lh.now.table.width ≤ LARGEST_SIDE }
+    requires down { lh.now.table.height ≤ LARGEST_SIDE }
+    requires hh { IsBesides lh.now.table hh.now }
+    requires index { IsIndex lh.now.index }
+    requires left { IsNarrowBand kind lh.now }
+    requires right { IsNarrowBand kind hh.now }
+    ensures { IfOk result (λ t. t ≡ beside (restored_by_one kind lh.now) (restored_by_one kind hh.now)) }
+{
+    let width = lh.table.width();
+    let left_scale = scale_of(lh.index, kind);
+    let right_scale = scale_of(hh.index, kind);
+    let mut rows = Narrow::try_new(alloc, 2 * width, lh.table.height(), 0)?;
+    for y in 0..lh.table.height() {
+        let line = rows.row_mut(y);
+        restore_row_from(&lh.table, left_scale, y, 0, line);
+        restore_row_from(&hh.table, right_scale, y, width as usize, line);
+    }
+    Ok(rows)
+}
+
+/// The LL band of the next level.
+pub fn narrow_level(
+    alloc: Global,
+    wavelet: u8,
+    kind: Kind,
+    low: &Narrow,
+    hl: &CodedBand,
+    lh: &CodedBand,
+    hh: &CodedBand,
+) -> Result<Narrow, NoMemory>
+    requires wavelet { IsWavelet wavelet }
+    requires across { low.now.width ≤ LARGEST_SIDE }
+    requires down { low.now.height ≤ LARGEST_SIDE }
+    requires besides { IsBesides low.now hl.now × IsBesides low.now lh.now × IsBesides low.now hh.now }
+    requires narrow { IsNarrowBand kind hl.now × IsNarrowBand kind lh.now × IsNarrowBand kind hh.now }
+    requires at_most_4095 { All (λ v. unsigned_abs v ≤ LARGEST_NARROW) low.now.values }
+    ensures value { IfOk result (λ t. t ≡ level wavelet low.now (restored_by_one kind hl.now)
+        (restored_by_one kind lh.now) (restored_by_one kind hh.now)) }
+    ensures growth { IfOk result (λ t. (b : ℕ) → 2 ^ 64 ≤ b → All (λ v. unsigned_abs v ≤ b) low.now.values
+        → All (λ v. unsigned_abs v ≤ 72 * b + 40) t.values) }
+{
+    let mut evens = even_rows(alloc, low, hl, kind)?;
+    let mut odds = odd_rows(alloc, lh, hh, kind)?;
+    let width = evens.width();
+    let height = evens.height();
+    synth_halves_level(
+        alloc,
+        wavelet,
+        evens.values_mut(),
+        odds.values_mut(),
+        width,
+        height,
+    )
+}

@@ -1,0 +1,100 @@
+ghost use Rattle.std.specs.Prelude.{◌≡◌, ℕ, true, ◌+◌, ◌-◌, ◌*◌, ◌^◌, ◌<◌, ◌≤◌, length, unsigned_abs, IfOk};
+ghost use Rattle.std.specs.Prelude.{slice_get, Some};
+ghost use Rattle.std.specs.List.{All};
+ghost use Rattle.dirac_types.specs.Limits.{IsDepth, IsIndex, IsWavelet};
+ghost use Rattle.dirac_coeffs.specs.declared.layout.CodedBand.{CodedBand as TheBand};
+ghost use Rattle.dirac_lift.specs.Zeros.{AreZeros};
+ghost use Rattle.dirac_synthesis.specs.Codeblocks.{HasIndices, restored_band};
+ghost use Rattle.dirac_synthesis.specs.Fits.{AreBandsOf};
+ghost use Rattle.dirac_synthesis.specs.Residual.{residual, summed};
+
+use crate::cut::cut_off;
+use crate::held::Residual;
+use crate::levels::{Synthesis, next_level};
+use crate::restore::restore_band;
+use dirac_bands::dc_add;
+use dirac_coeffs::CodedBand;
+use dirac_header::Transform;
+use dirac_types::{Kind, LARGEST_SIDE, LARGEST_TABLE_SIDE, NoMemory, Wide};
+use std::alloc::Global;
+
+/// The LL band of level 0, whose values an intra picture codes as differences from their predictions.
+fn lowest_band(
+    alloc: Global,
+    band: &CodedBand,
+    counts: (u32, u32),
+    kind: Kind,
+) -> Result<Wide, NoMemory>
+    requires index { IsIndex band.now.index }
+    requires indices { HasIndices counts band.now }
+    requires across { band.now.table.width ≤ LARGEST_SIDE }
+    requires down { band.now.table.height ≤ LARGEST_SIDE }
+    requires magnitudes_below_2_39 { All (λ v. unsigned_abs v < 2 ^ 39 - 1) band.now.table.values }
+    ensures value { IfOk result (λ t. t ≡ summed kind (restored_band kind counts band.now)) }
+    ensures bound { IfOk result (λ t. All (λ v. unsigned_abs v ≤ 2 ^ 77) t.values) }
+{
+    let mut low = restore_band(alloc, band, counts, kind)?;
+    match kind {
+        Kind::Intra => dc_add(&mut low),
+        Kind::Inter => {}
+    }
+    Ok(low)
+}
+
+/// Whether all bands have zeros alone.
+fn have_zeros_alone(bands: &[CodedBand]) -> bool
+    ensures { result ≡ true → (n : ℕ) (band : TheBand) → slice_get bands.now n ≡ Some band →
+        AreZeros band.table.values }
+{
+    for n in 0..bands.len() {
+        let band = &bands[n];
+        if !band.table.are_zeros() {
+            return false;
+        }
+    }
+    true
+}
+
+/// The residual of a plane of `width` by `height` samples from its subbands, which stand in the order LL, then HL, LH
+/// and HH of levels 1 to the transform's depth: they are restored, in an intra picture LL is summed up, each level is
+/// synthesised from the lowest on, and what was padded is cut off (inverse wavelet transform, Dirac specification).
+pub fn plane_residual(
+    alloc: Global,
+    transform: &Transform,
+    kind: Kind,
+    bands: &[CodedBand],
+    width: u32,
+    height: u32,
+) -> Result<Residual, NoMemory>
+    requires wavelet { IsWavelet transform.now.wavelet }
+    requires depth { IsDepth transform.now.depth }
+    requires levels { length transform.now.counts ≡ transform.now.depth + 1 }
+    requires across { (1 ≤ width) × (width ≤ LARGEST_TABLE_SIDE) }
+    requires down { (1 ≤ height) × (height ≤ LARGEST_TABLE_SIDE) }
+    requires bands { AreBandsOf transform.now width height bands.now }
+    ensures value { IfOk result (λ t. t ≡ residual transform.now kind bands.now width height) }
+    ensures bound { IfOk result (λ t. All (λ v. unsigned_abs v ≤ 2 ^ 108) t.values) }
+{
+    if have_zeros_alone(bands) {
+        return Residual::try_zeros(alloc, width, height);
+    }
+    let lowest = lowest_band(alloc, &bands[0], transform.counts.at(0), kind)?;
+    let mut low = Residual::try_of(alloc, lowest)?;
+    for n in 0..transform.depth as usize {
+        let by = Synthesis {
+            wavelet: transform.wavelet,
+            kind,
+            counts: transform.counts.at(n as u8 + 1),
+        };
+        let next = next_level(
+            alloc,
+            by,
+            &low,
+            &bands[3 * n + 1],
+            &bands[3 * n + 2],
+            &bands[3 * n + 3],
+        )?;
+        low = next;
+    }
+    cut_off(alloc, low, width, height)
+}
