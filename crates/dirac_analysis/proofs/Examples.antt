@@ -1,6 +1,6 @@
 -- Worked values of the definitions.
 use Rattle.std.proofs.Common.{◌≡◌, pos, negsuc, [], ◌∷◌, refl}
-use Rattle.dirac_types.specs.Table.{Table, filled}
+use Rattle.dirac_common.specs.Table.{Table, filled}
 use Rattle.dirac_coeffs.specs.declared.layout.CodedBand.{CodedBand}
 use Rattle.dirac_coeffs.specs.Written.{all_below}
 use Rattle.dirac_analysis.specs.Coded.{coded, index_behind}

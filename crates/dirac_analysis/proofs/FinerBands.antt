@@ -5,10 +5,10 @@ use Rattle.std.proofs.lemmas.Bool.{false≢true}
 use Rattle.std.proofs.lemmas.List.{get_or_default, get_or-map, get_or-replicate, length-map, length-replicate}
 use Rattle.std.proofs.lemmas.List.FromFn.{fill_by_all, get_or-map-range_with_len, length-map-range_with_len}
 use Rattle.std.proofs.lemmas.Nat.{div-add-mod', div-mul-add, div_below, mod-mul-add, mul-le}
-use Rattle.dirac_types.specs.Limits.{IsIndex}
-use Rattle.dirac_types.specs.declared.formats.Band.{Band}
-use Rattle.dirac_types.specs.Table.{Table, filled, table_at}
-use Rattle.dirac_types.proofs.Bounds.{told_bound}
+use Rattle.dirac_common.specs.Limits.{IsIndex}
+use Rattle.dirac_common.specs.declared.formats.Band.{Band}
+use Rattle.dirac_common.specs.Table.{Table, filled, table_at}
+use Rattle.dirac_common.proofs.Bounds.{told_bound}
 use Rattle.dirac_quant.specs.Quantiser.{factor_of, reduced, with_sign_of}
 use Rattle.dirac_coeffs.specs.declared.layout.BandLayout.{BandLayout}
 use Rattle.dirac_coeffs.specs.declared.layout.CodedBand.{CodedBand}

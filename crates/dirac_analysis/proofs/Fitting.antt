@@ -6,11 +6,11 @@ use Rattle.std.proofs.lemmas.Bool.{cases_eq, cases_lt}
 use Rattle.std.proofs.lemmas.Int.{ints}
 use Rattle.std.proofs.lemmas.Nat.{div-mul-add, div_below}
 use Rattle.std.proofs.lemmas.Option.{slice_get_within}
-use Rattle.dirac_types.specs.declared.formats.Kind.{Kind}
-use Rattle.dirac_types.specs.declared.formats.Kind.TheVariants.{Intra, Inter}
-use Rattle.dirac_types.specs.Table.{Table, table_at}
-use Rattle.dirac_types.specs.Samples.{clip}
-use Rattle.dirac_types.proofs.Bounds.{all_weaker, told_bound, values_bound}
+use Rattle.dirac_common.specs.declared.formats.Kind.{Kind}
+use Rattle.dirac_common.specs.declared.formats.Kind.TheVariants.{Intra, Inter}
+use Rattle.dirac_common.specs.Table.{Table, table_at}
+use Rattle.dirac_common.specs.Samples.{clip}
+use Rattle.dirac_common.proofs.Bounds.{all_weaker, told_bound, values_bound}
 use Rattle.dirac_bands.specs.DcSum.{IsDcSum}
 use Rattle.dirac_bands.specs.Interleaving.{band_of}
 use Rattle.dirac_bands.specs.Geometry.{level_of, padded_size}

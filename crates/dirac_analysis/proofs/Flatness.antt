@@ -4,8 +4,8 @@ use Rattle.std.proofs.lemmas.Bool.{cases_lt, false≢true}
 use Rattle.std.proofs.lemmas.Bool.Decides.{Decides-below_and, Decides-ltb, same_from_decides}
 use Rattle.std.proofs.lemmas.List.{get_or-set_other, get_or-set_same}
 use Rattle.std.proofs.lemmas.Nat.{div-add-mod', div_below, mod_below, pow_pos}
-use Rattle.dirac_types.specs.Table.{Table, row_of, table_at}
-use Rattle.dirac_types.proofs.Rows.{filled_at, row_at}
+use Rattle.dirac_common.specs.Table.{Table, row_of, table_at}
+use Rattle.dirac_common.proofs.Rows.{filled_at, row_at}
 use Rattle.dirac_quant.specs.Quantiser.{factor_of, reduced, with_sign_of}
 use Rattle.dirac_bands.specs.Geometry.{edge_of}
 use Rattle.dirac_coeffs.specs.Contexts.{is_zero}

@@ -1,8 +1,8 @@
 -- The bands of a level whose rows stand in halves.
 use Rattle.std.proofs.Common.{◌≡◌, ℕ, ℤ, pos, zero, suc, ◌+◌, ◌*◌, ◌/◌, ◌%◌, ◌^◌, ◌<◌, ◌≤◌, unsigned_abs, List, length, get_or, arith, refl, ap, ap₂, sym, ◌∙◌}
 use Rattle.std.specs.List.{All}
-use Rattle.dirac_types.specs.Table.{Table, table_at}
-use Rattle.dirac_types.proofs.Rows.{filled_at, rows_all}
+use Rattle.dirac_common.specs.Table.{Table, table_at}
+use Rattle.dirac_common.proofs.Rows.{filled_at, rows_all}
 use Rattle.dirac_bands.specs.Interleaving.{band_of}
 use Rattle.dirac_lift.specs.Halves.{from_halves, place_of}
 use Rattle.dirac_lift.specs.Level.{analysed}

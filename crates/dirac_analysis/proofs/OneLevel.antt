@@ -5,9 +5,9 @@ use Rattle.std.specs.List.{All}
 use Rattle.std.proofs.lemmas.Bool.{cases_eq}
 use Rattle.std.proofs.lemmas.List.{ext_get_or}
 use Rattle.std.proofs.lemmas.List.FromFn.{length-map-range_with_len}
-use Rattle.dirac_types.specs.Table.{Table, filled, table_at}
-use Rattle.dirac_types.proofs.Bounds.{all_weaker}
-use Rattle.dirac_types.proofs.Rows.{filled_at}
+use Rattle.dirac_common.specs.Table.{Table, filled, table_at}
+use Rattle.dirac_common.proofs.Bounds.{all_weaker}
+use Rattle.dirac_common.proofs.Rows.{filled_at}
 use Rattle.dirac_bands.specs.Geometry.{lowest_size, padded_size}
 use Rattle.dirac_bands.specs.Interleaving.{band_of}
 use Rattle.dirac_bands.proofs.Undoing.{plane_again}

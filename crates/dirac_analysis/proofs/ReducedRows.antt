@@ -5,8 +5,8 @@ use Rattle.std.proofs.lemmas.Bool.{cases_eq, cases_lt}
 use Rattle.std.proofs.lemmas.List.{get_or_default}
 use Rattle.std.proofs.lemmas.List.FromFn.{fill_by_all, get_or-map-range_with_len, length-map-range_with_len}
 use Rattle.std.proofs.lemmas.Nat.{div-mul-add, div_below, mod-mul-add, mod_below, mul-add-lt}
-use Rattle.dirac_types.specs.Table.{Table, filled, row_of, table_at, table_of}
-use Rattle.dirac_types.proofs.Rows.{row_at}
+use Rattle.dirac_common.specs.Table.{Table, filled, row_of, table_at, table_of}
+use Rattle.dirac_common.proofs.Rows.{row_at}
 use Rattle.dirac_quant.specs.Quantiser.{reduced}
 use Rattle.dirac_bands.specs.Geometry.{edge_of}
 use Rattle.dirac_coeffs.specs.declared.layout.CodedBand.{CodedBand}

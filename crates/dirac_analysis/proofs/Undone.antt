@@ -6,10 +6,10 @@ use Rattle.std.proofs.lemmas.Int.{ints}
 use Rattle.std.proofs.lemmas.List.{ext_get_or}
 use Rattle.std.proofs.lemmas.List.FromFn.{fill_by_all}
 use Rattle.std.proofs.lemmas.Nat.{div-add-mod'}
-use Rattle.dirac_types.specs.declared.formats.Kind.{Kind}
-use Rattle.dirac_types.specs.declared.formats.Kind.TheVariants.{Intra, Inter}
-use Rattle.dirac_types.specs.Table.{Table, filled, table_at}
-use Rattle.dirac_types.proofs.Rows.{filled_at}
+use Rattle.dirac_common.specs.declared.formats.Kind.{Kind}
+use Rattle.dirac_common.specs.declared.formats.Kind.TheVariants.{Intra, Inter}
+use Rattle.dirac_common.specs.Table.{Table, filled, table_at}
+use Rattle.dirac_common.proofs.Rows.{filled_at}
 use Rattle.dirac_quant.specs.Quantiser.{factor_of, reduced, restored, restored_magnitude}
 use Rattle.dirac_bands.specs.DcSum.{dc_sum, prediction, IsDcSum}
 use Rattle.dirac_bands.specs.Interleaving.{band_of}

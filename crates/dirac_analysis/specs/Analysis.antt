@@ -1,8 +1,8 @@
 -- From the values of a plane, samples or what a prediction leaves of them, to its quantised subbands.
 use Rattle.std.specs.Prelude.{ℕ, zero, suc, ◌-◌, ◌-ℤ◌, List, [], ◌∷◌, ◌++◌, min}
-use Rattle.dirac_types.specs.declared.formats.Kind.{Kind}
-use Rattle.dirac_types.specs.declared.formats.Kind.TheVariants.{Intra, Inter}
-use Rattle.dirac_types.specs.Table.{Table, table_at, table_of}
+use Rattle.dirac_common.specs.declared.formats.Kind.{Kind}
+use Rattle.dirac_common.specs.declared.formats.Kind.TheVariants.{Intra, Inter}
+use Rattle.dirac_common.specs.Table.{Table, table_at, table_of}
 use Rattle.dirac_bands.specs.DcSum.{prediction}
 use Rattle.dirac_bands.specs.Geometry.{level_of, padded_size}
 use Rattle.dirac_bands.specs.Interleaving.{band_of}

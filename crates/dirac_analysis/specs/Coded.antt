@@ -3,7 +3,7 @@
 use Rattle.std.specs.Prelude.{ℕ, ℤ, zero, suc, ◌+◌, ◌-◌, ◌*◌, ◌/◌, ◌%◌, nat_lt, unsigned_abs, if◌then◌else◌, Bool, ◌&&◌}
 use Rattle.std.specs.Prelude.{List, map, replicate}
 use Rattle.std.specs.List.{range_with_len}
-use Rattle.dirac_types.specs.Table.{Table, table_at, table_of}
+use Rattle.dirac_common.specs.Table.{Table, table_at, table_of}
 use Rattle.dirac_quant.specs.Quantiser.{reduced}
 use Rattle.dirac_bands.specs.Geometry.{edge_of}
 use Rattle.dirac_coeffs.specs.declared.layout.CodedBand.{CodedBand}

@@ -2,9 +2,9 @@
 use Rattle.std.specs.Prelude.{◌≡◌, ℕ, ℤ, zero, suc, ◌+◌, ◌-◌, ◌*◌, ◌/◌, ◌^◌, ◌<◌, ◌≤◌, List, length, replicate}
 use Rattle.std.specs.Prelude.{true, Some, slice_get, unsigned_abs}
 use Rattle.std.specs.List.{All}
-use Rattle.dirac_types.specs.Limits.{IsIndex}
-use Rattle.dirac_types.specs.declared.limits.TheConstants.{LARGEST_TABLE_SIDE}
-use Rattle.dirac_types.specs.Table.{Table}
+use Rattle.dirac_common.specs.Limits.{IsIndex}
+use Rattle.dirac_common.specs.declared.limits.TheConstants.{LARGEST_TABLE_SIDE}
+use Rattle.dirac_common.specs.Table.{Table}
 use Rattle.dirac_bands.specs.Geometry.{level_of}
 pub use Rattle.dirac_bands.specs.Geometry.{lowest_size}
 use Rattle.dirac_header.specs.Counts.{counts_at}

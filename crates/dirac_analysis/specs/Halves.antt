@@ -1,6 +1,6 @@
 -- Planes that are held in 32 bits or wide, and halves of rows.
 use Rattle.std.specs.Prelude.{ℕ, ◌+◌, ◌/◌}
-use Rattle.dirac_types.specs.Table.{Table, table_at, table_of}
+use Rattle.dirac_common.specs.Table.{Table, table_at, table_of}
 use Rattle.dirac_analysis.specs.declared.held.Held.{Held}
 use Rattle.dirac_analysis.specs.declared.held.Held.TheVariants.{Narrow, Wide}
 

@@ -1,8 +1,8 @@
 -- What holds of the subbands of all planes.
 use Rattle.std.specs.Prelude.{◌≡◌, ℕ, ◌*◌, ◌≤◌, length}
-use Rattle.dirac_types.specs.Limits.{IsIndex, IsWavelet}
-use Rattle.dirac_types.specs.declared.formats.Kind.{Kind}
-use Rattle.dirac_types.specs.Table.{Table}
+use Rattle.dirac_common.specs.Limits.{IsIndex, IsWavelet}
+use Rattle.dirac_common.specs.declared.formats.Kind.{Kind}
+use Rattle.dirac_common.specs.Table.{Table}
 use Rattle.dirac_bands.specs.Geometry.{lowest_size}
 use Rattle.dirac_header.specs.declared.transform.Transform.{Transform}
 use Rattle.dirac_synthesis.specs.Residual.{residual}

@@ -1,6 +1,6 @@
 ghost use Rattle.std.specs.Prelude.{◌≡◌, [], ◌∷◌, ◌++◌, IfOk};
 
-use dirac_types::{NoMemory, Wide};
+use dirac_common::{NoMemory, Wide};
 use std::alloc::Global;
 use std::marker::Model;
 

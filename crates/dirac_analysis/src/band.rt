@@ -1,12 +1,12 @@
 ghost use Rattle.std.specs.Prelude.{◌≡◌, ◌≤◌, IfOk};
-ghost use Rattle.dirac_types.specs.Limits.{IsIndex};
+ghost use Rattle.dirac_common.specs.Limits.{IsIndex};
 ghost use Rattle.dirac_analysis.specs.Coded.{coded as coded_band};
 ghost use Rattle.dirac_analysis.specs.Fits.{IsQuantisable};
 
 use crate::coded::code_by_one;
 use crate::finer::code_finer;
 use dirac_coeffs::CodedBand;
-use dirac_types::{MOST_CODEBLOCKS, NoMemory, Wide};
+use dirac_common::{MOST_CODEBLOCKS, NoMemory, Wide};
 use std::alloc::Global;
 
 /// A table of coefficients coded at this quantiser index, its flat codeblocks at one that is lower by `finer`, but at

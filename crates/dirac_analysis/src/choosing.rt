@@ -2,16 +2,16 @@
 ghost use Rattle.std.specs.Prelude.{◌≡◌, ℕ, pos, ◌+◌, ◌-◌, ◌*◌, ◌/◌, ◌%◌, ◌^◌, ◌<◌, ◌≤◌, if◌then◌else◌, length};
 ghost use Rattle.std.specs.Prelude.{map, nat_lt, slice_index_or, unsigned_abs, IfOk};
 ghost use Rattle.std.specs.List.{All, range_with_len};
-ghost use Rattle.dirac_types.specs.Limits.{IsIndex};
-ghost use Rattle.dirac_types.specs.Table.{table_at};
+ghost use Rattle.dirac_common.specs.Limits.{IsIndex};
+ghost use Rattle.dirac_common.specs.Table.{table_at};
 ghost use Rattle.dirac_bands.specs.Geometry.{edge_of};
 ghost use Rattle.dirac_analysis.specs.Coded as spec;
 ghost use Rattle.dirac_analysis.specs.Fits.{IsQuantisable};
 
 use dirac_bands::edge;
 use dirac_coeffs::{Indices, is_parted};
+use dirac_common::{MOST_CODEBLOCKS, NoMemory, Wide};
 use dirac_quant::factor;
-use dirac_types::{MOST_CODEBLOCKS, NoMemory, Wide};
 use std::alloc::Global;
 
 /// A codeblock is flat where the magnitudes of all its coefficients are below this.

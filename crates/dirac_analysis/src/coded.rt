@@ -1,13 +1,13 @@
 ghost use Rattle.std.specs.Prelude.{◌≡◌, ℕ, pos, ◌*◌, ◌/◌, ◌≤◌, ◌<◌, ◌^◌, length, map, slice_index_or, unsigned_abs};
 ghost use Rattle.std.specs.Prelude.{IfOk};
 ghost use Rattle.std.specs.List.{All};
-ghost use Rattle.dirac_types.specs.Limits.{IsIndex};
+ghost use Rattle.dirac_common.specs.Limits.{IsIndex};
 ghost use Rattle.dirac_quant.specs.Quantiser.{reduced, with_sign_of};
 ghost use Rattle.dirac_analysis.specs.Coded.{coded_by_one};
 
 use dirac_coeffs::{CodedBand, Coefficients, Indices};
+use dirac_common::{BandTable, LARGEST_TABLE_SIDE, MOST_CODEBLOCKS, NoMemory, Wide};
 use dirac_quant::{factor, reduce_by};
-use dirac_types::{BandTable, LARGEST_TABLE_SIDE, MOST_CODEBLOCKS, NoMemory, Wide};
 use std::alloc::Global;
 
 /// The number that codes a coefficient below 2^38, by the factor of an index.

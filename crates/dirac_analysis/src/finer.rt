@@ -1,8 +1,8 @@
 //! Subbands whose flat codeblocks are quantised by a lower index than the others.
 ghost use Rattle.std.specs.Prelude.{◌≡◌, ℕ, pos, ◌+◌, ◌*◌, ◌^◌, ◌<◌, ◌≤◌, length, slice_index_or, unsigned_abs, IfOk};
 ghost use Rattle.std.specs.List.{All};
-ghost use Rattle.dirac_types.specs.Limits.{IsIndex};
-ghost use Rattle.dirac_types.specs.Table.{table_at, table_of};
+ghost use Rattle.dirac_common.specs.Limits.{IsIndex};
+ghost use Rattle.dirac_common.specs.Table.{table_at, table_of};
 ghost use Rattle.dirac_quant.specs.Quantiser.{reduced};
 ghost use Rattle.dirac_bands.specs.Geometry.{edge_of};
 ghost use Rattle.dirac_coeffs.specs.Indices.{index_at};
@@ -14,8 +14,8 @@ use crate::choosing::{Choices, choose_all};
 use crate::coded::reduce_part;
 use dirac_bands::edge;
 use dirac_coeffs::{CodedBand, Coefficients, Indices};
+use dirac_common::{BandTable, LARGEST_TABLE_SIDE, MOST_CODEBLOCKS, NoMemory, Wide};
 use dirac_synthesis::first_codeblock;
-use dirac_types::{BandTable, LARGEST_TABLE_SIDE, MOST_CODEBLOCKS, NoMemory, Wide};
 use std::alloc::Global;
 
 /// Writes the numbers of a row whose codeblocks, `across`, stand from place `first` on among the indices.

@@ -1,7 +1,7 @@
 ghost use Rattle.std.specs.Prelude.{◌≡◌, IfOk};
 ghost use Rattle.dirac_analysis.specs.Halves.{held_table};
 
-use dirac_types::{Narrow, NoMemory, Wide};
+use dirac_common::{Narrow, NoMemory, Wide};
 use std::alloc::Global;
 
 /// A plane, or the LL band of a level of it: in 32 bits where these were enough so far, else wide.

@@ -1,6 +1,6 @@
 ghost use Rattle.std.specs.Prelude.{◌≡◌, ◌-◌, ◌%◌, ◌≤◌, ◌^◌, unsigned_abs, IfOk};
 ghost use Rattle.std.specs.List.{All};
-ghost use Rattle.dirac_types.specs.Limits.{IsWavelet};
+ghost use Rattle.dirac_common.specs.Limits.{IsWavelet};
 ghost use Rattle.dirac_bands.specs.Interleaving.{band_of};
 ghost use Rattle.dirac_lift.specs.Level.{analysed};
 ghost use Rattle.dirac_analysis.specs.Analysis.{analysis_of, as_coded, differences};
@@ -11,8 +11,8 @@ use crate::analysed::AnalysedPlane;
 use crate::held::{Held, SplitLevel};
 use crate::narrow::{is_narrow, split_narrow};
 use dirac_bands::{FourBands, dc_subtract, split_bands};
+use dirac_common::{Kind, LARGEST_TABLE_SIDE, Narrow, NoMemory, Wide};
 use dirac_lift::analyse_level;
-use dirac_types::{Kind, LARGEST_TABLE_SIDE, Narrow, NoMemory, Wide};
 use std::alloc::Global;
 
 /// The last LL band as it is coded: an intra picture's less its predictions.

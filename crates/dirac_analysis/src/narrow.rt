@@ -2,14 +2,14 @@
 ghost use Rattle.std.specs.Prelude.{◌≡◌, ℕ, pos, true, ◌+◌, ◌/◌, ◌%◌, ◌<◌, ◌≤◌, length, slice_index_or, unsigned_abs};
 ghost use Rattle.std.specs.Prelude.{IfOk};
 ghost use Rattle.std.specs.List.{All};
-ghost use Rattle.dirac_types.specs.Limits.{IsWavelet};
+ghost use Rattle.dirac_common.specs.Limits.{IsWavelet};
 ghost use Rattle.dirac_bands.specs.Interleaving.{band_of};
 ghost use Rattle.dirac_lift.specs.Level.{analysed};
 ghost use Rattle.dirac_analysis.specs.Halves.{half_columns, held_table};
 
 use crate::held::{Held, SplitLevel};
+use dirac_common::{LARGEST_NARROW, LARGEST_TABLE_SIDE, Narrow, NoMemory, Wide};
 use dirac_lift::{HalfRows, analyse_halves_level};
-use dirac_types::{LARGEST_NARROW, LARGEST_TABLE_SIDE, Narrow, NoMemory, Wide};
 use std::alloc::Global;
 
 /// Whether all values are at most 4,095 in magnitude.

@@ -1,12 +1,12 @@
 ghost use Rattle.std.specs.Prelude.{◌≡◌, ℕ, ◌-◌, ◌≤◌, ◌<◌, length, min, slice_index, unsigned_abs, IfOk};
 ghost use Rattle.std.specs.Prelude.{slice_index_or, pos};
 ghost use Rattle.std.specs.List.{All};
-ghost use Rattle.dirac_types.specs.Limits.{IsEncodedDepth};
+ghost use Rattle.dirac_common.specs.Limits.{IsEncodedDepth};
 ghost use Rattle.dirac_analysis.specs.Analysis.{padded as padded_table};
 ghost use Rattle.dirac_analysis.specs.Fits.{AreSamples, IsDivisible};
 
 use dirac_bands::padded;
-use dirac_types::{LARGEST_SIDE, Narrow, NoMemory, Plane};
+use dirac_common::{LARGEST_SIDE, Narrow, NoMemory, Plane};
 use std::alloc::Global;
 
 /// Writes a row of samples, and its last one again up to the end of the line.

@@ -1,5 +1,5 @@
 ghost use Rattle.std.specs.Prelude.{◌≡◌, ◌-◌, ◌+◌, ◌*◌, ◌≤◌, ◌<◌, ◌^◌, unsigned_abs, IfOk};
-ghost use Rattle.dirac_types.specs.Limits.{IsEncodedDepth, IsIndex, IsWavelet};
+ghost use Rattle.dirac_common.specs.Limits.{IsEncodedDepth, IsIndex, IsWavelet};
 ghost use Rattle.dirac_bands.specs.Geometry.{lowest_size};
 ghost use Rattle.dirac_synthesis.specs.Residual.{residual};
 ghost use Rattle.dirac_picture.specs.Fits.{IsLayout};
@@ -11,9 +11,9 @@ use crate::held::Held;
 use crate::levels::analyse_levels;
 use crate::padding::pad;
 use crate::quantising::quantise_plane;
+use dirac_common::{Kind, LARGEST_SIDE, NoMemory, Plane};
 use dirac_header::Transform;
 use dirac_picture::PlaneBands;
-use dirac_types::{Kind, LARGEST_SIDE, NoMemory, Plane};
 use std::alloc::Global;
 
 /// The subbands of a plane of values before they are quantised (forward wavelet transform): the plane is padded and

@@ -1,5 +1,5 @@
 ghost use Rattle.std.specs.Prelude.{◌≡◌, [], ◌∷◌, IfOk};
-ghost use Rattle.dirac_types.specs.Limits.{IsIndex};
+ghost use Rattle.dirac_common.specs.Limits.{IsIndex};
 ghost use Rattle.dirac_picture.specs.Fits.{IsLayout};
 ghost use Rattle.dirac_analysis.specs.Analysis.{lowest_index as index_of_lowest, quantised};
 ghost use Rattle.dirac_analysis.specs.Fits.{AreQuantisable};
@@ -7,9 +7,9 @@ ghost use Rattle.dirac_analysis.specs.Fits.{AreQuantisable};
 use crate::analysed::AnalysedPlane;
 use crate::band::code_band;
 use dirac_coeffs::CodedBand;
+use dirac_common::{Kind, NoMemory};
 use dirac_header::Transform;
 use dirac_picture::PlaneBands;
-use dirac_types::{Kind, NoMemory};
 use std::alloc::Global;
 
 /// The index of LL: an intra picture's is 0.

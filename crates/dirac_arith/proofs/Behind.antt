@@ -1,10 +1,10 @@
 -- What a number is read to, first decision by decision.
 use Rattle.std.proofs.Common.{◌≡◌, ℕ, ℤ, pos, zero, suc, ◌+◌, ◌-◌, ◌*◌, ◌≤◌, Bool, true, false, List, Result, Ok, Err, refl, arith}
 use Rattle.std.proofs.lemmas.Bool.{ne_eqb}
-use Rattle.dirac_types.specs.Bits.{bit_value}
-use Rattle.dirac_types.specs.Numbers.{signed_value}
-use Rattle.dirac_types.specs.declared.faults.Cause.{Cause}
-use Rattle.dirac_types.specs.declared.faults.Cause.TheVariants as cause
+use Rattle.dirac_common.specs.Bits.{bit_value}
+use Rattle.dirac_common.specs.Numbers.{signed_value}
+use Rattle.dirac_common.specs.declared.faults.Cause.{Cause}
+use Rattle.dirac_common.specs.declared.faults.Cause.TheVariants as cause
 use Rattle.dirac_arith.specs.Deciding.{decided, number_from_digit, number_read, sign_read, signed_read}
 use Rattle.dirac_arith.specs.Reading.{Reading}
 use Rattle.dirac_arith.specs.Spelling.{follow_at}

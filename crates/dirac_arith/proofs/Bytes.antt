@@ -1,7 +1,7 @@
 -- Numbers that bytes hold.
 use Rattle.std.proofs.Common.{◌≡◌, ℕ, zero, suc, ◌+◌, ◌*◌, ◌/◌, ◌%◌, ◌^◌, ◌<◌, List, [], ◌∷◌, ◌++◌, length, get_or, set, drop, refl, ap, ◌∙◌, arith, mul-le-mul_right, mod-eq_of_lt}
 use Rattle.std.proofs.lemmas.Nat.{pow_pos, pow-add, shr_high, shr_split, mod-pow-add, mod_below}
-use Rattle.dirac_types.specs.Bits.{byte_bits, bits_of, number_from}
+use Rattle.dirac_common.specs.Bits.{byte_bits, bits_of, number_from}
 use Rattle.dirac_arith.specs.Front.{front, first_bits}
 use Rattle.dirac_arith.specs.Tail.{bytes_from}
 use Rattle.dirac_arith.specs.Written.{bytes_of}

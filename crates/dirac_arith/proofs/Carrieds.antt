@@ -2,11 +2,11 @@
 use Rattle.std.proofs.Common.{◌≡◌, ◌≢◌, ℕ, ℤ, pos, negsuc, zero, suc, ◌+◌, ◌-◌, ◌*◌, ◌^◌, ◌<◌, ◌≤◌, ◌⊎◌, inl, inr, ◌↔◌, Bool, true, false, List, [], ◌∷◌, ◌++◌, length, nat_abs, Result, Ok, Err, IfOk, IfErr, OnErr, refl, sym, ap, ◌∙◌, arith, subst, length-append, true≢false}
 use Rattle.std.proofs.lemmas.Bool.{cases_Bool, cases_eq, eq-eqb, ne_eqb}
 use Rattle.std.proofs.Math.Pow.{pow_mono}
-use Rattle.dirac_types.specs.Bits.{bit_value, number_from}
-use Rattle.dirac_types.specs.declared.faults.Cause.{Cause}
-use Rattle.dirac_types.specs.declared.faults.Cause.TheVariants as cause
-use Rattle.dirac_types.proofs.Digits.{digits_are, number_from-below, number_from-some}
-use Rattle.dirac_types.specs.Chain.{◌>>=◌}
+use Rattle.dirac_common.specs.Bits.{bit_value, number_from}
+use Rattle.dirac_common.specs.declared.faults.Cause.{Cause}
+use Rattle.dirac_common.specs.declared.faults.Cause.TheVariants as cause
+use Rattle.dirac_common.proofs.Digits.{digits_are, number_from-below, number_from-some}
+use Rattle.dirac_common.specs.Chain.{◌>>=◌}
 use Rattle.dirac_arith.specs.Carried.{Lies, Carries, lies_in}
 use Rattle.dirac_arith.specs.Deciding.{begin, after, after_all, truth_of, decided, number_from_digit, number_read, sign_read, signed_read, Gives}
 use Rattle.dirac_arith.specs.Front.{front}

@@ -1,11 +1,11 @@
 -- What a block reads to, and the decisions that it carries.
 use Rattle.std.proofs.Common.{◌≡◌, ◌≢◌, ℕ, ℤ, pos, negsuc, zero, suc, ◌+◌, ◌-◌, ◌*◌, ◌^◌, ◌<◌, ◌≤◌, ◌⊎◌, inl, inr, Bool, true, false, List, [], ◌∷◌, length, nat_abs, Result, Ok, Err, refl, sym, ap, ◌∙◌, arith, subst, true≢false}
 use Rattle.std.proofs.lemmas.Bool.{cases_lt, cases_Bool, and_from, and_parts, le-leb, lt-ltb, leb-true, ltb-true, eq-eqb, ne_eqb}
-use Rattle.dirac_types.specs.Bits.{bit_value, number_from}
-use Rattle.dirac_types.specs.Numbers.{digits_of}
-use Rattle.dirac_types.specs.declared.faults.Cause.{Cause}
-use Rattle.dirac_types.specs.declared.faults.Cause.TheVariants as cause
-use Rattle.dirac_types.proofs.Digits.{digits_value, digits_few}
+use Rattle.dirac_common.specs.Bits.{bit_value, number_from}
+use Rattle.dirac_common.specs.Numbers.{digits_of}
+use Rattle.dirac_common.specs.declared.faults.Cause.{Cause}
+use Rattle.dirac_common.specs.declared.faults.Cause.TheVariants as cause
+use Rattle.dirac_common.proofs.Digits.{digits_value, digits_few}
 use Rattle.dirac_arith.specs.Carried.{Lies, lies_in}
 use Rattle.dirac_arith.specs.Deciding.{after, after_all, truth_of, decided, number_from_digit, number_read, sign_read, signed_read}
 use Rattle.dirac_arith.specs.Front.{front}

@@ -8,9 +8,9 @@ use Rattle.std.proofs.Math.Nat.{pow-le-pow_right}
 use Rattle.std.proofs.lemmas.Bool.{le-ltb}
 use Rattle.std.proofs.lemmas.List.{get_or-replicate}
 use Rattle.std.proofs.lemmas.Nat.{pow_pos, pow-add, shr_split, shr_below, shr-shr, shl-shr, shr_high, mod_below, le-div, div_below}
-use Rattle.dirac_types.specs.Bits.{bit_value}
-use Rattle.dirac_types.specs.Numbers.{digits_of}
-use Rattle.dirac_types.proofs.Digits.{digits_push, bit_value-of_rest}
+use Rattle.dirac_common.specs.Bits.{bit_value}
+use Rattle.dirac_common.specs.Numbers.{digits_of}
+use Rattle.dirac_common.proofs.Digits.{digits_push, bit_value-of_rest}
 use Rattle.dirac_arith.specs.Carried.{Lies}
 use Rattle.dirac_arith.specs.Front.{front}
 use Rattle.dirac_arith.specs.Interval.{Interval, Decision, InContexts, doublings_for, narrowed, narrowed_by, whole, interval_of, split_at, adapted}

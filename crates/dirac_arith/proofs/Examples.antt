@@ -1,6 +1,6 @@
 -- The definitions, computed on small cases.
 use Rattle.std.proofs.Common.{◌≡◌, true, false, [], ◌∷◌, pos, replicate, refl}
-use Rattle.dirac_types.specs.Numbers.{digits_of, digits_within}
+use Rattle.dirac_common.specs.Numbers.{digits_of, digits_within}
 use Rattle.dirac_arith.specs.StepTable.{step_table, step_of}
 use Rattle.dirac_arith.specs.Front.{first_bits, front}
 use Rattle.dirac_arith.specs.Interval.{Decision, doublings_for, interval_of}

@@ -2,7 +2,7 @@
 use Rattle.std.proofs.Common.{◌≡◌, ℕ, zero, suc, ◌+◌, ◌*◌, ◌^◌, ◌<◌, ◌==◌, Bool, true, false, ◌&&◌, List, [], ◌∷◌, ◌++◌, length, get_or, drop, inl, inr, refl, ap, ◌∙◌, arith, zero-add}
 use Rattle.std.proofs.Math.Nat.{two-pow-succ}
 use Rattle.std.proofs.lemmas.Bool.{and_parts, eqb-true, cases_eq}
-use Rattle.dirac_types.specs.Bits.{byte_bits, bits_of, bit_value, number_from}
+use Rattle.dirac_common.specs.Bits.{byte_bits, bits_of, bit_value, number_from}
 use Rattle.dirac_arith.specs.Front.{first_bits, front}
 
 -- one power of two more

@@ -1,6 +1,6 @@
 -- The decisions that spell numbers are in contexts that there are.
 use Rattle.std.proofs.Common.{ℕ, zero, suc, ℤ, pos, negsuc, ◌+◌, ◌<◌, Bool, true, false, List, [], ◌∷◌, ◌++◌, length}
-use Rattle.dirac_types.specs.Numbers.{digits_of}
+use Rattle.dirac_common.specs.Numbers.{digits_of}
 use Rattle.dirac_arith.specs.Interval.{Decision, InContexts}
 use Rattle.dirac_arith.specs.Spelling.{follow_at, opening, spelling, signed_spelling}
 

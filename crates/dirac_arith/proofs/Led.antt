@@ -1,8 +1,8 @@
 -- Readings that decisions led to, and what is read of them.
 use Rattle.std.proofs.Common.{◌≡◌, ℕ, ℤ, ◌-◌, ◌^◌, ◌<◌, Bool, false, List, [], ◌∷◌, ◌++◌, length, nat_abs, inl, inr, Result, Ok, Err, refl, sym, ap, ◌∙◌, arith, subst, length-append}
 use Rattle.std.proofs.lemmas.Bool.{cases_eq}
-use Rattle.dirac_types.specs.declared.faults.Cause.{Cause}
-use Rattle.dirac_types.specs.declared.faults.Cause.TheVariants as cause
+use Rattle.dirac_common.specs.declared.faults.Cause.{Cause}
+use Rattle.dirac_common.specs.declared.faults.Cause.TheVariants as cause
 use Rattle.dirac_arith.specs.Carried.{Lies, Carries}
 use Rattle.dirac_arith.specs.Deciding.{begin, after, after_all, truth_of, decided, number_read, signed_read}
 use Rattle.dirac_arith.specs.Front.{front}

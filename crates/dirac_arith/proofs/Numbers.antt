@@ -3,11 +3,11 @@ use mir.Val.{bool_byte}
 use Rattle.std.proofs.Common.{◌≡◌, ℕ, ℤ, pos, zero, suc, ◌+◌, ◌-◌, ◌*◌, ◌^◌, ◌<◌, ◌≤◌, ◌⊎◌, inl, inr, Bool, true, false, List, [], ◌∷◌, ◌++◌, length, nat_abs, Result, Ok, Err, IfOk, IfErr, refl, sym, ap, ◌∙◌, arith, subst, length-append, true≢false}
 use Rattle.std.proofs.lemmas.Bool.{cases_lt, cases_Bool, false≢true}
 use Rattle.std.proofs.lemmas.List.{append-nil, get_or_past}
-use Rattle.dirac_types.specs.Bits.{bit_value}
-use Rattle.dirac_types.specs.Numbers.{digits_of, signed_value}
-use Rattle.dirac_types.specs.declared.faults.Cause.{Cause}
-use Rattle.dirac_types.specs.declared.faults.Cause.TheVariants as cause
-use Rattle.dirac_types.proofs.Digits.{digits_push, digits_are, digits_few}
+use Rattle.dirac_common.specs.Bits.{bit_value}
+use Rattle.dirac_common.specs.Numbers.{digits_of, signed_value}
+use Rattle.dirac_common.specs.declared.faults.Cause.{Cause}
+use Rattle.dirac_common.specs.declared.faults.Cause.TheVariants as cause
+use Rattle.dirac_common.proofs.Digits.{digits_push, digits_are, digits_few}
 use Rattle.dirac_arith.specs.declared.decoder.Decoder.TheInside.{Inside}
 use Rattle.dirac_arith.specs.Carried.{Lies}
 use Rattle.dirac_arith.specs.Front.{front}

@@ -2,9 +2,9 @@
 use Rattle.std.proofs.Common.{◌≡◌, ℕ, ℤ, pos, negsuc, zero, suc, ◌+◌, ◌-◌, ◌^◌, ◌<◌, ◌≤◌, Bool, true, false, List, [], ◌∷◌, ◌++◌, length, map, nat_abs, get_or, set, slice_index, slice_set, inl, inr, refl, sym, ap, ◌∙◌, arith, subst, append_assoc, length-append, replicate, true≢false, get_or-set_same, get_or-set_other}
 use Rattle.std.proofs.lemmas.Bool.{cases_lt, cases_eq, false≢true}
 use Rattle.std.proofs.lemmas.List.{get_or_past, set_past, get_or-replicate, append-nil, map-append}
-use Rattle.dirac_types.specs.Bits.{number_from}
-use Rattle.dirac_types.specs.Numbers.{digits_of, followed}
-use Rattle.dirac_types.proofs.Digits.{digits_value, digits_few}
+use Rattle.dirac_common.specs.Bits.{number_from}
+use Rattle.dirac_common.specs.Numbers.{digits_of, followed}
+use Rattle.dirac_common.proofs.Digits.{digits_value, digits_few}
 use Rattle.dirac_arith.specs.Interval.{Interval, Decision, adapted, narrowed, narrowed_by, whole}
 use Rattle.dirac_arith.specs.Carried.{Lies, Carries}
 use Rattle.dirac_arith.specs.Spelling.{follow_at, opening, spelt, spelling, signed_spelling}

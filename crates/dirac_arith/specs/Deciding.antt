@@ -2,12 +2,12 @@
 -- interval that true keeps. Each step gives its value and the reading behind it, or why there is none.
 use Rattle.std.specs.Prelude.{◌≡◌, ℕ, zero, suc, ℤ, pos, ◌+◌, ◌-◌, ◌*◌, ◌==◌, if◌then◌else◌, Bool, true, List, Result}
 use Rattle.std.specs.Prelude.{Ok, Err}
-use Rattle.dirac_types.specs.declared.limits.TheConstants.{MOST_DIGITS}
-use Rattle.dirac_types.specs.declared.faults.Cause.{Cause}
-use Rattle.dirac_types.specs.declared.faults.Cause.TheVariants.{CodeWord, NumberTooLong}
-use Rattle.dirac_types.specs.Bits.{bit_value}
-use Rattle.dirac_types.specs.Chain.{◌>>=◌}
-use Rattle.dirac_types.specs.Numbers.{signed_value}
+use Rattle.dirac_common.specs.declared.limits.TheConstants.{MOST_DIGITS}
+use Rattle.dirac_common.specs.declared.faults.Cause.{Cause}
+use Rattle.dirac_common.specs.declared.faults.Cause.TheVariants.{CodeWord, NumberTooLong}
+use Rattle.dirac_common.specs.Bits.{bit_value}
+use Rattle.dirac_common.specs.Chain.{◌>>=◌}
+use Rattle.dirac_common.specs.Numbers.{signed_value}
 use Rattle.dirac_arith.specs.Front.{front}
 use Rattle.dirac_arith.specs.Interval.{Decision, narrowed, narrowed_by, whole}
 use Rattle.dirac_arith.specs.Reading.{Reading}

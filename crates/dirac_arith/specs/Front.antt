@@ -1,6 +1,6 @@
 -- The number at the front of a block, whose bits past its end are ones.
 use Rattle.std.specs.Prelude.{ℕ, zero, suc, Bool, true, List, [], ◌∷◌}
-use Rattle.dirac_types.specs.Bits.{bits_of, number_from}
+use Rattle.dirac_common.specs.Bits.{bits_of, number_from}
 
 -- the first n of these bits followed by endless ones
 unfoldable pub first_bits : List Bool → ℕ → List Bool

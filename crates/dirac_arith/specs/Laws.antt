@@ -1,10 +1,10 @@
 -- What holds of all blocks and decisions.
 use Rattle.std.specs.Prelude.{◌≡◌, ◌≢◌, ◌↔◌, ◌⊎◌, ◌-◌, ◌^◌, ◌<◌, ℕ, ℤ, Bool, true, false, List, [], ◌∷◌, ◌++◌, length}
 use Rattle.std.specs.Prelude.{map, nat_abs, Ok, Err}
-use Rattle.dirac_types.specs.declared.limits.TheConstants.{MOST_DIGITS}
-use Rattle.dirac_types.specs.Numbers.{uint, sint}
+use Rattle.dirac_common.specs.declared.limits.TheConstants.{MOST_DIGITS}
+use Rattle.dirac_common.specs.Numbers.{uint, sint}
 use Rattle.dirac_arith.specs.Interval.{Decision, InContexts}
-use Rattle.dirac_types.specs.declared.faults.Cause.TheVariants.{CodeWord, NumberTooLong}
+use Rattle.dirac_common.specs.declared.faults.Cause.TheVariants.{CodeWord, NumberTooLong}
 use Rattle.dirac_arith.specs.Carried.{Carries}
 use Rattle.dirac_arith.specs.Deciding.{begin, decided, number_read, signed_read}
 use Rattle.dirac_arith.specs.Front.{front}

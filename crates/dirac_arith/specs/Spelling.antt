@@ -3,7 +3,7 @@ use Rattle.std.specs.Prelude.{ℕ, zero, suc, ℤ, pos, negsuc, ◌+◌, ◌-◌
 use Rattle.std.specs.Prelude.{length, slice_index, nat_lt, IsTrue}
 use Rattle.std.specs.List.{list_all}
 use Rattle.dirac_arith.specs.declared.contexts.TheConstants.{CONTEXTS}
-use Rattle.dirac_types.specs.Numbers.{digits_of}
+use Rattle.dirac_common.specs.Numbers.{digits_of}
 use Rattle.dirac_arith.specs.Interval.{Decision}
 
 -- a list of numbers of contexts

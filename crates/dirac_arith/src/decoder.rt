@@ -13,7 +13,7 @@ use crate::contexts::CONTEXTS;
 use crate::follow::follow_context;
 use crate::probabilities::adapt;
 use crate::registers::{Registers, begin, decide, fill, is_past};
-use dirac_types::{Cause, MOST_DIGITS, with_sign};
+use dirac_common::{Cause, MOST_DIGITS, with_sign};
 use std::marker::Model;
 
 /// Reads the decisions of a block, each under the number of its context (arithmetic decoding, Dirac specification).

@@ -12,7 +12,7 @@ use crate::follow::follow_context;
 use crate::probabilities::adapt;
 use crate::registers::doublings;
 use crate::tail::Tail;
-use dirac_types::NoMemory;
+use dirac_common::NoMemory;
 use std::alloc::Global;
 use std::marker::Model;
 

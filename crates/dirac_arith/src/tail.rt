@@ -4,7 +4,7 @@ ghost use Rattle.std.specs.Prelude.{true};
 ghost use Rattle.dirac_arith.specs.Tail.{bytes_from};
 ghost use Rattle.dirac_arith.specs.Written.{bytes_of};
 
-use dirac_types::NoMemory;
+use dirac_common::NoMemory;
 use std::alloc::Global;
 use std::marker::Model;
 

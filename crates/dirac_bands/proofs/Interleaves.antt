@@ -3,9 +3,9 @@ use Rattle.std.proofs.Common.{◌≡◌, ◌≢◌, ℕ, ℤ, pos, ◌+◌, ◌*
 use Rattle.std.proofs.lemmas.List.{get_or-set_same, get_or-set_other, length-set}
 use Rattle.std.proofs.lemmas.List.FromFn.{fill_by_all, get_or-map-range_with_len}
 use Rattle.std.proofs.lemmas.Bool.{cases_eq, ne_eqb}
-use Rattle.dirac_types.specs.Table.{Table, table_at, row_of}
+use Rattle.dirac_common.specs.Table.{Table, table_at, row_of}
 use Rattle.dirac_bands.specs.Interleaving.{interleaved_at, interleaved, every_other, joined_at}
-use Rattle.dirac_types.proofs.Rows.{row_at}
+use Rattle.dirac_common.proofs.Rows.{row_at}
 
 pub at_even : (even odd : List ℤ) (n x : ℕ) → x ≡ 2 * n → interleaved_at even odd x ≡ get_or even n (pos 0)
 at_even even odd n x e =

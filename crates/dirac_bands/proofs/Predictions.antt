@@ -7,9 +7,9 @@ use Rattle.std.proofs.lemmas.Nat.{mul-add-lt, mod-mul-add, div-mul-add, mul-le, 
 use Rattle.std.proofs.lemmas.List.{get_or-set_same, get_or-set_other, length-set, get_or_default, get_or_push, get_or_append_left, length_push, ext_get_or, take_at}
 use Rattle.std.proofs.lemmas.Bool.{cases_eq, cases_lt, ne_eqb}
 use Rattle.std.proofs.Math.Nat.{suc-mul}
-use Rattle.dirac_types.specs.Table.{Table, with_values}
-use Rattle.dirac_types.specs.Samples.{mean_of_three}
-use Rattle.dirac_types.proofs.Bounds.{values_bound}
+use Rattle.dirac_common.specs.Table.{Table, with_values}
+use Rattle.dirac_common.specs.Samples.{mean_of_three}
+use Rattle.dirac_common.proofs.Bounds.{values_bound}
 use Rattle.dirac_bands.specs.DcSum.{value_at, by_rows, prediction_in, IsDcSum, sums_up_to, dc_sum}
 
 -- the row above ends a width earlier

@@ -1,9 +1,9 @@
 -- Joining and splitting undo each other.
 use Rattle.std.proofs.Common.{◌≡◌, ℕ, ℤ, ◌+◌, ◌*◌, ◌/◌, ◌%◌, ◌<◌, ◌≤◌, ◌==◌, if◌then◌else◌, length, arith, refl, inl, inr, sym, ◌∙◌, eq-eqb}
 use Rattle.std.proofs.lemmas.Bool.{cases_eq, ne_eqb}
-use Rattle.dirac_types.specs.Table.{Table, table_at, table_of}
+use Rattle.dirac_common.specs.Table.{Table, table_at, table_of}
 use Rattle.dirac_bands.specs.Interleaving.{joined_at, joined, band_of}
-use Rattle.dirac_types.proofs.Rows.{rows_all, filled_at}
+use Rattle.dirac_common.proofs.Rows.{rows_all, filled_at}
 
 -- a table is the one that its values tell
 pub table_is : (f : ℕ → ℕ → ℤ) (t : Table) (w h : ℕ) → t.width ≡ w → t.height ≡ h → 0 < w → length t.values ≡ t.width * t.height → ((x y : ℕ) → x < t.width → y < t.height → table_at t x y ≡ f x y) → t ≡ table_of w h f

@@ -1,8 +1,8 @@
 -- The prediction of an intra picture's LL band.
 use Rattle.std.specs.Prelude.{◌≡◌, ℕ, zero, suc, ℤ, pos, ◌+◌, ◌-◌, ◌*◌, ◌/◌, ◌%◌, ◌<◌, ◌==◌, ◌+ℤ◌, List, [], ◌∷◌, ◌++◌}
 use Rattle.std.specs.Prelude.{length, slice_index_or, if◌then◌else◌}
-use Rattle.dirac_types.specs.Table.{Table, table_at}
-use Rattle.dirac_types.specs.Samples.{mean_of_three}
+use Rattle.dirac_common.specs.Table.{Table, table_at}
+use Rattle.dirac_common.specs.Samples.{mean_of_three}
 
 -- the table with these values by rows
 abbrev pub by_rows : ℕ → ℕ → List ℤ → Table

@@ -2,7 +2,7 @@
 -- both odd.
 use Rattle.std.specs.Prelude.{ℕ, ℤ, pos, ◌+◌, ◌*◌, ◌/◌, ◌%◌, ◌==◌, List, length, map, slice_index_or, if◌then◌else◌}
 use Rattle.std.specs.List.{range_with_len}
-use Rattle.dirac_types.specs.Table.{Table, table_at, table_of}
+use Rattle.dirac_common.specs.Table.{Table, table_at, table_of}
 
 -- the band that a place of the plane belongs to
 abbrev pub band_at : Table → Table → Table → Table → ℕ → ℕ → Table

@@ -1,10 +1,10 @@
 ghost use Rattle.std.specs.Prelude.{◌≡◌, ℕ, ◌+◌, ◌*◌, ◌^◌, ◌<◌, ◌≤◌, ◌+ℤ◌, ◌-ℤ◌, unsigned_abs, length};
 ghost use Rattle.std.specs.List.{All};
-ghost use Rattle.dirac_types.specs.Table.{Table};
-ghost use Rattle.dirac_types.specs.Samples.{mean_of_three};
+ghost use Rattle.dirac_common.specs.Table.{Table};
+ghost use Rattle.dirac_common.specs.Samples.{mean_of_three};
 ghost use Rattle.dirac_bands.specs.DcSum.{by_rows, prediction_in, IsDcSum, dc_sum};
 
-use dirac_types::Wide;
+use dirac_common::Wide;
 
 #[inline(always)]
 fn sum(a: i128, b: i128) -> i128

@@ -1,8 +1,8 @@
 ghost use Rattle.std.specs.Prelude.{◌≡◌, ◌+◌, ◌%◌, ◌^◌, ◌<◌, ◌≤◌};
-ghost use Rattle.dirac_types.specs.Limits.{IsDepth};
+ghost use Rattle.dirac_common.specs.Limits.{IsDepth};
 ghost use Rattle.dirac_bands.specs.Geometry.{padded_size, size_of_band, edge_of};
 
-use dirac_types::{LARGEST_SIDE, LARGEST_TABLE_SIDE};
+use dirac_common::{LARGEST_SIDE, LARGEST_TABLE_SIDE};
 
 /// A plane's size across or down, padded up to a multiple of 2 to the power of the transform's depth
 /// (padded dimensions, Dirac specification).

@@ -1,7 +1,7 @@
 ghost use Rattle.std.specs.Prelude.{◌≡◌, ◌+◌, ◌*◌, ◌%◌, ◌≤◌, ◌<◌, length, IfOk};
 ghost use Rattle.dirac_bands.specs.Interleaving.{band_of, every_other, interleaved, joined};
 
-use dirac_types::{LARGEST_SIDE, LARGEST_TABLE_SIDE, NoMemory, Wide};
+use dirac_common::{LARGEST_SIDE, LARGEST_TABLE_SIDE, NoMemory, Wide};
 use std::alloc::Global;
 
 /// The four subbands of one level, all of one size.

@@ -1,8 +1,8 @@
 -- The bits of bytes, one by one.
 use Rattle.std.proofs.Common.{◌≡◌, ℕ, zero, suc, ◌+◌, ◌-◌, ◌*◌, ◌<◌, ◌≤◌, List, [], ◌∷◌, length, get_or, drop, refl, sym, ap, ◌∙◌, arith, Ok, Err}
 use Rattle.std.proofs.lemmas.List.{drop-drop, drop_all}
-use Rattle.dirac_types.specs.declared.faults.Cause.TheVariants.{UnitShort}
-use Rattle.dirac_types.specs.Bits.{is_bit_set, bits_of}
+use Rattle.dirac_common.specs.declared.faults.Cause.TheVariants.{UnitShort}
+use Rattle.dirac_common.specs.Bits.{is_bit_set, bits_of}
 use Rattle.dirac_bits.specs.Cursor.{bits_left, first_of, bit_next}
 
 -- eight bits a byte

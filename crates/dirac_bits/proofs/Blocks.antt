@@ -4,9 +4,9 @@ use Rattle.std.specs.Prelude.{slice_range}
 use Rattle.std.specs.List.{AllByRecursion}
 use Rattle.std.proofs.lemmas.Bool.{cases_lt}
 use Rattle.std.proofs.lemmas.List.{drop_more}
-use Rattle.dirac_types.specs.declared.faults.Cause.{Cause}
-use Rattle.dirac_types.specs.declared.faults.Cause.TheVariants.{UnitShort}
-use Rattle.dirac_types.specs.Bits.{byte_bits, bits_of, number_from}
+use Rattle.dirac_common.specs.declared.faults.Cause.{Cause}
+use Rattle.dirac_common.specs.declared.faults.Cause.TheVariants.{UnitShort}
+use Rattle.dirac_common.specs.Bits.{byte_bits, bits_of, number_from}
 use Rattle.dirac_bits.specs.Cursor.{Cursor, skip, bits_left, Passes}
 use Rattle.dirac_bits.specs.Fields.{bits_on, bytes_on, from, block_at}
 use Rattle.dirac_bits.proofs.Passing.{same_answer, length-bits_left, none_passed, passes_none, passes_join, passes_front}

@@ -1,9 +1,9 @@
 -- How a number is read, bit by bit.
 use Rattle.std.proofs.Common.{◌≡◌, ℕ, zero, suc, ◌+◌, ◌-◌, ◌*◌, ◌<◌, Bool, true, false, refl, arith, Ok, Err}
 use Rattle.std.specs.Int.{from_bool}
-use Rattle.dirac_types.specs.declared.faults.Cause.{Cause}
-use Rattle.dirac_types.specs.declared.faults.Cause.TheVariants.{NumberTooLong}
-use Rattle.dirac_types.specs.Bits.{bit_value}
+use Rattle.dirac_common.specs.declared.faults.Cause.{Cause}
+use Rattle.dirac_common.specs.declared.faults.Cause.TheVariants.{NumberTooLong}
+use Rattle.dirac_common.specs.Bits.{bit_value}
 use Rattle.dirac_bits.specs.Cursor.{Cursor, bit_next}
 use Rattle.dirac_bits.specs.Fields.{number_on}
 

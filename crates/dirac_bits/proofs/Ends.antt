@@ -1,9 +1,9 @@
 -- No spelling of a number begins with that of another.
 use Rattle.std.proofs.Common.{◌≡◌, ℕ, zero, suc, ◌+◌, ◌<◌, ◌^◌, ℤ, pos, negsuc, Bool, true, false, List, [], ◌∷◌, ◌++◌, refl, sym, ap, ◌∙◌, arith, append_assoc}
 use Rattle.std.specs.Prelude.{unsigned_abs}
-use Rattle.dirac_types.specs.Bits.{number_from}
-use Rattle.dirac_types.specs.Numbers.{digits_of, followed, uint, sint}
-use Rattle.dirac_types.proofs.Digits.{digits_value}
+use Rattle.dirac_common.specs.Bits.{number_from}
+use Rattle.dirac_common.specs.Numbers.{digits_of, followed, uint, sint}
+use Rattle.dirac_common.proofs.Digits.{digits_value}
 
 -- the digits end where the follow bit 1 is
 digits_end : (bs cs more rest : List Bool) → (followed bs ++ true ∷ []) ++ more ≡ (followed cs ++ true ∷ []) ++ rest → (bs ≡ cs) × (more ≡ rest)

@@ -1,7 +1,7 @@
 -- What an answer that is read says of spellings.
 use Rattle.std.proofs.Common.{◌≡◌, ℕ, ◌*◌, ◌≤◌, List, length, sym, ap, ◌∙◌, Result, Ok, Err}
 use Rattle.std.specs.Prelude.{IfOk}
-use Rattle.dirac_types.specs.declared.faults.Refusal.{Refusal}
+use Rattle.dirac_common.specs.declared.faults.Refusal.{Refusal}
 use Rattle.dirac_bits.specs.Cursor.{Cursor, start}
 use Rattle.dirac_bits.specs.Syntax.{Syntax, read}
 use Rattle.dirac_bits.specs.Answers.{Gives, Reads, value_of}

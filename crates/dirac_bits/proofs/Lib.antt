@@ -13,3 +13,4 @@ pub mod Runs
 pub mod Writes
 pub mod Fronts
 pub mod Examples
+pub mod Packed

@@ -1,10 +1,10 @@
 -- Literals: the bits of four bytes.
 use Rattle.std.proofs.Common.{◌≡◌, ℕ, zero, suc, ◌+◌, ◌*◌, ◌/◌, ◌%◌, ◌<◌, ◌≤◌, ◌^◌, ◌==◌, Bool, true, false, List, [], ◌∷◌, length, get_or, drop, refl, sym, ap, subst, ◌∙◌, arith, Result, Ok, Err}
-use Rattle.dirac_types.specs.declared.faults.Cause.{Cause}
-use Rattle.dirac_types.specs.declared.faults.Cause.TheVariants.{UnitShort}
-use Rattle.dirac_types.specs.Bits.{is_bit_set, byte_bits, bits_of, bit_value, number_from}
-use Rattle.dirac_types.specs.Numbers.{literal}
-use Rattle.dirac_types.specs.Chain.{◌>>=◌}
+use Rattle.dirac_common.specs.declared.faults.Cause.{Cause}
+use Rattle.dirac_common.specs.declared.faults.Cause.TheVariants.{UnitShort}
+use Rattle.dirac_common.specs.Bits.{is_bit_set, byte_bits, bits_of, bit_value, number_from}
+use Rattle.dirac_common.specs.Numbers.{literal}
+use Rattle.dirac_common.specs.Chain.{◌>>=◌}
 use Rattle.dirac_bits.specs.Cursor.{Cursor, skip, bits_left, first_of, bit_next, Passes}
 use Rattle.dirac_bits.specs.Fields.{bits_on, number_of, literal_on, literal_at}
 use Rattle.dirac_bits.proofs.Bits.{drop_byte}

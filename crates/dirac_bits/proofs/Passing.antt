@@ -1,7 +1,7 @@
 -- Bits that the bits left begin with.
 use Rattle.std.proofs.Common.{◌≡◌, ℕ, ◌+◌, ◌-◌, ◌*◌, ◌/◌, ◌≤◌, Bool, List, [], ◌∷◌, ◌++◌, length, drop, take, refl, sym, ap, subst, ◌∙◌, arith, append_assoc, length-append, length-drop, Result, Ok}
 use Rattle.std.proofs.lemmas.List.{drop-drop, drop_at, take-append-drop, length-take}
-use Rattle.dirac_types.specs.Bits.{bits_of}
+use Rattle.dirac_common.specs.Bits.{bits_of}
 use Rattle.dirac_bits.specs.Cursor.{Cursor, skip, aligned, bits_left, first_of, bit_next, Passes}
 use Rattle.dirac_bits.proofs.Bits.{length-bits_of}
 

@@ -1,9 +1,9 @@
 -- A header is read exactly where the bits left begin with a spelling of it.
 use Rattle.std.proofs.Common.{◌≡◌, ℕ, ◌+◌, ◌*◌, ◌≤◌, Bool, List, [], ◌∷◌, ◌++◌, length, refl, subst, Result, Ok, Err}
-use Rattle.dirac_types.specs.declared.faults.Refusal.{Refusal}
-use Rattle.dirac_types.specs.Bits.{bits_of}
-use Rattle.dirac_types.specs.Numbers as numbers
-use Rattle.dirac_types.specs.Chain.{◌>>=◌}
+use Rattle.dirac_common.specs.declared.faults.Refusal.{Refusal}
+use Rattle.dirac_common.specs.Bits.{bits_of}
+use Rattle.dirac_common.specs.Numbers as numbers
+use Rattle.dirac_common.specs.Chain.{◌>>=◌}
 use Rattle.dirac_bits.specs.Cursor.{Cursor, place, skip, aligned, Passes}
 use Rattle.dirac_bits.specs.Fields.{flag_at, uint_at, sint_at, literal_at, block_at}
 use Rattle.dirac_bits.specs.Syntax.{Syntax, done, flag_then, uint_then, sint_then, literal_then, block_then, align_then, here_then, refuse, read}

@@ -2,9 +2,9 @@
 use Rattle.std.proofs.Common.{◌≡◌, ℕ, zero, suc, ◌+◌, ◌-◌, ◌*◌, ◌/◌, ◌%◌, ◌<◌, ◌≤◌, ◌^◌, ◌==◌, Bool, true, false, List, [], ◌∷◌, ◌++◌, length, refl, sym, ap, ◌∙◌, arith, append_assoc, length-append, pow_mono}
 use Rattle.std.proofs.lemmas.List.{append-nil}
 use Rattle.std.proofs.lemmas.Nat.{shr-shr, div-mul-add, div-add-mod', shl_whole}
-use Rattle.dirac_types.specs.Bits.{byte_bits, bits_of, bit_value}
-use Rattle.dirac_types.specs.Numbers.{digits_of, digits_within, followed, literal}
-use Rattle.dirac_types.proofs.Digits.{power_doubled, digits_push}
+use Rattle.dirac_common.specs.Bits.{byte_bits, bits_of, bit_value}
+use Rattle.dirac_common.specs.Numbers.{digits_of, digits_within, followed, literal}
+use Rattle.dirac_common.proofs.Digits.{power_doubled, digits_push}
 use Rattle.dirac_bits.specs.Writing.{bits_below}
 
 -- so many bits

@@ -2,11 +2,11 @@
 use Rattle.std.proofs.Common.{◌≡◌, ℕ, zero, suc, ◌+◌, ◌-◌, ◌*◌, ◌<◌, ◌≤◌, ◌^◌, ◌==◌, ℤ, pos, negsuc, Bool, true, false, List, [], ◌∷◌, ◌++◌, length, refl, sym, ap, subst, ◌∙◌, arith, pow_mono, Result, Ok, Err}
 use Rattle.std.specs.Prelude.{unsigned_abs}
 use Rattle.std.proofs.lemmas.Bool.{ne_eqb}
-use Rattle.dirac_types.specs.declared.faults.Cause.{Cause}
-use Rattle.dirac_types.specs.Bits.{bit_value, number_from}
-use Rattle.dirac_types.specs.Numbers.{digits_of, followed, uint, sint}
-use Rattle.dirac_types.proofs.Digits.{digits_value, digits_few, digits_are, number_from-below, number_from-some}
-use Rattle.dirac_types.specs.Chain.{◌>>=◌}
+use Rattle.dirac_common.specs.declared.faults.Cause.{Cause}
+use Rattle.dirac_common.specs.Bits.{bit_value, number_from}
+use Rattle.dirac_common.specs.Numbers.{digits_of, followed, uint, sint}
+use Rattle.dirac_common.proofs.Digits.{digits_value, digits_few, digits_are, number_from-below, number_from-some}
+use Rattle.dirac_common.specs.Chain.{◌>>=◌}
 use Rattle.dirac_bits.specs.Cursor.{Cursor, skip, bit_next, Passes}
 use Rattle.dirac_bits.specs.Fields.{number_on, sign_on, signed_on, with_sign, from, flag_at, uint_at, sint_at}
 use Rattle.dirac_bits.proofs.Doublings.{goes_on, ends_number}

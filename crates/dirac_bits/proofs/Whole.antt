@@ -1,8 +1,8 @@
 -- A payload's header is read exactly where its bytes begin with a spelling of it.
 use Rattle.std.proofs.Common.{◌≡◌, ℕ, Bool, List, ◌++◌, length, drop, refl, sym, ap, ◌∙◌, arith, Result, Ok, Err}
 use Rattle.std.proofs.lemmas.List.{drop_at}
-use Rattle.dirac_types.specs.declared.faults.Refusal.{Refusal}
-use Rattle.dirac_types.specs.Bits.{bits_of}
+use Rattle.dirac_common.specs.declared.faults.Refusal.{Refusal}
+use Rattle.dirac_common.specs.Bits.{bits_of}
 use Rattle.dirac_bits.specs.Cursor.{Cursor, start, skip, bits_left, Passes}
 use Rattle.dirac_bits.specs.Syntax.{Syntax, read}
 use Rattle.dirac_bits.specs.Answers.{value_of}

@@ -6,8 +6,8 @@ use Rattle.std.proofs.lemmas.List.{append-nil}
 use Rattle.std.proofs.lemmas.Grind.{take-set_at}
 use Rattle.std.proofs.lemmas.Nat.{shl_whole, pow-add}
 use Rattle.std.proofs.Math.Nat.{mul-le-mul_right}
-use Rattle.dirac_types.specs.Bits.{byte_bits, bits_of}
-use Rattle.dirac_types.proofs.Digits.{power_doubled}
+use Rattle.dirac_common.specs.Bits.{byte_bits, bits_of}
+use Rattle.dirac_common.proofs.Digits.{power_doubled}
 use Rattle.dirac_bits.specs.Writing.{bits_below}
 use Rattle.dirac_bits.proofs.Bits.{length-bits_of}
 use Rattle.dirac_bits.proofs.Runs.{length-bits_below, bits_below-parts, bits_below-byte, bits_below-rest, bits_of-append}

@@ -1,8 +1,8 @@
 -- What the answer of a reader says of what is read.
 use Rattle.std.specs.Prelude.{◌≡◌, ⊤, ℕ, ◌≤◌, Result, Ok, Err}
-use Rattle.dirac_types.specs.declared.faults.Refusal.{Refusal}
-use Rattle.dirac_types.specs.declared.faults.Stop.{Stop}
-use Rattle.dirac_types.specs.declared.faults.Stop.TheVariants as stop
+use Rattle.dirac_common.specs.declared.faults.Refusal.{Refusal}
+use Rattle.dirac_common.specs.declared.faults.Stop.{Stop}
+use Rattle.dirac_common.specs.declared.faults.Stop.TheVariants as stop
 use Rattle.dirac_bits.specs.Cursor.{Cursor}
 
 -- the reader answers what is read, seen by `view`, and stands behind it; after a refusal it stands where it stood

@@ -1,6 +1,6 @@
 -- Bits by their byte, as the code counts them.
 use Rattle.std.specs.Prelude.{◌≡◌, ℕ, ◌+◌, ◌*◌, List, Result, Ok, Err}
-use Rattle.dirac_types.specs.declared.faults.Cause.{Cause}
+use Rattle.dirac_common.specs.declared.faults.Cause.{Cause}
 use Rattle.dirac_bits.specs.declared.bit_place.BitPlace.{BitPlace}
 use Rattle.dirac_bits.specs.Cursor.{Cursor}
 

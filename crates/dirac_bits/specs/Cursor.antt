@@ -1,8 +1,8 @@
 -- Where a reader of bits stands.
 use Rattle.std.specs.Prelude.{◌≡◌, ℕ, ◌+◌, ◌*◌, ◌/◌, Bool, List, [], ◌∷◌, ◌++◌, length, drop, Result, Ok, Err}
-use Rattle.dirac_types.specs.declared.faults.Cause.{Cause}
-use Rattle.dirac_types.specs.declared.faults.Cause.TheVariants.{UnitShort}
-use Rattle.dirac_types.specs.Bits.{bits_of}
+use Rattle.dirac_common.specs.declared.faults.Cause.{Cause}
+use Rattle.dirac_common.specs.declared.faults.Cause.TheVariants.{UnitShort}
+use Rattle.dirac_common.specs.Bits.{bits_of}
 
 -- the bytes, and the number of the bit that is read next; bits count from 0, the most significant of a byte first
 pub record Cursor : Type 0 where

@@ -1,13 +1,13 @@
 -- The fields of the bitstream, read: a value and the place behind it, or why there is none.
 use Rattle.std.specs.Prelude.{ℕ, zero, suc, ℤ, pos, ◌+◌, ◌-◌, ◌*◌, ◌==◌, if◌then◌else◌, Bool, List, [], ◌∷◌, Result, Ok}
 use Rattle.std.specs.Prelude.{Err}
-use Rattle.dirac_types.specs.declared.limits.TheConstants.{MOST_DIGITS}
-use Rattle.dirac_types.specs.declared.faults.Cause.{Cause}
-use Rattle.dirac_types.specs.declared.faults.Cause.TheVariants.{NumberTooLong}
-use Rattle.dirac_types.specs.declared.faults.Refusal.{Refusal}
-use Rattle.dirac_types.specs.Bits.{bit_value, number_from}
-use Rattle.dirac_types.specs.Chain.{◌>>=◌}
-use Rattle.dirac_types.specs.Numbers.{signed_value}
+use Rattle.dirac_common.specs.declared.limits.TheConstants.{MOST_DIGITS}
+use Rattle.dirac_common.specs.declared.faults.Cause.{Cause}
+use Rattle.dirac_common.specs.declared.faults.Cause.TheVariants.{NumberTooLong}
+use Rattle.dirac_common.specs.declared.faults.Refusal.{Refusal}
+use Rattle.dirac_common.specs.Bits.{bit_value, number_from}
+use Rattle.dirac_common.specs.Chain.{◌>>=◌}
+use Rattle.dirac_common.specs.Numbers.{signed_value}
 use Rattle.dirac_bits.specs.Cursor.{Cursor, place, bit_next}
 
 -- a number, its digits so far making `value`, where that many more may follow: a follow bit 1 ends it

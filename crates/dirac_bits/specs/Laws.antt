@@ -1,7 +1,7 @@
 -- The laws of this crate.
 use Rattle.std.specs.Prelude.{◌≡◌, ℕ, ℤ, ◌+◌, ◌*◌, ◌<◌, ◌≤◌, ◌^◌, Bool, List, ◌++◌, length, unsigned_abs, Ok}
-use Rattle.dirac_types.specs.Bits.{bits_of}
-use Rattle.dirac_types.specs.Numbers.{uint, sint}
+use Rattle.dirac_common.specs.Bits.{bits_of}
+use Rattle.dirac_common.specs.Numbers.{uint, sint}
 use Rattle.dirac_bits.specs.Cursor.{Cursor, Passes}
 use Rattle.dirac_bits.specs.Syntax.{Syntax, read}
 use Rattle.dirac_bits.specs.Spelling.{Spells}

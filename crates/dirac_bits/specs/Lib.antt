@@ -8,5 +8,5 @@ pub mod Laws
 pub mod BitPlaces
 pub mod Writing
 pub mod Fronts
-pub use Rattle.dirac_types.specs.Bits
-pub use Rattle.dirac_types.specs.Numbers
+pub use Rattle.dirac_common.specs.Bits
+pub use Rattle.dirac_common.specs.Numbers

@@ -1,8 +1,8 @@
 -- A header as the standard's table writes it: this field, then that.
 use Rattle.std.specs.Prelude.{ℕ, ℤ, Bool, List, nat_le, ◌&&◌, if◌then◌else◌, Result, Ok, Err}
-use Rattle.dirac_types.specs.declared.faults.Cause.{Cause}
-use Rattle.dirac_types.specs.declared.faults.Refusal.{Refusal}
-use Rattle.dirac_types.specs.Chain.{◌>>=◌ as ◌>>◌}
+use Rattle.dirac_common.specs.declared.faults.Cause.{Cause}
+use Rattle.dirac_common.specs.declared.faults.Refusal.{Refusal}
+use Rattle.dirac_common.specs.Chain.{◌>>=◌ as ◌>>◌}
 use Rattle.dirac_bits.specs.Cursor.{Cursor, place, aligned}
 use Rattle.dirac_bits.specs.Fields.{flag_at, uint_at, sint_at, literal_at, block_at}
 

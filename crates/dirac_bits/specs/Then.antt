@@ -1,6 +1,6 @@
 -- Reading of fields that follow one another: a reader of a group of fields may be called by the reader of the whole.
 use Rattle.std.specs.Prelude.{◌≡◌, refl, Result, Ok, Err}
-use Rattle.dirac_types.specs.Chain.{◌>>=◌ as ◌>>◌}
+use Rattle.dirac_common.specs.Chain.{◌>>=◌ as ◌>>◌}
 use Rattle.dirac_bits.specs.Cursor.{Cursor, place, aligned}
 use Rattle.dirac_bits.specs.Fields.{flag_at, uint_at, sint_at, literal_at, block_at}
 use Rattle.dirac_bits.specs.Syntax.{Syntax, done, flag_then, uint_then, sint_then, literal_then, block_then, align_then}

@@ -4,7 +4,7 @@ ghost use Rattle.dirac_bits.specs.Fields.{number_on, signed_on, literal_on, byte
 ghost use Rattle.dirac_bits.specs.BitPlaces.{cursor_at, bit_number, Steps, StepsBy};
 
 use crate::bit_place::BitPlace;
-use dirac_types::{Cause, MOST_DIGITS, with_sign};
+use dirac_common::{Cause, MOST_DIGITS, with_sign};
 
 /// The bit at `spot`, and the spot behind it.
 pub fn next_bit(bytes: &[u8], bit_place: BitPlace) -> Result<(bool, BitPlace), Cause>

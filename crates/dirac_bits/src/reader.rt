@@ -7,7 +7,7 @@ ghost use Rattle.dirac_bits.specs.Answers.{Reads, Takes};
 
 use crate::bit_place::BitPlace;
 use crate::numbers::{next_bit, next_block, next_literal, next_number, next_signed};
-use dirac_types::{Cause, Refusal};
+use dirac_common::{Cause, Refusal};
 use std::marker::Model;
 
 /// Reads the fields of a payload from its bytes, from the most significant bit of each byte on.

@@ -1,8 +1,8 @@
 //! The spellings of numbers, as runs of bits.
 
 ghost use Rattle.std.specs.Prelude.{◌≡◌, ◌+◌, ◌*◌, ◌/◌, ◌%◌, ◌<◌, ◌≤◌, ◌^◌, [], ◌∷◌, ◌++◌, take, unsigned_abs};
-ghost use Rattle.dirac_types.specs.Bits.{bits_of};
-ghost use Rattle.dirac_types.specs.Numbers as numbers;
+ghost use Rattle.dirac_common.specs.Bits.{bits_of};
+ghost use Rattle.dirac_common.specs.Numbers as numbers;
 ghost use Rattle.dirac_bits.specs.Writing.{bits_below};
 
 /// The `count` lowest bits of `number`, the most significant of them first.

@@ -1,10 +1,10 @@
 ghost use Rattle.std.specs.Prelude.{◌≡◌, ◌+◌, ◌≤◌, ◌<◌, ◌^◌, [], ◌∷◌, ◌++◌, IfOk, OnOk, OnErr, unsigned_abs};
-ghost use Rattle.dirac_types.specs.Numbers as numbers;
-ghost use Rattle.dirac_types.specs.Bits.{bits_of};
+ghost use Rattle.dirac_common.specs.Numbers as numbers;
+ghost use Rattle.dirac_common.specs.Bits.{bits_of};
 ghost use Rattle.dirac_bits.specs.Writing.{bits_below, gap, IsWhole};
 
 use crate::spelling::{Run, joined, signed, unsigned, whole_bytes};
-use dirac_types::NoMemory;
+use dirac_common::NoMemory;
 use std::alloc::Global;
 use std::marker::Model;
 
@@ -21,7 +21,7 @@ pub struct BitWriter {
 
 impl Model for BitWriter {
     ghost use Rattle.std.specs.Prelude.{Bool, List, ◌++◌, ◌<◌, ◌^◌};
-    ghost use Rattle.dirac_types.specs.Bits.{bits_of};
+    ghost use Rattle.dirac_common.specs.Bits.{bits_of};
     ghost use Rattle.dirac_bits.specs.Writing.{bits_below};
 
     ghost Value = { List Bool };

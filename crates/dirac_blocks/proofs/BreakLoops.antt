@@ -2,7 +2,7 @@
 use Rattle.std.proofs.Common.{◌≡◌, ◌≢◌, ℕ, zero, suc, ◌+◌, ◌*◌, ◌^◌, ◌<◌, ◌≤◌, ◌⊎◌, inl, inr, List, [], ◌++◌, Option, Some, None, Result, Ok, Err, refl, sym, ap, ◌∙◌, arith, subst, append-nil}
 use Rattle.std.proofs.lemmas.Bool.{cases_lt}
 use Rattle.std.proofs.lemmas.Nat.{mul-le}
-use Rattle.dirac_types.specs.declared.faults.Cause.{Cause}
+use Rattle.dirac_common.specs.declared.faults.Cause.{Cause}
 use Rattle.dirac_arith.specs.Carried.{Carries}
 use Rattle.dirac_arith.specs.Deciding.{begin}
 use Rattle.dirac_arith.specs.Front.{front}

@@ -3,8 +3,8 @@ use Rattle.std.proofs.Common.{◌≡◌, ℕ, ℤ, ◌+◌, ◌*◌, ◌^◌, �
 use Rattle.std.specs.Prelude.{if◌then◌else◌}
 use Rattle.std.proofs.lemmas.Bool.{both_ways}
 use Rattle.std.proofs.lemmas.Nat.{mul-le}
-use Rattle.dirac_types.specs.declared.faults.Cause.{Cause}
-use Rattle.dirac_types.specs.Chain.{◌>>=◌}
+use Rattle.dirac_common.specs.declared.faults.Cause.{Cause}
+use Rattle.dirac_common.specs.Chain.{◌>>=◌}
 use Rattle.dirac_arith.specs.Deciding.{begin, after_all}
 use Rattle.dirac_arith.specs.Interval.{Decision}
 use Rattle.dirac_arith.specs.Reading.{Reading, Reads}

@@ -1,6 +1,6 @@
 -- Lists of decisions, computed from small tables.
 use Rattle.std.proofs.Common.{◌≡◌, ℕ, pos, true, false, [], ◌∷◌, replicate, refl}
-use Rattle.dirac_types.specs.Numbers.{digits_within, digits_of}
+use Rattle.dirac_common.specs.Numbers.{digits_within, digits_of}
 use Rattle.dirac_arith.specs.Spelling.{spelling, signed_spelling}
 use Rattle.dirac_blocks.specs.declared.block.Block.{Block}
 use Rattle.dirac_blocks.specs.Tables.{BlockTable, grey, unit_of, first_of}

@@ -1,8 +1,8 @@
 -- Where the writing of lists breaks off.
 use Rattle.std.proofs.Common.{◌≡◌, ℕ, Bool, List, [], ◌∷◌, ◌++◌, length, refl, sym, ap, subst, ◌∙◌}
-use Rattle.dirac_types.specs.Bits.{bits_of}
-use Rattle.dirac_types.specs.Numbers.{uint}
-use Rattle.dirac_types.specs.declared.formats.Component.TheVariants as components
+use Rattle.dirac_common.specs.Bits.{bits_of}
+use Rattle.dirac_common.specs.Numbers.{uint}
+use Rattle.dirac_common.specs.declared.formats.Component.TheVariants as components
 use Rattle.dirac_arith.specs.Interval.{Decision}
 use Rattle.dirac_arith.specs.Written.{flush}
 use Rattle.dirac_bits.specs.Fronts.{HoldsFront}

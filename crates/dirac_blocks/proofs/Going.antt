@@ -1,8 +1,8 @@
 -- Steps that lead a table toward a finished one place by place: places are superblocks with their splits, or blocks.
 use Rattle.std.proofs.Common.{◌≡◌, ℕ, ◌<◌, ◌≤◌, inl, inr, [], Result, Ok, sym, ap, ◌∙◌, arith}
 use Rattle.std.proofs.lemmas.Bool.{cases_lt}
-use Rattle.dirac_types.specs.declared.faults.Cause.{Cause}
-use Rattle.dirac_types.specs.Chain.{◌>>=◌}
+use Rattle.dirac_common.specs.declared.faults.Cause.{Cause}
+use Rattle.dirac_common.specs.Chain.{◌>>=◌}
 use Rattle.dirac_arith.specs.Reading.{Reading, Reads}
 use Rattle.dirac_blocks.specs.Grammar.{Progress, Step}
 use Rattle.dirac_blocks.specs.Reached.{progress}

@@ -4,14 +4,14 @@ use Rattle.std.specs.Prelude.{option_map}
 use Rattle.std.proofs.lemmas.Bool.{cases_eq, cases_lt, eq-eqb, ne_eqb}
 use Rattle.std.proofs.lemmas.List.{get_or_past}
 use Rattle.std.proofs.lemmas.Int.{ints}
-use Rattle.dirac_types.specs.declared.formats.Vector.{Vector}
-use Rattle.dirac_types.specs.Samples.{mean_of_three}
+use Rattle.dirac_common.specs.declared.formats.Vector.{Vector}
+use Rattle.dirac_common.specs.Samples.{mean_of_three}
 use Rattle.dirac_vectors.proofs.Means.{mean_of_two_short, mean_of_three_short, median_short}
 use Rattle.dirac_vectors.specs.Neighbours.{IsShort, median}
 use Rattle.dirac_vectors.specs.Predictions.{IsShortVector, of_neighbours, vector_of, dc_of, mode_of}
 use Rattle.dirac_blocks.specs.declared.block.Block.{Block}
-use Rattle.dirac_types.specs.declared.formats.Component.{Component}
-use Rattle.dirac_types.specs.declared.formats.Component.TheVariants as components
+use Rattle.dirac_common.specs.declared.formats.Component.{Component}
+use Rattle.dirac_common.specs.declared.formats.Component.TheVariants as components
 use Rattle.dirac_blocks.specs.declared.parts.Reference.{Reference}
 use Rattle.dirac_blocks.specs.declared.parts.Reference.TheVariants as references
 use Rattle.dirac_blocks.specs.Decisions.{left_of, above_of, corner_of, predicted, counted, ref1_at, ref2_at, is_dc_at}

@@ -3,8 +3,8 @@ use Rattle.std.proofs.Common.{◌≡◌, ℕ, zero, suc, ◌+◌, ◌*◌, ◌^�
 use Rattle.std.proofs.lemmas.Bool.{cases_eq}
 use Rattle.std.proofs.lemmas.Nat.{mul-le}
 use native.Mathlib.Numerals.{unary_clauses}
-use Rattle.dirac_types.specs.declared.faults.Cause.{Cause}
-use Rattle.dirac_types.specs.Chain.{◌>>=◌}
+use Rattle.dirac_common.specs.declared.faults.Cause.{Cause}
+use Rattle.dirac_common.specs.Chain.{◌>>=◌}
 use Rattle.dirac_blocks.specs.Grammar.{Progress, Step, repeated}
 use Rattle.dirac_blocks.specs.Reached.{IsUnit, SameBlocks, SameShape}
 use Rattle.dirac_blocks.specs.Tables.{BlockTable, split_at, unit_size}

@@ -5,14 +5,14 @@ use Rattle.std.proofs.lemmas.Bool.{cases_Bool, cases_lt}
 use Rattle.std.proofs.lemmas.List.{get_or_past, get_or-map, length-map}
 use Rattle.std.proofs.lemmas.List.Elements.{All-map}
 use Rattle.std.proofs.lemmas.Nat.{mul-add-lt}
-use Rattle.dirac_types.specs.declared.formats.Vector.{Vector}
+use Rattle.dirac_common.specs.declared.formats.Vector.{Vector}
 use Rattle.dirac_arith.specs.Carried.{Carries}
 use Rattle.dirac_arith.specs.Interval.{Decision}
 use Rattle.dirac_arith.specs.Written.{flush}
 use Rattle.dirac_arith.proofs.Encodings.{flushed_is_carried}
 use Rattle.dirac_vectors.specs.Predictions.{component_of, dc_of, mode_of}
 use Rattle.dirac_blocks.specs.declared.block.Block.{Block}
-use Rattle.dirac_types.specs.declared.formats.Component.TheVariants as components
+use Rattle.dirac_common.specs.declared.formats.Component.TheVariants as components
 use Rattle.dirac_blocks.specs.declared.parts.ListKind.{ListKind}
 use Rattle.dirac_blocks.specs.declared.parts.ListKind.TheVariants as parts
 use Rattle.dirac_blocks.specs.declared.parts.Reference.TheVariants as references

@@ -6,7 +6,7 @@ use Rattle.std.specs.Prelude.{◌||◌, if◌then◌else◌, List, [], ◌∷◌
 use Rattle.dirac_arith.specs.declared.contexts.TheConstants.{DC_DIGITS, DC_FOLLOW, DC_SIGN, REFERENCE_1, REFERENCE_2}
 use Rattle.dirac_arith.specs.declared.contexts.TheConstants.{SPLIT_DIGITS, SPLIT_FOLLOW, VECTOR_DIGITS, VECTOR_FOLLOW}
 use Rattle.dirac_arith.specs.declared.contexts.TheConstants.{VECTOR_SIGN}
-use Rattle.dirac_types.specs.declared.formats.Vector.{Vector}
+use Rattle.dirac_common.specs.declared.formats.Vector.{Vector}
 use Rattle.dirac_arith.specs.Interval.{Decision}
 use Rattle.dirac_arith.specs.Spelling.{spelling, signed_spelling}
 use Rattle.dirac_vectors.specs.Predictions.{split_of, mode_of, vector_of, dc_of}

@@ -1,11 +1,11 @@
 -- The lists of a block table that tell something of each unit, by their parts.
 use Rattle.std.specs.Prelude.{ℕ, ℤ, Bool, Option, List}
-use Rattle.dirac_types.specs.declared.formats.Vector.{Vector}
+use Rattle.dirac_common.specs.declared.formats.Vector.{Vector}
 use Rattle.dirac_arith.specs.Interval.{Decision}
 use Rattle.dirac_blocks.specs.declared.parts.Reference.{Reference}
 use Rattle.dirac_blocks.specs.declared.parts.Reference.TheVariants as reference
-use Rattle.dirac_types.specs.declared.formats.Component.{Component}
-use Rattle.dirac_types.specs.declared.formats.Component.TheVariants as component
+use Rattle.dirac_common.specs.declared.formats.Component.{Component}
+use Rattle.dirac_common.specs.declared.formats.Component.TheVariants as component
 use Rattle.dirac_blocks.specs.declared.parts.ListKind.{ListKind}
 use Rattle.dirac_blocks.specs.declared.parts.ListKind.TheVariants as part
 use Rattle.dirac_blocks.specs.Tables.{BlockTable}

@@ -1,11 +1,11 @@
 -- Why a list is refused, told of a table that is known up to some unit.
 use Rattle.std.specs.Prelude.{◌≡◌, ℕ, ℤ, ◌+◌, ◌-◌, ◌+ℤ◌, ◌*◌, ◌%◌, ◌^◌, ◌<◌, Bool, false, if◌then◌else◌, List, ◌++◌}
 use Rattle.std.specs.Prelude.{length, nat_abs, Option, Some, None}
-use Rattle.dirac_types.specs.declared.limits.TheConstants.{MOST_DIGITS}
+use Rattle.dirac_common.specs.declared.limits.TheConstants.{MOST_DIGITS}
 use Rattle.dirac_arith.specs.declared.contexts.TheConstants.{DC_DIGITS, DC_FOLLOW, DC_SIGN, SPLIT_DIGITS, SPLIT_FOLLOW}
 use Rattle.dirac_arith.specs.declared.contexts.TheConstants.{VECTOR_DIGITS, VECTOR_FOLLOW, VECTOR_SIGN}
-use Rattle.dirac_types.specs.declared.faults.Cause.{Cause}
-use Rattle.dirac_types.specs.declared.faults.Cause.TheVariants.{NumberTooLong, VectorRange, DcRange}
+use Rattle.dirac_common.specs.declared.faults.Cause.{Cause}
+use Rattle.dirac_common.specs.declared.faults.Cause.TheVariants.{NumberTooLong, VectorRange, DcRange}
 use Rattle.dirac_arith.specs.Carried.{Carries}
 use Rattle.dirac_arith.specs.Interval.{Decision}
 use Rattle.dirac_arith.specs.Spelling.{spelt, signed_spelling}

@@ -1,4 +1,4 @@
-use dirac_types::Vector;
+use dirac_common::Vector;
 
 /// How one block is predicted: from reference 1 with vector 1, from reference 2 with vector 2, from both, or,
 /// where it uses neither, from a DC value for each colour component. What a block doesn't use is 0.

@@ -10,7 +10,7 @@ use crate::table::BlockData;
 use crate::unit_reading::read_units;
 use dirac_arith::Decoder;
 use dirac_bits::BitReader;
-use dirac_types::{Component, Refusal};
+use dirac_common::{Component, Refusal};
 
 /// Reads the block of the splits.
 #[tactic(auto, unfolding(crate::specs::Grammar::listed))]

@@ -8,7 +8,7 @@ use crate::split_writer::write_split_rows;
 use crate::table::BlockData;
 use crate::unit_loops::write_superblock_rows;
 use dirac_arith::Encoder;
-use dirac_types::NoMemory;
+use dirac_common::NoMemory;
 use std::alloc::Global;
 
 /// The arithmetic block of the split numbers.

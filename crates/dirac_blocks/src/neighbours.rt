@@ -8,7 +8,7 @@ ghost use Rattle.dirac_blocks.specs.Tables.{split_at};
 
 use crate::parts::Reference;
 use crate::table::BlockData;
-use dirac_types::{Component, Vector};
+use dirac_common::{Component, Vector};
 use dirac_vectors::{predict_dc, predict_mode, predict_split, predict_vector};
 
 /// Whether the reference is used of block `i` of row `j`.

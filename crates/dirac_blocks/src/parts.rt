@@ -1,4 +1,4 @@
-use dirac_types::Component;
+use dirac_common::Component;
 
 /// The first or the second reference of a picture.
 #[derive(Clone, Copy, Debug, PartialEq, Eq)]

@@ -7,7 +7,7 @@ ghost use Rattle.dirac_blocks.specs.Tables.{IsBlockTable, IsSize};
 use crate::list_reader::read_lists;
 use crate::table::BlockData;
 use dirac_bits::BitReader;
-use dirac_types::Stop;
+use dirac_common::Stop;
 use std::alloc::Global;
 
 /// Reads a block table (motion data, Dirac specification, section 12) of `across` by `down` superblocks for that number

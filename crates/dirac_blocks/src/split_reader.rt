@@ -5,7 +5,7 @@ ghost use Rattle.dirac_blocks.specs.Reached.{AllGrey, Moves, SameBlocks, progres
 use crate::neighbours::predict_split_at;
 use crate::table::BlockData;
 use dirac_arith::{Decoder, SPLIT_DIGITS, SPLIT_FOLLOW};
-use dirac_types::{Cause, MOST_SUPERBLOCKS};
+use dirac_common::{Cause, MOST_SUPERBLOCKS};
 
 /// Reads how superblock `sx` of row `sy` is split: the sum modulo 3 of a number and the prediction.
 #[tactic(auto, unfolding(crate::specs::Grammar::split_step))]

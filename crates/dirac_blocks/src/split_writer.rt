@@ -6,7 +6,7 @@ ghost use Rattle.dirac_blocks.specs.Decisions.{least_numbers, split_row, split_r
 use crate::neighbours::predict_split_at;
 use crate::table::BlockData;
 use dirac_arith::{Encoder, SPLIT_DIGITS, SPLIT_FOLLOW};
-use dirac_types::NoMemory;
+use dirac_common::NoMemory;
 
 /// Writes the number of superblock `sx` of row `sy`: its split less its prediction, modulo 3.
 fn write_split(encoder: &mut Encoder, table: &BlockData, sx: u32, sy: u32) -> Result<(), NoMemory>

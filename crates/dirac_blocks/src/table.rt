@@ -8,7 +8,7 @@ use crate::block::Block;
 use crate::filling::fill_rows;
 use crate::lists::{Blocks, Splits, new_blocks, new_splits};
 use crate::superblock::put_superblock;
-use dirac_types::{NoMemory, Vector};
+use dirac_common::{NoMemory, Vector};
 use std::alloc::Global;
 use std::marker::Model;
 

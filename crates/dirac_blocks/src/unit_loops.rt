@@ -8,7 +8,7 @@ use crate::superblock::{unit_blocks, units_across};
 use crate::table::BlockData;
 use crate::unit_writer::write_unit;
 use dirac_arith::Encoder;
-use dirac_types::{MOST_SUPERBLOCKS, NoMemory};
+use dirac_common::{MOST_SUPERBLOCKS, NoMemory};
 
 /// Writes `count` units of a row, from block `i` of row `j` on.
 fn write_unit_row(

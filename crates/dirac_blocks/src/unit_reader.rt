@@ -15,7 +15,7 @@ use dirac_arith::{
     CONTEXTS, DC_DIGITS, DC_FOLLOW, DC_SIGN, Decoder, REFERENCE_1, REFERENCE_2, VECTOR_DIGITS,
     VECTOR_FOLLOW, VECTOR_SIGN,
 };
-use dirac_types::{Cause, Component, Vector};
+use dirac_common::{Cause, Component, Vector};
 
 /// Whether a value has 16 bits.
 fn fits(value: i64) -> bool

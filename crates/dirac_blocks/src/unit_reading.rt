@@ -8,7 +8,7 @@ use crate::superblock::{unit_blocks, units_across};
 use crate::table::BlockData;
 use crate::unit_reader::read_unit_block;
 use dirac_arith::Decoder;
-use dirac_types::{Cause, MOST_SUPERBLOCKS};
+use dirac_common::{Cause, MOST_SUPERBLOCKS};
 
 /// Reads what this list tells of a unit of `size` by `size` blocks, from block `i` of row `j` on.
 #[tactic(auto, unfolding(crate::specs::Grammar::unit_step))]

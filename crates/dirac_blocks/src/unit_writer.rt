@@ -14,7 +14,7 @@ use dirac_arith::{
     CONTEXTS, DC_DIGITS, DC_FOLLOW, DC_SIGN, Encoder, REFERENCE_1, REFERENCE_2, VECTOR_DIGITS,
     VECTOR_FOLLOW, VECTOR_SIGN,
 };
-use dirac_types::{Component, NoMemory, Vector};
+use dirac_common::{Component, NoMemory, Vector};
 
 /// Whether two bits differ.
 pub fn differs(a: bool, b: bool) -> bool

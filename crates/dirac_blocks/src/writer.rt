@@ -14,7 +14,7 @@ use crate::list_writer::{part_block, split_block};
 use crate::parts::{ListKind, Reference};
 use crate::table::BlockData;
 use dirac_bits::BitWriter;
-use dirac_types::{Component, NoMemory};
+use dirac_common::{Component, NoMemory};
 use std::alloc::Global;
 
 /// No block is as long as this in bytes: its length couldn't be spelt.

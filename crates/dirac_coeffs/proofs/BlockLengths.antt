@@ -3,8 +3,8 @@
 use Rattle.std.proofs.Common.{◌≡◌, ℕ, zero, suc, ℤ, pos, negsuc, ◌+◌, ◌-◌, ◌*◌, ◌/◌, ◌^◌, ◌<◌, ◌≤◌, nat_lt, Bool, true, false, List, [], ◌∷◌, ◌++◌, length, refl, sym, ap, ◌∙◌, arith, inl, inr, length-append}
 use Rattle.std.proofs.lemmas.Bool.{cases_Bool, cond-true, cond-false}
 use Rattle.std.proofs.lemmas.Nat.{mul-le}
-use Rattle.dirac_types.specs.Numbers.{digits_of}
-use Rattle.dirac_types.proofs.Digits.{digits_few}
+use Rattle.dirac_common.specs.Numbers.{digits_of}
+use Rattle.dirac_common.proofs.Digits.{digits_few}
 use Rattle.dirac_arith.specs.Interval.{Decision, Interval, least, doublings_for, kept, narrowed, narrowed_by, whole, interval_of}
 use Rattle.dirac_arith.specs.Spelling.{follow_at, opening, spelling, signed_spelling}
 use Rattle.dirac_arith.specs.Written.{block_length, flushed, flush}

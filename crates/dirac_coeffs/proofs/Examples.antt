@@ -1,8 +1,8 @@
 -- Worked values of the definitions.
 use Rattle.std.proofs.Common.{◌≡◌, pos, negsuc, true, false, [], ◌∷◌, replicate, Ok, Err, refl}
-use Rattle.dirac_types.specs.declared.faults.Cause.TheVariants.{CodeWord, NumberTooLong, QuantIndex}
-use Rattle.dirac_types.specs.Numbers.{digits_of, digits_within}
-use Rattle.dirac_types.specs.declared.formats.Band.TheVariants as bands
+use Rattle.dirac_common.specs.declared.faults.Cause.TheVariants.{CodeWord, NumberTooLong, QuantIndex}
+use Rattle.dirac_common.specs.Numbers.{digits_of, digits_within}
+use Rattle.dirac_common.specs.declared.formats.Band.TheVariants as bands
 use Rattle.dirac_arith.specs.Deciding.{decided, number_read, number_from_digit, sign_read, signed_read}
 use Rattle.dirac_arith.specs.Front.{front, first_bits}
 use Rattle.dirac_arith.specs.Interval.{Decision, doublings_for}

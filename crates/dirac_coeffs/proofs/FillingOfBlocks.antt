@@ -6,7 +6,7 @@ use Rattle.dirac_arith.specs.Reading.{Reading, Reads}
 use Rattle.dirac_arith.proofs.Spellings.{reads_more}
 use Rattle.dirac_bands.specs.Geometry.{edge_of}
 use Rattle.dirac_coeffs.specs.declared.layout.BandLayout.{BandLayout}
-use Rattle.dirac_types.specs.declared.faults.Cause.{Cause}
+use Rattle.dirac_common.specs.declared.faults.Cause.{Cause}
 use Rattle.dirac_coeffs.specs.Carried.{SkippedIsZero, IsIndexed, blocks_until}
 use Rattle.dirac_coeffs.specs.Decisions.{Mark, Marks, flagged_part, block_part, blocks_part, bands_part}
 use Rattle.dirac_coeffs.proofs.Places.{KeptOutside, SameWithin}

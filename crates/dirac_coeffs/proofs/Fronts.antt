@@ -1,7 +1,7 @@
 -- Where the writing of a band breaks off.
 use Rattle.std.proofs.Common.{◌≡◌, ℕ, ℤ, Bool, true, false, List, ◌++◌, if◌then◌else◌, length}
-use Rattle.dirac_types.specs.Bits.{bits_of}
-use Rattle.dirac_types.specs.Numbers.{uint}
+use Rattle.dirac_common.specs.Bits.{bits_of}
+use Rattle.dirac_common.specs.Numbers.{uint}
 use Rattle.dirac_bits.specs.Fronts.{HoldsFront}
 use Rattle.dirac_bits.specs.Writing.{gap, up_to_byte}
 use Rattle.dirac_bits.proofs.Fronts.{nothing_stands, more_stand}

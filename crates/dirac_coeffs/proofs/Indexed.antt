@@ -6,7 +6,7 @@ use Rattle.std.proofs.lemmas.Int.{ints}
 use Rattle.std.proofs.lemmas.List.{get_or-replicate, get_or-set_same, get_or-set_other, get_or_past, length-replicate}
 use Rattle.std.proofs.lemmas.List.Elements.{All-set}
 use Rattle.std.proofs.lemmas.Nat.{mul-add-lt}
-use Rattle.dirac_types.specs.Limits.{IsIndex}
+use Rattle.dirac_common.specs.Limits.{IsIndex}
 use Rattle.dirac_coeffs.specs.declared.layout.BandLayout.{BandLayout}
 use Rattle.dirac_coeffs.specs.Carried.{IsIndexed}
 use Rattle.dirac_coeffs.specs.Decisions.{Mark, Marks}

@@ -4,10 +4,10 @@ use Rattle.std.specs.List.{All}
 use Rattle.std.proofs.lemmas.List.Elements.{All-append}
 use Rattle.std.proofs.lemmas.Bool.{and_parts, cases_Bool, cases_eq, ne_eqb}
 use Rattle.std.proofs.lemmas.List.{get_or-append-add, get_or-replicate, get_or_append_left, get_or-set_other, get_or-set_same, length-replicate}
-use Rattle.dirac_types.specs.declared.limits.TheConstants.{LARGEST_TABLE_SIDE}
+use Rattle.dirac_common.specs.declared.limits.TheConstants.{LARGEST_TABLE_SIDE}
 use Rattle.dirac_coeffs.specs.declared.coefficients.NarrowRows.{NarrowRows}
 use Rattle.dirac_coeffs.specs.declared.coefficients.Held.TheVariants.{Narrow}
-use Rattle.dirac_types.specs.Table.{Table, row_of}
+use Rattle.dirac_common.specs.Table.{Table, row_of}
 use Rattle.dirac_coeffs.specs.Contexts.{is_zero}
 use Rattle.dirac_coeffs.specs.Held.{IsHeld, IsLargest, zeros_of}
 use Rattle.dirac_coeffs.specs.Written.{is_zero_band}

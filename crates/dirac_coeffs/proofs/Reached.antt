@@ -1,6 +1,6 @@
 -- How far a reader of a band has come: what it has read into these values, and where it broke off.
 use Rattle.std.specs.Prelude.{◌≡◌, ℕ, ℤ, ◌<◌, Bool, List, length}
-use Rattle.dirac_types.specs.declared.faults.Cause.{Cause}
+use Rattle.dirac_common.specs.declared.faults.Cause.{Cause}
 use Rattle.dirac_arith.specs.Reading.{Reading, Reads}
 use Rattle.dirac_coeffs.specs.declared.layout.BandLayout.{BandLayout}
 use Rattle.dirac_coeffs.specs.Carried.{SkippedIsZero, IsIndexed, Break, IsBreak, cause_of, row_until, rows_until, block_until, blocks_until, band_until}

@@ -2,8 +2,8 @@
 use Rattle.std.proofs.Common.{◌≡◌, ℕ, zero, suc, ◌+◌, ◌<◌, inl, inr, Result, Ok, Err, refl, ap, ◌∙◌, arith, subst}
 use Rattle.std.proofs.lemmas.Bool.{cases_eq}
 use Rattle.std.proofs.Math.Numerals.{unary_clauses}
-use Rattle.dirac_types.specs.declared.faults.Cause.{Cause}
-use Rattle.dirac_types.specs.Chain.{◌>>=◌}
+use Rattle.dirac_common.specs.declared.faults.Cause.{Cause}
+use Rattle.dirac_common.specs.Chain.{◌>>=◌}
 use Rattle.dirac_coeffs.specs.BandRead.{Step, repeated}
 
 pub repeated_none : {A : Type 0} (step : ℕ → Step A) (p : A) → repeated step 0 p ≡ Ok p

@@ -2,9 +2,9 @@
 use Rattle.std.proofs.Common.{◌≡◌, ◌≢◌, ℕ, ℤ, pos, ◌+◌, ◌*◌, ◌/◌, ◌^◌, ◌<◌, ◌==◌, if◌then◌else◌, nat_le, Bool, true, false, List, [], ◌∷◌, ◌++◌, length, replicate, Ok, refl, sym, ap, ap₂, ◌∙◌, subst, arith, inl, inr, lit<, append_assoc, append-nil, length-append, ne_eqb, le-leb}
 use Rattle.std.specs.List.{AllByRecursion}
 use Rattle.std.proofs.lemmas.Bool.{cases_Bool, and_from}
-use Rattle.dirac_types.specs.declared.faults.Cause.TheVariants.{QuantIndex, CodeWord}
-use Rattle.dirac_types.specs.Bits.{bits_of}
-use Rattle.dirac_types.specs.Numbers.{uint}
+use Rattle.dirac_common.specs.declared.faults.Cause.TheVariants.{QuantIndex, CodeWord}
+use Rattle.dirac_common.specs.Bits.{bits_of}
+use Rattle.dirac_common.specs.Numbers.{uint}
 use Rattle.dirac_arith.specs.Front.{front, first_bits}
 use Rattle.dirac_bits.specs.Spelling.{Spells, SpelledBehind}
 use Rattle.dirac_bits.specs.Syntax.{Syntax, done, refuse, block_then, align, here, between, ◌>>=◌}

@@ -3,9 +3,9 @@
 use Rattle.std.specs.Prelude.{ℕ, zero, suc, ℤ, pos, ◌+◌, ◌*◌, ◌==◌, if◌then◌else◌, Bool, true, false, List, replicate}
 use Rattle.std.specs.Prelude.{slice_set, Result, Ok, Err}
 use Rattle.dirac_arith.specs.declared.contexts.TheConstants.{ZERO_FLAG}
-use Rattle.dirac_types.specs.declared.faults.Cause.{Cause}
-use Rattle.dirac_types.specs.declared.faults.Cause.TheVariants.{CodeWord}
-use Rattle.dirac_types.specs.Chain.{◌>>=◌ as ◌>>◌}
+use Rattle.dirac_common.specs.declared.faults.Cause.{Cause}
+use Rattle.dirac_common.specs.declared.faults.Cause.TheVariants.{CodeWord}
+use Rattle.dirac_common.specs.Chain.{◌>>=◌ as ◌>>◌}
 use Rattle.dirac_arith.specs.Deciding.{begin, decided, signed_read}
 use Rattle.dirac_arith.specs.Front.{front}
 use Rattle.dirac_arith.specs.Reading.{Reading}

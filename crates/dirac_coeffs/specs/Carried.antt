@@ -1,10 +1,10 @@
 -- What a block carries: a band, or a number at which it breaks off.
 use Rattle.std.specs.Prelude.{◌≡◌, ℕ, ℤ, pos, ◌+◌, ◌-◌, ◌*◌, ◌+ℤ◌, ◌^◌, ◌<◌, Bool, true, false, List, ◌++◌, length, All}
 use Rattle.std.specs.Prelude.{unsigned_abs}
-use Rattle.dirac_types.specs.declared.limits.TheConstants.{MOST_DIGITS}
-use Rattle.dirac_types.specs.declared.faults.Cause.{Cause}
-use Rattle.dirac_types.specs.declared.faults.Cause.TheVariants.{NumberTooLong, QuantIndex}
-use Rattle.dirac_types.specs.Limits.{IsIndex}
+use Rattle.dirac_common.specs.declared.limits.TheConstants.{MOST_DIGITS}
+use Rattle.dirac_common.specs.declared.faults.Cause.{Cause}
+use Rattle.dirac_common.specs.declared.faults.Cause.TheVariants.{NumberTooLong, QuantIndex}
+use Rattle.dirac_common.specs.Limits.{IsIndex}
 use Rattle.dirac_arith.specs.Carried.{Carries}
 use Rattle.dirac_arith.specs.Interval.{Decision}
 use Rattle.dirac_arith.specs.Spelling.{spelt, signed_spelling}

@@ -4,8 +4,8 @@ use Rattle.std.specs.Prelude.{◌&&◌, List, slice_index_or}
 use Rattle.dirac_arith.specs.declared.contexts.TheConstants.{COEFFICIENT_DIGITS, PARENT_VALUES, PARENT_ZEROS}
 use Rattle.dirac_arith.specs.declared.contexts.TheConstants.{SIGN_OF_NEGATIVE, SIGN_OF_POSITIVE, SIGN_OF_ZERO}
 use Rattle.dirac_arith.specs.declared.contexts.TheConstants.{ZERO_PARENT_VALUES, ZERO_PARENT_ZEROS}
-use Rattle.dirac_types.specs.declared.formats.Band.{Band}
-use Rattle.dirac_types.specs.declared.formats.Band.TheVariants as bands
+use Rattle.dirac_common.specs.declared.formats.Band.{Band}
+use Rattle.dirac_common.specs.declared.formats.Band.TheVariants as bands
 use Rattle.dirac_arith.specs.Interval.{Decision}
 use Rattle.dirac_arith.specs.Spelling.{signed_spelling}
 

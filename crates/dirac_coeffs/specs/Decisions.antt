@@ -2,7 +2,7 @@
 -- of the whole, and nothing is said of the order in which a reader fills them in.
 use Rattle.std.specs.Prelude.{ℕ, zero, suc, ℤ, ◌+◌, Bool, true, false, List, [], ◌∷◌, ◌++◌}
 use Rattle.dirac_arith.specs.declared.contexts.TheConstants.{ZERO_FLAG}
-use Rattle.dirac_types.specs.declared.formats.Band.{Band}
+use Rattle.dirac_common.specs.declared.formats.Band.{Band}
 use Rattle.dirac_arith.specs.Interval.{Decision}
 use Rattle.dirac_bands.specs.Geometry.{edge_of}
 use Rattle.dirac_coeffs.specs.declared.layout.BandLayout.{BandLayout}

@@ -1,8 +1,8 @@
 -- The coefficients that a band holds, in 32 bits or wide, and the largest of their magnitudes.
 use Rattle.std.specs.Prelude.{◌≡◌, ℕ, ℤ, pos, ◌*◌, ◌^◌, ◌≤◌, List, length, replicate, unsigned_abs}
 use Rattle.std.specs.List.{All}
-use Rattle.dirac_types.specs.declared.limits.TheConstants.{LARGEST_TABLE_SIDE}
-use Rattle.dirac_types.specs.Table.{Table}
+use Rattle.dirac_common.specs.declared.limits.TheConstants.{LARGEST_TABLE_SIDE}
+use Rattle.dirac_common.specs.Table.{Table}
 use Rattle.dirac_coeffs.specs.declared.coefficients.Held.{Held}
 use Rattle.dirac_coeffs.specs.declared.coefficients.Held.TheVariants.{Zeros, Narrow, Wide}
 

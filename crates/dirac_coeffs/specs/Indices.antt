@@ -3,10 +3,10 @@
 -- before it.
 use Rattle.std.specs.Prelude.{ℕ, zero, suc, ℤ, pos, ◌+◌, ◌-◌, ◌*◌, ◌+ℤ◌, ◌==◌, int_le, if◌then◌else◌, ◌&&◌, Bool, List}
 use Rattle.std.specs.Prelude.{[], replicate, slice_index_or, slice_set, unsigned_abs, Result, Ok, Err}
-use Rattle.dirac_types.specs.declared.limits.TheConstants.{LARGEST_INDEX}
-use Rattle.dirac_types.specs.declared.faults.Cause.{Cause}
-use Rattle.dirac_types.specs.declared.faults.Cause.TheVariants.{QuantIndex}
-use Rattle.dirac_types.specs.Chain.{◌>>=◌}
+use Rattle.dirac_common.specs.declared.limits.TheConstants.{LARGEST_INDEX}
+use Rattle.dirac_common.specs.declared.faults.Cause.{Cause}
+use Rattle.dirac_common.specs.declared.faults.Cause.TheVariants.{QuantIndex}
+use Rattle.dirac_common.specs.Chain.{◌>>=◌}
 use Rattle.dirac_arith.specs.Deciding.{signed_read}
 use Rattle.dirac_arith.specs.Interval.{Decision}
 use Rattle.dirac_arith.specs.Reading.{Reading}

@@ -1,7 +1,7 @@
 -- The laws of this crate.
 use Rattle.std.specs.Prelude.{◌≡◌, ◌↔◌, ◌+◌, ◌^◌, ◌<◌, ℕ, ℤ, List, length, Ok, Err}
-use Rattle.dirac_types.specs.declared.faults.Cause.TheVariants.{CodeWord, NumberTooLong, QuantIndex}
-use Rattle.dirac_types.specs.Limits.{IsIndex}
+use Rattle.dirac_common.specs.declared.faults.Cause.TheVariants.{CodeWord, NumberTooLong, QuantIndex}
+use Rattle.dirac_common.specs.Limits.{IsIndex}
 use Rattle.dirac_arith.specs.Front.{front}
 use Rattle.dirac_coeffs.specs.declared.layout.BandLayout.{BandLayout}
 use Rattle.dirac_coeffs.specs.BandRead.{band_read, content}

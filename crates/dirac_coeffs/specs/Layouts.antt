@@ -1,6 +1,6 @@
 -- Where a subband's codeblocks lie.
 use Rattle.std.specs.Prelude.{ℕ, ◌+◌, ◌-◌, ◌≤◌, ◌==◌, Bool, not, ◌&&◌}
-use Rattle.dirac_types.specs.declared.limits.TheConstants.{LARGEST_TABLE_SIDE, MOST_CODEBLOCKS}
+use Rattle.dirac_common.specs.declared.limits.TheConstants.{LARGEST_TABLE_SIDE, MOST_CODEBLOCKS}
 use Rattle.dirac_bands.specs.Geometry.{edge_of}
 use Rattle.dirac_coeffs.specs.declared.layout.BandLayout.{BandLayout}
 

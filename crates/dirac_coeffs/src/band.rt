@@ -10,7 +10,7 @@ use crate::coefficients::Coefficients;
 use crate::indices::equal_indices;
 use crate::layout::{BandLayout, CodedBand};
 use dirac_bits::BitReader;
-use dirac_types::{Cause, LARGEST_INDEX, Refusal, Stop};
+use dirac_common::{Cause, LARGEST_INDEX, Refusal, Stop};
 use std::alloc::Global;
 
 /// Reads the quantiser index and the block of a subband.

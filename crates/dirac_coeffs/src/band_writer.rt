@@ -12,7 +12,7 @@ use crate::block_writer::write_block;
 use crate::coefficients::Coefficients;
 use crate::layout::{BandLayout, CodedBand};
 use dirac_bits::BitWriter;
-use dirac_types::NoMemory;
+use dirac_common::NoMemory;
 use std::alloc::Global;
 
 /// Writes the length of a subband's block, its quantiser index and the block.

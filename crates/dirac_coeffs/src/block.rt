@@ -4,14 +4,14 @@ ghost use Rattle.dirac_coeffs.specs.BandRead.{band_read};
 ghost use Rattle.dirac_coeffs.specs.Carried.{AreLawful, CarriesLong, CarriesNoIndex};
 ghost use Rattle.dirac_coeffs.specs.Indices.{all_equal};
 ghost use Rattle.dirac_coeffs.specs.Layouts.{IsBandLayout};
-ghost use Rattle.dirac_types.specs.Limits.{IsIndex};
+ghost use Rattle.dirac_common.specs.Limits.{IsIndex};
 
 use crate::codeblocks::read_all;
 use crate::coefficients::Coefficients;
 use crate::indices::equal_indices;
 use crate::layout::{BandBlock, BandLayout};
 use dirac_arith::Decoder;
-use dirac_types::{BandTable, Cause, NoMemory, Refusal, Stop};
+use dirac_common::{BandTable, Cause, NoMemory, Refusal, Stop};
 use std::alloc::Global;
 
 /// The coefficients of a subband from its arithmetic block (wavelet coefficients, Dirac specification, section 13), and

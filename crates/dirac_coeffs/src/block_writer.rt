@@ -8,7 +8,7 @@ use crate::codeblock_writer::write_all;
 use crate::indices::Indices;
 use crate::layout::BandLayout;
 use dirac_arith::Encoder;
-use dirac_types::NoMemory;
+use dirac_common::NoMemory;
 use std::alloc::Global;
 
 /// The arithmetic block of a subband's coefficients, whose zero flags are true for codeblocks of zeros, and in

@@ -14,7 +14,7 @@ use crate::spans::{Codeblock, codeblock_span, has_flags};
 use crate::value_writer::write_rows;
 use crate::zeros::has_zeros_alone;
 use dirac_arith::{Encoder, ZERO_FLAG};
-use dirac_types::NoMemory;
+use dirac_common::NoMemory;
 
 /// Writes the values of a codeblock.
 fn write_block_values(

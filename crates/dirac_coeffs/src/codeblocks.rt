@@ -10,7 +10,7 @@ use crate::offsets::{note_former, read_offset};
 use crate::spans::{Codeblock, codeblock_span, has_flags};
 use crate::values::read_rows;
 use dirac_arith::{Decoder, ZERO_FLAG};
-use dirac_types::{Cause, LARGEST_TABLE_SIDE};
+use dirac_common::{Cause, LARGEST_TABLE_SIDE};
 
 /// Reads the values of a codeblock.
 fn read_block_values(

@@ -1,11 +1,11 @@
 ghost use Rattle.std.specs.Prelude.{◌≡◌, ℕ, pos, true, false, ◌*◌, ◌^◌, ◌<◌, ◌≤◌, length, slice_index_or};
 ghost use Rattle.std.specs.Prelude.{slice_set, unsigned_abs, List, [], ◌++◌, IfOk, IfSome, None};
 ghost use Rattle.std.specs.List.{All};
-ghost use Rattle.dirac_types.specs.Table.{row_of, table_at};
+ghost use Rattle.dirac_common.specs.Table.{row_of, table_at};
 ghost use Rattle.dirac_coeffs.specs.Held.{IsLargest, zeros_of};
 ghost use Rattle.dirac_coeffs.specs.Written.{is_zero_band};
 
-use dirac_types::{BandTable, LARGEST_TABLE_SIDE, NoMemory};
+use dirac_common::{BandTable, LARGEST_TABLE_SIDE, NoMemory};
 use std::alloc::Global;
 use std::marker::Model;
 
@@ -41,7 +41,7 @@ pub struct Coefficients {
 }
 
 impl Model for Coefficients {
-    ghost use Rattle.dirac_types.specs.Table.{Table};
+    ghost use Rattle.dirac_common.specs.Table.{Table};
     ghost use Rattle.dirac_coeffs.specs.Held.{IsHeld, held_table};
 
     ghost Value = { Table };

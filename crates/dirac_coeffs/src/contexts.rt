@@ -7,7 +7,7 @@ use dirac_arith::{
     CONTEXTS, PARENT_VALUES, PARENT_ZEROS, SIGN_OF_NEGATIVE, SIGN_OF_POSITIVE, SIGN_OF_ZERO,
     ZERO_PARENT_VALUES, ZERO_PARENT_ZEROS,
 };
-use dirac_types::{Band, LARGEST_TABLE_SIDE};
+use dirac_common::{Band, LARGEST_TABLE_SIDE};
 
 /// The value to the left, 0 in the first column.
 #[inline(always)]

@@ -4,7 +4,7 @@ ghost use Rattle.dirac_coeffs.specs.Layouts.{IsBandLayout};
 
 use crate::layout::BandLayout;
 use crate::spans::Codeblock;
-use dirac_types::NoMemory;
+use dirac_common::NoMemory;
 use std::alloc::Global;
 use std::marker::Model;
 

@@ -1,6 +1,6 @@
 use crate::coefficients::Coefficients;
 use crate::indices::Indices;
-use dirac_types::Band;
+use dirac_common::Band;
 
 /// Which subband of a level a block holds: its orientation, its size in coefficients, the number of codeblocks that it
 /// is divided into, across and down, and the codeblock mode: in mode 0 all codeblocks have the band's quantiser index,

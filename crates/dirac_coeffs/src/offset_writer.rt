@@ -7,7 +7,7 @@ use crate::indices::{Indices, codeblock_place, former_index};
 use crate::layout::BandLayout;
 use crate::spans::Codeblock;
 use dirac_arith::{Encoder, OFFSET_DIGITS, OFFSET_FOLLOW, OFFSET_SIGN};
-use dirac_types::NoMemory;
+use dirac_common::NoMemory;
 
 /// Writes the offset of a codeblock's index, where the mode has one.
 pub fn write_offset(

@@ -9,7 +9,7 @@ use crate::indices::{Indices, codeblock_place, former_index};
 use crate::layout::BandLayout;
 use crate::spans::Codeblock;
 use dirac_arith::{Decoder, OFFSET_DIGITS, OFFSET_FOLLOW, OFFSET_SIGN};
-use dirac_types::{Cause, LARGEST_INDEX};
+use dirac_common::{Cause, LARGEST_INDEX};
 
 /// An index and an offset.
 fn sum_of(former: u8, offset: i64) -> i64

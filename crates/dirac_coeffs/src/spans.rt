@@ -4,7 +4,7 @@ ghost use Rattle.dirac_coeffs.specs.Layouts as layouts;
 
 use crate::layout::BandLayout;
 use dirac_bands::edge;
-use dirac_types::LARGEST_TABLE_SIDE;
+use dirac_common::LARGEST_TABLE_SIDE;
 
 /// Where a codeblock begins, across or down, and how long it is there.
 #[derive(Clone, Copy)]

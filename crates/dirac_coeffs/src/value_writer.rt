@@ -8,7 +8,7 @@ use crate::contexts;
 use crate::layout::BandLayout;
 use crate::spans::Span;
 use dirac_arith::{COEFFICIENT_DIGITS, Encoder};
-use dirac_types::{Band, LARGEST_TABLE_SIDE, NoMemory};
+use dirac_common::{Band, LARGEST_TABLE_SIDE, NoMemory};
 
 /// Writes a value among these neighbours.
 #[inline(always)]

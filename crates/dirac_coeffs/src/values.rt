@@ -13,7 +13,7 @@ use crate::contexts;
 use crate::layout::BandLayout;
 use crate::spans::Span;
 use dirac_arith::{COEFFICIENT_DIGITS, Decoder};
-use dirac_types::{Band, Cause, LARGEST_TABLE_SIDE};
+use dirac_common::{Band, Cause, LARGEST_TABLE_SIDE};
 
 /// The values beside a coefficient by which its contexts are chosen, 0 outside the band.
 #[derive(Clone, Copy)]

@@ -7,7 +7,7 @@ ghost use Rattle.dirac_coeffs.specs.Layouts.{IsBandLayout, span_of};
 use crate::contexts::is_zero_value;
 use crate::layout::BandLayout;
 use crate::spans::{Codeblock, Span, codeblock_span};
-use dirac_types::LARGEST_TABLE_SIDE;
+use dirac_common::LARGEST_TABLE_SIDE;
 
 /// Whether `count` values of row `y` from column `from` on are zeros.
 fn is_zero_row(values: &[i64], width: usize, y: usize, from: usize, count: usize) -> bool

@@ -3,8 +3,8 @@ use Rattle.std.proofs.Common.{◌≡◌, ℕ, zero, suc, ℤ, pos, negsuc, ◌+�
 use Rattle.std.proofs.lemmas.Nat.{pow_pos}
 use Rattle.std.proofs.Math.Pow.{pow_mono}
 use Rattle.std.proofs.lemmas.Bool.{cases_lt, lt-ltb, le-ltb}
-use Rattle.dirac_types.specs.Numbers.{digits_within, digits_of, followed, uint, sint}
-use Rattle.dirac_types.proofs.Digits.{power_doubled}
+use Rattle.dirac_common.specs.Numbers.{digits_within, digits_of, followed, uint, sint}
+use Rattle.dirac_common.proofs.Digits.{power_doubled}
 
 -- a number from 2 ^ k to 2 ^ (k + 1) - 1 has k digits behind the leading one
 digits_count : (most n k : ℕ) → 2 ^ k ≤ n → n < 2 ^ (k + 1) → k ≤ most → length (digits_within most n) ≡ k

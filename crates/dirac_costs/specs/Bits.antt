@@ -1,7 +1,7 @@
 -- How many bits spell numbers and vectors.
 use Rattle.std.specs.Prelude.{ℕ, ℤ, ◌+◌, length}
-use Rattle.dirac_types.specs.Numbers.{sint}
-use Rattle.dirac_types.specs.declared.formats.Vector.{Vector}
+use Rattle.dirac_common.specs.Numbers.{sint}
+use Rattle.dirac_common.specs.declared.formats.Vector.{Vector}
 
 -- how many bits spell a signed number
 abbrev pub bits_of : ℤ → ℕ

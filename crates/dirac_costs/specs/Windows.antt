@@ -1,7 +1,7 @@
 -- Windows of planes, and sums over them.
 use Rattle.std.specs.Prelude.{ℕ, ℤ, pos, ◌+◌, ◌*◌, ◌+ℤ◌, ◌-ℤ◌, ◌*ℤ◌, unsigned_abs, List, slice_index_or}
 use Rattle.std.specs.Int.{int_div_euclid}
-use Rattle.dirac_types.specs.Table.{Table, clamped_at}
+use Rattle.dirac_common.specs.Table.{Table, clamped_at}
 use Rattle.dirac_costs.specs.Sums.{sum_below, total_below}
 use Rattle.dirac_costs.specs.declared.window.Window.{Window}
 

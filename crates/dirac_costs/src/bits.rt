@@ -1,7 +1,7 @@
 ghost use Rattle.std.specs.Prelude.{◌≡◌, ◌≤◌};
 ghost use Rattle.dirac_costs.specs.Bits.{bits_of, bits_of_vector};
 
-use dirac_types::Vector;
+use dirac_common::Vector;
 
 /// How many bits spell a signed number as interleaved exp-Golomb, Dirac specification: for each digit of its magnitude
 /// plus 1 behind the leading one a follow bit and the digit, a last follow bit, and a sign where it isn't 0.

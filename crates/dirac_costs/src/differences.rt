@@ -3,7 +3,7 @@ ghost use Rattle.std.specs.List.{All};
 ghost use Rattle.dirac_upconvert.specs.HalfSamples.{IsSample};
 ghost use Rattle.dirac_costs.specs.Windows.{row_from, sample_at, values_apart, values_from};
 
-use dirac_types::Plane;
+use dirac_common::Plane;
 
 /// How far two samples are apart.
 #[inline(always)]

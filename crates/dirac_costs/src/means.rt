@@ -8,7 +8,7 @@ ghost use Rattle.dirac_costs.specs.Windows.{mean_over, row_from, sample_at, tota
 
 use crate::differences::{nearest, nearest_row};
 use crate::window::Window;
-use dirac_types::Plane;
+use dirac_common::Plane;
 
 /// A sum of `count` samples and one more.
 #[inline(always)]

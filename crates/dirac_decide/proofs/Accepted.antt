@@ -3,13 +3,13 @@ use Rattle.std.proofs.Common.{◌≡◌, ℕ, ◌+◌, ◌-◌, ◌*◌, ◌≤�
 use Rattle.dirac_types.specs.declared.settings.Settings.{Settings}
 use Rattle.dirac_types.specs.Settings.{IsAccepted}
 use Rattle.dirac_types.proofs.Accepted.{in_range}
-use Rattle.dirac_types.specs.declared.picture.Picture.{Picture}
-use Rattle.dirac_types.specs.declared.formats.BlockGrid.{BlockGrid}
-use Rattle.dirac_types.specs.declared.formats.Chroma.{Chroma}
-use Rattle.dirac_types.specs.declared.formats.Chroma.TheVariants.{C444, C422, C420}
+use Rattle.dirac_common.specs.declared.picture.Picture.{Picture}
+use Rattle.dirac_common.specs.declared.formats.BlockGrid.{BlockGrid}
+use Rattle.dirac_common.specs.declared.formats.Chroma.{Chroma}
+use Rattle.dirac_common.specs.declared.formats.Chroma.TheVariants.{C444, C422, C420}
 use Rattle.std.proofs.lemmas.Bool.{cases_Bool}
 use Rattle.std.proofs.lemmas.Nat.{le-div}
-use Rattle.dirac_sequence.specs.Ratios.{ratio_across, ratio_down}
+use Rattle.dirac_common.specs.Ratios.{ratio_across, ratio_down}
 use Rattle.dirac_header.specs.Prediction.{grid_of}
 use Rattle.dirac_picture.specs.Grammar.{superblocks_over}
 use Rattle.dirac_decide.specs.Deciding.{IsFieldSize, IsSearched, IsView, View}

@@ -1,6 +1,6 @@
 -- The best of the candidates so far, from one candidate to the next.
 use Rattle.std.proofs.Common.{◌≡◌, ℕ, ◌+◌, ◌<◌, ◌≤◌, ◌^◌, arith, ap, sym, ◌∙◌}
-use Rattle.dirac_types.specs.declared.formats.Vector.{Vector}
+use Rattle.dirac_common.specs.declared.formats.Vector.{Vector}
 use Rattle.dirac_vectors.specs.Predictions.{IsShortVector}
 use Rattle.dirac_costs.specs.Least.{IsToldBelow, first_least_to}
 use Rattle.dirac_costs.proofs.Least.{least_kept, least_repeated, least_taken}

@@ -1,7 +1,7 @@
 -- What a predictor costs in a unit, row by row.
 use Rattle.std.proofs.Common.{◌≡◌, ℕ, ℤ, pos, ◌+◌, List, length, slice_index_or, arith, ap, ◌∙◌}
 use Rattle.std.specs.Prelude.{unsigned_abs, ◌-ℤ◌}
-use Rattle.dirac_types.specs.Table.{Table}
+use Rattle.dirac_common.specs.Table.{Table}
 use Rattle.dirac_costs.specs.Windows.{apart, over, row_from, sample_at, values_apart, values_from}
 use Rattle.dirac_costs.specs.Sums.{sum_below}
 use Rattle.dirac_costs.proofs.Sums.{sum_same}

@@ -1,7 +1,7 @@
 -- What the code holds behind its references.
 use Rattle.std.specs.Prelude.{Option, option_map}
 use Rattle.dirac_types.specs.declared.settings.Settings.{Settings}
-use Rattle.dirac_types.specs.declared.picture.Picture.{Picture}
+use Rattle.dirac_common.specs.declared.picture.Picture.{Picture}
 use Rattle.dirac_blocks.specs.Tables.{BlockTable}
 use Rattle.dirac_decide.specs.Deciding.{Deciding, View}
 use Rattle.dirac_decide.specs.Splits.{decided_by}

@@ -2,7 +2,7 @@
 use Rattle.std.specs.Prelude.{◌≡◌, ℕ, ℤ, pos, ◌<◌, ◌≤◌, ◌*◌, ◌+◌, List, slice_index_or}
 use Rattle.std.specs.List.{All}
 use Rattle.dirac_vectors.specs.Predictions.{IsShortVector}
-use Rattle.dirac_types.specs.Table.{Table}
+use Rattle.dirac_common.specs.Table.{Table}
 use Rattle.dirac_costs.specs.declared.window.Window.{Window}
 use Rattle.dirac_costs.specs.Windows.{apart, over, sample_at}
 use Rattle.dirac_decide.specs.Deciding.{Deciding, IsFieldSize, View}

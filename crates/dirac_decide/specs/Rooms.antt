@@ -1,7 +1,7 @@
 -- Room for what is decided.
 use Rattle.std.specs.Prelude.{◌≡◌, ℕ, ◌<◌, ◌≤◌, ◌^◌, List, length}
 use Rattle.std.specs.List.{All}
-use Rattle.dirac_types.specs.declared.limits.TheConstants.{MOST_SUPERBLOCKS}
+use Rattle.dirac_common.specs.declared.limits.TheConstants.{MOST_SUPERBLOCKS}
 use Rattle.dirac_blocks.specs.declared.block.Block.{Block}
 use Rattle.dirac_blocks.specs.Tables.{BlockTable, IsBlock}
 use Rattle.dirac_decide.specs.Deciding.{Deciding}

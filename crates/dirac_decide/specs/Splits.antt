@@ -6,7 +6,7 @@ use Rattle.dirac_blocks.specs.Tables.{BlockTable, block_in, grey, split_at, unit
 use Rattle.dirac_costs.specs.Least.{first_least_to}
 use Rattle.dirac_costs.specs.Sums.{sum_below}
 use Rattle.dirac_types.specs.declared.settings.Settings.{Settings}
-use Rattle.dirac_types.specs.declared.picture.Picture.{Picture}
+use Rattle.dirac_common.specs.declared.picture.Picture.{Picture}
 use Rattle.dirac_decide.specs.Deciding.{Deciding, View, deciding}
 use Rattle.dirac_decide.specs.Modes.{choice_of, refs_of}
 use Rattle.dirac_decide.specs.declared.prediction_unit.PredictionUnit.{PredictionUnit}

@@ -1,7 +1,7 @@
 -- Units of blocks: their windows, their candidates, and what these cost.
 use Rattle.std.specs.Prelude.{ℕ, ℤ, pos, ◌+◌, ◌-◌, ◌*◌, ◌/◌, ◌%◌, ◌^◌, ◌+ℤ◌}
-use Rattle.dirac_types.specs.declared.formats.Vector.{Vector}
-use Rattle.dirac_types.specs.declared.formats.BlockGrid.{BlockGrid}
+use Rattle.dirac_common.specs.declared.formats.Vector.{Vector}
+use Rattle.dirac_common.specs.declared.formats.BlockGrid.{BlockGrid}
 use Rattle.dirac_upconvert.specs.SubSamples.{Up, sub_sample}
 use Rattle.dirac_costs.specs.declared.window.Window.{Window}
 use Rattle.dirac_costs.specs.Bits.{bits_of_vector}

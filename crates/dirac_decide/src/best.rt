@@ -11,7 +11,7 @@ use crate::costs::{price, unit_cost_below};
 use crate::inputs::{Inputs, RefView};
 use crate::prediction_unit::PredictionUnit;
 use crate::predictor::{Moved, Predictor};
-use dirac_types::Vector;
+use dirac_common::Vector;
 use dirac_costs::vector_bits;
 
 /// A vector and what it costs.

@@ -7,7 +7,7 @@ ghost use Rattle.dirac_decide.specs.Predictors as predictors;
 use crate::inputs::Inputs;
 use crate::prediction_unit::{PredictionUnit, unit_window};
 use crate::predictor::{Predictor, predicted_row};
-use dirac_types::Plane;
+use dirac_common::Plane;
 use dirac_costs::{Window, row_differences};
 
 /// What a predictor costs in a window of the source: `bits` and the sum of the absolute differences. Where this isn't

@@ -1,5 +1,5 @@
+use dirac_common::{BlockGrid, Picture};
 use dirac_search::Field;
-use dirac_types::{BlockGrid, Picture};
 use dirac_upconvert::UpPlane;
 
 /// A reference: its luma with its half samples, and the vectors that the motion search found in it.

@@ -17,7 +17,7 @@ use crate::inputs::{Inputs, RefView};
 use crate::prediction_unit::{PredictionUnit, unit_window};
 use crate::predictor::{Moved, Predictor};
 use dirac_blocks::{Block, grey_block};
-use dirac_types::Vector;
+use dirac_common::Vector;
 use dirac_costs::{Window, mean, signed_bits, vector_bits};
 
 /// A block that is predicted from reference 1.

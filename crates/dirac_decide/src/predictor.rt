@@ -9,7 +9,7 @@ ghost use Rattle.dirac_decide.specs.Modes.{mean_of_two};
 ghost use Rattle.dirac_decide.specs.Predictors.{IsPredictor, RowHolds, RowIs, both_samples, mean_in, moved_samples};
 ghost use Rattle.dirac_decide.specs.Predictors.{predicted};
 
-use dirac_types::Vector;
+use dirac_common::Vector;
 use dirac_upconvert::UpPlane;
 
 /// A reference and the vector that leads into it.

@@ -4,7 +4,7 @@ ghost use Rattle.dirac_decide.specs.Rooms.{IsRoom};
 
 use crate::inputs::Inputs;
 use dirac_blocks::{Block, grey_block};
-use dirac_types::NoMemory;
+use dirac_common::NoMemory;
 use std::alloc::Global;
 
 /// How many units a superblock of this split has.

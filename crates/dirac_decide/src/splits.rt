@@ -11,7 +11,7 @@ use crate::inputs::Inputs;
 use crate::modes::choose;
 use crate::prediction_unit::PredictionUnit;
 use dirac_blocks::{Block, unit_blocks, units_across};
-use dirac_types::MOST_SUPERBLOCKS;
+use dirac_common::MOST_SUPERBLOCKS;
 
 /// Unit `k`, by rows, of superblock `sx` of row `sy`.
 fn unit_in(split: u8, sx: u32, sy: u32, k: u32) -> PredictionUnit

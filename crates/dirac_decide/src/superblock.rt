@@ -10,7 +10,7 @@ use crate::inputs::Inputs;
 use crate::room::room;
 use crate::splits::split_below;
 use dirac_blocks::Block;
-use dirac_types::{MOST_SUPERBLOCKS, NoMemory};
+use dirac_common::{MOST_SUPERBLOCKS, NoMemory};
 use std::alloc::Global;
 
 /// The best split of a superblock, and the blocks of its units, by rows.

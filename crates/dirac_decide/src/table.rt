@@ -14,11 +14,11 @@ ghost use Rattle.dirac_decide.specs.Splits.{DecidedTo, IsDecided, SuperblockDeci
 use crate::inputs::{Inputs, RefView};
 use crate::superblock::{BestSplit, decide_row};
 use dirac_blocks::BlockData;
+use dirac_common::{MOST_SUPERBLOCKS, NoMemory, OpenGate, Picture, ratio_across, ratio_down};
 use dirac_header::block_grid;
-use dirac_io::OpenGate;
 use dirac_rows::map_rows;
-use dirac_sequence::{ratio_across, ratio_down, sequence_of};
-use dirac_types::{MOST_SUPERBLOCKS, NoMemory, Picture, Settings};
+use dirac_sequence::sequence_of;
+use dirac_types::Settings;
 use std::alloc::Global;
 use std::marker::Sync;
 use std::thread::Threads;

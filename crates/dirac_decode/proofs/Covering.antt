@@ -1,22 +1,22 @@
 -- The blocks of an inter picture cover each of its planes.
 use Rattle.std.proofs.Common.{◌≡◌, ℕ, ◌+◌, ◌-◌, ◌*◌, ◌/◌, ◌%◌, ◌<◌, ◌≤◌, IsTrue, IsSome, Option, None, Some, arith, ap, refl, subst, ◌∙◌}
-use Rattle.dirac_sequence.proofs.Heights.{picture_whole}
-use Rattle.dirac_sequence.specs.Sizes.{picture_height}
+use Rattle.dirac_sequence_header.proofs.Heights.{picture_whole}
+use Rattle.dirac_sequence_header.specs.Sizes.{picture_height}
 use Rattle.std.specs.Borrow.{Bor}
 use Rattle.std.specs.Option.{ForSome, option_copied}
 use Rattle.std.proofs.Math.Nat.{lt-div-mul-add}
 use Rattle.std.proofs.lemmas.Bool.Decides.{nat_tests}
-use Rattle.dirac_types.specs.declared.formats.BlockGrid.{BlockGrid}
-use Rattle.dirac_types.specs.declared.formats.Chroma.{Chroma}
-use Rattle.dirac_types.specs.declared.formats.Chroma.TheVariants.{C444, C422, C420}
-use Rattle.dirac_types.specs.declared.picture.Picture.{Picture}
-use Rattle.dirac_sequence.specs.declared.sequence.Sequence.{Sequence}
-use Rattle.dirac_sequence.specs.Lawful.{IsSequence}
-use Rattle.dirac_sequence.specs.Ratios.{ratio_across, ratio_down}
+use Rattle.dirac_common.specs.declared.formats.BlockGrid.{BlockGrid}
+use Rattle.dirac_common.specs.declared.formats.Chroma.{Chroma}
+use Rattle.dirac_common.specs.declared.formats.Chroma.TheVariants.{C444, C422, C420}
+use Rattle.dirac_common.specs.declared.picture.Picture.{Picture}
+use Rattle.dirac_sequence_header.specs.declared.sequence.Sequence.{Sequence}
+use Rattle.dirac_sequence_header.specs.Lawful.{IsSequence}
+use Rattle.dirac_common.specs.Ratios.{ratio_across, ratio_down}
 use Rattle.dirac_header.specs.Prediction.{is_grid}
 use Rattle.dirac_upconvert.specs.SubSamples.{Up}
-use Rattle.dirac_types.specs.declared.formats.Component.{Component}
-use Rattle.dirac_types.specs.declared.formats.Component.TheVariants as component
+use Rattle.dirac_common.specs.declared.formats.Component.{Component}
+use Rattle.dirac_common.specs.declared.formats.Component.TheVariants as component
 use Rattle.dirac_obmc.specs.Compensation.{IsPredictable, ratio_of}
 use Rattle.dirac_picture.specs.declared.coded.CodedMotion.{CodedMotion}
 use Rattle.dirac_picture.specs.Fits.{IsMotion}

@@ -1,12 +1,12 @@
 -- Bands that fit a transform are those that a plane is rebuilt from.
 use Rattle.std.proofs.Common.{ℕ, ◌+◌, ◌/◌, ◌≤◌, List, arith}
 use Rattle.std.proofs.lemmas.Option.{slice_get_within}
-use Rattle.dirac_sequence.specs.Lawful.{IsSequence}
-use Rattle.dirac_sequence.proofs.Heights.{picture_size}
-use Rattle.dirac_sequence.specs.Sizes.{picture_height}
-use Rattle.dirac_sequence.specs.declared.sequence.Sequence.{Sequence}
-use Rattle.dirac_types.specs.declared.formats.Component.{Component}
-use Rattle.dirac_types.specs.declared.formats.Component.TheVariants as component
+use Rattle.dirac_sequence_header.specs.Lawful.{IsSequence}
+use Rattle.dirac_sequence_header.proofs.Heights.{picture_size}
+use Rattle.dirac_sequence_header.specs.Sizes.{picture_height}
+use Rattle.dirac_sequence_header.specs.declared.sequence.Sequence.{Sequence}
+use Rattle.dirac_common.specs.declared.formats.Component.{Component}
+use Rattle.dirac_common.specs.declared.formats.Component.TheVariants as component
 use Rattle.dirac_picture.specs.declared.coded.CodedResidual.{CodedResidual}
 use Rattle.dirac_decode.specs.Content.{width_of, height_of, bands_of}
 use Rattle.dirac_header.specs.declared.transform.Transform.{Transform}

@@ -8,6 +8,3 @@ pub mod Pictures
 pub mod Listing
 pub mod Covering
 pub mod Flushing
-pub mod Sizes
-pub mod Raws
-pub mod RawBytes

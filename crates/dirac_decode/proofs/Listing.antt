@@ -4,8 +4,8 @@ use Rattle.std.specs.Prelude.{◌==◌}
 use Rattle.std.specs.List.{All}
 use Rattle.std.specs.Option.{ForSome}
 use Rattle.std.proofs.lemmas.List.Elements.{All-filter, All-drop, All-append, All-cons, All-nil, All-get_or}
-use Rattle.dirac_types.specs.declared.picture.Picture.{Picture}
-use Rattle.dirac_sequence.specs.declared.sequence.Sequence.{Sequence}
+use Rattle.dirac_common.specs.declared.picture.Picture.{Picture}
+use Rattle.dirac_sequence_header.specs.declared.sequence.Sequence.{Sequence}
 use Rattle.dirac_header.specs.Codes.{is_reference}
 use Rattle.dirac_header.specs.declared.header.PictureHeader.{PictureHeader}
 use Rattle.dirac_refs.specs.References.{listed, without, retire, append, appended, committed}

@@ -1,7 +1,7 @@
 -- A decoder as its contracts see it, and what its answers say of the pictures that are still to come.
 use Rattle.std.specs.Prelude.{◌≡◌, ℕ, ◌+◌, Bool, if◌then◌else◌, List, [], ◌∷◌, Option, None, Some, IfSome, ⊤}
 use Rattle.std.specs.Io.KnownBytes.{prepend_known}
-use Rattle.dirac_types.specs.declared.picture.Picture.{Picture}
+use Rattle.dirac_common.specs.declared.picture.Picture.{Picture}
 use Rattle.dirac_units.specs.declared.unit.StreamEnd.{StreamEnd}
 use Rattle.dirac_units.specs.declared.unit.StreamEnd.TheVariants as stream_end
 use Rattle.dirac_units.specs.Progress.{Progress, begun as units_begun}

@@ -1,13 +1,13 @@
 -- Pictures predicted from references that are looked up already.
 use Rattle.std.specs.Prelude.{◌≡◌, Option}
-use Rattle.dirac_types.specs.declared.formats.Kind.TheVariants.{Inter}
-use Rattle.dirac_types.specs.declared.picture.Picture.{Picture}
-use Rattle.dirac_types.specs.Table.{Table}
-use Rattle.dirac_sequence.specs.declared.sequence.Sequence.{Sequence}
+use Rattle.dirac_common.specs.declared.formats.Kind.TheVariants.{Inter}
+use Rattle.dirac_common.specs.declared.picture.Picture.{Picture}
+use Rattle.dirac_common.specs.Table.{Table}
+use Rattle.dirac_sequence_header.specs.declared.sequence.Sequence.{Sequence}
 use Rattle.dirac_header.specs.declared.header.PictureHeader.{PictureHeader}
 use Rattle.dirac_upconvert.specs.SubSamples.{Up}
-use Rattle.dirac_types.specs.declared.formats.Component.{Component}
-use Rattle.dirac_types.specs.declared.formats.Component.TheVariants as component
+use Rattle.dirac_common.specs.declared.formats.Component.{Component}
+use Rattle.dirac_common.specs.declared.formats.Component.TheVariants as component
 use Rattle.dirac_picture.specs.declared.coded.CodedMotion.{CodedMotion}
 use Rattle.dirac_picture.specs.declared.coded.CodedResidual.{CodedResidual}
 use Rattle.dirac_synthesis.specs.Residual.{clipped, with_prediction}

@@ -1,9 +1,9 @@
 -- A way to rebuild pictures, as a decoder is handed one.
 use Rattle.std.specs.Prelude.{◌≡◌, List, Result, IfOk}
 use Rattle.std.specs.Borrow.{Bor}
-use Rattle.dirac_types.specs.declared.picture.Picture.{Picture}
-use Rattle.dirac_sequence.specs.declared.sequence.Sequence.{Sequence}
-use Rattle.dirac_sequence.specs.Lawful.{IsSequence}
+use Rattle.dirac_common.specs.declared.picture.Picture.{Picture}
+use Rattle.dirac_sequence_header.specs.declared.sequence.Sequence.{Sequence}
+use Rattle.dirac_sequence_header.specs.Lawful.{IsSequence}
 use Rattle.dirac_picture.specs.declared.coded.CodedPicture.{CodedPicture}
 use Rattle.dirac_picture.specs.Fits.{FitsSequence}
 use Rattle.dirac_decode.specs.Content.{AreReferences, rebuilt}

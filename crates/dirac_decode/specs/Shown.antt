@@ -1,8 +1,8 @@
 -- What a stream shows: its pictures up to the first fault, that fault, and the tally.
 use Rattle.std.specs.Prelude.{◌≡◌, ℕ, List, [], ◌∷◌, ◌++◌, length, Option, Some, Result, Ok, Err}
-use Rattle.dirac_types.specs.declared.faults.Fault.{Fault}
-use Rattle.dirac_types.specs.declared.faults.Refusal.{Refusal}
-use Rattle.dirac_types.specs.declared.picture.Picture.{Picture}
+use Rattle.dirac_common.specs.declared.faults.Fault.{Fault}
+use Rattle.dirac_common.specs.declared.faults.Refusal.{Refusal}
+use Rattle.dirac_common.specs.declared.picture.Picture.{Picture}
 use Rattle.dirac_units.specs.declared.unit_place.UnitPlace.{UnitPlace}
 use Rattle.dirac_units.specs.Cut.{UnitText, IsCut, start, after, fault_at}
 use Rattle.dirac_refs.specs.Delivery.{flushed}

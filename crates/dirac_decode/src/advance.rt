@@ -9,11 +9,11 @@ ghost use Rattle.dirac_decode.specs.Rebuilding.{Rebuilds};
 
 use crate::state::State;
 use crate::step::{Halt, Step};
+use dirac_common::{Fault, NoMemory, Picture, Stop};
 use dirac_io::Source;
 use dirac_picture::CodedPicture;
 use dirac_refs::RefBuffer;
-use dirac_sequence::Sequence;
-use dirac_types::{Fault, NoMemory, Picture, Stop};
+use dirac_sequence_header::Sequence;
 use dirac_units::{StreamEnd, UnitStep, Units};
 use std::alloc::Global;
 

@@ -1,4 +1,4 @@
-use dirac_types::{Fault, Picture};
+use dirac_common::{Fault, Picture};
 
 /// How many pictures were delivered, and the greatest length that a list of references had.
 #[derive(Clone, Copy, Debug, PartialEq, Eq)]

@@ -1,4 +1,4 @@
-use dirac_sequence::Sequence;
+use dirac_sequence_header::Sequence;
 use dirac_units::Payload;
 
 /// The open sequence: the payload of its header, and what that says.

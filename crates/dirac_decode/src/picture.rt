@@ -1,8 +1,8 @@
 ghost use Rattle.std.specs.Prelude.{◌≡◌, ◌*◌, ◌≤◌, length, Some, IfErr, IfOk, IfSome, IsSome, IsTrue};
 ghost use Rattle.std.specs.List.{All};
 ghost use Rattle.std.specs.Option.{ForSome, option_copied};
-ghost use Rattle.dirac_types.specs.declared.formats.Kind.TheVariants.{Inter};
-ghost use Rattle.dirac_sequence.specs.Lawful.{IsSequence};
+ghost use Rattle.dirac_common.specs.declared.formats.Kind.TheVariants.{Inter};
+ghost use Rattle.dirac_sequence_header.specs.Lawful.{IsSequence};
 ghost use Rattle.dirac_refs.specs.Halves.{CanBeDoubled};
 ghost use Rattle.dirac_picture.specs.Fits.{FitsSequence, IsMotion, IsResidual, NamesReferences};
 ghost use Rattle.dirac_picture.specs.Grammar.{is_picture, picture_read};
@@ -15,12 +15,12 @@ ghost use Rattle.dirac_decode.specs.Taking.{IfStopped, IsRebuilt};
 
 use crate::compensate::{named_reference, predict_from_references};
 use crate::planes::residual_of;
+use dirac_common::{Kind, NoMemory, Picture, Plane, Stop};
 use dirac_obmc::Component;
 use dirac_picture::{CodedMotion, CodedPicture, CodedResidual, read_picture};
 use dirac_refs::{RefBuffer, Reference, reference_of};
+use dirac_sequence_header::Sequence;
 use dirac_synthesis::{clipped, clipped_sum};
-use dirac_sequence::Sequence;
-use dirac_types::{Kind, NoMemory, Picture, Plane, Stop};
 use std::alloc::Global;
 
 /// The samples of a plane of an intra picture: its residual, clipped.

@@ -1,14 +1,14 @@
 ghost use Rattle.std.specs.Prelude.{◌≡◌, ◌*◌, ◌^◌, ◌≤◌, length, unsigned_abs, IfOk, IfSome};
 ghost use Rattle.std.specs.List.{All};
-ghost use Rattle.dirac_sequence.specs.Lawful.{IsSequence};
+ghost use Rattle.dirac_sequence_header.specs.Lawful.{IsSequence};
 ghost use Rattle.dirac_picture.specs.Fits.{IsPlaneSize, IsResidual};
 ghost use Rattle.dirac_decode.specs.Content as content;
 
+use dirac_common::{Kind, LARGEST_SIDE, NoMemory, Picture, Plane};
 use dirac_obmc::Component;
 use dirac_picture::CodedResidual;
+use dirac_sequence_header::Sequence;
 use dirac_synthesis::{Residual, plane_residual};
-use dirac_sequence::Sequence;
-use dirac_types::{Kind, LARGEST_SIDE, NoMemory, Picture, Plane};
 use std::alloc::Global;
 
 /// The number of columns of a plane.

@@ -8,11 +8,11 @@ ghost use Rattle.dirac_decode.specs.Taking.{Fewer, IfStopped, IsOfOpen, IsPopped
 use crate::opened::Opened;
 use crate::picture::{Rebuilt, make_picture};
 use crate::step::Step;
+use dirac_common::{Cause, END_OF_SEQUENCE, NoMemory, Picture, Refusal, SEQUENCE_HEADER, Stop};
 use dirac_picture::CodedPicture;
 use dirac_refs::{Delivery, MOST_REFERENCES, RefBuffer, key};
-use dirac_sequence::{Sequence, read_sequence};
-use dirac_types::{Cause, NoMemory, Picture, Refusal, Stop};
-use dirac_units::{END_OF_SEQUENCE, PARSE_INFO_LENGTH, Payload, SEQUENCE_HEADER, fields_are_read};
+use dirac_sequence_header::{Sequence, read_sequence};
+use dirac_units::{PARSE_INFO_LENGTH, Payload, fields_are_read};
 use std::alloc::Global;
 use std::marker::Model;
 

@@ -1,4 +1,4 @@
-use dirac_types::{Fault, Picture};
+use dirac_common::{Fault, Picture};
 
 /// What the content of a unit brings.
 #[derive(Drop)]

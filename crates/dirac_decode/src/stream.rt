@@ -9,11 +9,11 @@ use crate::answers::{Decoded, Next};
 use crate::decoder::Decoder;
 use crate::picture::rebuild;
 use crate::written::put_picture;
+use dirac_common::{NoMemory, Picture};
 use dirac_io::{Put, Sink, Source};
 use dirac_picture::CodedPicture;
 use dirac_refs::{MOST_REFERENCES, RefBuffer};
-use dirac_sequence::Sequence;
-use dirac_types::{NoMemory, Picture};
+use dirac_sequence_header::Sequence;
 use std::alloc::Global;
 
 /// Decodes a whole stream, and writes its pictures as raw pictures in order of delivery, up to the first fault.

@@ -4,8 +4,8 @@ ghost use Rattle.dirac_io.specs.Faults.{Rose};
 ghost use Rattle.dirac_io.specs.Writing.{AppendsFront};
 ghost use Rattle.dirac_decode.specs.Raw.{byte_of, plane_bytes, raw};
 
+use dirac_common::{NoMemory, Picture, Plane};
 use dirac_io::{Put, Sink, put_all};
-use dirac_types::{NoMemory, Picture, Plane};
 
 /// Writes a raw picture: the rows of Y from top to bottom, then U, then V, a byte a sample. `bytes` is a
 /// buffer for the bytes of a plane, whatever it holds.

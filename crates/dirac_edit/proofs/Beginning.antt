@@ -1,9 +1,9 @@
 -- The unit that begins bytes in memory.
 use Rattle.std.proofs.Common.{◌≡◌, ◌∙◌, ℕ, ◌+◌, ◌<◌, ◌≤◌, List, [], ◌∷◌, ◌++◌, length, take, drop, slice_range, arith, sym, ap, subst, append_assoc, append-nil, Option, Some, Ok, Err, ◌==◌, nat_lt, inl, inr}
 use Rattle.std.proofs.lemmas.Bool.{cases_Bool, cond-true, cond-false, ne_eqb, lt-ltb, le-ltb}
-use Rattle.dirac_types.specs.declared.faults.Cause.TheVariants.{Truncated}
-use Rattle.dirac_types.specs.declared.faults.Fault.{Fault}
-use Rattle.dirac_types.specs.declared.faults.Refusal.{Refusal}
+use Rattle.dirac_common.specs.declared.faults.Cause.TheVariants.{Truncated}
+use Rattle.dirac_common.specs.declared.faults.Fault.{Fault}
+use Rattle.dirac_common.specs.declared.faults.Refusal.{Refusal}
 use Rattle.dirac_units.specs.declared.info.ParseInfo.{ParseInfo}
 use Rattle.dirac_units.specs.declared.unit_place.UnitPlace.{UnitPlace}
 use Rattle.dirac_units.specs.Info.{info_read, span_of}

@@ -3,7 +3,7 @@ use Rattle.std.proofs.Common.{◌≡◌, ◌∙◌, ℕ, ◌<◌, ◌^◌, List,
 use Rattle.std.specs.Prelude.{option_map, unwrap_or}
 use Rattle.std.specs.List.{AllByRecursion}
 use Rattle.std.specs.Option.{option_or}
-use Rattle.dirac_types.specs.declared.faults.Fault.{Fault}
+use Rattle.dirac_common.specs.declared.faults.Fault.{Fault}
 use Rattle.dirac_units.specs.declared.unit_place.UnitPlace.{UnitPlace}
 use Rattle.dirac_units.specs.Cut.{IsCut, NoneHasTwoCuts, UnitText, after, start}
 use Rattle.dirac_decode.specs.StreamState.{StreamState, begun, unit_step}

@@ -1,8 +1,8 @@
 -- Loops over the units, sequences and pictures of a stream: what is left of a list, one step on.
 use Rattle.std.proofs.Common.{◌≡◌, ◌∙◌, ℕ, suc, ◌+◌, ◌<◌, ◌≤◌, Bool, true, false, cond, List, [], ◌∷◌, length, drop, get_or, sym, ap, arith, add-one, Option, None, Some}
 use Rattle.std.proofs.lemmas.List.{drop_all, drop_more}
-use Rattle.dirac_types.specs.declared.picture.Picture.{Picture}
-use Rattle.dirac_units.specs.Codes.{is_intra}
+use Rattle.dirac_common.specs.declared.picture.Picture.{Picture}
+use Rattle.dirac_common.specs.Codes.{is_intra}
 use Rattle.dirac_units.specs.Cut.{UnitText}
 use Rattle.dirac_edit_laws.specs.Cut.{first_of}
 use Rattle.dirac_edit_laws.specs.Texts.{PictureText, SequenceText, points_of, points_with}

@@ -6,7 +6,7 @@ use Rattle.std.specs.Io.KnownBytes.{Appends}
 use Rattle.std.proofs.KnownBytes.{Keeps-refl}
 use Rattle.dirac_io.specs.declared.sink.Unwritten.{Unwritten}
 use Rattle.dirac_io.specs.Writing.{AppendsFront}
-use Rattle.dirac_types.specs.declared.faults.Fault.{Fault}
+use Rattle.dirac_common.specs.declared.faults.Fault.{Fault}
 use Rattle.dirac_units.specs.Cut.{EachHasACut, UnitText, start}
 use Rattle.dirac_decode.specs.Raw.{raws}
 use Rattle.dirac_decode.specs.StreamState.{begun}

@@ -3,16 +3,16 @@ use Rattle.std.proofs.Common.{◌≡◌, ◌∙◌, ℕ, ◌==◌, Bool, true, f
 use Rattle.std.specs.Prelude.{is_some}
 use Rattle.std.specs.List.{AllByRecursion, filter, list_any}
 use Rattle.std.proofs.lemmas.List.{length-map, map-append}
-use Rattle.dirac_types.specs.Chain.{◌>>=◌ as ◌>>◌}
-use Rattle.dirac_types.specs.declared.faults.Cause.TheVariants.{MissingReference}
-use Rattle.dirac_types.specs.declared.faults.Refusal.{Refusal}
-use Rattle.dirac_types.specs.declared.picture.Picture.{Picture}
+use Rattle.dirac_common.specs.Chain.{◌>>=◌ as ◌>>◌}
+use Rattle.dirac_common.specs.declared.faults.Cause.TheVariants.{MissingReference}
+use Rattle.dirac_common.specs.declared.faults.Refusal.{Refusal}
+use Rattle.dirac_common.specs.declared.picture.Picture.{Picture}
 use Rattle.dirac_bits.specs.Answers.{value_of}
 use Rattle.dirac_bits.specs.Cursor.{Cursor, start}
 use Rattle.dirac_bits.specs.Syntax.{Syntax, done, refuse, ◌>>=◌, align, read}
 use Rattle.dirac_bits.specs.Then.{read_then}
-use Rattle.dirac_units.specs.Codes.{is_reference}
-use Rattle.dirac_sequence.specs.declared.sequence.Sequence.{Sequence}
+use Rattle.dirac_common.specs.Codes.{is_reference}
+use Rattle.dirac_sequence_header.specs.declared.sequence.Sequence.{Sequence}
 use Rattle.dirac_header.specs.declared.header.PictureHeader.{PictureHeader}
 use Rattle.dirac_header.specs.Header.{header}
 use Rattle.dirac_refs.specs.declared.ref_buffer.TheConstants.{MOST_REFERENCES}

@@ -1,7 +1,7 @@
 -- The sequences of a stream, where just some of its pictures are kept.
 -- Inner: for the proofs of this crate.
 use Rattle.std.specs.Prelude.{ℕ, suc, ◌==◌, if◌then◌else◌, Bool, true, List, ◌++◌, ◌∷◌, [], Option, None, Some}
-use Rattle.dirac_units.specs.declared.codes.TheConstants.{END_OF_SEQUENCE, SEQUENCE_HEADER}
+use Rattle.dirac_common.specs.declared.codes.TheConstants.{END_OF_SEQUENCE, SEQUENCE_HEADER}
 use Rattle.dirac_units.specs.Cut.{UnitText}
 use Rattle.dirac_units.specs.Info.{is_picture}
 use Rattle.dirac_edit_laws.specs.Cut.{is_between}

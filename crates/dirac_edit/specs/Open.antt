@@ -1,9 +1,9 @@
 -- Parts that are open, told from the headers of their pictures: a reference is looked for by its number alone.
 -- Inner: for the proofs of this crate.
 use Rattle.std.specs.Prelude.{ℕ, pos, if◌then◌else◌, List, [], ◌∷◌, Option, None, Some, Result, Ok, Err}
-use Rattle.dirac_types.specs.declared.faults.Refusal.{Refusal}
-use Rattle.dirac_types.specs.declared.picture.Picture.{Picture}
-use Rattle.dirac_types.specs.Table.{Table}
+use Rattle.dirac_common.specs.declared.faults.Refusal.{Refusal}
+use Rattle.dirac_common.specs.declared.picture.Picture.{Picture}
+use Rattle.dirac_common.specs.Table.{Table}
 use Rattle.dirac_bits.specs.Answers.{value_of}
 use Rattle.dirac_bits.specs.Cursor.{start}
 use Rattle.dirac_bits.specs.Syntax.{read}

@@ -1,7 +1,7 @@
 -- The units of bytes that stand in memory.
 -- Inner: for the proofs of this crate.
 use Rattle.std.specs.Prelude.{◌≡◌, ℕ, List, drop, slice_range, Option, Ok, Err}
-use Rattle.dirac_types.specs.declared.faults.Fault.{Fault}
+use Rattle.dirac_common.specs.declared.faults.Fault.{Fault}
 use Rattle.dirac_units.specs.declared.unit_place.UnitPlace.{UnitPlace}
 use Rattle.dirac_units.specs.Info.{span_of}
 use Rattle.dirac_units.specs.Cut.{IsCut, UnitText, front_of, start}

@@ -1,8 +1,8 @@
 ghost use Rattle.std.specs.Prelude.{◌≡◌, Err};
 ghost use Rattle.dirac_edit.specs.Steps.{ended_as};
 
+use dirac_common::Fault;
 use dirac_io::Unwritten;
-use dirac_types::Fault;
 
 /// How a cut or a joining ended.
 #[derive(Clone, Copy, Debug, PartialEq, Eq, Drop)]

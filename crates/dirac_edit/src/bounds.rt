@@ -3,7 +3,7 @@ ghost use Rattle.dirac_edit_laws.specs.Texts.{points_of as points_among};
 ghost use Rattle.dirac_edit_laws.specs.Cut.{wrong_point as wrong_among};
 
 use crate::units::HeldUnit;
-use dirac_units::is_intra;
+use dirac_common::is_intra;
 
 /// A part of a stream: its pictures from one point up to, and without, another.
 #[derive(Clone, Copy, Debug, PartialEq, Eq)]

@@ -15,10 +15,9 @@ ghost use Rattle.dirac_edit.specs.Merged.{shift_onto, units_behind, way_onto};
 use crate::keys::{Keys, keys_of};
 use crate::numbers::{behind_number, number_in};
 use crate::sequence::{HeldPicture, HeldSequence};
+use dirac_common::SEQUENCE_HEADER;
 use dirac_io::{Sink, Unwritten, put_all};
-use dirac_units::{
-    PARSE_INFO_LENGTH, ParseInfo, SEQUENCE_HEADER, put_end, put_unit, unit_length, write_info,
-};
+use dirac_units::{PARSE_INFO_LENGTH, ParseInfo, put_end, put_unit, unit_length, write_info};
 use std::marker::Model;
 
 // The greatest key that a sequence may have.

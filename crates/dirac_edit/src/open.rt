@@ -4,10 +4,10 @@ ghost use Rattle.dirac_edit.specs.Open.{list_with, numbered as numbered_as};
 
 use crate::sequence::{HeldPicture, HeldSequence};
 use dirac_bits::BitReader;
+use dirac_common::{NoMemory, Picture, Plane, Table};
 use dirac_header::read_header;
 use dirac_picture::are_listed;
 use dirac_refs::{RefBuffer, reference_of};
-use dirac_types::{NoMemory, Picture, Plane, Table};
 use std::alloc::Global;
 
 /// The index of the first unit of these sequences whose picture has a reference that isn't among those before it.

@@ -4,8 +4,8 @@ ghost use Rattle.dirac_edit.specs.Kept.{all_of, begun, keeps, kept_of, walked, w
 use crate::bounds::Part;
 use crate::sequence::{HeldPicture, HeldSequence};
 use crate::units::HeldUnit;
-use dirac_types::NoMemory;
-use dirac_units::{END_OF_SEQUENCE, SEQUENCE_HEADER, fields_are_read, is_intra};
+use dirac_common::{END_OF_SEQUENCE, NoMemory, SEQUENCE_HEADER, is_intra};
+use dirac_units::fields_are_read;
 use std::alloc::Global;
 use std::marker::Model;
 

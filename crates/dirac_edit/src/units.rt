@@ -1,7 +1,7 @@
 ghost use Rattle.std.specs.Prelude.{◌≡◌, ◌+◌, ◌<◌, ◌^◌, IfOk, MatchOption, length};
 ghost use Rattle.dirac_edit.specs.Units.{IsBegun, IsCutInto, NoneIsBegun};
 
-use dirac_types::NoMemory;
+use dirac_common::NoMemory;
 use dirac_units::{PARSE_INFO_LENGTH, ParseInfo, read_info};
 use std::alloc::Global;
 use std::marker::Model;

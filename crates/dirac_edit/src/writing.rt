@@ -8,8 +8,9 @@ ghost use Rattle.dirac_edit_laws.specs.Texts.{with_pictures};
 ghost use Rattle.dirac_edit_laws.specs.Units.{pictures_bytes, sequence_bytes, sequences_bytes};
 
 use crate::sequence::{HeldPicture, HeldSequence};
+use dirac_common::SEQUENCE_HEADER;
 use dirac_io::{Sink, Unwritten};
-use dirac_units::{PARSE_INFO_LENGTH, SEQUENCE_HEADER, put_end, put_unit, unit_length};
+use dirac_units::{PARSE_INFO_LENGTH, put_end, put_unit, unit_length};
 
 /// Writes the units of pictures behind a unit of `previous` bytes, and an end unit.
 fn put_pictures<K: Sink>(

@@ -2,15 +2,15 @@
 use Rattle.std.proofs.Common.{◌≡◌, ℕ, Bool, true, false, if◌then◌else◌, List, Option, None, Some, Result, Ok, Err, refl, sym, ◌∙◌, ap, ap₂, subst}
 use Rattle.std.specs.Prelude.{is_some}
 use Rattle.std.proofs.lemmas.Bool.{and_from, and_parts}
-use Rattle.dirac_types.specs.Chain.{◌>>=◌ as ◌>>◌}
-use Rattle.dirac_types.specs.declared.faults.Cause.TheVariants.{MissingReference}
-use Rattle.dirac_types.specs.declared.faults.Refusal.{Refusal}
-use Rattle.dirac_types.specs.declared.picture.Picture.{Picture}
+use Rattle.dirac_common.specs.Chain.{◌>>=◌ as ◌>>◌}
+use Rattle.dirac_common.specs.declared.faults.Cause.TheVariants.{MissingReference}
+use Rattle.dirac_common.specs.declared.faults.Refusal.{Refusal}
+use Rattle.dirac_common.specs.declared.picture.Picture.{Picture}
 use Rattle.dirac_bits.specs.Answers.{value_of}
 use Rattle.dirac_bits.specs.Cursor.{Cursor, start}
 use Rattle.dirac_bits.specs.Syntax.{Syntax, done, refuse, ◌>>=◌, align, read}
 use Rattle.dirac_bits.specs.Then.{read_then}
-use Rattle.dirac_sequence.specs.declared.sequence.Sequence.{Sequence}
+use Rattle.dirac_sequence_header.specs.declared.sequence.Sequence.{Sequence}
 use Rattle.dirac_header.specs.declared.header.PictureHeader.{PictureHeader}
 use Rattle.dirac_header.specs.Header.{header}
 use Rattle.dirac_refs.specs.References.{listed}
@@ -19,12 +19,12 @@ use Rattle.dirac_picture.specs.declared.coded.CodedPicture.{CodedPicture}
 use Rattle.dirac_picture.specs.declared.coded.CodedResidual.{CodedResidual}
 use Rattle.dirac_picture.specs.Grammar.{are_listed, body, is_listed, motion, picture, picture_read, residual_unless, zero_residual}
 use Rattle.dirac_picture.proofs.Every.{Every, every_any, every_read, every_then}
-use Rattle.dirac_types.specs.declared.formats.Component.{Component}
-use Rattle.dirac_types.specs.declared.formats.Component.TheVariants as component
+use Rattle.dirac_common.specs.declared.formats.Component.{Component}
+use Rattle.dirac_common.specs.declared.formats.Component.TheVariants as component
 use Rattle.dirac_decode.specs.Content.{named, plane_samples, predicted_among, rebuilt, residual_among, samples_from}
 use Rattle.dirac_synthesis.specs.Residual.{clipped, with_prediction}
-use Rattle.dirac_types.specs.declared.formats.Kind.TheVariants.{Inter}
-use Rattle.dirac_types.specs.Table.{Table}
+use Rattle.dirac_common.specs.declared.formats.Kind.TheVariants.{Inter}
+use Rattle.dirac_common.specs.Table.{Table}
 use Rattle.dirac_edit_laws.specs.Restricted.{IsRestricted}
 use Rattle.dirac_edit_laws.specs.Alike.{ClosedPicturesAreAlike, PicturesOfPartsAreOfTheWhole}
 use Rattle.dirac_edit_laws.proofs.Restricted.{listed_in_whole}

@@ -1,7 +1,7 @@
 -- A closed part shows the pictures of the whole.
 use Rattle.std.proofs.Common.{◌≡◌, ◌≤◌, if◌then◌else◌, true, false, List, [], ◌∷◌, None, Some, Ok, length, refl, sym, ◌∙◌, ap, subst}
-use Rattle.dirac_types.specs.declared.picture.Picture.{Picture}
-use Rattle.dirac_sequence.specs.declared.sequence.Sequence.{Sequence}
+use Rattle.dirac_common.specs.declared.picture.Picture.{Picture}
+use Rattle.dirac_sequence_header.specs.declared.sequence.Sequence.{Sequence}
 use Rattle.dirac_refs.specs.References.{as_reference}
 use Rattle.dirac_refs.proofs.Listed.{few_committed}
 use Rattle.dirac_picture.specs.declared.coded.CodedPicture.{CodedPicture}

@@ -1,4 +1,5 @@
 -- The cut of the encoder's stream from one group to another shows the reconstructions of these groups.
+use Rattle.dirac_picture.specs.Written.{payload_by}
 use Rattle.std.proofs.Common.{◌≡◌, ◌==◌, ℕ, ℤ, zero, suc, pos, ◌+ℤ◌, ◌+◌, ◌-◌, ◌*◌, ◌/◌, ◌%◌, ◌<◌, ◌≤◌, ◌^◌, min, nat_le, nat_lt, if◌then◌else◌, Bool, true, false, List, [], ◌∷◌, ◌++◌, length, map, take, drop, None, Some, refl, sym, ◌∙◌, ap, ap₂, subst, arith, append_assoc, append-nil, length-append}
 use Rattle.std.specs.Prelude.{slice_get, ◌≤ℤ◌}
 use Rattle.std.specs.Int.{cast_signed, w32}
@@ -7,17 +8,17 @@ use Rattle.std.proofs.lemmas.Bool.{leb-false, lt-ltb}
 use Rattle.std.proofs.lemmas.Int.{ints, to_z_pos}
 use Rattle.std.proofs.lemmas.List.{drop_at, length-map, map-append, take_at}
 use Rattle.std.proofs.lemmas.List.Elements.{filter-append}
-use Rattle.dirac_types.specs.declared.picture.Picture.{Picture}
+use Rattle.dirac_common.specs.declared.picture.Picture.{Picture}
 use Rattle.dirac_types.specs.declared.settings.Settings.{Settings}
 use Rattle.dirac_types.specs.Settings.{IsAccepted}
-use Rattle.dirac_types.specs.Bits.{bit_value, number_from}
-use Rattle.dirac_types.specs.Bytes.{bytes_in}
-use Rattle.dirac_units.specs.Codes.{is_intra}
+use Rattle.dirac_common.specs.Bits.{bit_value, number_from}
+use Rattle.dirac_common.specs.Bytes.{bytes_in}
+use Rattle.dirac_common.specs.Codes.{is_intra}
 use Rattle.dirac_units.specs.Cut.{UnitText}
 use Rattle.dirac_units.specs.Info.{fields_are_read, is_picture}
 use Rattle.dirac_units.specs.Writing.{IsReadAsWritten}
 use Rattle.dirac_bits.specs.Writing.{up_to_byte}
-use Rattle.dirac_sequence.specs.declared.sequence.Sequence.{Sequence}
+use Rattle.dirac_sequence_header.specs.declared.sequence.Sequence.{Sequence}
 use Rattle.dirac_sequence.specs.Written.{sequence_bits, sequence_of, sequence_payload}
 use Rattle.dirac_refs.specs.declared.waiting.Waiting.{Waiting}
 use Rattle.dirac_refs.specs.Delivery.{delivered, flush, flushed, flushed_by, key_of, least, least_place, others, picture_of, pushed_all}
@@ -33,7 +34,7 @@ use Rattle.dirac_plan_laws.specs.Plans.{PlansCanBeCoded}
 use Rattle.dirac_plan_laws.proofs.Each.{each_append, each_more}
 use Rattle.dirac_encode_laws.specs.Coding.{Made, coded_under, coding, job_of, made, own_index, pushed, reconstructions, refs_after, shown_of}
 use Rattle.dirac_encode_laws.specs.Laws.{AreMade, AreSources, Begins, JobsAreRead}
-use Rattle.dirac_picture.specs.Written.{payload_of, with_picture as picture_bits}
+use Rattle.dirac_encode_laws.specs.Payloads.{payload_of, with_picture as picture_bits}
 use Rattle.dirac_encode_laws.specs.Stream.{end_text, header_text, picture_length, picture_text as made_unit, stream_units, units_from, units_in}
 use Rattle.dirac_encode_laws.proofs.Headers.{header_read, header_short}
 use Rattle.dirac_encode_laws.proofs.Indices.{own_gives, sources_under}
@@ -325,7 +326,7 @@ bytes_small (suc n) bits = (byte_small bits, bytes_small n (drop 8 bits))
 -- the units of coded pictures fit
 texts_fit_made : (t : Settings) (pictures refs : List Picture) (qs : List Planned) (index points : ℕ) → AllByRecursion (λ m. picture_length m < 2 ^ 32) (coded_from t refs (map (job_of pictures) qs)) → Codes (coded_from t refs (map (job_of pictures) qs))
     → AllByRecursion FitsPicture (texts_made index points (coded_from t refs (map (job_of pictures) qs)))
-unfolding coded_under payload_of
+unfolding coded_under payload_by
 texts_fit_made t pictures refs [] index points short codes = tt
 texts_fit_made t pictures refs (q ∷ qs) index points short codes =
     let m = made t refs (job_of pictures q) in

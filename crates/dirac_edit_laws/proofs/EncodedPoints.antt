@@ -1,7 +1,7 @@
 -- The points of the encoder's stream are its groups.
 use Rattle.std.proofs.Common.{◌≡◌, ℕ, suc, ◌+◌, if◌then◌else◌, Bool, true, false, List, [], ◌∷◌, ◌++◌, length, refl, sym, ◌∙◌, ap, arith}
 use Rattle.dirac_types.specs.declared.settings.Settings.{Settings}
-use Rattle.dirac_units.specs.Codes.{is_intra}
+use Rattle.dirac_common.specs.Codes.{is_intra}
 use Rattle.dirac_units.specs.Cut.{UnitText}
 use Rattle.dirac_plan.specs.Plan.{plan}
 use Rattle.dirac_encode_laws.specs.Coding.{Made, coding}

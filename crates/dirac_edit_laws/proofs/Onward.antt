@@ -6,11 +6,11 @@ use Rattle.std.specs.List.{AllByRecursion}
 use Rattle.std.specs.Ordering.{int_eq}
 use Rattle.std.proofs.lemmas.Int.{int_rem_euclid_is, ints}
 use Rattle.std.proofs.lemmas.List.{take_at, drop_at}
-use Rattle.dirac_types.specs.declared.faults.Cause.TheVariants.{MissingReference}
-use Rattle.dirac_types.specs.declared.picture.Picture.{Picture}
-use Rattle.dirac_types.specs.Bits.{bits_of, number_from}
-use Rattle.dirac_types.specs.Numbers as numbers
-use Rattle.dirac_types.specs.Numbers.{literal}
+use Rattle.dirac_common.specs.declared.faults.Cause.TheVariants.{MissingReference}
+use Rattle.dirac_common.specs.declared.picture.Picture.{Picture}
+use Rattle.dirac_common.specs.Bits.{bits_of, number_from}
+use Rattle.dirac_common.specs.Numbers as numbers
+use Rattle.dirac_common.specs.Numbers.{literal}
 use Rattle.dirac_bits.specs.Laws.{StartsWith}
 use Rattle.dirac_bits.specs.Spelling.{Spells}
 use Rattle.dirac_bits.specs.Syntax.{Syntax, done, refuse, ◌>>=◌, align}
@@ -18,7 +18,7 @@ use Rattle.dirac_bits.proofs.Bits.{length-bits_of}
 use Rattle.dirac_bits.proofs.Literals.{four_bytes, none_left}
 use Rattle.dirac_bits.proofs.Runs.{bits_of-append}
 use Rattle.dirac_bits.proofs.Whole.{read_whole, whole_read}
-use Rattle.dirac_sequence.specs.declared.sequence.Sequence.{Sequence}
+use Rattle.dirac_sequence_header.specs.declared.sequence.Sequence.{Sequence}
 use Rattle.dirac_header.specs.declared.header.PictureHeader.{PictureHeader}
 use Rattle.dirac_header.specs.Codes.{is_reference, references_of}
 use Rattle.dirac_header.specs.Header.{header, moved_by, reference, retired_by, retirement}

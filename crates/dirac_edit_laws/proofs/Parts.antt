@@ -2,11 +2,11 @@
 use Rattle.std.proofs.Common.{◌≡◌, ◌<◌, ◌≤◌, ◌⊎◌, inl, inr, if◌then◌else◌, Bool, true, false, ℕ, suc, List, [], ◌∷◌, ◌++◌, length, map, Option, None, Some, Ok, nat_lt, nat_le, refl, sym, ◌∙◌, ap, ap₂, subst, arith}
 use Rattle.std.specs.List.{AllByRecursion, filter, flat_map}
 use Rattle.std.proofs.lemmas.Bool.{and_cases, and_parts, cases_Bool, leb-false, ltb-true, ltb-false}
-use Rattle.dirac_types.specs.declared.picture.Picture.{Picture}
-use Rattle.dirac_sequence.specs.declared.sequence.Sequence.{Sequence}
-use Rattle.dirac_sequence.specs.Grammar.{sequence_read}
+use Rattle.dirac_common.specs.declared.picture.Picture.{Picture}
+use Rattle.dirac_sequence_header.specs.declared.sequence.Sequence.{Sequence}
+use Rattle.dirac_sequence_header.specs.Grammar.{sequence_read}
 use Rattle.dirac_units.specs.Cut.{UnitText}
-use Rattle.dirac_units.specs.Codes.{is_intra}
+use Rattle.dirac_common.specs.Codes.{is_intra}
 use Rattle.dirac_refs.specs.References.{as_reference}
 use Rattle.dirac_refs.proofs.Listed.{few_committed}
 use Rattle.dirac_picture.specs.declared.coded.CodedPicture.{CodedPicture}

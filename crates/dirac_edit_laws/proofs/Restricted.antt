@@ -2,7 +2,7 @@
 use Rattle.std.proofs.Common.{◌≡◌, ◌≤◌, ◌==◌, List, [], ◌∷◌, ◌++◌, Option, None, Some, length, drop, ℕ, nat_le, Bool, true, false, if◌then◌else◌, not, refl, sym, ◌∙◌, ap, subst, arith, length-append, append_assoc, append-nil}
 use Rattle.std.specs.List.{filter}
 use Rattle.std.proofs.lemmas.List.Elements.{filter-append}
-use Rattle.dirac_types.specs.declared.picture.Picture.{Picture}
+use Rattle.dirac_common.specs.declared.picture.Picture.{Picture}
 use Rattle.dirac_refs.specs.References.{Commit, listed, without, retire, append, appended, committed, refs_from, refs_of}
 use Rattle.dirac_refs.proofs.Listed.{few_committed, few_without, refs_few}
 use Rattle.dirac_edit_laws.specs.Restricted.{IsRestricted, PartsKeepTheirLists}

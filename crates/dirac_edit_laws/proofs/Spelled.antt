@@ -1,7 +1,7 @@
 -- Fields behind others, spelled by the bits that spell other fields.
 use Rattle.std.proofs.Common.{ℕ, ◌+◌, ◌/◌, Bool, List, length, subst}
-use Rattle.dirac_types.specs.Bits.{bits_of}
-use Rattle.dirac_types.specs.Numbers as numbers
+use Rattle.dirac_common.specs.Bits.{bits_of}
+use Rattle.dirac_common.specs.Numbers as numbers
 use Rattle.dirac_bits.specs.Spelling.{Spells}
 use Rattle.dirac_bits.specs.Syntax.{Syntax, done, flag_then, uint_then, sint_then, literal_then, block_then, align_then, here_then, refuse, ◌>>=◌}
 use Rattle.dirac_picture.proofs.Every.{Every}

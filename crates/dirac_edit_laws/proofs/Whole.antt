@@ -4,9 +4,9 @@ use Rattle.std.specs.List.{AllByRecursion, filter}
 use Rattle.std.proofs.lemmas.Bool.{cases_Bool, leb-false, leb-true, lt-ltb, or_left, or_parts}
 use Rattle.std.proofs.lemmas.List.{map-append}
 use Rattle.std.proofs.lemmas.List.Elements.{filter-append}
-use Rattle.dirac_types.specs.declared.picture.Picture.{Picture}
+use Rattle.dirac_common.specs.declared.picture.Picture.{Picture}
 use Rattle.dirac_units.specs.declared.unit_place.UnitPlace.{UnitPlace}
-use Rattle.dirac_units.specs.Codes.{is_intra}
+use Rattle.dirac_common.specs.Codes.{is_intra}
 use Rattle.dirac_units.specs.Cut.{UnitText, after, start}
 use Rattle.dirac_units.specs.Info.{is_picture}
 use Rattle.dirac_units.specs.Writing.{IsReadAsWritten}

@@ -1,7 +1,7 @@
 -- The pictures of a part are read and rebuilt as in the whole.
 use Rattle.std.specs.Prelude.{◌≡◌, ℕ, List, Ok, true}
-use Rattle.dirac_types.specs.declared.picture.Picture.{Picture}
-use Rattle.dirac_sequence.specs.declared.sequence.Sequence.{Sequence}
+use Rattle.dirac_common.specs.declared.picture.Picture.{Picture}
+use Rattle.dirac_sequence_header.specs.declared.sequence.Sequence.{Sequence}
 use Rattle.dirac_picture.specs.declared.coded.CodedPicture.{CodedPicture}
 use Rattle.dirac_picture.specs.Grammar.{are_listed, picture_read}
 use Rattle.dirac_decode.specs.Content.{rebuilt}

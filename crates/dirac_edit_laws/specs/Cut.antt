@@ -2,7 +2,7 @@
 use Rattle.std.specs.Prelude.{ℕ, nat_le, nat_lt, ◌&&◌, ◌||◌, if◌then◌else◌, Bool, List, [], ◌∷◌, map, Option, None}
 use Rattle.std.specs.Prelude.{Some}
 use Rattle.std.specs.List.{filter, flat_map}
-use Rattle.dirac_types.specs.declared.picture.Picture.{Picture}
+use Rattle.dirac_common.specs.declared.picture.Picture.{Picture}
 use Rattle.dirac_units.specs.Cut.{UnitText}
 use Rattle.dirac_picture.specs.Grammar.{are_listed}
 use Rattle.dirac_edit_laws.specs.Texts.{PictureText, SequenceText, sequences, with_pictures}

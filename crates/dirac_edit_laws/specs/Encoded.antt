@@ -1,6 +1,6 @@
 -- The cut of a stream that was encoded, from one group of its plan up to another.
 use Rattle.std.specs.Prelude.{◌≡◌, ℕ, ◌+◌, ◌-◌, ◌*◌, ◌/◌, ◌<◌, ◌≤◌, ◌==◌, if◌then◌else◌, List, length, take, drop, None}
-use Rattle.dirac_types.specs.declared.picture.Picture.{Picture}
+use Rattle.dirac_common.specs.declared.picture.Picture.{Picture}
 use Rattle.dirac_types.specs.declared.settings.Settings.{Settings}
 use Rattle.dirac_plan.specs.Plan.{group_count}
 use Rattle.dirac_plan.specs.Planning.{group_pictures}

@@ -2,7 +2,7 @@
 use Rattle.std.specs.Prelude.{ℕ, ℤ, pos, ◌+◌, ◌-◌, ◌%◌, ◌^◌, ◌+ℤ◌, ◌-ℤ◌, int_le, ◌&&◌, if◌then◌else◌, Bool, List, []}
 use Rattle.std.specs.Prelude.{◌∷◌, ◌++◌, length, take, drop, map}
 use Rattle.std.specs.Int.{cast_unsigned, from_be_bytes, int_max, int_min, to_be_bytes, w32}
-use Rattle.dirac_units.specs.declared.codes.TheConstants.{SEQUENCE_HEADER}
+use Rattle.dirac_common.specs.declared.codes.TheConstants.{SEQUENCE_HEADER}
 use Rattle.dirac_units.specs.Cut.{UnitText}
 use Rattle.dirac_refs.specs.Delivery.{key_of}
 use Rattle.dirac_decode.specs.StreamState.{is_same}

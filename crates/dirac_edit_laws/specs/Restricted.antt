@@ -1,6 +1,6 @@
 -- The reference list of a part of a sequence: the list of the whole, restricted to the part.
 use Rattle.std.specs.Prelude.{◌≡◌, ℕ, List, ◌++◌, None, Some}
-use Rattle.dirac_types.specs.declared.picture.Picture.{Picture}
+use Rattle.dirac_common.specs.declared.picture.Picture.{Picture}
 use Rattle.dirac_refs.specs.References.{Commit, listed, refs_of}
 
 -- the whole list has pictures from before the part, and behind them just those of the part; no number of these is among

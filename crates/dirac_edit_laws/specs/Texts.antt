@@ -1,8 +1,8 @@
 -- A stream seen by sequences: the header of each, its pictures, and the point that each picture stands behind.
 use Rattle.std.specs.Prelude.{ℕ, suc, ◌==◌, nat_lt, if◌then◌else◌, List, [], ◌∷◌, ◌++◌, length, Option, None, Some}
 use Rattle.std.specs.List.{filter}
-use Rattle.dirac_units.specs.declared.codes.TheConstants.{END_OF_SEQUENCE, SEQUENCE_HEADER}
-use Rattle.dirac_units.specs.Codes.{is_intra}
+use Rattle.dirac_common.specs.declared.codes.TheConstants.{END_OF_SEQUENCE, SEQUENCE_HEADER}
+use Rattle.dirac_common.specs.Codes.{is_intra}
 use Rattle.dirac_units.specs.Cut.{UnitText}
 use Rattle.dirac_units.specs.Info.{is_picture}
 

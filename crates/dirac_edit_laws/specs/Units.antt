@@ -1,6 +1,6 @@
 -- Sequences as units: a sequence header, the pictures, an end unit.
 use Rattle.std.specs.Prelude.{ℕ, ◌+◌, List, [], ◌∷◌, ◌++◌, length}
-use Rattle.dirac_units.specs.declared.codes.TheConstants.{SEQUENCE_HEADER}
+use Rattle.dirac_common.specs.declared.codes.TheConstants.{SEQUENCE_HEADER}
 use Rattle.dirac_units.specs.Cut.{UnitText}
 use Rattle.dirac_encode_laws.specs.Stream.{end_info, end_unit, info_for, unit}
 use Rattle.dirac_edit_laws.specs.Texts.{PictureText, SequenceText}

@@ -11,8 +11,8 @@ ghost use Rattle.dirac_edit_laws.specs.Rows.{AHeaderIsJoined, AnEndIsJoined, Gre
 ghost use Rattle.dirac_edit_laws.specs.Rows.{TheFirstPointIsCut, TheLastPointIsCut, TheSecondIsRenumbered};
 ghost use Rattle.dirac_edit_laws.specs.Rows.{TwoPointsStand};
 
-use dirac_plan_laws::plans_can_be_coded;
 use dirac_encode_laws::streams_show_their_pictures;
+use dirac_plan_laws::plans_can_be_coded;
 use dirac_units::infos_are_read_as_written;
 
 /// The reference list of a part is the list of the whole, restricted to the part.

@@ -2,11 +2,11 @@
 -- Inner: for the proofs of this crate.
 use Rattle.std.specs.Prelude.{◌≡◌, ℕ, ◌≤◌, ◌^◌, Bool, true, List, [], ◌∷◌, ◌++◌, length, Option}
 use Rattle.std.specs.List.{AllByRecursion}
-use Rattle.dirac_types.specs.declared.picture.Picture.{Picture}
+use Rattle.dirac_common.specs.declared.picture.Picture.{Picture}
 use Rattle.dirac_types.specs.declared.settings.Settings.{Settings}
 use Rattle.dirac_refs.specs.declared.waiting.Waiting.{Waiting}
 use Rattle.dirac_refs.specs.Delivery.{key_of}
-use Rattle.dirac_decode.specs.Raw.{sources}
+use Rattle.dirac_sources.specs.Sources.{sources}
 use Rattle.dirac_plan.specs.declared.planned.Planned.{Planned}
 use Rattle.dirac_plan.specs.Plan.{plan}
 use Rattle.dirac_plan.specs.Planning.{Planning}

@@ -9,10 +9,10 @@ ghost use Rattle.dirac_refs.specs.Delivery.{delivered, flushed};
 ghost use Rattle.dirac_decode.specs.Raw.{raws};
 ghost use Rattle.dirac_encode.specs.Going.{joined};
 
+use dirac_common::Picture;
 use dirac_decode::put_picture;
 use dirac_io::{Sink, Unwritten};
 use dirac_refs::{Delivery, key};
-use dirac_types::Picture;
 
 /// Writes a picture that leaves, if one does.
 fn put_left<N: Sink>(

@@ -10,8 +10,8 @@ use crate::coder::Coder;
 use crate::delivering::put_waiting;
 use crate::progress::Progress;
 use crate::units::put_end_units;
-use dirac_io::{Sink, Unwritten};
 use dirac_encode_laws::Encoded;
+use dirac_io::{Sink, Unwritten};
 
 /// Writes what stands behind the pictures: where there is none a sequence header, then the end unit; and all pictures
 /// that wait.

@@ -2,7 +2,7 @@
 
 ghost use Rattle.std.specs.Prelude.{◌≡◌, ◌≤◌, ◌<◌, true, IfOk};
 ghost use Rattle.std.specs.List.{AllByRecursion};
-ghost use Rattle.dirac_types.specs.Limits.{IsIndex};
+ghost use Rattle.dirac_common.specs.Limits.{IsIndex};
 ghost use Rattle.dirac_types.specs.Settings.{IsAccepted};
 ghost use Rattle.dirac_picture.specs.Grammar.{are_listed};
 ghost use Rattle.dirac_motion.specs.Chosen.{IsChosenAtEachIndex, at_index};
@@ -12,11 +12,11 @@ ghost use Rattle.dirac_encode_laws.specs.Coded.{IsSource};
 ghost use Rattle.dirac_encode_laws.specs.Coding.{made, made_under};
 ghost use Rattle.dirac_encode_laws.specs.Fit.{IsLeast, fit, length_at};
 
+use dirac_common::{LARGEST_INDEX, NoMemory, Picture, RowGate};
 use dirac_encode_picture::{Coded, Prepared, code_prepared, prepare_picture};
-use dirac_io::RowGate;
 use dirac_plan::Planned;
 use dirac_refs::RefBuffer;
-use dirac_types::{LARGEST_INDEX, NoMemory, Picture, Settings};
+use dirac_types::Settings;
 use dirac_units::PARSE_INFO_LENGTH;
 use std::alloc::Global;
 use std::thread::Threads;

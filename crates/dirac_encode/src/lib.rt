@@ -13,8 +13,8 @@ mod source;
 mod stream;
 mod units;
 
-pub use dirac_encode_picture::{Coded, choose_blocks, code_picture, code_with_blocks};
-pub use dirac_decode::{picture_of, raw_length};
 pub use dirac_encode_laws::{Encoded, streams_show_their_pictures};
+pub use dirac_encode_picture::{Coded, choose_blocks, code_picture, code_with_blocks};
+pub use dirac_sources::{picture_of, raw_length};
 pub use fitting::fit_picture;
 pub use stream::{StreamCoder, encode_by, encode_stream};

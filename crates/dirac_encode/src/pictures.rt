@@ -6,7 +6,7 @@ ghost use Rattle.std.specs.Io.KnownBytes.{IsAtEnd};
 ghost use Rattle.dirac_io.specs.Faults.{Rose};
 ghost use Rattle.dirac_types.specs.Settings.{IsAccepted};
 ghost use Rattle.dirac_sequence.specs.Written.{sequence_payload};
-ghost use Rattle.dirac_decode.specs.Raw.{raw_length as length_of};
+ghost use Rattle.dirac_sources.specs.Sources.{raw_length as length_of};
 ghost use Rattle.dirac_plan.specs.Planning.{empty_planning};
 ghost use Rattle.dirac_encode_laws.specs.Encoding.{AnswersEncode, EndsStream, IsRecoveredUnder, behind, encoding_under};
 ghost use Rattle.dirac_encode_laws.specs.Fit.{rule_of};
@@ -17,11 +17,12 @@ use crate::coder::Coder;
 use crate::ending::put_last;
 use crate::planned::put_planned;
 use crate::progress::Progress;
-use dirac_decode::picture_of;
-use dirac_io::{Filled, RowGate, Sink, Source, fill};
+use dirac_common::RowGate;
+use dirac_encode_laws::{Encoded, streams_show_their_pictures};
+use dirac_io::{Filled, Sink, Source, fill};
 use dirac_plan::Planner;
 use dirac_plan_laws::plans_can_be_coded;
-use dirac_encode_laws::{Encoded, streams_show_their_pictures};
+use dirac_sources::picture_of;
 use std::thread::Threads;
 
 /// Bytes are below 256.

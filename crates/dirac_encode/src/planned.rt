@@ -12,10 +12,11 @@ ghost use Rattle.dirac_encode.specs.Going.{LeadsOn, Lists, Stops, so_far};
 use crate::coder::Coder;
 use crate::progress::Progress;
 use crate::source::put_source;
-use dirac_io::{RowGate, Sink};
+use dirac_common::RowGate;
+use dirac_encode_laws::Encoded;
+use dirac_io::Sink;
 use dirac_plan::Planner;
 use dirac_plan_laws::plans_can_be_coded;
-use dirac_encode_laws::Encoded;
 use std::thread::Threads;
 
 /// Codes all pictures that can be coded by now; where the pictures have ended, all that are left.

@@ -11,12 +11,13 @@ ghost use Rattle.dirac_encode_laws.specs.Fit.{rule_of};
 use crate::coder::Coder;
 use crate::pictures::put_pictures;
 use crate::progress::Progress;
-use dirac_decode::raw_length;
-use dirac_io::{RowGate, Sink, Source};
+use dirac_common::{NoMemory, RowGate};
+use dirac_encode_laws::Encoded;
+use dirac_io::{Sink, Source};
 use dirac_plan::Planner;
 use dirac_sequence::write_sequence;
-use dirac_encode_laws::Encoded;
-use dirac_types::{NoMemory, Settings};
+use dirac_sources::raw_length;
+use dirac_types::Settings;
 use std::alloc::Global;
 use std::thread::Threads;
 

@@ -9,10 +9,11 @@ ghost use Rattle.dirac_picture.specs.Grammar as grammar;
 ghost use Rattle.dirac_encode_laws.specs.Steps.{last_units};
 ghost use Rattle.dirac_encode_laws.specs.Stream.{header_unit};
 
+use dirac_common::SEQUENCE_HEADER;
 use dirac_io::{Sink, Unwritten};
 use dirac_picture::is_intra;
 use dirac_types::Settings;
-use dirac_units::{PARSE_INFO_LENGTH, SEQUENCE_HEADER, put_end, put_unit};
+use dirac_units::{PARSE_INFO_LENGTH, put_end, put_unit};
 
 /// Writes the unit of this sequence header before an intra picture, behind a unit of `previous` bytes.
 pub(crate) fn put_header<K: Sink>(

@@ -13,7 +13,7 @@ use Rattle.dirac_picture.proofs.Lengths.{band_some}
 use Rattle.dirac_analysis.proofs.Undone.{front_get, back_get}
 use Rattle.dirac_encode_laws.specs.Coded.{count_of, counts_below, transform_of}
 use Rattle.dirac_encode_laws.specs.Codable.{IsCodable}
-use Rattle.dirac_decode.proofs.Sizes.{size_of_pictures}
+use Rattle.dirac_sequence.proofs.Sizes.{size_of_pictures}
 
 pub length-counts_below : (t : Settings) (n : ℕ) → length (counts_below t n) ≡ n
 unfolding counts_below

@@ -3,13 +3,13 @@ use Rattle.std.proofs.Common.{Ok, ◌≡◌, ℕ, zero, suc, ◌+◌, ◌*◌, �
 use Rattle.std.proofs.lemmas.List.{length-replicate}
 use Rattle.dirac_types.specs.Settings.{IsAccepted}
 use Rattle.dirac_bits.proofs.Whole.{whole_read}
-use Rattle.dirac_sequence.specs.Grammar.{sequence, sequence_read}
+use Rattle.dirac_sequence_header.specs.Grammar.{sequence, sequence_read}
 use Rattle.dirac_sequence.proofs.Accepted.{writable}
-use Rattle.dirac_sequence.proofs.Packed.{starts}
+use Rattle.dirac_bits.proofs.Packed.{starts}
 use Rattle.dirac_sequence.proofs.Written.{sequence_spelled}
 use Rattle.dirac_types.specs.declared.settings.Settings.{Settings}
-use Rattle.dirac_types.specs.Bytes.{bytes_in, bytes_of}
-use Rattle.dirac_types.specs.Numbers.{digits_of, digits_within, followed, uint}
+use Rattle.dirac_common.specs.Bytes.{bytes_in, bytes_of}
+use Rattle.dirac_common.specs.Numbers.{digits_of, digits_within, followed, uint}
 use Rattle.dirac_bits.specs.Writing.{gap}
 use Rattle.dirac_sequence.specs.Written.{base_bits, custom_bits, frames_bits, is_own_chroma, is_own_rate, is_own_signal, is_own_size, samples_bits, sequence_bits, sequence_of, sequence_payload, up_to_byte, whole_area_bits}
 use Rattle.dirac_encode_laws.specs.Stream.{header_length}

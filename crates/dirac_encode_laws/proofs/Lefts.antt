@@ -7,14 +7,14 @@ use Rattle.std.specs.Simd.Lanes.{zip2}
 use Rattle.std.proofs.lemmas.Bool.{cases_lt}
 use Rattle.std.proofs.lemmas.Int.{ints}
 use Rattle.std.proofs.lemmas.List.{get_or_past}
-use Rattle.dirac_types.specs.declared.formats.Chroma.{Chroma}
-use Rattle.dirac_types.specs.declared.formats.Chroma.TheVariants.{C444, C422, C420}
-use Rattle.dirac_types.specs.declared.picture.Picture.{Picture}
+use Rattle.dirac_common.specs.declared.formats.Chroma.{Chroma}
+use Rattle.dirac_common.specs.declared.formats.Chroma.TheVariants.{C444, C422, C420}
+use Rattle.dirac_common.specs.declared.picture.Picture.{Picture}
 use Rattle.dirac_types.specs.declared.settings.Settings.{Settings}
-use Rattle.dirac_types.specs.Samples.{clip}
-use Rattle.dirac_types.specs.Table.{Table}
-use Rattle.dirac_sequence.specs.declared.sequence.Sequence.{Sequence}
-use Rattle.dirac_sequence.specs.Lawful.{IsSequence}
+use Rattle.dirac_common.specs.Samples.{clip}
+use Rattle.dirac_common.specs.Table.{Table}
+use Rattle.dirac_sequence_header.specs.declared.sequence.Sequence.{Sequence}
+use Rattle.dirac_sequence_header.specs.Lawful.{IsSequence}
 use Rattle.dirac_sequence.specs.Written.{sequence_of}
 use Rattle.dirac_header.specs.Codes.{references_of}
 use Rattle.dirac_header.specs.Prediction.{grid_of, is_grid}
@@ -23,8 +23,8 @@ use Rattle.dirac_blocks.specs.Tables.{BlockTable, grey}
 use Rattle.dirac_upconvert.specs.HalfSamples.{IsSample}
 use Rattle.dirac_upconvert.specs.SubSamples.{Up}
 use Rattle.dirac_upconvert.proofs.Halves.{half_samples}
-use Rattle.dirac_types.specs.declared.formats.Component.{Component}
-use Rattle.dirac_types.specs.declared.formats.Component.TheVariants as component
+use Rattle.dirac_common.specs.declared.formats.Component.{Component}
+use Rattle.dirac_common.specs.declared.formats.Component.TheVariants as component
 use Rattle.dirac_obmc.specs.Compensation as obmc
 use Rattle.dirac_obmc.proofs.SamplesPredicted.{planes_predicted}
 use Rattle.dirac_picture.specs.Fits as fits

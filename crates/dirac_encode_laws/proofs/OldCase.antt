@@ -1,8 +1,8 @@
 -- A picture that opens a group is coded as before: an intra picture with a sequence header before it. And with the
 -- settings' index for every picture the recursion is the one without a rule.
 use Rattle.std.proofs.Common.{◌≡◌, ℕ, List, Bool, ◌∷◌, ◌++◌, Some, None, refl}
-use Rattle.dirac_types.specs.declared.formats.Kind.TheVariants.{Intra}
-use Rattle.dirac_types.specs.declared.picture.Picture.{Picture}
+use Rattle.dirac_common.specs.declared.formats.Kind.TheVariants.{Intra}
+use Rattle.dirac_common.specs.declared.picture.Picture.{Picture}
 use Rattle.dirac_types.specs.declared.settings.Settings.{Settings}
 use Rattle.dirac_sequence.specs.Written.{sequence_of, sequence_payload}
 use Rattle.dirac_header.specs.Written.{header_bits}
@@ -10,7 +10,8 @@ use Rattle.dirac_coeffs.specs.Written.{up_to_byte}
 use Rattle.dirac_plan.specs.Plan.{opening}
 use Rattle.dirac_encode_laws.specs.Coded.{bands_of, coded_of, residual_of, transform_of}
 use Rattle.dirac_encode_laws.specs.Coding.{Job, coded_under, made, made_under, own_index, refs_after}
-use Rattle.dirac_picture.specs.Written.{payload_of, with_picture, with_residual}
+use Rattle.dirac_picture.specs.Written.{with_residual}
+use Rattle.dirac_encode_laws.specs.Payloads.{payload_of, with_picture}
 use Rattle.dirac_encode_laws.specs.Steps.{picture_units}
 use Rattle.dirac_encode_laws.specs.Stream.{header_length, unit}
 use Rattle.dirac_plan_laws.specs.Headers.{header_of}

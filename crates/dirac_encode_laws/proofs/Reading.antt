@@ -1,20 +1,21 @@
 -- The payload of a planned source is read again as it was coded.
+use Rattle.dirac_picture.specs.Written.{payload_by}
 use Rattle.std.proofs.Common.{◌≡◌, ℕ, ◌+◌, ◌-◌, ◌*◌, ◌/◌, ◌%◌, ◌<◌, ◌≤◌, ◌^◌, if◌then◌else◌, Bool, true, false, List, [], ◌∷◌, ◌++◌, length, Option, None, Some, Ok, refl, sym, ap, ◌∙◌, subst, arith, length-append}
 use Rattle.std.specs.Prelude.{is_some}
 use Rattle.std.specs.List.{AllByRecursion}
 use Rattle.std.specs.Option.{ForSome}
 use Rattle.std.proofs.lemmas.Bool.{and_parts, le-leb}
 use Rattle.std.proofs.lemmas.List.{length-replicate}
-use Rattle.dirac_types.specs.Bits.{bits_of}
-use Rattle.dirac_types.specs.Bytes.{bytes_in, bytes_of}
-use Rattle.dirac_types.specs.declared.formats.Kind.{Kind}
-use Rattle.dirac_types.specs.declared.picture.Picture.{Picture}
+use Rattle.dirac_common.specs.Bits.{bits_of}
+use Rattle.dirac_common.specs.Bytes.{bytes_in, bytes_of}
+use Rattle.dirac_common.specs.declared.formats.Kind.{Kind}
+use Rattle.dirac_common.specs.declared.picture.Picture.{Picture}
 use Rattle.dirac_types.specs.declared.settings.Settings.{Settings}
 use Rattle.dirac_types.specs.Settings.{IsAccepted}
 use Rattle.dirac_types.specs.Sizes.{picture_height}
 use Rattle.dirac_types.proofs.Accepted.{in_range}
-use Rattle.dirac_types.specs.Numbers.{uint}
-use Rattle.dirac_types.specs.Table.{Table}
+use Rattle.dirac_common.specs.Numbers.{uint}
+use Rattle.dirac_common.specs.Table.{Table}
 use Rattle.dirac_arith.specs.Interval.{Decision}
 use Rattle.dirac_arith.specs.Written.{flush}
 use Rattle.dirac_bits.specs.Spelling.{SpelledBehind}
@@ -23,7 +24,7 @@ use Rattle.dirac_bits.specs.Writing.{IsWhole, gap, up_to_byte}
 use Rattle.dirac_bits.proofs.Bits.{length-bits_of}
 use Rattle.dirac_bits.proofs.Whole.{whole_read}
 use Rattle.dirac_bands.specs.Geometry.{lowest_size}
-use Rattle.dirac_sequence.specs.declared.sequence.Sequence.{Sequence}
+use Rattle.dirac_sequence_header.specs.declared.sequence.Sequence.{Sequence}
 use Rattle.dirac_sequence.specs.Written.{sequence_of}
 use Rattle.dirac_header.specs.Codes.{references_of}
 use Rattle.dirac_header.specs.Written.{header_bits, prediction_bits, prediction_of}
@@ -34,13 +35,14 @@ use Rattle.dirac_blocks.specs.Grammar.{blocks}
 use Rattle.dirac_blocks.specs.Tables.{BlockTable}
 use Rattle.dirac_blocks.specs.Written.{AreShort, with_block, with_lists}
 use Rattle.dirac_blocks.proofs.Spelled.{table_spelled}
-use Rattle.dirac_types.specs.declared.formats.Component.{Component}
-use Rattle.dirac_types.specs.declared.formats.Component.TheVariants as component
+use Rattle.dirac_common.specs.declared.formats.Component.{Component}
+use Rattle.dirac_common.specs.declared.formats.Component.TheVariants as component
 use Rattle.dirac_picture.specs.declared.coded.CodedMotion.{CodedMotion}
 use Rattle.dirac_picture.specs.declared.coded.CodedResidual.{CodedResidual}
 use Rattle.dirac_picture.specs.Grammar.{are_listed, chroma_height, chroma_width, is_intra, is_listed, motion, picture, picture_read, prediction_fields, residual, residual_unless, zero_residual}
 use Rattle.dirac_picture.specs.Writable.{IsWritten}
-use Rattle.dirac_picture.specs.Written.{HasSpelledBlocks, payload_of, with_blocks, with_coefficients, with_flag, with_motion, with_picture, with_residual}
+use Rattle.dirac_picture.specs.Written.{with_coefficients, with_flag, with_residual}
+use Rattle.dirac_encode_laws.specs.Payloads.{HasSpelledBlocks, payload_of, with_blocks, with_motion, with_picture}
 use Rattle.dirac_picture.proofs.Spelled.{behind_align, fields_spelled, flag_spelled, left_out, motion_spelled, no_flag, no_motion, not_left_out, picture_spelled, whole_starts}
 use Rattle.dirac_picture.proofs.Written.{residual_written}
 use Rattle.dirac_analysis.specs.Fits.{AreDifferences, AreLevelBands}
@@ -56,7 +58,7 @@ use Rattle.dirac_encode_laws.proofs.Coding.{bands_fit, bands_writable, bands_sma
 use Rattle.dirac_encode_laws.proofs.Headers.{length-bytes_in}
 use Rattle.dirac_encode_laws.proofs.InBytes.{bytes_again}
 use Rattle.dirac_encode_laws.proofs.Lefts.{IsPredicting, differences_small, found_is, named_is, picture_is, predicted_are, samples_are}
-use Rattle.dirac_decode.proofs.Sizes.{sequence_lawful}
+use Rattle.dirac_sequence.proofs.Sizes.{sequence_lawful}
 use Rattle.dirac_plan_laws.specs.Headers.{IsPlanned, header_of}
 
 -- ---- settings
@@ -225,7 +227,7 @@ moves_so law t refs q p accepted listed source planned found false e = moves (ch
 -- the payload of a coded picture is read again, where its block table is spelt
 pub read_spelled : (t : Settings) (refs : List Picture) (q : Planned) (p : Picture) (m : Option CodedMotion) → IsAccepted t → AllByRecursion (IsSource t) refs → IsSource t p → IsPlanned q → are_listed refs (header_of q) ≡ true → Moves t q m
     → HasSpelledBlocks t m (header_bits [] q.code (header_of q)) → picture_read q.code (sequence_of t) refs (payload_of t (coded_with t refs q p m)) ≡ Ok (coded_with t refs q p m)
-unfolding payload_of
+unfolding payload_by
 read_spelled t refs q p m accepted listed source planned found is blocks =
     let s = sequence_of t in
     let c = coded_with t refs q p m in
@@ -244,7 +246,7 @@ read_spelled t refs q p m accepted listed source planned found is blocks =
 -- and where its unit is shorter than 2^32 bytes, so that its block table is short enough
 pub read_with : (t : Settings) (refs : List Picture) (q : Planned) (p : Picture) (m : Option CodedMotion) → IsAccepted t → AllByRecursion (IsSource t) refs → IsSource t p → IsPlanned q → are_listed refs (header_of q) ≡ true → Moves t q m
     → 13 + length (payload_of t (coded_with t refs q p m)) < 2 ^ 32 → picture_read q.code (sequence_of t) refs (payload_of t (coded_with t refs q p m)) ≡ Ok (coded_with t refs q p m)
-unfolding payload_of bytes_in
+unfolding payload_by bytes_in
 read_with t refs q p m accepted listed source planned found is short =
     let s = sequence_of t in
     let c = coded_with t refs q p m in

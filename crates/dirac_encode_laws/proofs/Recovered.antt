@@ -6,15 +6,16 @@ use Rattle.std.proofs.Math.Nat.{div-mul-le_self}
 use Rattle.std.proofs.Math.Seq.{take-add}
 use Rattle.std.proofs.lemmas.Nat.{mul-le}
 use Rattle.std.proofs.lemmas.List.{length-map, get_or-map, get_or_default, length-take-le}
-use Rattle.dirac_types.specs.declared.picture.Picture.{Picture}
+use Rattle.dirac_common.specs.declared.picture.Picture.{Picture}
 use Rattle.dirac_types.specs.declared.settings.Settings.{Settings}
 use Rattle.dirac_types.specs.Settings.{IsAccepted}
 use Rattle.dirac_types.specs.Sizes.{picture_height}
-use Rattle.dirac_types.specs.Samples.{clip}
+use Rattle.dirac_common.specs.Samples.{clip}
 use Rattle.dirac_units.specs.Cut.{IsCut, start}
 use Rattle.dirac_sequence.specs.Written.{sequence_of}
 use Rattle.dirac_picture.specs.Grammar.{chroma_height, chroma_width}
-use Rattle.dirac_decode.specs.Raw.{chroma_bytes, luma_bytes, picture_from, pictures_in, raw_length, raws, sample_of, sources, whole_pictures}
+use Rattle.dirac_decode.specs.Raw.{raws}
+use Rattle.dirac_sources.specs.Sources.{chroma_bytes, luma_bytes, picture_from, pictures_in, raw_length, sample_of, sources, whole_pictures}
 use Rattle.dirac_decode.specs.Shown.{Outcome, IsShown}
 use Rattle.dirac_analysis.specs.Fits.{AreSamples}
 use Rattle.dirac_encode_laws.specs.Coded.{IsSource}
@@ -30,7 +31,7 @@ use Rattle.dirac_encode_laws.proofs.Reading.{jobs_read}
 use Rattle.dirac_encode_laws.proofs.Showing.{each_unit}
 use Rattle.dirac_encode_laws.proofs.Sourcing.{jobs_read_under, shown_under, sources_made}
 use Rattle.dirac_encode_laws.proofs.Indices.{own_gives}
-use Rattle.dirac_decode.proofs.RawBytes.{below_drop, below_take, raw_again}
+use Rattle.dirac_sources.proofs.RawBytes.{below_drop, below_take, raw_again}
 use Rattle.dirac_encode_laws.proofs.Sources.{length-pictures_in, numbered_in}
 use Rattle.dirac_plan_laws.specs.Plans.{PlansCanBeCoded}
 

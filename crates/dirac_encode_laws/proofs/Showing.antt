@@ -3,16 +3,16 @@ use Rattle.std.proofs.Common.{◌≡◌, ℕ, ◌+◌, ◌<◌, ◌^◌, ◌==�
 use Rattle.std.specs.Prelude.{nat_eq}
 use Rattle.std.specs.List.{AllByRecursion, starts_with}
 use Rattle.std.proofs.lemmas.Bool.{le-leb, and_from}
-use Rattle.dirac_types.specs.declared.faults.Cause.TheVariants.{SequenceChanged}
-use Rattle.dirac_types.specs.declared.faults.Refusal.{Refusal}
-use Rattle.dirac_types.specs.declared.picture.Picture.{Picture}
+use Rattle.dirac_common.specs.declared.faults.Cause.TheVariants.{SequenceChanged}
+use Rattle.dirac_common.specs.declared.faults.Refusal.{Refusal}
+use Rattle.dirac_common.specs.declared.picture.Picture.{Picture}
 use Rattle.dirac_types.specs.declared.settings.Settings.{Settings}
 use Rattle.dirac_types.specs.Settings.{IsAccepted}
 use Rattle.dirac_units.specs.declared.unit_place.UnitPlace.{UnitPlace}
 use Rattle.dirac_units.specs.Cut.{UnitText, IsCut, after, start}
 use Rattle.dirac_units.specs.Info.{IsLawful}
 use Rattle.dirac_units.specs.Writing.{info_bytes, IsReadAsWritten}
-use Rattle.dirac_sequence.specs.Grammar.{sequence_read}
+use Rattle.dirac_sequence_header.specs.Grammar.{sequence_read}
 use Rattle.dirac_sequence.specs.Written.{sequence_of, sequence_payload}
 use Rattle.dirac_picture.specs.declared.coded.CodedPicture.{CodedPicture}
 use Rattle.dirac_picture.specs.Grammar.{is_intra, picture_read}

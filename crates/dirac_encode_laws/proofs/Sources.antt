@@ -5,9 +5,10 @@ use Rattle.std.proofs.Math.Seq.{take-add, take-append_seam, drop-append_seam}
 use Rattle.std.proofs.lemmas.Nat.{div-mul-add, mod-mul-add}
 use Rattle.std.proofs.lemmas.List.{drop-drop}
 use Rattle.std.proofs.lemmas.Grind.{flat_map-append}
-use Rattle.dirac_types.specs.declared.picture.Picture.{Picture}
+use Rattle.dirac_common.specs.declared.picture.Picture.{Picture}
 use Rattle.dirac_types.specs.declared.settings.Settings.{Settings}
-use Rattle.dirac_decode.specs.Raw.{picture_from, pictures_in, raw, raw_length, raws}
+use Rattle.dirac_decode.specs.Raw.{raw, raws}
+use Rattle.dirac_sources.specs.Sources.{picture_from, pictures_in, raw_length}
 use Rattle.dirac_encode_laws.specs.Laws.{AreNumbered}
 
 pub length-pictures_in : (t : Settings) (count number : ℕ) (bytes : List ℕ) → length (pictures_in t count number bytes) ≡ count

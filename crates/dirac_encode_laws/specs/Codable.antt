@@ -1,8 +1,8 @@
 -- Settings with which pictures can be coded, and how great their coefficients are.
 use Rattle.std.specs.Prelude.{◌≡◌, ℕ, ◌≤◌, ◌<◌, ◌^◌, List, Some, slice_get, unsigned_abs}
 use Rattle.std.specs.List.{All}
-use Rattle.dirac_types.specs.Limits.{IsEncodedDepth, IsIndex, IsWavelet}
-use Rattle.dirac_types.specs.declared.limits.TheConstants.{LARGEST_INDEX}
+use Rattle.dirac_common.specs.Limits.{IsEncodedDepth, IsIndex, IsWavelet}
+use Rattle.dirac_common.specs.declared.limits.TheConstants.{LARGEST_INDEX}
 use Rattle.dirac_types.specs.declared.settings.Settings.{Settings}
 use Rattle.dirac_sequence.specs.Written.{IsWritable}
 use Rattle.dirac_coeffs.specs.declared.layout.CodedBand.{CodedBand}

@@ -2,28 +2,28 @@
 use Rattle.std.specs.Prelude.{ℕ, ℤ, zero, suc, ◌+◌, ◌-ℤ◌, ◌==◌, ◌&&◌, if◌then◌else◌, Bool, List, [], ◌∷◌, ◌++◌, min}
 use Rattle.std.specs.Prelude.{Option, Some, None}
 use Rattle.std.specs.Simd.Lanes.{zip2}
-use Rattle.dirac_types.specs.declared.formats.Kind.{Kind}
-use Rattle.dirac_types.specs.declared.formats.Kind.TheVariants.{Intra, Inter}
-use Rattle.dirac_types.specs.declared.picture.Picture.{Picture}
+use Rattle.dirac_common.specs.declared.formats.Kind.{Kind}
+use Rattle.dirac_common.specs.declared.formats.Kind.TheVariants.{Intra, Inter}
+use Rattle.dirac_common.specs.declared.picture.Picture.{Picture}
 use Rattle.dirac_types.specs.declared.settings.Settings.{Settings}
 use Rattle.dirac_types.specs.Sizes.{picture_height}
-use Rattle.dirac_types.specs.Table.{Table}
+use Rattle.dirac_common.specs.Table.{Table}
 use Rattle.dirac_sequence.specs.Written.{sequence_of}
 use Rattle.dirac_header.specs.declared.header.PictureHeader.{PictureHeader}
 use Rattle.dirac_header.specs.declared.transform.Transform.{Transform}
 use Rattle.dirac_header.specs.Transform.{band_length}
 use Rattle.dirac_blocks.specs.Tables.{BlockTable}
 use Rattle.dirac_coeffs.specs.declared.layout.CodedBand.{CodedBand}
-use Rattle.dirac_types.specs.declared.formats.Component.{Component}
-use Rattle.dirac_types.specs.declared.formats.Component.TheVariants as component
+use Rattle.dirac_common.specs.declared.formats.Component.{Component}
+use Rattle.dirac_common.specs.declared.formats.Component.TheVariants as component
 use Rattle.dirac_picture.specs.declared.coded.CodedMotion.{CodedMotion}
 use Rattle.dirac_picture.specs.declared.coded.CodedPicture.{CodedPicture}
 use Rattle.dirac_picture.specs.declared.coded.CodedResidual.{CodedResidual}
 use Rattle.dirac_picture.specs.Grammar.{is_intra}
-pub use Rattle.dirac_picture.specs.Written.{motion_with}
+pub use Rattle.dirac_encode_laws.specs.Payloads.{motion_with}
 use Rattle.dirac_analysis.specs.Analysis.{plane_bands}
 use Rattle.dirac_decode.specs.Content.{named, plane_of, predicted_among}
-pub use Rattle.dirac_decode.specs.Raw.{IsPlane, IsSource}
+pub use Rattle.dirac_sources.specs.Sources.{IsPlane, IsSource}
 pub use Rattle.dirac_synthesis.specs.Zeros.{are_zero_bands}
 use Rattle.dirac_plan.specs.declared.planned.Planned.{Planned}
 pub use Rattle.dirac_plan_laws.specs.Headers.{header_of}

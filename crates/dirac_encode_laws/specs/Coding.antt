@@ -1,13 +1,13 @@
 -- The recursion over coding order: each picture is coded with the reconstructions that are listed by then, and with the
 -- quantiser index that a rule gives it.
 use Rattle.std.specs.Prelude.{◌≡◌, ⊤, ℕ, List, [], ◌∷◌, length, map, slice_index_or}
-use Rattle.dirac_types.specs.declared.picture.Picture.{Picture}
+use Rattle.dirac_common.specs.declared.picture.Picture.{Picture}
 use Rattle.dirac_types.specs.declared.settings.Settings.{Settings}
 use Rattle.dirac_sequence.specs.Written.{sequence_of}
 use Rattle.dirac_refs.specs.declared.waiting.Waiting.{Waiting}
 use Rattle.dirac_refs.specs.References.{committed}
 use Rattle.dirac_picture.specs.declared.coded.CodedPicture.{CodedPicture}
-use Rattle.dirac_picture.specs.Written.{payload_of}
+use Rattle.dirac_encode_laws.specs.Payloads.{payload_of}
 use Rattle.dirac_decode.specs.Content.{rebuilt}
 use Rattle.dirac_decode.specs.StreamState.{as_reference}
 use Rattle.dirac_plan.specs.declared.planned.Planned.{Planned}

@@ -1,13 +1,14 @@
 -- What the encoding of raw pictures writes and answers.
 use Rattle.std.specs.Prelude.{◌≡◌, ℕ, ◌*◌, ◌==◌, take, ⊤, nat_le, if◌then◌else◌, Bool, List, [], ◌∷◌, ◌++◌, length, map}
 use Rattle.std.specs.Prelude.{Option, None, Some}
-use Rattle.dirac_types.specs.declared.picture.Picture.{Picture}
+use Rattle.dirac_common.specs.declared.picture.Picture.{Picture}
 use Rattle.dirac_types.specs.declared.settings.Settings.{Settings}
 use Rattle.std.specs.Io.KnownBytes.{Appends}
 use Rattle.dirac_io.specs.Writing.{AppendsFront}
 use Rattle.dirac_units.specs.Cut.{IsCut, start}
 use Rattle.dirac_refs.specs.Delivery.{deliver}
-use Rattle.dirac_decode.specs.Raw.{left_over, raw_length, raws, sources, whole_pictures}
+use Rattle.dirac_decode.specs.Raw.{raws}
+use Rattle.dirac_sources.specs.Sources.{left_over, raw_length, sources, whole_pictures}
 use Rattle.dirac_decode.specs.Shown.{Outcome, IsShown}
 use Rattle.dirac_encode_laws.specs.declared.answers.Encoded.{Encoded}
 use Rattle.dirac_encode_laws.specs.declared.answers.Encoded.TheVariants as encoded

@@ -1,8 +1,8 @@
 -- The quantiser index by which a picture's unit fits a budget of bytes.
 use Rattle.std.specs.Prelude.{◌≡◌, ℕ, ◌+◌, ◌-◌, ◌≤◌, ◌<◌, nat_le, List, [], ◌∷◌, Option, None, Some, ◌⊎◌}
 use Rattle.std.specs.List.{find, range_with_len}
-use Rattle.dirac_types.specs.declared.limits.TheConstants.{LARGEST_INDEX}
-use Rattle.dirac_types.specs.declared.picture.Picture.{Picture}
+use Rattle.dirac_common.specs.declared.limits.TheConstants.{LARGEST_INDEX}
+use Rattle.dirac_common.specs.declared.picture.Picture.{Picture}
 use Rattle.dirac_types.specs.declared.settings.Settings.{Settings}
 use Rattle.dirac_types.specs.Settings.{IsAccepted}
 use Rattle.dirac_motion.specs.Chosen.{at_index}

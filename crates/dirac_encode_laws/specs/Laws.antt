@@ -1,17 +1,17 @@
 -- What holds of the streams of all sources.
 use Rattle.std.specs.Prelude.{◌≡◌, ℕ, ◌+◌, ◌<◌, ◌^◌, ◌*◌, true, List, [], ◌∷◌, length, None, Ok}
 use Rattle.std.specs.List.{AllByRecursion}
-use Rattle.dirac_types.specs.declared.picture.Picture.{Picture}
+use Rattle.dirac_common.specs.declared.picture.Picture.{Picture}
 use Rattle.dirac_types.specs.declared.settings.Settings.{Settings}
-use Rattle.dirac_types.specs.Limits.{IsIndex}
+use Rattle.dirac_common.specs.Limits.{IsIndex}
 use Rattle.dirac_types.specs.Settings.{IsAccepted}
 use Rattle.dirac_sequence.specs.Written.{sequence_of}
 use Rattle.dirac_refs.specs.Delivery.{flush}
 use Rattle.dirac_picture.specs.Grammar.{are_listed, is_intra, picture_read}
-use Rattle.dirac_picture.specs.Written.{payload_of}
+use Rattle.dirac_encode_laws.specs.Payloads.{payload_of}
 use Rattle.dirac_decode.specs.Content.{rebuilt}
 use Rattle.dirac_decode.specs.Shown.{Outcome, IsShown}
-use Rattle.dirac_decode.specs.Raw.{sources}
+use Rattle.dirac_sources.specs.Sources.{sources}
 use Rattle.dirac_encode_laws.specs.Coded.{IsSource, coded_of, motion_of, residual_of}
 use Rattle.dirac_encode_laws.specs.Coding.{AreAtIndexZero, IndexRule, Job, Made, coding, coding_under, jobs_of, made}
 use Rattle.dirac_encode_laws.specs.Coding.{made_under, pushed, reconstructions, reconstructions_under, refs_after}

@@ -1,3 +1,4 @@
+pub mod Payloads
 pub mod Coded
 pub mod Coding
 pub mod Stream

@@ -1,13 +1,13 @@
 -- The stream of coded pictures: a sequence header before each intra picture, the pictures in coding order, an end unit.
 use Rattle.std.specs.Prelude.{◌≡◌, ℕ, ◌+◌, ◌<◌, ◌^◌, if◌then◌else◌, List, [], ◌∷◌, ◌++◌, length, None, Ok}
 use Rattle.std.specs.List.{AllByRecursion}
-use Rattle.dirac_types.specs.declared.picture.Picture.{Picture}
+use Rattle.dirac_common.specs.declared.picture.Picture.{Picture}
 use Rattle.dirac_types.specs.declared.settings.Settings.{Settings}
 use Rattle.dirac_types.specs.Settings.{IsAccepted}
-use Rattle.dirac_units.specs.declared.codes.TheConstants.{SEQUENCE_HEADER}
+use Rattle.dirac_common.specs.declared.codes.TheConstants.{SEQUENCE_HEADER}
 use Rattle.dirac_units.specs.Cut.{UnitText, IsCut, start}
 pub use Rattle.dirac_units.specs.Writing.{end_info, end_unit, info_for, unit}
-use Rattle.dirac_sequence.specs.Grammar.{sequence_read}
+use Rattle.dirac_sequence_header.specs.Grammar.{sequence_read}
 use Rattle.dirac_sequence.specs.Written.{sequence_of, sequence_payload}
 use Rattle.dirac_picture.specs.Grammar.{is_intra}
 pub use Rattle.dirac_plan_laws.specs.Headers.{IsPictureCode}

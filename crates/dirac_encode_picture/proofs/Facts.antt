@@ -1,10 +1,10 @@
 -- The coded picture of a planned source fits its sequence, and can be written.
 use Rattle.std.proofs.Common.{◌≡◌, ℕ, Bool, true, false, if◌then◌else◌, List, [], Option, None, Some, Ok, refl, sym, ap, ap₂, ◌∙◌, subst}
 use Rattle.std.specs.Prelude.{IfOk, IfSome, Result}
-use Rattle.dirac_types.specs.declared.memory.NoMemory.{NoMemory}
-use Rattle.dirac_types.specs.declared.picture.Picture.{Picture}
+use Rattle.dirac_common.specs.declared.memory.NoMemory.{NoMemory}
+use Rattle.dirac_common.specs.declared.picture.Picture.{Picture}
 use Rattle.dirac_types.specs.declared.settings.Settings.{Settings}
-use Rattle.dirac_sequence.specs.declared.sequence.Sequence.{Sequence}
+use Rattle.dirac_sequence_header.specs.declared.sequence.Sequence.{Sequence}
 use Rattle.dirac_sequence.specs.Written.{sequence_of}
 use Rattle.dirac_header.specs.Written.{header_bits}
 use Rattle.dirac_blocks.specs.Tables.{BlockTable}
@@ -13,7 +13,7 @@ use Rattle.dirac_picture.specs.declared.coded.CodedPicture.{CodedPicture}
 use Rattle.dirac_picture.specs.declared.coded.CodedResidual.{CodedResidual}
 use Rattle.dirac_picture.specs.Fits.{FitsSequence, HasResidual, IsResidual}
 use Rattle.dirac_picture.specs.Grammar.{is_intra, picture_read}
-use Rattle.dirac_picture.specs.Written.{HasSpelledBlocks, payload_of}
+use Rattle.dirac_encode_laws.specs.Payloads.{HasSpelledBlocks, payload_of}
 use Rattle.dirac_picture.specs.Writable.{IsWritten}
 use Rattle.dirac_decode.specs.Content.{rebuilt}
 use Rattle.dirac_plan.specs.declared.planned.Planned.{Planned}

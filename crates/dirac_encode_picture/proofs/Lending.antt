@@ -1,10 +1,10 @@
 -- The references that are lent for a planned picture are those that it names.
 use Rattle.std.proofs.Common.{◌≡◌, ◌∙◌, false, List, Option, Some, sym, ap, ap₂, subst}
 use Rattle.std.specs.Option.{ForSome}
-use Rattle.dirac_types.specs.declared.formats.Component.TheVariants as component
-use Rattle.dirac_types.specs.declared.picture.Picture.{Picture}
+use Rattle.dirac_common.specs.declared.formats.Component.TheVariants as component
+use Rattle.dirac_common.specs.declared.picture.Picture.{Picture}
 use Rattle.dirac_types.specs.declared.settings.Settings.{Settings}
-use Rattle.dirac_sequence.specs.declared.sequence.Sequence.{Sequence}
+use Rattle.dirac_sequence_header.specs.declared.sequence.Sequence.{Sequence}
 use Rattle.dirac_sequence.specs.Written.{sequence_of}
 use Rattle.dirac_blocks.specs.Tables.{BlockTable}
 use Rattle.dirac_upconvert.specs.SubSamples.{Up}

@@ -1,10 +1,10 @@
 -- The planes of a picture, analysed and quantised.
 use Rattle.std.specs.Prelude.{◌≡◌, ℕ}
-use Rattle.dirac_types.specs.declared.formats.Component.{Component}
-use Rattle.dirac_types.specs.declared.formats.Component.TheVariants as component
-use Rattle.dirac_types.specs.declared.formats.Kind.{Kind}
+use Rattle.dirac_common.specs.declared.formats.Component.{Component}
+use Rattle.dirac_common.specs.declared.formats.Component.TheVariants as component
+use Rattle.dirac_common.specs.declared.formats.Kind.{Kind}
 use Rattle.dirac_types.specs.declared.settings.Settings.{Settings}
-use Rattle.dirac_types.specs.Table.{Table}
+use Rattle.dirac_common.specs.Table.{Table}
 use Rattle.dirac_picture.specs.declared.coded.CodedResidual.{CodedResidual}
 use Rattle.dirac_analysis.specs.Analysis.{Analysis, plane_analysis, quantised}
 use Rattle.dirac_analysis.specs.Fits.{AreQuantisable}

@@ -1,7 +1,7 @@
 -- What the coding of a picture asks for, and the coded picture that it makes.
 use Rattle.std.specs.Prelude.{◌≡◌, ℕ, true, false, List, Option, None, Some, Ok, option_map}
 use Rattle.std.specs.List.{AllByRecursion}
-use Rattle.dirac_types.specs.declared.picture.Picture.{Picture}
+use Rattle.dirac_common.specs.declared.picture.Picture.{Picture}
 use Rattle.dirac_types.specs.declared.settings.Settings.{Settings}
 use Rattle.dirac_types.specs.Settings.{IsAccepted}
 use Rattle.dirac_sequence.specs.Written.{sequence_of}
@@ -9,7 +9,7 @@ use Rattle.dirac_blocks.specs.Tables.{BlockTable}
 use Rattle.dirac_picture.specs.declared.coded.CodedMotion.{CodedMotion}
 use Rattle.dirac_picture.specs.declared.coded.CodedPicture.{CodedPicture}
 use Rattle.dirac_picture.specs.Grammar.{are_listed, is_intra, picture_read}
-use Rattle.dirac_picture.specs.Written.{payload_of}
+use Rattle.dirac_encode_laws.specs.Payloads.{payload_of}
 use Rattle.dirac_decode.specs.Content.{rebuilt}
 use Rattle.dirac_plan.specs.declared.planned.Planned.{Planned}
 use Rattle.dirac_plan_laws.specs.Headers.{IsPlanned, header_of}

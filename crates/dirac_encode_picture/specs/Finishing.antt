@@ -1,7 +1,7 @@
 -- What a coded picture is written and shown from.
 use Rattle.std.specs.Prelude.{◌≡◌, List, Option, Some, IfSome}
-use Rattle.dirac_types.specs.declared.picture.Picture.{Picture}
-use Rattle.dirac_sequence.specs.declared.sequence.Sequence.{Sequence}
+use Rattle.dirac_common.specs.declared.picture.Picture.{Picture}
+use Rattle.dirac_sequence_header.specs.declared.sequence.Sequence.{Sequence}
 use Rattle.dirac_picture.specs.declared.coded.CodedPicture.{CodedPicture}
 use Rattle.dirac_picture.specs.Writable.{IsWritten}
 use Rattle.dirac_decode.specs.Content.{named}

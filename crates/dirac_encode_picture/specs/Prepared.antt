@@ -1,7 +1,7 @@
 -- What the coding of a picture shares between all quantiser indices.
 use Rattle.std.specs.Prelude.{◌≡◌, List, Option, IfSome, option_map}
-use Rattle.dirac_types.specs.declared.formats.Component.TheVariants as component
-use Rattle.dirac_types.specs.declared.picture.Picture.{Picture}
+use Rattle.dirac_common.specs.declared.formats.Component.TheVariants as component
+use Rattle.dirac_common.specs.declared.picture.Picture.{Picture}
 use Rattle.dirac_types.specs.declared.settings.Settings.{Settings}
 use Rattle.dirac_sequence.specs.Written.{sequence_of}
 use Rattle.dirac_blocks.specs.Tables.{BlockTable}

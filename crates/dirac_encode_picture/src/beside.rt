@@ -2,10 +2,10 @@
 
 ghost use Rattle.std.specs.Prelude.{Ok, IfOk};
 ghost use Rattle.std.specs.Thread.{IsSync};
-ghost use Rattle.dirac_types.specs.declared.formats.Component.{Component as TheComponent};
-ghost use Rattle.dirac_types.specs.declared.formats.Component.TheVariants as component;
+ghost use Rattle.dirac_common.specs.declared.formats.Component.{Component as TheComponent};
+ghost use Rattle.dirac_common.specs.declared.formats.Component.TheVariants as component;
 
-use dirac_types::{Component, NoMemory};
+use dirac_common::{Component, NoMemory};
 use std::marker::{Send, Sync};
 use std::thread::{Threads, join};
 

@@ -7,7 +7,7 @@ ghost use Rattle.dirac_upconvert.specs.HalfSamples.{IsSample};
 ghost use Rattle.dirac_encode_laws.specs.Coded.{less_prediction};
 ghost use Rattle.dirac_encode_picture.specs.Predictions.{IsCodablePlane, IsPredictedBy};
 
-use dirac_types::{NoMemory, Plane};
+use dirac_common::{NoMemory, Plane};
 use std::alloc::Global;
 
 /// A sample less what is predicted.

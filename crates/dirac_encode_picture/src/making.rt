@@ -9,11 +9,12 @@ use crate::motion::motion_of;
 use crate::prepared::{Compensated, Prepared};
 use crate::residual::unless_zero;
 use crate::workers::Workers;
+use dirac_common::{Kind, NoMemory, Picture};
 use dirac_header::PictureHeader;
 use dirac_picture::CodedPicture;
 use dirac_plan::Planned;
 use dirac_refs::RefBuffer;
-use dirac_types::{Kind, NoMemory, Picture, Settings};
+use dirac_types::Settings;
 use std::alloc::Global;
 
 /// What is asked to be coded: a planned picture, its source, the pictures that are listed before it, and the settings.

@@ -5,9 +5,10 @@ ghost use Rattle.dirac_header.specs.Written.{prediction_of as prediction_for};
 ghost use Rattle.dirac_encode_laws.specs.Coded.{motion_with};
 
 use dirac_blocks::BlockData;
+use dirac_common::NoMemory;
 use dirac_header::{Prediction, block_grid};
 use dirac_picture::CodedMotion;
-use dirac_types::{NoMemory, Settings};
+use dirac_types::Settings;
 use std::alloc::Global;
 
 /// The prediction parameters of these settings: default weights.

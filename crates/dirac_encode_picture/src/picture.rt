@@ -3,11 +3,11 @@
 ghost use Rattle.std.specs.Prelude.{◌≡◌, ◌<◌, ◌^◌, true, Ok, IfOk};
 ghost use Rattle.std.specs.List.{AllByRecursion};
 ghost use Rattle.std.specs.Option.{option_copied};
-ghost use Rattle.dirac_types.specs.Limits.{IsIndex};
+ghost use Rattle.dirac_common.specs.Limits.{IsIndex};
 ghost use Rattle.dirac_types.specs.Settings.{IsAccepted};
 ghost use Rattle.dirac_sequence.specs.Written.{sequence_of as sequence_for};
 ghost use Rattle.dirac_picture.specs.Grammar.{are_listed, picture_read};
-ghost use Rattle.dirac_picture.specs.Written.{payload_of};
+ghost use Rattle.dirac_encode_laws.specs.Payloads.{payload_of};
 ghost use Rattle.dirac_decode.specs.Content.{rebuilt};
 ghost use Rattle.dirac_plan_laws.specs.Headers.{IsPlanned, header_of};
 ghost use Rattle.dirac_encode_laws.specs.Coded.{IsSource, motion_among, residual_of};
@@ -21,11 +21,12 @@ use crate::prepared::{Prepared, prepare};
 use crate::showing::Finished;
 use crate::workers::{OneWorker, Workers};
 use dirac_blocks::BlockData;
+use dirac_common::{NoMemory, Picture};
 use dirac_picture::payload_bytes;
 use dirac_plan::Planned;
 use dirac_refs::RefBuffer;
 use dirac_sequence::sequence_of;
-use dirac_types::{NoMemory, Picture, Settings};
+use dirac_types::Settings;
 use std::alloc::Global;
 
 /// A picture's payload, and the picture that a decoder shows for it.
@@ -66,7 +67,14 @@ pub(crate) fn code_at<W: Workers>(
     let compensated = &prepared.compensated;
     let finished = workers.finish(alloc, &sequence, refs, &coded, compensated)?;
     let Finished { texts, shown } = finished;
-    let payload = payload_bytes(alloc, settings, &sequence, &coded, &texts)?;
+    let payload = payload_bytes(
+        alloc,
+        &sequence,
+        settings.blocks,
+        settings.precision,
+        &coded,
+        &texts,
+    )?;
     are_bytes(payload.as_slice());
     Ok(Coded { payload, shown })
 }

@@ -1,19 +1,19 @@
 //! What is predicted for the planes of an inter picture.
 
 ghost use Rattle.std.specs.Prelude.{◌≡◌, Some, IfOk, IsSome};
-ghost use Rattle.dirac_sequence.specs.Lawful.{IsSequence};
-ghost use Rattle.dirac_types.specs.declared.formats.Component.TheVariants as component;
+ghost use Rattle.dirac_sequence_header.specs.Lawful.{IsSequence};
+ghost use Rattle.dirac_common.specs.declared.formats.Component.TheVariants as component;
 ghost use Rattle.dirac_picture.specs.Fits.{IsMotion};
 ghost use Rattle.dirac_motion.specs.Lent.{AreLent, first_of, second_of};
 ghost use Rattle.dirac_encode_picture.specs.Predictions.{ArePredictions, IsPrediction};
 
 use crate::beside::{Planes, side_by_side};
-use dirac_motion::References;
+use dirac_common::NoMemory;
 use dirac_decode::{predict_from, predict_with};
+use dirac_motion::References;
 use dirac_obmc::{Component, Predicted};
 use dirac_picture::CodedMotion;
-use dirac_sequence::Sequence;
-use dirac_types::NoMemory;
+use dirac_sequence_header::Sequence;
 use std::alloc::Global;
 use std::marker::Sync;
 use std::thread::Threads;

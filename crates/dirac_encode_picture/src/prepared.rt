@@ -17,13 +17,14 @@ use crate::predictions::Predictions;
 use crate::residual::AnalysedPlanes;
 use crate::workers::{OneWorker, Workers};
 use dirac_blocks::BlockData;
-use dirac_motion::{Lumas, References};
+use dirac_common::{NoMemory, Picture};
 use dirac_decode::named;
+use dirac_motion::{Lumas, References};
 use dirac_picture::CodedMotion;
 use dirac_plan::Planned;
 use dirac_refs::RefBuffer;
 use dirac_sequence::sequence_of;
-use dirac_types::{NoMemory, Picture, Settings};
+use dirac_types::Settings;
 use std::alloc::Global;
 
 /// What an inter picture is predicted from, and the block table by which it is.

@@ -1,7 +1,7 @@
 //! The residual of a source, analysed, and then quantised.
 
 ghost use Rattle.std.specs.Prelude.{◌≡◌, ◌≤◌, IfOk, if◌then◌else◌, Some, None};
-ghost use Rattle.dirac_types.specs.declared.formats.Kind.TheVariants.{Inter, Intra};
+ghost use Rattle.dirac_common.specs.declared.formats.Kind.TheVariants.{Inter, Intra};
 ghost use Rattle.dirac_coeffs.specs.Written.{is_zero_band};
 ghost use Rattle.dirac_synthesis.specs.Zeros.{are_zero_bands};
 ghost use Rattle.dirac_analysis.specs.Analysis.{quantised};
@@ -20,8 +20,9 @@ use crate::predictions::Predictions;
 use crate::transform::transform_of;
 use dirac_analysis::{AnalysedPlane, analyse, quantise_plane};
 use dirac_coeffs::CodedBand;
+use dirac_common::{Component, Kind, LARGEST_SIDE, NoMemory, Picture, Plane};
 use dirac_picture::{CodedResidual, PlaneBands};
-use dirac_types::{Component, Kind, LARGEST_SIDE, NoMemory, Picture, Plane, Settings};
+use dirac_types::Settings;
 use std::alloc::Global;
 use std::marker::Sync;
 use std::thread::Threads;

@@ -2,8 +2,8 @@
 
 ghost use Rattle.std.specs.Prelude.{◌≡◌, ◌*◌, ◌≤◌, length, IfOk, IfSome};
 ghost use Rattle.std.specs.Thread.{IsSync};
-ghost use Rattle.dirac_types.specs.declared.formats.Component.TheVariants as component;
-ghost use Rattle.dirac_sequence.specs.Lawful.{IsSequence};
+ghost use Rattle.dirac_common.specs.declared.formats.Component.TheVariants as component;
+ghost use Rattle.dirac_sequence_header.specs.Lawful.{IsSequence};
 ghost use Rattle.dirac_picture.specs.Fits.{IsResidual};
 ghost use Rattle.dirac_picture.specs.Writable.{IsWritten};
 ghost use Rattle.dirac_picture.specs.Texts.{AreTexts};
@@ -14,12 +14,12 @@ ghost use Rattle.dirac_encode_picture.specs.Predictions.{picture_from};
 use crate::predictions::Predictions;
 use crate::prepared::Compensated;
 use crate::texts::texts_side_by_side;
+use dirac_common::{NoMemory, Picture};
 use dirac_decode::{predicted_samples, rebuild};
 use dirac_obmc::Component;
 use dirac_picture::{CodedPicture, CodedResidual, Texts, texts_of};
 use dirac_refs::RefBuffer;
-use dirac_sequence::Sequence;
-use dirac_types::{NoMemory, Picture};
+use dirac_sequence_header::Sequence;
 use std::alloc::Global;
 use std::marker::Sync;
 use std::thread::{Threads, join};

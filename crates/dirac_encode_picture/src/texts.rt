@@ -1,15 +1,15 @@
 //! The subbands of each plane, written side by side.
 
 ghost use Rattle.std.specs.Prelude.{◌≡◌, IfOk, IfSome};
-ghost use Rattle.dirac_types.specs.Bits.{bits_of};
-ghost use Rattle.dirac_sequence.specs.Lawful.{IsSequence};
+ghost use Rattle.dirac_common.specs.Bits.{bits_of};
+ghost use Rattle.dirac_sequence_header.specs.Lawful.{IsSequence};
 ghost use Rattle.dirac_picture.specs.Texts.{AreTexts, text_of};
 ghost use Rattle.dirac_picture.specs.Writable.{IsWritten};
 
 use crate::beside::{Planes, side_by_side};
+use dirac_common::{Component, NoMemory};
 use dirac_picture::{CodedResidual, Texts, text_among};
-use dirac_sequence::Sequence;
-use dirac_types::{Component, NoMemory};
+use dirac_sequence_header::Sequence;
 use std::alloc::Global;
 use std::marker::Sync;
 use std::thread::Threads;

@@ -1,15 +1,16 @@
 //! The transform parameters of the encoder.
 
 ghost use Rattle.std.specs.Prelude.{◌≡◌, ◌+◌, ◌≤◌, ◌<◌, ◌^◌};
-ghost use Rattle.dirac_types.specs.Limits.{IsEncodedDepth, IsWavelet};
+ghost use Rattle.dirac_common.specs.Limits.{IsEncodedDepth, IsWavelet};
 ghost use Rattle.dirac_picture.specs.Fits.{IsLayout};
 ghost use Rattle.dirac_types.specs.Sizes.{picture_height};
 ghost use Rattle.dirac_encode_laws.specs.Coded.{count_of as count_at, counts_below, transform_of as parameters};
 ghost use Rattle.dirac_encode_laws.specs.Codable.{IsCodable};
 
 use dirac_bands::{band_size, padded};
+use dirac_common::LARGEST_SIDE;
 use dirac_header::{Counts, Transform};
-use dirac_types::{LARGEST_SIDE, Settings};
+use dirac_types::Settings;
 
 /// How many codeblocks a level has across or down, where luma has `size` samples.
 fn count_of(codeblocks: u32, size: u32, depth: u8, level: u8) -> u32

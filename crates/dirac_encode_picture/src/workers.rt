@@ -1,8 +1,8 @@
 //! The planes of a picture, made by one worker or by several.
 
 ghost use Rattle.std.specs.Prelude.{◌≡◌, IfOk, IfSome, IsSome, Some};
-ghost use Rattle.dirac_types.specs.declared.formats.Kind.TheVariants.{Inter, Intra};
-ghost use Rattle.dirac_sequence.specs.Lawful.{IsSequence};
+ghost use Rattle.dirac_common.specs.declared.formats.Kind.TheVariants.{Inter, Intra};
+ghost use Rattle.dirac_sequence_header.specs.Lawful.{IsSequence};
 ghost use Rattle.dirac_picture.specs.Fits.{IsMotion};
 ghost use Rattle.dirac_picture.specs.Texts.{AreTexts};
 ghost use Rattle.dirac_decode.specs.Content.{rebuilt};
@@ -20,11 +20,12 @@ use crate::residual::{
     analyse_source, quantise_planes, quantise_side_by_side,
 };
 use crate::showing::{Finished, finish, finish_side_by_side};
+use dirac_common::{Kind, NoMemory, Picture};
 use dirac_motion::References;
 use dirac_picture::{CodedMotion, CodedPicture, CodedResidual};
 use dirac_refs::RefBuffer;
-use dirac_sequence::Sequence;
-use dirac_types::{Kind, NoMemory, Picture, Settings};
+use dirac_sequence_header::Sequence;
+use dirac_types::Settings;
 use std::alloc::Global;
 use std::marker::Sync;
 use std::thread::Threads;

@@ -3,7 +3,7 @@ use Rattle.std.specs.Prelude.{if◌then◌else◌, ℕ, zero, suc, ◌+◌, ◌*
 use Rattle.std.specs.Prelude.{bytes_eq}
 use Rattle.std.specs.List.{range_with_len}
 use Rattle.dirac_types.specs.declared.settings.Settings.{Settings}
-use Rattle.dirac_types.specs.declared.formats.Component.TheVariants as component
+use Rattle.dirac_common.specs.declared.formats.Component.TheVariants as component
 use Rattle.dirac_types.specs.Sizes.{picture_height, plane_height, plane_width}
 
 -- the byte of picture `number` in plane 0, 1 or 2, at column x of row y

@@ -3,7 +3,8 @@ ghost use Rattle.dirac_types.specs.Settings.{IsAccepted};
 ghost use Rattle.dirac_generator.specs.Generated.{exact_from, picture_count};
 
 use crate::picture::{fill_picture, picture_length};
-use dirac_types::{NoMemory, Settings};
+use dirac_common::NoMemory;
+use dirac_types::Settings;
 use std::alloc::Global;
 
 /// How many of the first `count` raw pictures in these bytes are the generated pictures of their numbers, from 0 on.

@@ -6,8 +6,9 @@ ghost use Rattle.dirac_generator.specs.Generated.{generated_from};
 ghost use Rattle.dirac_generator.specs.Reading.{held_by};
 
 use crate::picture::{fill_picture, picture_length};
+use dirac_common::NoMemory;
 use dirac_io::{Got, Source};
-use dirac_types::{NoMemory, Settings};
+use dirac_types::Settings;
 use std::alloc::Global;
 use std::marker::Model;
 

@@ -4,7 +4,8 @@ ghost use Rattle.dirac_types.specs.Sizes.{picture_height};
 ghost use Rattle.dirac_generator.specs.Generated.{generated_byte, generated_rows, generated as bytes_of};
 ghost use Rattle.dirac_generator.specs.Generated.{chroma_across, chroma_down, picture_count};
 
-use dirac_types::{Component, LARGEST_SIDE, MOST_SAMPLES, Settings};
+use dirac_common::{Component, LARGEST_SIDE, MOST_SAMPLES};
+use dirac_types::Settings;
 
 /// How many bytes a plane of luma has, and one of chroma, and how wide one of chroma is.
 #[derive(Clone, Copy)]

@@ -1,8 +1,8 @@
 -- Transform parameters, computed.
 use Rattle.std.proofs.Common.{◌≡◌, true, false, [], ◌∷◌, refl, Ok, Err}
-use Rattle.dirac_types.specs.Bits.{bits_of}
-use Rattle.dirac_types.specs.Numbers.{digits_of, digits_within}
-use Rattle.dirac_types.specs.declared.faults.Cause.TheVariants.{CodeblockMode}
+use Rattle.dirac_common.specs.Bits.{bits_of}
+use Rattle.dirac_common.specs.Numbers.{digits_of, digits_within}
+use Rattle.dirac_common.specs.declared.faults.Cause.TheVariants.{CodeblockMode}
 use Rattle.dirac_bits.specs.Cursor.{start, bit_next, bits_left}
 use Rattle.dirac_bits.specs.Fields.{flag_at, uint_at, number_on}
 use Rattle.dirac_bits.specs.Syntax.{read}

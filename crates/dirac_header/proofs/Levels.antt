@@ -1,6 +1,6 @@
 -- Reading the counts of codeblocks, level by level.
 use Rattle.std.proofs.Common.{◌≡◌, ℕ, zero, suc, ◌-◌, ◌<◌, List, [], ◌∷◌, ◌++◌, length, refl, ◌∙◌, arith, Ok, Err}
-use Rattle.dirac_types.specs.declared.faults.Refusal.{Refusal}
+use Rattle.dirac_common.specs.declared.faults.Refusal.{Refusal}
 use Rattle.dirac_bits.specs.Cursor.{Cursor}
 use Rattle.dirac_bits.specs.Syntax.{read}
 use Rattle.dirac_bits.specs.Then.{read_then}

@@ -1,9 +1,9 @@
 -- The bits of prediction parameters spell them.
 use Rattle.std.proofs.Common.{◌≡◌, ℕ, zero, suc, ◌+◌, ◌≤◌, ◌==◌, Bool, false, List, [], ◌∷◌, ◌++◌, length, refl, sym, arith, append_assoc, append-nil}
-use Rattle.dirac_types.specs.declared.faults.Cause.TheVariants.{Precision}
-use Rattle.dirac_types.specs.declared.formats.BlockGrid.{BlockGrid}
-use Rattle.dirac_types.specs.declared.formats.Chroma.{Chroma}
-use Rattle.dirac_types.specs.Numbers.{uint}
+use Rattle.dirac_common.specs.declared.faults.Cause.TheVariants.{Precision}
+use Rattle.dirac_common.specs.declared.formats.BlockGrid.{BlockGrid}
+use Rattle.dirac_common.specs.declared.formats.Chroma.{Chroma}
+use Rattle.dirac_common.specs.Numbers.{uint}
 use Rattle.dirac_bits.specs.Spelling.{Spells}
 use Rattle.dirac_bits.specs.Syntax.{Syntax, done, ◌>>=◌, between}
 use Rattle.dirac_bits.specs.Writing.{gap}

@@ -5,8 +5,8 @@ use Rattle.std.specs.List.{AllByRecursion}
 use Rattle.std.proofs.lemmas.Bool.{cases_Bool, or_parts, ltb-false}
 use Rattle.std.proofs.lemmas.List.{drop_more, drop_all}
 use Rattle.std.proofs.lemmas.Option.{slice_get_within, get_or_from_slice_get}
-use Rattle.dirac_types.specs.declared.faults.Cause.TheVariants.{Wavelet, Depth, Codeblocks, CodeblockMode}
-use Rattle.dirac_types.specs.Numbers.{uint}
+use Rattle.dirac_common.specs.declared.faults.Cause.TheVariants.{Wavelet, Depth, Codeblocks, CodeblockMode}
+use Rattle.dirac_common.specs.Numbers.{uint}
 use Rattle.dirac_bits.specs.Fronts.{HoldsFront}
 use Rattle.dirac_bits.specs.Spelling.{Spells}
 use Rattle.dirac_bits.specs.Syntax.{Syntax, done, ◌>>=◌, field, between}

@@ -1,11 +1,11 @@
 -- The prediction parameters of an inter picture, field after field: picture prediction parameters, Dirac specification.
 use Rattle.std.specs.Prelude.{ℕ, ℤ, pos, ◌-◌, ◌*◌, ◌%◌, ◌==◌, nat_le, ◌&&◌, if◌then◌else◌, Bool, unsigned_abs}
-use Rattle.dirac_types.specs.declared.faults.Cause.TheVariants.{BlockPreset, BlockSize, Precision, GlobalMotion}
-use Rattle.dirac_types.specs.declared.faults.Cause.TheVariants.{PredictionMode, Weights as WeightRange}
-use Rattle.dirac_types.specs.declared.formats.BlockGrid.{BlockGrid}
-use Rattle.dirac_types.specs.declared.formats.Chroma.{Chroma}
+use Rattle.dirac_common.specs.declared.faults.Cause.TheVariants.{BlockPreset, BlockSize, Precision, GlobalMotion}
+use Rattle.dirac_common.specs.declared.faults.Cause.TheVariants.{PredictionMode, Weights as WeightRange}
+use Rattle.dirac_common.specs.declared.formats.BlockGrid.{BlockGrid}
+use Rattle.dirac_common.specs.declared.formats.Chroma.{Chroma}
 use Rattle.dirac_bits.specs.Syntax.{Syntax, done, refuse, ◌>>=◌, flag, uint, sint, align, here, field, between, custom}
-use Rattle.dirac_sequence.specs.Ratios.{ratio_across, ratio_down}
+use Rattle.dirac_common.specs.Ratios.{ratio_across, ratio_down}
 use Rattle.dirac_header.specs.declared.prediction.Prediction.{Prediction}
 use Rattle.dirac_header.specs.declared.prediction.Weights.{Weights}
 use Rattle.dirac_header.specs.Codes.{references_of}

@@ -1,7 +1,7 @@
 -- The transform parameters, field after field: transform parameters, Dirac specification.
 use Rattle.std.specs.Prelude.{ℕ, zero, suc, ◌+◌, if◌then◌else◌, List, [], ◌∷◌, ◌++◌, length, replicate}
-use Rattle.dirac_types.specs.declared.limits.TheConstants.{LARGEST_DEPTH, LARGEST_WAVELET}
-use Rattle.dirac_types.specs.declared.faults.Cause.TheVariants.{Wavelet, Depth, Codeblocks, CodeblockMode}
+use Rattle.dirac_common.specs.declared.limits.TheConstants.{LARGEST_DEPTH, LARGEST_WAVELET}
+use Rattle.dirac_common.specs.declared.faults.Cause.TheVariants.{Wavelet, Depth, Codeblocks, CodeblockMode}
 use Rattle.dirac_bits.specs.Syntax.{Syntax, done, ◌>>=◌, flag, field, between}
 pub use Rattle.dirac_bands.specs.Geometry.{band_length}
 use Rattle.dirac_header.specs.declared.transform.Partition.{Partition}

@@ -3,9 +3,9 @@ use Rattle.std.specs.Prelude.{◌≡◌, ℕ, ℤ, pos, ◌+◌, ◌-◌, ◌-�
 use Rattle.std.specs.Prelude.{◌∷◌, ◌++◌, length, Option, Some, None, is_some, IsTrue, ◌≢◌, ⊤, IfSome, ◌<◌, ◌≤◌, ◌||◌}
 use Rattle.std.specs.Prelude.{false}
 use Rattle.std.specs.List.{AllByRecursion}
-use Rattle.dirac_types.specs.Limits.{IsWavelet}
-use Rattle.dirac_types.specs.declared.formats.Chroma.{Chroma}
-use Rattle.dirac_types.specs.Numbers as numbers
+use Rattle.dirac_common.specs.Limits.{IsWavelet}
+use Rattle.dirac_common.specs.declared.formats.Chroma.{Chroma}
+use Rattle.dirac_common.specs.Numbers as numbers
 use Rattle.dirac_bits.specs.Writing.{gap}
 use Rattle.dirac_bands.specs.Geometry.{band_length}
 pub use Rattle.dirac_bits.specs.Spelling.{SpelledBehind}

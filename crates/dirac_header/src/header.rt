@@ -7,8 +7,7 @@ ghost use Rattle.dirac_header.specs.declared.header.PictureHeader.{PictureHeader
 ghost use Rattle.dirac_header.specs.Header as grammar;
 
 use dirac_bits::BitReader;
-use dirac_types::Refusal;
-use dirac_units::{is_reference, references};
+use dirac_common::{Refusal, is_reference, references};
 
 /// What stands before a picture's data.
 #[derive(Clone, Copy, Debug, PartialEq, Eq)]

@@ -9,7 +9,7 @@ mod transform;
 mod write;
 
 pub use counts::Counts;
-pub use dirac_units::{is_reference, references};
+pub use dirac_common::{is_reference, references};
 pub use header::{PictureHeader, read_header};
 pub use prediction::{Prediction, block_grid, read_prediction};
 pub use transform::{Transform, read_transform};

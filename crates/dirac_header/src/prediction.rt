@@ -4,13 +4,11 @@ ghost use Rattle.dirac_bits.specs.Syntax.{read};
 ghost use Rattle.dirac_bits.specs.Answers.{Reads};
 ghost use Rattle.dirac_bits.specs.Laws.{BeginsWith};
 ghost use Rattle.dirac_header.specs.declared.prediction.Prediction.{Prediction as ThePrediction};
-ghost use Rattle.dirac_types.specs.declared.formats.Chroma.{Chroma as TheChroma};
+ghost use Rattle.dirac_common.specs.declared.formats.Chroma.{Chroma as TheChroma};
 ghost use Rattle.dirac_header.specs.Prediction as grammar;
 
 use dirac_bits::BitReader;
-use dirac_sequence::{ratio_across, ratio_down};
-use dirac_types::{BlockGrid, Cause, Chroma, Refusal};
-use dirac_units::references;
+use dirac_common::{BlockGrid, Cause, Chroma, Refusal, ratio_across, ratio_down, references};
 
 /// How an inter picture is predicted from its references.
 #[derive(Clone, Copy, Debug, PartialEq, Eq)]

@@ -1,5 +1,5 @@
 ghost use Rattle.std.specs.Prelude.{◌≡◌, ℕ, ◌+◌, ◌≤◌, ◌<◌, ◌^◌, ◌-◌, IfOk, IfErr, Ok, [], ◌∷◌, length, replicate};
-ghost use Rattle.dirac_types.specs.Limits.{IsDepth, IsWavelet};
+ghost use Rattle.dirac_common.specs.Limits.{IsDepth, IsWavelet};
 ghost use Rattle.dirac_bits.specs.Cursor.{Cursor};
 ghost use Rattle.dirac_bits.specs.Syntax.{read};
 ghost use Rattle.dirac_bits.specs.Answers.{Reads};
@@ -9,7 +9,7 @@ ghost use Rattle.dirac_header.specs.Transform as grammar;
 
 use crate::counts::Counts;
 use dirac_bits::BitReader;
-use dirac_types::{Cause, LARGEST_DEPTH, LARGEST_WAVELET, Refusal};
+use dirac_common::{Cause, LARGEST_DEPTH, LARGEST_WAVELET, Refusal};
 
 /// How a picture's coefficients are laid out.
 #[derive(Drop)]

@@ -10,8 +10,7 @@ use crate::counts::Counts;
 use crate::header::PictureHeader;
 use crate::transform::Transform;
 use dirac_bits::BitWriter;
-use dirac_types::NoMemory;
-use dirac_units::is_reference;
+use dirac_common::{NoMemory, is_reference};
 
 /// Writes the header of a picture with this parse code: picture header, Dirac specification, section 11. Bits 0 up to
 /// the next byte stand before it. Each offset is written as a number from -2^31 to 2^31 - 1.

@@ -7,14 +7,13 @@ mod failing;
 mod filling;
 mod memory;
 mod null;
-mod row_gate;
 mod sink;
 mod source;
 
 pub use adapters::{ReaderSource, WriterSink};
+pub use dirac_common::{OpenGate, RowGate};
 pub use filling::{Filled, fill};
 pub use memory::{MemSink, MemSource};
 pub use null::NullSink;
-pub use row_gate::{OpenGate, RowGate};
 pub use sink::{Put, Sink, Took, Unwritten, put_all};
 pub use source::{Got, Source};

@@ -5,7 +5,7 @@ use Rattle.std.proofs.lemmas.List.{get_or-set_same, get_or-set_other, length-set
 use Rattle.std.proofs.lemmas.List.FromFn.{fill_by_all, get_or-map-range_with_len, length-map-range_with_len}
 use Rattle.std.proofs.lemmas.Nat.{mul-add-lt, same_from_place, div-add-mod', div_below, mod_below}
 use Rattle.std.proofs.lemmas.Bool.{cases_lt, cases_eq}
-use Rattle.dirac_types.specs.Table.{filled}
+use Rattle.dirac_common.specs.Table.{filled}
 use Rattle.dirac_lift.specs.Level.{column}
 use Rattle.dirac_lift.specs.Lifting.{Step, own, new_at, lift, PlacesWithin}
 use Rattle.dirac_lift.specs.Places.{ColumnsBecome, ColumnsSmall}

@@ -5,9 +5,9 @@ use Rattle.std.proofs.lemmas.Bool.{cases_eq, cases_lt, ne_eqb, lt-ltb, le-ltb}
 use Rattle.std.proofs.lemmas.List.{get_or-take, get_or-drop, take-map, drop-map}
 use Rattle.std.proofs.lemmas.List.FromFn.{get_or-map-range_with_len, length-map-range_with_len}
 use Rattle.std.proofs.lemmas.Nat.{div_below}
-use Rattle.dirac_types.specs.Table.{Table, filled}
-use Rattle.dirac_types.proofs.Bounds.{values_bound}
-use Rattle.dirac_types.proofs.Rows.{filled_at, rows_all}
+use Rattle.dirac_common.specs.Table.{Table, filled}
+use Rattle.dirac_common.proofs.Bounds.{values_bound}
+use Rattle.dirac_common.proofs.Rows.{filled_at, rows_all}
 use Rattle.dirac_lift.specs.HalfRows.{analysed_rows, column_of}
 use Rattle.dirac_lift.specs.HalfRuns.{AreNarrow, HalvesRun, stays_narrow}
 use Rattle.dirac_lift.specs.Halves.{AreHalves, from_halves, place_of}

@@ -10,8 +10,8 @@ use Rattle.std.proofs.Math.Nat.{div-le_self}
 use Rattle.std.proofs.Math.Pow.{pow_mono}
 use lib.Signed.{shr_z}
 use mir.Val.{SFits}
-use Rattle.dirac_types.proofs.Bounds.{values_bound}
-use Rattle.dirac_types.proofs.Shifts.{shr_sum_is}
+use Rattle.dirac_common.proofs.Bounds.{values_bound}
+use Rattle.dirac_common.proofs.Shifts.{shr_sum_is}
 use Rattle.dirac_lift.specs.Lifting.{Step, moved, rounded, weighted}
 use Rattle.dirac_lift.specs.Halves.{HalfLifted, half_read, half_value}
 use Rattle.dirac_lift.proofs.Signed.{half_is, abs-rounded}

@@ -6,8 +6,8 @@ use Rattle.std.proofs.lemmas.List.{get_or-take, get_or-drop, get_or_past, length
 use Rattle.std.proofs.lemmas.List.Elements.{All-take, All-drop}
 use Rattle.std.proofs.lemmas.List.FromFn.{length-map-range_with_len}
 use Rattle.std.proofs.lemmas.Simd.{map-map}
-use Rattle.dirac_types.specs.Table.{Table, filled, table_of}
-use Rattle.dirac_types.proofs.Rows.{filled_at}
+use Rattle.dirac_common.specs.Table.{Table, filled, table_of}
+use Rattle.dirac_common.proofs.Rows.{filled_at}
 use Rattle.dirac_lift.specs.Halves.{AreHalves, from_halves, place_of}
 use Rattle.dirac_lift.specs.HalfRuns.{AreNarrow, HalvesRun, after_steps, stays_narrow}
 use Rattle.dirac_lift.specs.Level.{column, columns_by, ended, halved, row_in, synthesised}

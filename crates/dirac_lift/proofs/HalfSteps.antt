@@ -4,7 +4,7 @@ use Rattle.std.specs.List.{All, sum_by}
 use Rattle.std.proofs.lemmas.Bool.{and_parts, leb-true}
 use Rattle.std.proofs.lemmas.Nat.{pow_pos, div-add-mod', div_below, mod_below}
 use Rattle.std.proofs.lemmas.List.{get_or_default}
-use Rattle.dirac_types.proofs.Bounds.{all_weaker}
+use Rattle.dirac_common.proofs.Bounds.{all_weaker}
 use Rattle.dirac_bands.proofs.Sizes.{div_mono}
 use Rattle.dirac_lift.specs.Level.{column}
 use Rattle.dirac_lift.specs.Lifting.{Step, grown, lift, rounded, weighted}

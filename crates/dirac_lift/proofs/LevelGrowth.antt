@@ -2,8 +2,8 @@
 use Rattle.std.proofs.Common.{◌≡◌, ℕ, ℤ, pos, ◌+◌, ◌*◌, ◌%◌, ◌<◌, ◌≤◌, unsigned_abs, List, length, get_or, arith, sym, ◌∙◌}
 use Rattle.std.specs.List.{All}
 use Rattle.std.proofs.lemmas.List.{ext_get_or}
-use Rattle.dirac_types.specs.Table.{Table, filled}
-use Rattle.dirac_types.proofs.Rows.{filled_at}
+use Rattle.dirac_common.specs.Table.{Table, filled}
+use Rattle.dirac_common.proofs.Rows.{filled_at}
 use Rattle.dirac_lift.specs.Level.{column, columns_by, row_in, rows_by, synthesised}
 use Rattle.dirac_lift.specs.Places.{ColumnsBecome, RowsBecome}
 use Rattle.dirac_lift.specs.Wavelets.{run, steps_of, synth, synth_bound}

@@ -4,7 +4,7 @@ use Rattle.std.specs.List.{All}
 use Rattle.std.proofs.lemmas.Int.{ints}
 use Rattle.std.proofs.lemmas.List.{get_or_default, get_or-map, ext_get_or, take_at, length-map}
 use lib.Signed.{shr_z}
-use Rattle.dirac_types.specs.Table.{Table, with_values, filled}
+use Rattle.dirac_common.specs.Table.{Table, with_values, filled}
 use Rattle.dirac_bands.specs.DcSum.{by_rows}
 use Rattle.dirac_lift.specs.Level.{column, row_in, halved, doubled, ended, begun, synthesised, analysed}
 use Rattle.dirac_lift.specs.Places.{ColumnsBecome, ColumnsSafe, RowsBecome}

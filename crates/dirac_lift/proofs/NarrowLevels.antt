@@ -4,7 +4,7 @@ use Rattle.std.specs.List.{All}
 use Rattle.std.proofs.lemmas.Bool.{cases_eq, cases_lt}
 use Rattle.std.proofs.lemmas.List.{get_or-set_same, get_or-set_other, get_or_past, get_or_default}
 use Rattle.std.proofs.lemmas.List.FromFn.{fill_by_all, get_or-map-range_with_len}
-use Rattle.dirac_types.specs.Table.{filled}
+use Rattle.dirac_common.specs.Table.{filled}
 use Rattle.dirac_bands.specs.DcSum.{by_rows}
 use Rattle.dirac_lift.specs.Halves.{AreHalves}
 use Rattle.dirac_lift.specs.HalfRuns.{AreNarrow, IsNarrowLine, stays_narrow}

@@ -7,7 +7,7 @@ use Rattle.std.proofs.lemmas.Nat.{row_fits, div-add-mod', div_below, mod_below}
 use Rattle.std.proofs.lemmas.Bool.{cases_lt, cases_eq}
 use Rattle.std.proofs.lemmas.Slice.{between_is, between-put_mid, take-put_mid_below, drop-put_mid}
 use borrow.Rule.Slice.PartMut.{put_mid, mid_of, same_len_mid}
-use Rattle.dirac_types.specs.Table.{filled}
+use Rattle.dirac_common.specs.Table.{filled}
 use Rattle.dirac_lift.specs.Level.{row_in}
 use Rattle.dirac_lift.specs.Places.{RowsBecome}
 

@@ -8,7 +8,7 @@ use Rattle.std.proofs.Math.Pow.{pow_mono}
 use lib.Signed.{shr_z}
 use mir.Syntax.{Width}
 use mir.Val.{hbits, SFits}
-use Rattle.dirac_types.proofs.Shifts.{shr_sum_is}
+use Rattle.dirac_common.proofs.Shifts.{shr_sum_is}
 use Rattle.dirac_lift.specs.Lifting.{rounded}
 
 -- half a power of two, as the code shifts it

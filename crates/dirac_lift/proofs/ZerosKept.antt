@@ -5,7 +5,7 @@ use Rattle.std.specs.List.{range_with_len}
 use Rattle.std.proofs.lemmas.Int.{ints}
 use Rattle.std.proofs.lemmas.List.{get_or_default}
 use Rattle.std.proofs.lemmas.Nat.{div_below, pow_pos}
-use Rattle.dirac_types.specs.Table.{Table, filled, table_at}
+use Rattle.dirac_common.specs.Table.{Table, filled, table_at}
 use Rattle.dirac_bands.specs.Interleaving.{joined, joined_at}
 use Rattle.dirac_lift.specs.Level.{column, columns_by, halved, level, row_in, rows_by, synthesised}
 use Rattle.dirac_lift.specs.Lifting.{Step, change_at, lift, lifted_at, moved, new_at, own, rounded, value_read, weighted}

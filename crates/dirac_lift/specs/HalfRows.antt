@@ -1,6 +1,6 @@
 -- Rows that are analysed into their halves.
 use Rattle.std.specs.Prelude.{ℕ, pos, ◌+◌, ◌-◌, ◌*◌, ◌/◌, nat_lt, if◌then◌else◌, slice_index_or}
-use Rattle.dirac_types.specs.Table.{Table, table_of}
+use Rattle.dirac_common.specs.Table.{Table, table_of}
 use Rattle.dirac_lift.specs.Level.{begun, row_in}
 use Rattle.dirac_lift.specs.Wavelets.{analyse}
 

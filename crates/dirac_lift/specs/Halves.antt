@@ -3,7 +3,7 @@
 use Rattle.std.specs.Prelude.{◌≡◌, ℕ, ℤ, pos, ◌+◌, ◌-◌, ◌*◌, ◌^◌, ◌<◌, ◌≤◌, List, length, slice_index_or, unsigned_abs}
 use Rattle.std.specs.Prelude.{◌/◌, ◌%◌, ◌==◌, if◌then◌else◌}
 use Rattle.std.specs.List.{All, sum_by}
-use Rattle.dirac_types.specs.Table.{Table, table_of}
+use Rattle.dirac_common.specs.Table.{Table, table_of}
 use Rattle.dirac_lift.specs.Lifting.{Step, moved, other, own, pair_read, rounded, weighted}
 
 -- the value that tap k reads for pair n of line x

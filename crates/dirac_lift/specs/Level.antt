@@ -1,7 +1,7 @@
 -- One level of the transform over a plane: columns, then rows, then the last halving.
 use Rattle.std.specs.Prelude.{ℕ, ℤ, pos, ◌+◌, ◌*◌, ◌+ℤ◌, List, map, slice_index_or, slice_range, if◌then◌else◌}
 use Rattle.std.specs.List.{range_with_len}
-use Rattle.dirac_types.specs.Table.{Table, filled}
+use Rattle.dirac_common.specs.Table.{Table, filled}
 use Rattle.dirac_bands.specs.Interleaving.{joined}
 use Rattle.dirac_lift.specs.Lifting.{rounded}
 use Rattle.dirac_lift.specs.Wavelets.{analyse, has_shift, synth}

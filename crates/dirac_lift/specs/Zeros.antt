@@ -1,7 +1,7 @@
 -- What the synthesis makes of zeros.
 use Rattle.std.specs.Prelude.{◌≡◌, ℕ, ℤ, pos, List}
 use Rattle.std.specs.List.{All}
-use Rattle.dirac_types.specs.Table.{Table}
+use Rattle.dirac_common.specs.Table.{Table}
 use Rattle.dirac_lift.specs.Level.{level}
 use Rattle.dirac_lift.specs.Wavelets.{synth}
 

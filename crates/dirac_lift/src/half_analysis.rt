@@ -1,7 +1,7 @@
 //! The analysis of lines in 32 bits, from their even and odd places in lists of their own.
 ghost use Rattle.std.specs.Prelude.{◌≡◌, ℕ, List, ℤ, ◌*◌, ◌≤◌, length, unsigned_abs};
 ghost use Rattle.std.specs.List.{All};
-ghost use Rattle.dirac_types.specs.Limits.{IsWavelet};
+ghost use Rattle.dirac_common.specs.Limits.{IsWavelet};
 ghost use Rattle.dirac_lift.specs.Halves.{AreHalves};
 ghost use Rattle.dirac_lift.specs.HalfRuns.{AreNarrow, HalvesRun};
 ghost use Rattle.dirac_lift.specs.Wavelets.{analyse, analyse_bound, daubechies_9_7, deslauriers_dubuc_13_7};
@@ -10,7 +10,7 @@ ghost use Rattle.dirac_lift.specs.Wavelets.{deslauriers_dubuc_9_7, fidelity, haa
 use crate::half_lines::{DESLAURIERS_DUBUC, FIDELITY_EVEN, FIDELITY_ODD};
 use crate::halves::lift_half;
 use crate::step::Step;
-use dirac_types::LARGEST_NARROW;
+use dirac_common::LARGEST_NARROW;
 
 /// Analysis of `width` lines from their halves: Deslauriers-Dubuc (9,7).
 #[inline(always)]

@@ -1,14 +1,14 @@
 //! A level of the transform in 32 bits, from the halves of its rows.
 ghost use Rattle.std.specs.Prelude.{◌≡◌, ℕ, ℤ, List, ◌*◌, ◌/◌, ◌%◌, ◌≤◌, length, take, drop, unsigned_abs, IfOk};
 ghost use Rattle.std.specs.List.{All};
-ghost use Rattle.dirac_types.specs.Limits.{IsWavelet};
+ghost use Rattle.dirac_common.specs.Limits.{IsWavelet};
 ghost use Rattle.dirac_lift.specs.Halves.{AreHalves, from_halves};
 ghost use Rattle.dirac_lift.specs.HalfRuns.{AreNarrow};
 ghost use Rattle.dirac_lift.specs.Level.{ended, synthesised};
 ghost use Rattle.dirac_lift.specs.Wavelets.{steps_of, synth};
 
 use crate::half_lines::{finish_half_line, synth_half_columns};
-use dirac_types::{LARGEST_NARROW, LARGEST_TABLE_SIDE, Narrow, NoMemory};
+use dirac_common::{LARGEST_NARROW, LARGEST_TABLE_SIDE, Narrow, NoMemory};
 use std::alloc::Global;
 
 /// A finished row of a level from its two halves, which stand one after the other; `low` and `high` are places to work.

@@ -1,6 +1,6 @@
 ghost use Rattle.std.specs.Prelude.{◌≡◌, ℕ, List, ℤ, ◌*◌, ◌-◌, ◌^◌, ◌<◌, ◌≤◌, length, map, unsigned_abs};
 ghost use Rattle.std.specs.List.{All};
-ghost use Rattle.dirac_types.specs.Limits.{IsWavelet};
+ghost use Rattle.dirac_common.specs.Limits.{IsWavelet};
 ghost use Rattle.dirac_lift.specs.Halves.{AreHalves};
 ghost use Rattle.dirac_lift.specs.Level.{ended};
 ghost use Rattle.dirac_lift.specs.HalfRuns.{AreNarrow, HalvesRun};
@@ -10,7 +10,7 @@ ghost use Rattle.dirac_lift.specs.Wavelets.{haar, legall_5_3, steps_of, synth};
 use crate::half_ends::put_line;
 use crate::halves::lift_half;
 use crate::step::Step;
-use dirac_types::LARGEST_NARROW;
+use dirac_common::LARGEST_NARROW;
 
 /// The taps of the longer lifting steps in 32 bits.
 pub const DESLAURIERS_DUBUC: [i32; 4] = [-1, 9, 9, -1];

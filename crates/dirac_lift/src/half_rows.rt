@@ -3,7 +3,7 @@
 ghost use Rattle.std.specs.Prelude.{◌≡◌, pos, ◌+◌, ◌*◌, ◌/◌, ◌%◌, ◌<◌, ◌≤◌, ◌+ℤ◌, if◌then◌else◌, length, take, drop};
 ghost use Rattle.std.specs.Prelude.{slice_index_or, slice_set, unsigned_abs, IfOk};
 ghost use Rattle.std.specs.List.{All};
-ghost use Rattle.dirac_types.specs.Limits.{IsWavelet};
+ghost use Rattle.dirac_common.specs.Limits.{IsWavelet};
 ghost use Rattle.dirac_lift.specs.HalfRows.{analysed_rows};
 ghost use Rattle.dirac_lift.specs.Halves.{AreHalves, from_halves};
 ghost use Rattle.dirac_lift.specs.Level.{analysed, begun};
@@ -11,7 +11,7 @@ ghost use Rattle.dirac_lift.specs.Wavelets.{analyse};
 
 use crate::half_analysis::{analyse_half_columns, analyse_half_line};
 use crate::levels::halves;
-use dirac_types::{LARGEST_NARROW, LARGEST_TABLE_SIDE, Narrow, NoMemory};
+use dirac_common::{LARGEST_NARROW, LARGEST_TABLE_SIDE, Narrow, NoMemory};
 use std::alloc::Global;
 
 /// The even rows and the odd ones of a plane, in each the even columns before the odd ones.

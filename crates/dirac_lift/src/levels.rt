@@ -1,6 +1,6 @@
 ghost use Rattle.std.specs.Prelude.{◌≡◌, ℕ, ◌+◌, ◌*◌, ◌%◌, ◌^◌, ◌<◌, ◌≤◌, ◌+ℤ◌, Bool, unsigned_abs, length, map};
 ghost use Rattle.std.specs.List.{All};
-ghost use Rattle.dirac_types.specs.Limits.{IsWavelet};
+ghost use Rattle.dirac_common.specs.Limits.{IsWavelet};
 ghost use Rattle.dirac_bands.specs.DcSum.{by_rows};
 ghost use Rattle.dirac_lift.specs.Level.{analysed, begun, doubled, ended, halved, synthesised};
 ghost use Rattle.dirac_lift.specs.Places.{RowsBecome};
@@ -9,7 +9,7 @@ ghost use Rattle.dirac_lift.specs.Wavelets.{analyse, has_shift, synth};
 use crate::columns::{analyse_columns, synth_columns};
 use crate::lines::{analyse_line, synth_line};
 use crate::step::rounded_sum;
-use dirac_types::Wide;
+use dirac_common::Wide;
 
 /// Whether a level of this wavelet ends by halving: its shift is 1.
 pub fn halves(wavelet: u8) -> bool

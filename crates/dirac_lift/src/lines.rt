@@ -1,6 +1,6 @@
 ghost use Rattle.std.specs.Prelude.{◌≡◌, ℕ, ◌%◌, ◌^◌, ◌≤◌, unsigned_abs, length};
 ghost use Rattle.std.specs.List.{All};
-ghost use Rattle.dirac_types.specs.Limits.{IsWavelet};
+ghost use Rattle.dirac_common.specs.Limits.{IsWavelet};
 ghost use Rattle.dirac_lift.specs.Safety.{Safe};
 ghost use Rattle.dirac_lift.specs.Wavelets.{analyse, analyse_bound, daubechies_9_7, deslauriers_dubuc_13_7};
 ghost use Rattle.dirac_lift.specs.Wavelets.{deslauriers_dubuc_9_7, fidelity, haar, legall_5_3, run, steps_of, synth};

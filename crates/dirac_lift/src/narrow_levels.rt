@@ -2,7 +2,7 @@
 ghost use Rattle.std.specs.Prelude.{◌≡◌, ◌⊎◌, ℕ, ℤ, List, pos, ◌+◌, ◌*◌, ◌/◌, ◌%◌, ◌<◌, ◌≤◌, length, slice_index_or};
 ghost use Rattle.std.specs.Prelude.{slice_set, unsigned_abs};
 ghost use Rattle.std.specs.List.{All};
-ghost use Rattle.dirac_types.specs.Limits.{IsWavelet};
+ghost use Rattle.dirac_common.specs.Limits.{IsWavelet};
 ghost use Rattle.dirac_bands.specs.DcSum.{by_rows};
 ghost use Rattle.dirac_lift.specs.Halves.{AreHalves};
 ghost use Rattle.dirac_lift.specs.HalfRuns.{IsNarrowLine};
@@ -12,7 +12,7 @@ ghost use Rattle.dirac_lift.specs.Places.{ColumnsBecome, RowsBecome};
 ghost use Rattle.dirac_lift.specs.Wavelets.{synth};
 
 use crate::half_lines::{finish_half_line, synth_half_columns};
-use dirac_types::{LARGEST_NARROW, LARGEST_TABLE_SIDE, Narrow};
+use dirac_common::{LARGEST_NARROW, LARGEST_TABLE_SIDE, Narrow};
 
 /// Half as many places as the longest line of a table has.
 const HALF_SIDE: usize = 4096;

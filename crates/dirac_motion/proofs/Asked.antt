@@ -1,18 +1,18 @@
 -- What accepted settings and pictures of theirs give to a search and to a decision.
 use Rattle.std.proofs.Common.{◌≡◌, ℕ, ◌+◌, ◌-◌, ◌*◌, ◌<◌, ◌≤◌, Option, length, arith}
-use Rattle.dirac_sequence.specs.Sizes.{picture_height}
+use Rattle.dirac_sequence_header.specs.Sizes.{picture_height}
 use Rattle.std.specs.Option.{ForSome}
 use Rattle.std.proofs.lemmas.List.FromFn.{length-map-range_with_len}
 use Rattle.std.proofs.lemmas.Nat.{div_below}
 use Rattle.dirac_types.specs.Settings.{IsAccepted}
 use Rattle.dirac_types.specs.Sizes as settings_sizes
-use Rattle.dirac_types.specs.declared.limits.TheConstants.{LARGEST_HEIGHT}
+use Rattle.dirac_common.specs.declared.limits.TheConstants.{LARGEST_HEIGHT}
 use Rattle.dirac_types.proofs.Accepted.{in_range}
 use Rattle.dirac_types.proofs.Heights.{picture_rows}
-use Rattle.dirac_types.specs.Table.{Table}
-use Rattle.dirac_types.specs.declared.picture.Picture.{Picture}
+use Rattle.dirac_common.specs.Table.{Table}
+use Rattle.dirac_common.specs.declared.picture.Picture.{Picture}
 use Rattle.dirac_types.specs.declared.settings.Settings.{Settings}
-use Rattle.dirac_sequence.specs.Lawful.{IsSize}
+use Rattle.dirac_sequence_header.specs.Lawful.{IsSize}
 use Rattle.dirac_sequence.specs.Written.{sequence_of}
 use Rattle.dirac_header.specs.Prediction.{grid_of}
 use Rattle.dirac_picture.specs.Grammar.{superblocks_over}

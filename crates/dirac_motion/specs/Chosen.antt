@@ -1,9 +1,9 @@
 -- The block table that is chosen for a planned picture.
 use Rattle.std.specs.Prelude.{◌≡◌, ℕ, nat_le, if◌then◌else◌, true, false, List, Option, Some, None, option_map}
-use Rattle.dirac_sequence.specs.Sizes.{picture_height}
+use Rattle.dirac_sequence_header.specs.Sizes.{picture_height}
 use Rattle.std.specs.List.{All}
 use Rattle.dirac_types.specs.declared.settings.Settings.{Settings}
-use Rattle.dirac_types.specs.declared.picture.Picture.{Picture}
+use Rattle.dirac_common.specs.declared.picture.Picture.{Picture}
 use Rattle.dirac_types.specs.Settings.{IsAccepted}
 use Rattle.dirac_sequence.specs.Written.{sequence_of}
 use Rattle.dirac_header.specs.Codes.{references_of}

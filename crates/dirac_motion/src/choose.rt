@@ -11,14 +11,14 @@ ghost use Rattle.dirac_motion.specs.Lent.{AreLent, IsReference, first_of, second
 use crate::lent::{Lumas, Reference, References};
 use crate::search::vectors_in;
 use dirac_blocks::BlockData;
+use dirac_common::{NoMemory, Picture, RowGate};
 use dirac_decide::{RefView, decide_by_workers};
 use dirac_decode::named;
-use dirac_io::RowGate;
 use dirac_picture::is_intra;
 use dirac_plan::Planned;
 use dirac_pyramid::Pyramid;
 use dirac_refs::RefBuffer;
-use dirac_types::{NoMemory, Picture, Settings};
+use dirac_types::Settings;
 use std::alloc::Global;
 use std::marker::Sync;
 use std::thread::Threads;

@@ -9,13 +9,13 @@ ghost use Rattle.dirac_motion.specs.Chosen.{searched_in};
 ghost use Rattle.dirac_motion.specs.Lent.{IsReference};
 
 use crate::lent::Reference;
+use dirac_common::{NoMemory, Picture, RowGate};
 use dirac_header::block_grid;
-use dirac_io::RowGate;
 use dirac_picture::superblocks_over;
 use dirac_pyramid::Pyramid;
 use dirac_search::{Field, Search, search_field};
 use dirac_sequence::sequence_of;
-use dirac_types::{NoMemory, Picture, Settings};
+use dirac_types::Settings;
 use std::alloc::Global;
 use std::marker::Sync;
 use std::thread::Threads;

@@ -5,14 +5,14 @@ use Rattle.std.specs.Option.{ForSome}
 use Rattle.std.proofs.Math.Nat.{mul_comm}
 use Rattle.std.proofs.lemmas.Int.{ints, unsigned_abs-mul}
 use Rattle.std.proofs.lemmas.Nat.{mul-le, mul-add-lt}
-use Rattle.dirac_types.specs.declared.formats.Vector.{Vector}
+use Rattle.dirac_common.specs.declared.formats.Vector.{Vector}
 use Rattle.dirac_blocks.specs.Tables.{IsBlock, block_at}
 use Rattle.dirac_blocks.specs.declared.block.Block.{Block}
 use Rattle.dirac_upconvert.specs.HalfSamples.{IsSample}
 use Rattle.dirac_upconvert.specs.SubSamples.{Up}
 use Rattle.dirac_upconvert.proofs.SampleRows.{sub_sample_is}
-use Rattle.dirac_types.specs.declared.formats.Component.{Component}
-use Rattle.dirac_types.specs.declared.formats.Component.TheVariants as component
+use Rattle.dirac_common.specs.declared.formats.Component.{Component}
+use Rattle.dirac_common.specs.declared.formats.Component.TheVariants as component
 use Rattle.dirac_obmc.specs.Compensation.{Compensation, IsMotion, across_ratio, blocks_across, blocks_down, dc_of, down_ratio, from_one, from_two, moved_sample, position, predicts, second_sample, term, total, weight_of, y_length, y_separation}
 use Rattle.dirac_obmc.specs.Directions.{IsSound}
 use Rattle.dirac_obmc.specs.Weights.{share, sum_below}

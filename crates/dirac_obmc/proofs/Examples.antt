@@ -1,14 +1,14 @@
 -- The definitions of weights and of what blocks predict, computed on small cases.
 use Rattle.std.proofs.Common.{◌≡◌, ℕ, ℤ, pos, negsuc, true, [], ◌∷◌, List, Some, map, length, replicate, refl}
 use Rattle.std.specs.List.{range_with_len}
-use Rattle.dirac_types.specs.declared.formats.Chroma.TheVariants.{C444}
-use Rattle.dirac_types.specs.Table.{filled}
+use Rattle.dirac_common.specs.declared.formats.Chroma.TheVariants.{C444}
+use Rattle.dirac_common.specs.Table.{filled}
 use Rattle.dirac_header.specs.declared.prediction.Prediction.{Prediction}
 use Rattle.dirac_blocks.specs.declared.block.Block.{Block}
 use Rattle.dirac_blocks.specs.Tables.{grey}
 use Rattle.dirac_upconvert.specs.HalfSamples.{between, half}
 use Rattle.dirac_upconvert.specs.SubSamples.{part_sample}
-use Rattle.dirac_types.specs.declared.formats.Component.TheVariants as component
+use Rattle.dirac_common.specs.declared.formats.Component.TheVariants as component
 use Rattle.dirac_obmc.specs.Compensation.{Compensation, moved_sample, position, predicted_plane, predicts, term}
 use Rattle.dirac_obmc.specs.Weights.{share, weight_at}
 

@@ -8,7 +8,7 @@ use Rattle.std.proofs.lemmas.Int.{ints}
 use Rattle.std.proofs.lemmas.List.{length-replicate, take_at}
 use Rattle.std.proofs.lemmas.List.FromFn.{fill_by_all, get_or-map-range_with_len, length-map-range_with_len}
 use Rattle.std.proofs.lemmas.Nat.{mod_below, div_below}
-use Rattle.dirac_types.specs.Table.{Table, filled, table_of, with_values}
+use Rattle.dirac_common.specs.Table.{Table, filled, table_of, with_values}
 use Rattle.dirac_obmc.specs.Compensation.{Compensation, IsMotion, blended, blocks_down, predicted_at, predicted_rows}
 use Rattle.dirac_obmc.specs.Directions.{IsSound}
 use Rattle.dirac_obmc.proofs.Bounds.{rows_small}

@@ -5,7 +5,7 @@ use Rattle.std.proofs.lemmas.Int.{ints, to_z-of_z, to_z_pos, fits_signed_from_ab
 use Rattle.std.proofs.lemmas.Nat.{mul-le, one_shl, div_below}
 use Rattle.std.proofs.Math.Pow.{pow_mono}
 use lib.Signed.{shr_z}
-use Rattle.dirac_types.proofs.Shifts.{shr_sum_is}
+use Rattle.dirac_common.proofs.Shifts.{shr_sum_is}
 use Rattle.dirac_upconvert.specs.HalfSamples.{IsSample}
 use Rattle.dirac_upconvert.specs.SubSamples.{rounded}
 

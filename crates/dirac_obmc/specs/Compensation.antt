@@ -3,18 +3,18 @@ use Rattle.std.specs.Prelude.{◌≡◌, ℕ, zero, suc, ℤ, pos, ◌+◌, ◌-
 use Rattle.std.specs.Prelude.{if◌then◌else◌, Option, Some, None, IsSome, IsTrue, unsigned_abs}
 use Rattle.std.specs.Int.{int_div_euclid, int_shr}
 use Rattle.std.specs.Option.{ForSome}
-use Rattle.dirac_types.specs.declared.limits.TheConstants.{LARGEST_SIDE}
-use Rattle.dirac_types.specs.Table.{Table, table_of}
-use Rattle.dirac_types.specs.declared.formats.Chroma.{Chroma}
-use Rattle.dirac_types.specs.declared.formats.Vector.{Vector}
-use Rattle.dirac_sequence.specs.Ratios.{ratio_across, ratio_down}
+use Rattle.dirac_common.specs.declared.limits.TheConstants.{LARGEST_SIDE}
+use Rattle.dirac_common.specs.Table.{Table, table_of}
+use Rattle.dirac_common.specs.declared.formats.Chroma.{Chroma}
+use Rattle.dirac_common.specs.declared.formats.Vector.{Vector}
+use Rattle.dirac_common.specs.Ratios.{ratio_across, ratio_down}
 use Rattle.dirac_header.specs.Prediction.{is_grid}
 use Rattle.dirac_header.specs.declared.prediction.Prediction.{Prediction}
 use Rattle.dirac_blocks.specs.Tables.{BlockTable, block_at}
 use Rattle.dirac_blocks.specs.declared.block.Block.{Block}
 use Rattle.dirac_upconvert.specs.SubSamples.{Up, rounded, sub_sample}
-use Rattle.dirac_types.specs.declared.formats.Component.{Component}
-use Rattle.dirac_types.specs.declared.formats.Component.TheVariants as component
+use Rattle.dirac_common.specs.declared.formats.Component.{Component}
+use Rattle.dirac_common.specs.declared.formats.Component.TheVariants as component
 use Rattle.dirac_obmc.specs.Weights.{share}
 
 -- what a plane of an inter picture is predicted from, and the plane's size

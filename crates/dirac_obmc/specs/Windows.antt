@@ -1,6 +1,6 @@
 -- Rows of places of a plane.
 use Rattle.std.specs.Prelude.{◌≡◌, ℕ, ◌%◌, ◌≤◌}
-use Rattle.dirac_types.specs.declared.limits.TheConstants.{LARGEST_SIDE}
+use Rattle.dirac_common.specs.declared.limits.TheConstants.{LARGEST_SIDE}
 use Rattle.dirac_obmc.specs.declared.values.Window.{Window}
 
 -- a window of that many places

@@ -4,7 +4,7 @@ ghost use Rattle.dirac_obmc.specs.Weights.{IsOverlap};
 
 use crate::direction::Direction;
 use crate::weights::weight_table;
-use dirac_types::{LARGEST_SIDE, NoMemory};
+use dirac_common::{LARGEST_SIDE, NoMemory};
 use std::alloc::Global;
 use std::marker::Model;
 

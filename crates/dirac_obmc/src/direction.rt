@@ -4,8 +4,7 @@ ghost use Rattle.dirac_obmc.specs.Directions.{IsAcross, IsDown, columns_of};
 ghost use Rattle.dirac_obmc.specs.Given.{given};
 
 use crate::motion::Motion;
-use dirac_sequence::{ratio_across, ratio_down};
-use dirac_types::Component;
+use dirac_common::{Component, ratio_across, ratio_down};
 
 /// How the blocks stand along one direction of a plane: how many, and their length and separation in its samples.
 #[derive(Clone, Copy)]

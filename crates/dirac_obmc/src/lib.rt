@@ -15,7 +15,7 @@ mod values;
 mod weights;
 
 pub use columns::ColumnWeights;
-pub use dirac_types::Component;
+pub use dirac_common::Component;
 pub use motion::Motion;
 pub use of_samples::samples_predict_samples;
 pub use predict::{column_weights, predict_plane, predict_rows, predict_rows_with};

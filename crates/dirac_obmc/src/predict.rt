@@ -1,6 +1,6 @@
 ghost use Rattle.std.specs.Prelude.{◌≡◌, ℕ, ◌+◌, ◌-◌, ◌^◌, ◌<◌, ◌≤◌, unsigned_abs, IfOk};
 ghost use Rattle.std.specs.List.{All};
-ghost use Rattle.dirac_types.specs.Table.{table_at};
+ghost use Rattle.dirac_common.specs.Table.{table_at};
 ghost use Rattle.dirac_obmc.specs.Given.{given};
 ghost use Rattle.dirac_obmc.specs.Compensation.{IsMotion, IsPredictable, predicted_at, predicted_plane, predicted_rows};
 ghost use Rattle.dirac_obmc.specs.Directions.{IsColumns, IsSound, columns_of};
@@ -12,7 +12,7 @@ use crate::predicted::Predicted;
 use crate::room::block_room;
 use crate::rows::{Columns, Lines, predict_lines};
 use crate::weights::weight_table;
-use dirac_types::NoMemory;
+use dirac_common::NoMemory;
 use std::alloc::Global;
 
 /// What the block table and the references of a motion always keep.

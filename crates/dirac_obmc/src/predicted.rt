@@ -1,4 +1,4 @@
-use dirac_types::Table;
+use dirac_common::Table;
 
 /// The predictions of the samples of some rows, not clipped.
 pub type Predicted = Table<i32>;

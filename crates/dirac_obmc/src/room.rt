@@ -3,7 +3,7 @@ ghost use Rattle.dirac_obmc.specs.Weights.{IsOverlap};
 ghost use Rattle.dirac_obmc.specs.Strips.{IsRoom};
 
 use crate::direction::Direction;
-use dirac_types::NoMemory;
+use dirac_common::NoMemory;
 use std::alloc::Global;
 
 /// Room for a block, in rows of `width`: the samples of its two references, and its values.

@@ -14,7 +14,7 @@ use crate::motion::Motion;
 use crate::room::BlockRoom;
 use crate::sums::{Weighed, add_values, divide_sums};
 use crate::values::{Window, block_front};
-use dirac_types::LARGEST_SIDE;
+use dirac_common::LARGEST_SIDE;
 
 /// The blocks of a plane from left to right, with the weights of each.
 #[derive(Clone, Copy)]

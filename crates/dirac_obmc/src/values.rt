@@ -15,8 +15,8 @@ ghost use Rattle.dirac_obmc.specs.Windows.{IsWindow};
 use crate::direction::{across_ratio, down_ratio};
 use crate::motion::Motion;
 use dirac_blocks::Block;
+use dirac_common::{Component, LARGEST_SIDE, LARGEST_TABLE_SIDE, Vector};
 use dirac_header::Prediction;
-use dirac_types::{Component, LARGEST_SIDE, LARGEST_TABLE_SIDE, Vector};
 use dirac_upconvert::UpPlane;
 
 /// A place in parts of a sample.

@@ -5,7 +5,7 @@ ghost use Rattle.dirac_obmc.specs.Compensation.{predicted_at, weight_of};
 ghost use Rattle.dirac_obmc.specs.Directions.{IsWeights};
 
 use crate::direction::Direction;
-use dirac_types::{LARGEST_SIDE, NoMemory};
+use dirac_common::{LARGEST_SIDE, NoMemory};
 use std::alloc::Global;
 
 /// The weight of a block at its place `t`, where `count` blocks stand side by side (overlapped blocks, Dirac

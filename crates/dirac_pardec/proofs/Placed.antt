@@ -3,12 +3,12 @@ use Rattle.std.proofs.Common.{◌≡◌, Bool, ℕ, ℤ, pos, zero, suc, true, f
 use Rattle.std.proofs.lemmas.Bool.Decides.{nat_tests}
 use Rattle.std.proofs.lemmas.List.{length-replicate}
 use Rattle.std.proofs.lemmas.List.FromFn.{length-map-range_with_len}
-use Rattle.dirac_types.specs.declared.formats.Component.{Component}
-use Rattle.dirac_types.specs.declared.formats.Component.TheVariants as component
-use Rattle.dirac_types.specs.declared.formats.Kind.{Kind}
-use Rattle.dirac_types.specs.Table.{Table, filled}
-use Rattle.dirac_sequence.specs.declared.sequence.Sequence.{Sequence}
-use Rattle.dirac_sequence.specs.Lawful.{IsSequence}
+use Rattle.dirac_common.specs.declared.formats.Component.{Component}
+use Rattle.dirac_common.specs.declared.formats.Component.TheVariants as component
+use Rattle.dirac_common.specs.declared.formats.Kind.{Kind}
+use Rattle.dirac_common.specs.Table.{Table, filled}
+use Rattle.dirac_sequence_header.specs.declared.sequence.Sequence.{Sequence}
+use Rattle.dirac_sequence_header.specs.Lawful.{IsSequence}
 use Rattle.dirac_obmc.specs.Compensation.{predicted_at}
 use Rattle.dirac_picture.specs.declared.coded.CodedResidual.{CodedResidual}
 use Rattle.dirac_picture.proofs.Chroma.{part_size}

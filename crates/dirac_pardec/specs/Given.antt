@@ -1,11 +1,11 @@
 -- An inter picture whose references are looked up, seen through its references.
 use Rattle.std.specs.Prelude.{◌≡◌, ℕ, ℤ, Option, IsSome, IfSome, List}
 use Rattle.std.specs.Option.{ForSome, option_copied}
-use Rattle.dirac_types.specs.declared.formats.Component.{Component}
-use Rattle.dirac_types.specs.declared.picture.Picture.{Picture}
-use Rattle.dirac_types.specs.Table.{Table, filled}
-use Rattle.dirac_sequence.specs.declared.sequence.Sequence.{Sequence}
-use Rattle.dirac_sequence.specs.Lawful.{IsSequence}
+use Rattle.dirac_common.specs.declared.formats.Component.{Component}
+use Rattle.dirac_common.specs.declared.picture.Picture.{Picture}
+use Rattle.dirac_common.specs.Table.{Table, filled}
+use Rattle.dirac_sequence_header.specs.declared.sequence.Sequence.{Sequence}
+use Rattle.dirac_sequence_header.specs.Lawful.{IsSequence}
 use Rattle.dirac_upconvert.specs.SubSamples.{Up}
 use Rattle.dirac_obmc.specs.Compensation.{Compensation, predicted_at}
 use Rattle.dirac_obmc.specs.Directions.{columns_of}

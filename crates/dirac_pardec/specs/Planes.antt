@@ -1,10 +1,10 @@
 -- What the rows of the first two calls stand for: residual planes, and upconverted planes of references.
 use Rattle.std.specs.Prelude.{◌≡◌, ℕ, ◌^◌, ◌≤◌, ◌-◌, Option, None, Some, unsigned_abs, nat_lt, if◌then◌else◌}
 use Rattle.std.specs.List.{All}
-use Rattle.dirac_types.specs.declared.formats.Kind.{Kind}
-use Rattle.dirac_types.specs.declared.picture.Picture.{Picture}
-use Rattle.dirac_types.specs.Table.{Table}
-use Rattle.dirac_sequence.specs.declared.sequence.Sequence.{Sequence}
+use Rattle.dirac_common.specs.declared.formats.Kind.{Kind}
+use Rattle.dirac_common.specs.declared.picture.Picture.{Picture}
+use Rattle.dirac_common.specs.Table.{Table}
+use Rattle.dirac_sequence_header.specs.declared.sequence.Sequence.{Sequence}
 use Rattle.dirac_upconvert.specs.SubSamples.{Up}
 use Rattle.dirac_picture.specs.declared.coded.CodedResidual.{CodedResidual}
 use Rattle.dirac_decode.specs.Content.{residual_among, up_of, plane_of}

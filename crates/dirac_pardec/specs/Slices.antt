@@ -1,6 +1,6 @@
 -- How a table is cut in slices of 16 rows.
 use Rattle.std.specs.Prelude.{◌≡◌, ℕ, ℤ, ◌+◌, ◌-◌, ◌*◌, ◌<◌, List, slice_index_or, nat_lt, if◌then◌else◌}
-use Rattle.dirac_types.specs.Table.{Table, table_of}
+use Rattle.dirac_common.specs.Table.{Table, table_of}
 
 -- the first row behind the first k slices
 abbrev pub reach : ℕ → ℕ → ℕ

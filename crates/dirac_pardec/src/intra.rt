@@ -1,6 +1,6 @@
 ghost use Rattle.std.specs.Prelude.{◌≡◌, ◌<◌, ◌≤◌, IfOk, IfSome};
-ghost use Rattle.dirac_types.specs.declared.formats.Kind.TheVariants.{Intra};
-ghost use Rattle.dirac_sequence.specs.Lawful.{IsSequence};
+ghost use Rattle.dirac_common.specs.declared.formats.Kind.TheVariants.{Intra};
+ghost use Rattle.dirac_sequence_header.specs.Lawful.{IsSequence};
 ghost use Rattle.dirac_picture.specs.Fits.{IsResidual};
 ghost use Rattle.dirac_decode.specs.Content as content;
 ghost use Rattle.dirac_decode.specs.Predicting as predicting;
@@ -9,11 +9,10 @@ ghost use Rattle.dirac_pardec.specs.Places as places;
 ghost use Rattle.dirac_pardec.specs.Planes.{IsResidualAt};
 
 use crate::residuals::residuals;
-use dirac_io::RowGate;
+use dirac_common::{Kind, NoMemory, Picture, Plane, RowGate};
 use dirac_picture::{CodedPicture, CodedResidual};
+use dirac_sequence_header::Sequence;
 use dirac_synthesis::{Residual, clipped};
-use dirac_sequence::Sequence;
-use dirac_types::{Kind, NoMemory, Picture, Plane};
 use std::alloc::Global;
 use std::marker::Sync;
 use std::thread::Threads;

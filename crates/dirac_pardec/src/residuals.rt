@@ -1,17 +1,16 @@
 ghost use Rattle.std.specs.Prelude.{◌≡◌, ◌+◌, ◌<◌, ◌≤◌, IfOk, IfSome};
-ghost use Rattle.dirac_sequence.specs.Lawful.{IsSequence};
+ghost use Rattle.dirac_sequence_header.specs.Lawful.{IsSequence};
 ghost use Rattle.dirac_picture.specs.Fits.{IsResidual};
 ghost use Rattle.dirac_rows.specs.Answers.{AnswerRows};
 ghost use Rattle.dirac_pardec.specs.Planes.{IsResidualAt};
 
 use crate::places::component_at;
+use dirac_common::{Kind, NoMemory, RowGate};
 use dirac_decode::residual_of;
-use dirac_io::RowGate;
 use dirac_picture::CodedResidual;
-use dirac_synthesis::Residual;
 use dirac_rows::map_rows;
-use dirac_sequence::Sequence;
-use dirac_types::{Kind, NoMemory};
+use dirac_sequence_header::Sequence;
+use dirac_synthesis::Residual;
 use std::alloc::Global;
 use std::marker::Sync;
 use std::thread::Threads;

@@ -1,7 +1,7 @@
 ghost use Rattle.std.specs.Prelude.{◌≡◌, ℕ, ℤ, ◌+◌, ◌*◌, ◌/◌, ◌^◌, ◌<◌, ◌≤◌, length, unsigned_abs, IfOk, Some};
 ghost use Rattle.std.specs.List.{All};
-ghost use Rattle.dirac_types.specs.Table.{filled};
-ghost use Rattle.dirac_types.specs.declared.formats.Kind.TheVariants.{Inter as OfInter};
+ghost use Rattle.dirac_common.specs.Table.{filled};
+ghost use Rattle.dirac_common.specs.declared.formats.Kind.TheVariants.{Inter as OfInter};
 ghost use Rattle.dirac_synthesis.specs.Residual.{clipped, with_prediction};
 ghost use Rattle.dirac_decode.specs.Content as content;
 ghost use Rattle.dirac_decode.specs.Predicting.{inter_plane};
@@ -13,10 +13,10 @@ ghost use Rattle.dirac_pardec.specs.Slices.{AreSlices};
 
 use crate::inter::Inter;
 use crate::places::{component_at, first_slice, slices_in};
+use dirac_common::{LARGEST_TABLE_SIDE, NoMemory, Plane};
 use dirac_decode::{height_of, width_of};
 use dirac_obmc::Predicted;
 use dirac_synthesis::{Residual, clipped_sum};
-use dirac_types::{LARGEST_TABLE_SIDE, NoMemory, Plane};
 use std::alloc::Global;
 
 /// The values of a plane from its slices, which are `count` items from item `first` on; `room` is how many they are.

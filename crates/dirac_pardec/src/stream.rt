@@ -7,12 +7,12 @@ ghost use Rattle.dirac_decode.specs.Decoded.{IfDone, IfTally, IsDecoded};
 ghost use Rattle.dirac_decode.specs.Rebuilding.{CanBeRebuilt};
 
 use crate::rebuild::rebuild_rows;
+use dirac_common::{NoMemory, Picture, RowGate};
 use dirac_decode::{Decoded, decode_stream_by};
-use dirac_io::{RowGate, Sink, Source};
+use dirac_io::{Sink, Source};
 use dirac_picture::CodedPicture;
 use dirac_refs::{MOST_REFERENCES, RefBuffer};
-use dirac_sequence::Sequence;
-use dirac_types::{NoMemory, Picture};
+use dirac_sequence_header::Sequence;
 use std::alloc::Global;
 use std::marker::Sync;
 use std::thread::Threads;

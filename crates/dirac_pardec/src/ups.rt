@@ -1,7 +1,7 @@
 ghost use Rattle.std.specs.Prelude.{◌≡◌, ◌<◌, ◌≤◌, IfOk, None, Some, option_map};
 ghost use Rattle.std.specs.Option.{ForSome, option_copied};
-ghost use Rattle.dirac_types.specs.declared.picture.Picture.{Picture};
-ghost use Rattle.dirac_sequence.specs.Lawful.{IsSequence};
+ghost use Rattle.dirac_common.specs.declared.picture.Picture.{Picture};
+ghost use Rattle.dirac_sequence_header.specs.Lawful.{IsSequence};
 ghost use Rattle.dirac_decode.specs.Content.{IsPicture, plane_of as lent_plane, up_of};
 ghost use Rattle.dirac_rows.specs.Answers.{AnswerRows};
 ghost use Rattle.dirac_pardec.specs.Given.{given, AreUps, IsInter};
@@ -10,11 +10,10 @@ ghost use Rattle.dirac_pardec.specs.Planes as planes;
 
 use crate::inter::Inter;
 use crate::places::component_at;
+use dirac_common::{Component, NoMemory, Picture, RowGate};
 use dirac_decode::plane_of;
-use dirac_io::RowGate;
 use dirac_rows::map_rows;
-use dirac_sequence::Sequence;
-use dirac_types::{Component, NoMemory, Picture};
+use dirac_sequence_header::Sequence;
 use dirac_upconvert::{UpPlane, upconvert};
 use std::alloc::Global;
 use std::marker::Sync;

@@ -7,9 +7,9 @@ ghost use Rattle.dirac_pardec.specs.Given.{compensation_at, given, AreUps, AreWe
 use crate::inter::Inter;
 use crate::places::component_at;
 use crate::ups::{first_up, second_up};
+use dirac_common::NoMemory;
 use dirac_decode::plane_motion;
 use dirac_obmc::{ColumnWeights, Motion, column_weights};
-use dirac_types::NoMemory;
 use dirac_upconvert::UpPlane;
 use std::alloc::Global;
 

@@ -1,9 +1,9 @@
 -- What an answer says of a payload, without the place behind what is read.
 use Rattle.std.proofs.Common.{◌≡◌, List, ℕ, Result, Ok, Err, ap, subst}
 use Rattle.std.specs.Prelude.{IfOk}
-use Rattle.dirac_types.specs.declared.faults.Refusal.{Refusal}
-use Rattle.dirac_types.specs.declared.faults.Stop.{Stop}
-use Rattle.dirac_types.specs.declared.faults.Stop.TheVariants as stop
+use Rattle.dirac_common.specs.declared.faults.Refusal.{Refusal}
+use Rattle.dirac_common.specs.declared.faults.Stop.{Stop}
+use Rattle.dirac_common.specs.declared.faults.Stop.TheVariants as stop
 use Rattle.dirac_bits.specs.Answers.{value_of, ReadsOrStops}
 use Rattle.dirac_bits.specs.Cursor.{Cursor, start}
 use Rattle.dirac_bits.specs.Laws.{StartsWith}

@@ -1,15 +1,15 @@
 -- The sizes of planes.
 use Rattle.std.proofs.Common.{◌≡◌, ℕ, ◌/◌, ◌%◌, ◌≤◌, arith}
-use Rattle.dirac_types.specs.declared.formats.Chroma.{Chroma}
-use Rattle.dirac_types.specs.declared.formats.Chroma.TheVariants.{C444, C422, C420}
-use Rattle.dirac_types.specs.declared.formats.Component.{Component}
-use Rattle.dirac_types.specs.declared.formats.Component.TheVariants as component
-use Rattle.dirac_sequence.specs.declared.sequence.Sequence.{Sequence}
-use Rattle.dirac_sequence.specs.Lawful.{IsSequence}
-use Rattle.dirac_sequence.specs.Ratios.{ratio_across, ratio_down}
+use Rattle.dirac_common.specs.declared.formats.Chroma.{Chroma}
+use Rattle.dirac_common.specs.declared.formats.Chroma.TheVariants.{C444, C422, C420}
+use Rattle.dirac_common.specs.declared.formats.Component.{Component}
+use Rattle.dirac_common.specs.declared.formats.Component.TheVariants as component
+use Rattle.dirac_sequence_header.specs.declared.sequence.Sequence.{Sequence}
+use Rattle.dirac_sequence_header.specs.Lawful.{IsSequence}
+use Rattle.dirac_common.specs.Ratios.{ratio_across, ratio_down}
 use Rattle.dirac_picture.specs.Fits.{IsPlaneSize}
-use Rattle.dirac_sequence.specs.Sizes.{chroma_height, chroma_width, picture_height, plane_height, plane_width}
-use Rattle.dirac_sequence.proofs.Heights.{picture_size, picture_whole}
+use Rattle.dirac_sequence_header.specs.Sizes.{chroma_height, chroma_width, picture_height, plane_height, plane_width}
+use Rattle.dirac_sequence_header.proofs.Heights.{picture_size, picture_whole}
 
 across_some : (width : ℕ) (chroma : Chroma) → 1 ≤ width → width ≤ 4096 → width % ratio_across chroma ≡ 0 → (1 ≤ width / ratio_across chroma) × (width / ratio_across chroma ≤ 4096)
 across_some width C444 some few whole = (omega arith, omega arith)

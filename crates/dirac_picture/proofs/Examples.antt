@@ -1,6 +1,6 @@
 -- Worked examples of the definitions.
 use Rattle.std.proofs.Common.{◌≡◌, [], ◌∷◌, refl}
-use Rattle.dirac_types.specs.declared.formats.Band.TheVariants.{LL, HL, LH, HH}
+use Rattle.dirac_common.specs.declared.formats.Band.TheVariants.{LL, HL, LH, HH}
 use Rattle.dirac_header.specs.declared.transform.Transform.{Transform}
 use Rattle.dirac_picture.specs.Bands.{band_count, layout_of}
 

@@ -1,8 +1,8 @@
 -- What the answer of a reader that takes memory says; want of memory says nothing of the input.
 use Rattle.std.specs.Prelude.{◌≡◌, ⊤, Result, Ok, Err}
-use Rattle.dirac_types.specs.declared.faults.Refusal.{Refusal}
-use Rattle.dirac_types.specs.declared.faults.Stop.{Stop}
-use Rattle.dirac_types.specs.declared.faults.Stop.TheVariants as stop
+use Rattle.dirac_common.specs.declared.faults.Refusal.{Refusal}
+use Rattle.dirac_common.specs.declared.faults.Stop.{Stop}
+use Rattle.dirac_common.specs.declared.faults.Stop.TheVariants as stop
 
 -- the answer is what is read
 abbrev pub GivesOrStops : {X : Type 0} → Result X Stop → Result X Refusal → Type 0

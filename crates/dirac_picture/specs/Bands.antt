@@ -2,11 +2,11 @@
 -- on.
 use Rattle.std.specs.Prelude.{◌≡◌, ◌≤◌, ℕ, ℤ, ◌+◌, ◌-◌, ◌*◌, ◌%◌, ◌==◌, nat_le, if◌then◌else◌, List, [], length}
 use Rattle.std.specs.Prelude.{slice_get, Option, None, Some}
-use Rattle.dirac_types.specs.declared.formats.Band.{Band}
-use Rattle.dirac_types.specs.declared.formats.Band.TheVariants.{LL, HL, LH, HH}
-use Rattle.dirac_types.specs.declared.formats.Component.{Component}
-use Rattle.dirac_types.specs.declared.formats.Component.TheVariants as component
-use Rattle.dirac_types.specs.Table.{Table}
+use Rattle.dirac_common.specs.declared.formats.Band.{Band}
+use Rattle.dirac_common.specs.declared.formats.Band.TheVariants.{LL, HL, LH, HH}
+use Rattle.dirac_common.specs.declared.formats.Component.{Component}
+use Rattle.dirac_common.specs.declared.formats.Component.TheVariants as component
+use Rattle.dirac_common.specs.Table.{Table}
 use Rattle.dirac_bands.specs.Geometry.{level_of, band_length}
 pub use Rattle.dirac_header.specs.Counts.{counts_among, counts_at}
 use Rattle.dirac_header.specs.declared.transform.Transform.{Transform}

@@ -1,12 +1,12 @@
 -- What every coded picture of a sequence has.
 use Rattle.std.specs.Prelude.{◌≡◌, ℕ, ◌+◌, ◌≤◌, true, false, IsTrue, List, length, nat_le, slice_get, unsigned_abs}
 use Rattle.std.specs.Prelude.{Option, None, Some, is_some}
-use Rattle.dirac_types.specs.declared.limits.TheConstants.{LARGEST_SIDE, MOST_CODEBLOCKS}
-use Rattle.dirac_types.specs.Limits.{IsDepth, IsWavelet}
-use Rattle.dirac_types.specs.declared.formats.Chroma.{Chroma}
+use Rattle.dirac_common.specs.declared.limits.TheConstants.{LARGEST_SIDE, MOST_CODEBLOCKS}
+use Rattle.dirac_common.specs.Limits.{IsDepth, IsWavelet}
+use Rattle.dirac_common.specs.declared.formats.Chroma.{Chroma}
 use Rattle.dirac_bands.specs.Geometry.{band_length}
-use Rattle.dirac_sequence.specs.declared.sequence.Sequence.{Sequence}
-use Rattle.dirac_sequence.specs.Sizes.{chroma_height, chroma_width, picture_height}
+use Rattle.dirac_sequence_header.specs.declared.sequence.Sequence.{Sequence}
+use Rattle.dirac_sequence_header.specs.Sizes.{chroma_height, chroma_width, picture_height}
 use Rattle.dirac_header.specs.declared.header.PictureHeader.{PictureHeader}
 use Rattle.dirac_header.specs.declared.prediction.Prediction.{Prediction}
 use Rattle.dirac_header.specs.declared.transform.Transform.{Transform}

@@ -1,17 +1,17 @@
 -- The payload of a picture, field after field: picture parsing, Dirac specification.
 use Rattle.std.specs.Prelude.{ℕ, zero, suc, ◌+◌, ◌-◌, ◌*◌, ◌/◌, nat_le, ◌&&◌, ◌||◌, if◌then◌else◌, Bool, false, List}
 use Rattle.std.specs.Prelude.{[], ◌∷◌, ◌++◌, length, Option, None, Some, Result}
-use Rattle.dirac_types.specs.declared.faults.Cause.TheVariants.{MissingReference}
-use Rattle.dirac_types.specs.declared.faults.Refusal.{Refusal}
-use Rattle.dirac_types.specs.declared.picture.Picture.{Picture}
+use Rattle.dirac_common.specs.declared.faults.Cause.TheVariants.{MissingReference}
+use Rattle.dirac_common.specs.declared.faults.Refusal.{Refusal}
+use Rattle.dirac_common.specs.declared.picture.Picture.{Picture}
 use Rattle.dirac_bits.specs.Answers.{value_of}
 use Rattle.dirac_bits.specs.Cursor.{start}
 use Rattle.dirac_bits.specs.Syntax.{Syntax, done, refuse, ◌>>=◌, align, flag, read}
-use Rattle.dirac_sequence.specs.declared.sequence.Sequence.{Sequence}
-pub use Rattle.dirac_sequence.specs.Sizes.{chroma_height, chroma_width, picture_height}
+use Rattle.dirac_sequence_header.specs.declared.sequence.Sequence.{Sequence}
+pub use Rattle.dirac_sequence_header.specs.Sizes.{chroma_height, chroma_width, picture_height}
 use Rattle.dirac_header.specs.declared.header.PictureHeader.{PictureHeader}
 use Rattle.dirac_header.specs.declared.transform.Transform.{Transform}
-pub use Rattle.dirac_units.specs.Codes.{is_intra, references_of}
+pub use Rattle.dirac_common.specs.Codes.{is_intra, references_of}
 use Rattle.dirac_header.specs.Header.{header}
 use Rattle.dirac_header.specs.Prediction.{prediction}
 use Rattle.dirac_header.specs.Transform.{transform}

@@ -1,11 +1,11 @@
 -- The bits of the subbands of each plane, written apart.
 use Rattle.std.specs.Prelude.{◌≡◌, Bool, List, [], ◌++◌}
-use Rattle.dirac_types.specs.Bits.{bits_of}
-use Rattle.dirac_types.specs.declared.formats.Component.{Component}
-use Rattle.dirac_types.specs.declared.formats.Component.TheVariants as component
+use Rattle.dirac_common.specs.Bits.{bits_of}
+use Rattle.dirac_common.specs.declared.formats.Component.{Component}
+use Rattle.dirac_common.specs.declared.formats.Component.TheVariants as component
 use Rattle.dirac_bits.specs.Writing.{up_to_byte}
-use Rattle.dirac_sequence.specs.declared.sequence.Sequence.{Sequence}
-use Rattle.dirac_sequence.specs.Sizes.{plane_height, plane_width}
+use Rattle.dirac_sequence_header.specs.declared.sequence.Sequence.{Sequence}
+use Rattle.dirac_sequence_header.specs.Sizes.{plane_height, plane_width}
 use Rattle.dirac_picture.specs.declared.coded.CodedResidual.{CodedResidual}
 use Rattle.dirac_picture.specs.declared.texts.Texts.{Texts}
 use Rattle.dirac_picture.specs.Bands.{bands_of}

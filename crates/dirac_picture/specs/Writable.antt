@@ -1,7 +1,7 @@
 -- What can be written of a picture.
 use Rattle.std.specs.Prelude.{◌≡◌, ℕ, List, true, Some, slice_get}
-use Rattle.dirac_sequence.specs.declared.sequence.Sequence.{Sequence}
-use Rattle.dirac_sequence.specs.Sizes.{chroma_height, chroma_width, picture_height}
+use Rattle.dirac_sequence_header.specs.declared.sequence.Sequence.{Sequence}
+use Rattle.dirac_sequence_header.specs.Sizes.{chroma_height, chroma_width, picture_height}
 use Rattle.dirac_header.specs.declared.transform.Transform.{Transform}
 use Rattle.dirac_header.specs.Written.{FitFrom, IsTransform}
 use Rattle.dirac_coeffs.specs.declared.layout.BandLayout.{BandLayout}

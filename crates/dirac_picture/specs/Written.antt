@@ -1,10 +1,8 @@
 -- The payload of a coded picture: its fields, as they are written.
 use Rattle.std.specs.Prelude.{ℕ, Bool, true, false, if◌then◌else◌, List, [], ◌∷◌, ◌++◌, length, Option, None, Some}
-use Rattle.dirac_sequence.specs.Sizes.{picture_height}
-use Rattle.dirac_types.specs.declared.settings.Settings.{Settings}
-use Rattle.dirac_types.specs.Bytes.{bytes_of}
-use Rattle.dirac_sequence.specs.declared.sequence.Sequence.{Sequence}
-use Rattle.dirac_sequence.specs.Written.{sequence_of}
+use Rattle.dirac_sequence_header.specs.Sizes.{picture_height}
+use Rattle.dirac_common.specs.Bytes.{bytes_of}
+use Rattle.dirac_sequence_header.specs.declared.sequence.Sequence.{Sequence}
 use Rattle.dirac_header.specs.declared.transform.Transform.{Transform}
 use Rattle.dirac_header.specs.Written.{header_bits, prediction_bits, prediction_of, transform_bits}
 use Rattle.dirac_blocks.specs.Decisions.{block_decisions, least_numbers}
@@ -41,28 +39,28 @@ with_planes s r bits =
 abbrev pub with_residual : Sequence → CodedResidual → List Bool → List Bool
 with_residual s r bits = with_planes s r (bits ++ transform_bits r.transform)
 
--- an inter picture's motion by a block table, with block index and precision of the settings, without global motion,
--- with default weights
-abbrev pub motion_with : Settings → BlockTable → CodedMotion
-motion_with t b = record { prediction = prediction_of t.blocks t.precision; blocks = b }
+-- an inter picture's motion by a block table, with this block index and precision, without global motion, with default
+-- weights
+abbrev pub motion_by : ℕ → ℕ → BlockTable → CodedMotion
+motion_by index precision b = record { prediction = prediction_of index precision; blocks = b }
 
--- with the block index and precision of these settings and a block table behind them
-abbrev pub with_blocks : Settings → BlockTable → List Bool → List Bool
-with_blocks t table bits =
+-- with a block index, a precision and a block table behind them
+abbrev pub with_table : ℕ → ℕ → BlockTable → List Bool → List Bool
+with_table index precision table bits =
     with_lists (block_decisions table (least_numbers table))
-    (up_to_byte (bits ++ prediction_bits bits t.blocks t.precision))
+    (up_to_byte (bits ++ prediction_bits bits index precision))
 
 -- the block table of a picture's motion is spelt behind these bits, so that it can be read again
-abbrev pub HasSpelledBlocks : Settings → Option CodedMotion → List Bool → Type 0
-HasSpelledBlocks t None bits = Unit {0}
-HasSpelledBlocks t (Some m) bits =
+abbrev pub HasSpelledTable : ℕ → ℕ → Option CodedMotion → List Bool → Type 0
+HasSpelledTable index precision None bits = Unit {0}
+HasSpelledTable index precision (Some m) bits =
     SpelledBehind (blocks m.blocks.across m.blocks.down m.blocks.refs) m.blocks
-    (up_to_byte (bits ++ prediction_bits bits t.blocks t.precision)) (with_blocks t m.blocks bits)
+    (up_to_byte (bits ++ prediction_bits bits index precision)) (with_table index precision m.blocks bits)
 
 -- with those of a picture's motion behind them, if it has any
-abbrev pub with_motion : Settings → Option CodedMotion → List Bool → List Bool
-with_motion t None bits = bits
-with_motion t (Some m) bits = with_blocks t m.blocks bits
+abbrev pub with_motion_by : ℕ → ℕ → Option CodedMotion → List Bool → List Bool
+with_motion_by index precision None bits = bits
+with_motion_by index precision (Some m) bits = with_table index precision m.blocks bits
 
 -- with the flag that says that all of the residual is zero; just inter pictures have it
 abbrev pub with_flag : ℕ → Bool → List Bool → List Bool
@@ -73,12 +71,13 @@ abbrev pub with_coefficients : Sequence → ℕ → Option CodedResidual → Lis
 with_coefficients s code None bits = with_flag code true bits
 with_coefficients s code (Some r) bits = with_residual s r (with_flag code false bits)
 
--- with a coded picture behind them: its header, its motion, bits 0 up to the next byte, and its coefficients
-abbrev pub with_picture : Settings → CodedPicture → List Bool → List Bool
-with_picture t c bits =
-    with_coefficients (sequence_of t) c.code c.residual
-    (up_to_byte (with_motion t c.motion (bits ++ header_bits bits c.code c.header)))
+-- with a coded picture of this sequence behind them: its header, its motion, bits 0 up to the next byte, and its
+-- coefficients
+abbrev pub with_coded : Sequence → ℕ → ℕ → CodedPicture → List Bool → List Bool
+with_coded s index precision c bits =
+    with_coefficients s c.code c.residual
+    (up_to_byte (with_motion_by index precision c.motion (bits ++ header_bits bits c.code c.header)))
 
--- the payload of a coded picture with these settings
-unfoldable pub payload_of : Settings → CodedPicture → List ℕ
-payload_of t c = bytes_of (up_to_byte (with_picture t c []))
+-- the payload of a coded picture of this sequence, with this block index and precision
+unfoldable pub payload_by : Sequence → ℕ → ℕ → CodedPicture → List ℕ
+payload_by s index precision c = bytes_of (up_to_byte (with_coded s index precision c []))

@@ -3,8 +3,8 @@ ghost use Rattle.dirac_picture.specs.Bands.{bands_of};
 
 use crate::plane_bands::PlaneBands;
 use dirac_blocks::BlockData;
+use dirac_common::Component;
 use dirac_header::{PictureHeader, Prediction, Transform};
-use dirac_types::Component;
 
 /// How an inter picture is predicted: its parameters, and what each of its blocks is predicted from.
 #[derive(Drop)]

@@ -5,8 +5,8 @@ ghost use Rattle.dirac_picture.specs.Fits.{IsLayout, IsPlaneSize};
 
 use dirac_bands::{band_size, padded};
 use dirac_coeffs::BandLayout;
+use dirac_common::Band;
 use dirac_header::Transform;
-use dirac_types::Band;
 
 /// The orientation of band `n` of a plane.
 fn orientation(n: u32) -> Band

@@ -17,7 +17,7 @@ mod write;
 mod write_plane;
 
 pub use coded::{CodedMotion, CodedPicture, CodedResidual};
-pub use dirac_units::is_intra;
+pub use dirac_common::is_intra;
 pub use layouts::layout;
 pub use motion::superblocks_over;
 pub use picture::{are_listed, read_picture};

@@ -1,17 +1,16 @@
 ghost use Rattle.std.specs.Prelude.{◌≡◌, ◌≤◌, length, IfOk, IfErr, IsTrue, false};
 ghost use Rattle.dirac_bits.specs.Syntax.{read};
 ghost use Rattle.dirac_bits.specs.Answers.{ReadsOrStops, IsEarly};
-ghost use Rattle.dirac_sequence.specs.Lawful.{IsSequence};
+ghost use Rattle.dirac_sequence_header.specs.Lawful.{IsSequence};
 ghost use Rattle.dirac_picture.specs.Grammar as grammar;
 ghost use Rattle.dirac_picture.specs.Fits.{HasMotion, IsMotion};
 
 use crate::coded::CodedMotion;
 use dirac_bits::BitReader;
 use dirac_blocks::read_blocks;
+use dirac_common::{LARGEST_SIDE, MOST_SUPERBLOCKS, Stop, is_intra, references};
 use dirac_header::read_prediction;
-use dirac_sequence::Sequence;
-use dirac_types::{LARGEST_SIDE, MOST_SUPERBLOCKS, Stop};
-use dirac_units::{is_intra, references};
+use dirac_sequence_header::Sequence;
 use std::alloc::Global;
 
 /// How many superblocks cover that many luma samples, each four block separations long.

@@ -2,8 +2,8 @@ ghost use Rattle.std.specs.Prelude.{◌≡◌, length, IfOk, IfErr, IsTrue, Ok, 
 ghost use Rattle.dirac_bits.specs.Laws.{StartsWith};
 ghost use Rattle.dirac_bits.specs.Answers.{Reads, ReadsOrStops, IsEarly};
 ghost use Rattle.dirac_bits.specs.Syntax.{read};
-ghost use Rattle.dirac_sequence.specs.Lawful.{IsSequence};
-ghost use Rattle.dirac_sequence.specs.Sizes.{chroma_height, chroma_width, picture_height};
+ghost use Rattle.dirac_sequence_header.specs.Lawful.{IsSequence};
+ghost use Rattle.dirac_sequence_header.specs.Sizes.{chroma_height, chroma_width, picture_height};
 ghost use Rattle.dirac_picture.specs.declared.coded.CodedPicture.{CodedPicture as ThePicture};
 ghost use Rattle.dirac_picture.specs.Answers.{GivesOrStops};
 ghost use Rattle.dirac_picture.specs.Grammar as grammar;
@@ -14,11 +14,10 @@ use crate::coded::{CodedPicture, CodedResidual};
 use crate::motion::read_motion;
 use crate::plane::read_plane_bands;
 use dirac_bits::BitReader;
+use dirac_common::{Cause, Component, Refusal, Stop, is_intra};
 use dirac_header::{PictureHeader, Transform, read_header, read_transform};
 use dirac_refs::RefBuffer;
-use dirac_sequence::Sequence;
-use dirac_types::{Cause, Component, Refusal, Stop};
-use dirac_units::is_intra;
+use dirac_sequence_header::Sequence;
 use std::alloc::Global;
 
 /// Reads the payload of a picture (picture parsing, Dirac specification). The place of a refusal counts from

@@ -11,8 +11,8 @@ use crate::layouts::layout;
 use crate::plane_bands::PlaneBands;
 use dirac_bits::BitReader;
 use dirac_coeffs::{CodedBand, Coefficients, read_band};
+use dirac_common::Stop;
 use dirac_header::Transform;
-use dirac_types::Stop;
 use std::alloc::Global;
 
 /// The parent of the band behind these.

@@ -1,9 +1,9 @@
 //! The subbands of each plane, written apart. A band begins at a byte, so these texts are joined as they stand.
 
 ghost use Rattle.std.specs.Prelude.{◌≡◌, [], IfOk, IfSome, None};
-ghost use Rattle.dirac_types.specs.Bits.{bits_of};
+ghost use Rattle.dirac_common.specs.Bits.{bits_of};
 ghost use Rattle.dirac_bits.specs.Writing.{up_to_byte};
-ghost use Rattle.dirac_sequence.specs.Lawful.{IsSequence};
+ghost use Rattle.dirac_sequence_header.specs.Lawful.{IsSequence};
 ghost use Rattle.dirac_picture.specs.Fits.{AreBandsOf, IsLayout, IsPlaneSize};
 ghost use Rattle.dirac_picture.specs.Texts.{AreTexts, text_of};
 ghost use Rattle.dirac_picture.specs.Writable.{AreWritable, IsWritten};
@@ -13,9 +13,9 @@ use crate::coded::CodedResidual;
 use crate::plane_bands::PlaneBands;
 use crate::write_plane::write_plane;
 use dirac_bits::BitWriter;
+use dirac_common::{Component, NoMemory};
 use dirac_header::Transform;
-use dirac_sequence::Sequence;
-use dirac_types::{Component, NoMemory};
+use dirac_sequence_header::Sequence;
 use std::alloc::Global;
 
 /// The bytes of the subbands of each plane; without a residual there are none.

@@ -1,25 +1,23 @@
 //! The payload of a coded picture, written.
 
 ghost use Rattle.std.specs.Prelude.{◌≡◌, ◌≤◌, [], ◌++◌, Some, OnOk, IfOk, IfSome};
-ghost use Rattle.dirac_types.specs.Bits.{bits_of};
+ghost use Rattle.dirac_common.specs.Bits.{bits_of};
 ghost use Rattle.dirac_bits.specs.Writing.{up_to_byte};
-ghost use Rattle.dirac_sequence.specs.Lawful.{IsSequence};
-ghost use Rattle.dirac_sequence.specs.Written.{sequence_of as sequence_for};
+ghost use Rattle.dirac_sequence_header.specs.Lawful.{IsSequence};
 ghost use Rattle.dirac_header.specs.Codes.{is_reference};
 ghost use Rattle.dirac_header.specs.Written.{HasReferences, MayRetire, header_bits};
 ghost use Rattle.dirac_picture.specs.Texts.{AreTexts, joined};
 ghost use Rattle.dirac_picture.specs.Writable.{IsWritten};
-ghost use Rattle.dirac_picture.specs.Written.{HasSpelledBlocks, motion_with, with_blocks, with_coefficients};
-ghost use Rattle.dirac_picture.specs.Written.{with_flag, with_motion, with_picture, with_residual};
+ghost use Rattle.dirac_picture.specs.Written.{HasSpelledTable, motion_by, with_coded, with_coefficients, with_flag};
+ghost use Rattle.dirac_picture.specs.Written.{with_motion_by, with_residual, with_table};
 
 use crate::coded::{CodedMotion, CodedPicture, CodedResidual};
 use crate::texts::Texts;
 use dirac_bits::BitWriter;
 use dirac_blocks::{BlockData, write_blocks};
+use dirac_common::{NoMemory, is_intra};
 use dirac_header::{write_header, write_prediction, write_transform};
-use dirac_sequence::Sequence;
-use dirac_types::{NoMemory, Settings};
-use dirac_units::is_intra;
+use dirac_sequence_header::Sequence;
 use std::alloc::Global;
 
 /// Writes the bands of Y, U and V, which were written apart.
@@ -50,19 +48,20 @@ fn write_residual(
     Ok(())
 }
 
-/// Writes the prediction parameters of these settings and a block table (picture prediction, Dirac specification).
+/// Writes the prediction parameters of this block index and precision, and a block table (picture prediction, Dirac specification).
 fn write_table(
     alloc: Global,
     w: &mut BitWriter,
-    settings: &Settings,
+    index: u32,
+    precision: u32,
     blocks: &BlockData,
 ) -> Result<(), NoMemory>
-    requires blocks { (2 ≤ settings.now.blocks) × (settings.now.blocks ≤ 4) }
-    requires precision { settings.now.precision ≤ 3 }
-    ensures value { OnOk result (w.new ≡ with_blocks settings.now blocks.now w.old) }
-    ensures spelled { OnOk result (HasSpelledBlocks settings.now (Some (motion_with settings.now blocks.now)) w.old) }
+    requires index { (2 ≤ index) × (index ≤ 4) }
+    requires precision { precision ≤ 3 }
+    ensures value { OnOk result (w.new ≡ with_table index precision blocks.now w.old) }
+    ensures spelled { OnOk result (HasSpelledTable index precision (Some (motion_by index precision blocks.now)) w.old) }
 {
-    write_prediction(w, settings.blocks, settings.precision)?;
+    write_prediction(w, index, precision)?;
     w.align()?;
     write_blocks(alloc, w, blocks)?;
     Ok(())
@@ -72,17 +71,18 @@ fn write_table(
 fn write_motion(
     alloc: Global,
     w: &mut BitWriter,
-    settings: &Settings,
+    index: u32,
+    precision: u32,
     motion: &Option<CodedMotion>,
 ) -> Result<(), NoMemory>
-    requires blocks { (2 ≤ settings.now.blocks) × (settings.now.blocks ≤ 4) }
-    requires precision { settings.now.precision ≤ 3 }
-    ensures value { OnOk result (w.new ≡ with_motion settings.now motion.now w.old) }
-    ensures spelled { OnOk result (HasSpelledBlocks settings.now motion.now w.old) }
+    requires index { (2 ≤ index) × (index ≤ 4) }
+    requires precision { precision ≤ 3 }
+    ensures value { OnOk result (w.new ≡ with_motion_by index precision motion.now w.old) }
+    ensures spelled { OnOk result (HasSpelledTable index precision motion.now w.old) }
 {
     match motion {
         None => Ok(()),
-        Some(motion) => write_table(alloc, w, settings, &motion.blocks),
+        Some(motion) => write_table(alloc, w, index, precision, &motion.blocks),
     }
 }
 
@@ -126,52 +126,52 @@ fn write_coefficients(
 fn write_picture(
     alloc: Global,
     w: &mut BitWriter,
-    settings: &Settings,
     sequence: &Sequence,
+    index: u32,
+    precision: u32,
     coded: &CodedPicture,
     texts: &Texts,
 ) -> Result<(), NoMemory>
     requires sequence { IsSequence sequence.now }
-    requires same { sequence.now ≡ sequence_for settings.now }
-    requires blocks { (2 ≤ settings.now.blocks) × (settings.now.blocks ≤ 4) }
-    requires precision { settings.now.precision ≤ 3 }
+    requires index { (2 ≤ index) × (index ≤ 4) }
+    requires precision { precision ≤ 3 }
     requires references { HasReferences coded.now.code coded.now.header }
     requires retires { MayRetire (is_reference coded.now.code) coded.now.header.number coded.now.header.retire }
     requires written { IfSome coded.now.residual (IsWritten sequence.now) }
     requires texts { IfSome coded.now.residual (λ r. AreTexts sequence.now r texts.now) }
-    ensures value { OnOk result (w.new ≡ up_to_byte (with_picture settings.now coded.now w.old)) }
-    ensures spelled { OnOk result (HasSpelledBlocks settings.now coded.now.motion
+    ensures value { OnOk result (w.new ≡ up_to_byte (with_coded sequence.now index precision coded.now w.old)) }
+    ensures spelled { OnOk result (HasSpelledTable index precision coded.now.motion
         (w.old ++ header_bits w.old coded.now.code coded.now.header)) }
 {
     write_header(w, &coded.header, coded.code)?;
-    write_motion(alloc, w, settings, &coded.motion)?;
+    write_motion(alloc, w, index, precision, &coded.motion)?;
     w.align()?;
     write_coefficients(w, sequence, coded.code, &coded.residual, texts)
 }
 
-/// The payload of a coded picture with these settings, the bytes of its bands being these (picture parsing, Dirac
-/// specification).
+/// The payload of a coded picture of this sequence, with this block index and precision, the bytes of its bands being
+/// these (picture parsing, Dirac specification).
 pub fn payload_bytes(
     alloc: Global,
-    settings: &Settings,
     sequence: &Sequence,
+    index: u32,
+    precision: u32,
     coded: &CodedPicture,
     texts: &Texts,
 ) -> Result<Vec<u8>, NoMemory>
     requires sequence { IsSequence sequence.now }
-    requires same { sequence.now ≡ sequence_for settings.now }
-    requires blocks { (2 ≤ settings.now.blocks) × (settings.now.blocks ≤ 4) }
-    requires precision { settings.now.precision ≤ 3 }
+    requires index { (2 ≤ index) × (index ≤ 4) }
+    requires precision { precision ≤ 3 }
     requires references { HasReferences coded.now.code coded.now.header }
     requires retires { MayRetire (is_reference coded.now.code) coded.now.header.number coded.now.header.retire }
     requires written { IfSome coded.now.residual (IsWritten sequence.now) }
     requires texts { IfSome coded.now.residual (λ r. AreTexts sequence.now r texts.now) }
-    ensures value { IfOk result (λ v. bits_of v.items ≡ up_to_byte (with_picture settings.now coded.now [])) }
-    ensures spelled { IfOk result (λ v. HasSpelledBlocks settings.now coded.now.motion
+    ensures value { IfOk result (λ v. bits_of v.items ≡ up_to_byte (with_coded sequence.now index precision coded.now [])) }
+    ensures spelled { IfOk result (λ v. HasSpelledTable index precision coded.now.motion
         (header_bits [] coded.now.code coded.now.header)) }
 {
     let mut w = BitWriter::new(alloc);
-    write_picture(alloc, &mut w, settings, sequence, coded, texts)?;
+    write_picture(alloc, &mut w, sequence, index, precision, coded, texts)?;
     let bytes = w.finish()?;
     Ok(bytes)
 }

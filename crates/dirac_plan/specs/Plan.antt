@@ -4,8 +4,8 @@ use Rattle.std.specs.Prelude.{ℕ, zero, suc, ◌+◌, ◌-◌, ◌*◌, ◌/◌
 use Rattle.std.specs.Prelude.{[], ◌∷◌, map, Option, None, Some, option_map}
 use Rattle.std.specs.List.{flat_map, range_with_len}
 use Rattle.dirac_types.specs.declared.settings.Settings.{Settings}
-use Rattle.dirac_units.specs.declared.codes.TheConstants.{INTER_NON_REFERENCE_1, INTER_NON_REFERENCE_2}
-use Rattle.dirac_units.specs.declared.codes.TheConstants.{INTER_REFERENCE_1, INTER_REFERENCE_2, INTRA_REFERENCE}
+use Rattle.dirac_common.specs.declared.codes.TheConstants.{INTER_NON_REFERENCE_1, INTER_NON_REFERENCE_2}
+use Rattle.dirac_common.specs.declared.codes.TheConstants.{INTER_REFERENCE_1, INTER_REFERENCE_2, INTRA_REFERENCE}
 use Rattle.dirac_plan.specs.declared.planned.Planned.{Planned}
 
 -- the frame that opens a group: an intra frame to which others may refer, which retires none

@@ -1,9 +1,9 @@
 -- Planning while pictures still come.
 use Rattle.std.specs.Prelude.{◌≡◌, ℕ, ◌+◌, ◌-◌, ◌*◌, ◌%◌, ◌==◌, ◌≤◌, min, nat_lt, not, ◌||◌, ◌&&◌, if◌then◌else◌, Bool}
 use Rattle.std.specs.Prelude.{false, List, [], ◌∷◌, ◌++◌, length, slice_get, Option, None, Some}
-use Rattle.dirac_types.specs.declared.picture.Picture.{Picture}
+use Rattle.dirac_common.specs.declared.picture.Picture.{Picture}
 use Rattle.dirac_types.specs.declared.settings.Settings.{Settings}
-use Rattle.dirac_units.specs.declared.codes.TheConstants.{INTER_NON_REFERENCE_1, INTER_NON_REFERENCE_2}
+use Rattle.dirac_common.specs.declared.codes.TheConstants.{INTER_NON_REFERENCE_1, INTER_NON_REFERENCE_2}
 use Rattle.dirac_plan.specs.declared.planned.Planned.{Planned}
 use Rattle.dirac_plan.specs.declared.planner.TheConstants.{FRAMES_WAITING}
 use Rattle.dirac_plan.specs.Plan.{plan}

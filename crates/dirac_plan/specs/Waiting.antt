@@ -2,7 +2,7 @@
 use Rattle.std.specs.Prelude.{◌≡◌, ℕ, zero, suc, ◌+◌, ◌-◌, ◌%◌, ◌==◌, ◌<◌, ◌≤◌, min, nat_lt, if◌then◌else◌, Bool, false}
 use Rattle.std.specs.Prelude.{List, ◌++◌, map, length}
 use Rattle.std.specs.List.{range_with_len}
-use Rattle.dirac_types.specs.declared.picture.Picture.{Picture}
+use Rattle.dirac_common.specs.declared.picture.Picture.{Picture}
 use Rattle.dirac_types.specs.declared.settings.Settings.{Settings}
 use Rattle.dirac_types.specs.Settings.{IsAccepted}
 use Rattle.dirac_plan.specs.Planning.{frame_pictures, group_offset, group_pictures, step_pictures, waiting_places}

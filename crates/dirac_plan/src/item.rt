@@ -8,11 +8,11 @@ ghost use Rattle.dirac_plan.specs.Plan as plans;
 ghost use Rattle.dirac_plan.specs.Frames as frames;
 
 use crate::planned::Planned;
-use dirac_types::Settings;
-use dirac_units::{
+use dirac_common::{
     INTER_NON_REFERENCE_1, INTER_NON_REFERENCE_2, INTER_REFERENCE_1, INTER_REFERENCE_2,
     INTRA_REFERENCE,
 };
+use dirac_types::Settings;
 
 /// A frame to which others may refer, which refers to the anchor `before`, and to `second` if there is one.
 fn anchor(number: u32, before: u32, second: Option<u32>, retire: Option<u32>) -> Planned

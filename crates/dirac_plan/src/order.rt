@@ -6,7 +6,8 @@ ghost use Rattle.dirac_plan.specs.Plan as plans;
 
 use crate::item::item_of;
 use crate::planned::Planned;
-use dirac_types::{NoMemory, Settings};
+use dirac_common::NoMemory;
+use dirac_types::Settings;
 use std::alloc::Global;
 
 /// The plan of `count` pictures in coding order: groups of pictures, each opened by an intra picture, with each anchor

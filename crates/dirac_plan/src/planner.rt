@@ -11,8 +11,8 @@ ghost use Rattle.dirac_plan.specs.Planning as plannings;
 use crate::item::item_of;
 use crate::planned::Planned;
 use circular_buffer::HeapCircularBuffer;
-use dirac_types::{NoMemory, Picture, Settings};
-use dirac_units::{INTER_NON_REFERENCE_1, INTER_NON_REFERENCE_2};
+use dirac_common::{INTER_NON_REFERENCE_1, INTER_NON_REFERENCE_2, NoMemory, Picture};
+use dirac_types::Settings;
 use std::alloc::Global;
 use std::marker::Model;
 

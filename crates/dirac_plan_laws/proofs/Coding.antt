@@ -2,7 +2,7 @@
 use Rattle.std.proofs.Common.{◌≡◌, ℕ, ◌+◌, ◌≤◌, Bool, true, false, List, [], ◌∷◌, ◌++◌, Some, map, take, drop, slice_get, get_or, refl, ap, ap₂, subst, ◌∙◌, sym, arith}
 use Rattle.std.proofs.lemmas.List.{drop_more, take_more, map-append, take_all}
 use Rattle.std.proofs.lemmas.Option.{get_or_from_slice_get, slice_get_within}
-use Rattle.dirac_types.specs.declared.picture.Picture.{Picture}
+use Rattle.dirac_common.specs.declared.picture.Picture.{Picture}
 use Rattle.dirac_types.specs.declared.settings.Settings.{Settings}
 use Rattle.dirac_refs.specs.Delivery.{LeastLeavesFirst}
 use Rattle.dirac_plan.specs.declared.planned.Planned.{Planned}

@@ -9,7 +9,7 @@ use Rattle.std.proofs.lemmas.List.FromFn.{length-range_with_len}
 use Rattle.std.proofs.lemmas.List.Elements.{filter_map-append}
 use Rattle.std.proofs.lemmas.Option.{slice_get-map, slice_get_within, get_or_from_slice_get}
 use Rattle.std.proofs.lemmas.List.Sums.{sum_by-cons, sum_by-append, sum_by-remove}
-use Rattle.dirac_types.specs.declared.picture.Picture.{Picture}
+use Rattle.dirac_common.specs.declared.picture.Picture.{Picture}
 use Rattle.dirac_refs.specs.declared.waiting.Waiting.{Waiting}
 use Rattle.dirac_refs.specs.Delivery.{LeastLeavesFirst, Leaving, deliver, delivered, flush, flushed, flushed_by, key_at, key_of, least, least_place, others, picture_of, pushed_all}
 use Rattle.dirac_refs.specs.References.{listed}

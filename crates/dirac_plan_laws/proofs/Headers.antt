@@ -5,8 +5,8 @@ use Rattle.std.specs.List.{AllByRecursion, flat_map}
 use Rattle.std.proofs.lemmas.Bool.{cases_lt, cond-false, cond-true, le-ltb, lt-ltb}
 use Rattle.std.proofs.lemmas.Nat.{mod_below}
 use Rattle.dirac_types.specs.declared.settings.Settings.{Settings}
-use Rattle.dirac_units.specs.declared.codes.TheConstants.{INTRA_REFERENCE}
-use Rattle.dirac_units.specs.Codes.{is_reference}
+use Rattle.dirac_common.specs.declared.codes.TheConstants.{INTRA_REFERENCE}
+use Rattle.dirac_common.specs.Codes.{is_reference}
 use Rattle.dirac_header.specs.Written.{MayRetire}
 use Rattle.dirac_plan.specs.declared.planned.Planned.{Planned}
 use Rattle.dirac_plan.specs.Frames.{IsBelow}

@@ -1,8 +1,8 @@
 -- The headers of planned pictures.
 use Rattle.std.specs.Prelude.{◌≡◌, ℕ, ◌==◌, nat_le, true, false, Ok}
-use Rattle.dirac_units.specs.declared.codes.TheConstants.{SEQUENCE_HEADER}
+use Rattle.dirac_common.specs.declared.codes.TheConstants.{SEQUENCE_HEADER}
 use Rattle.dirac_units.specs.declared.info.UnitKind.TheVariants as kind
-use Rattle.dirac_units.specs.Codes.{is_intra, is_reference, references_of}
+use Rattle.dirac_common.specs.Codes.{is_intra, is_reference, references_of}
 use Rattle.dirac_units.specs.Info.{fields_are_read, unit_kind}
 use Rattle.dirac_header.specs.declared.header.PictureHeader.{PictureHeader}
 use Rattle.dirac_header.specs.Written.{HasReferences, IsInRange, MayRetire}

@@ -1,6 +1,6 @@
 -- The references of planned pictures, and the list of reference pictures that coded ones leave behind.
 use Rattle.std.specs.Prelude.{◌≡◌, ℕ, true, List, [], ◌∷◌, ◌++◌, map, Option, ⊤}
-use Rattle.dirac_types.specs.declared.picture.Picture.{Picture}
+use Rattle.dirac_common.specs.declared.picture.Picture.{Picture}
 use Rattle.dirac_types.specs.declared.settings.Settings.{Settings}
 use Rattle.dirac_refs.specs.References.{Commit, as_reference, committed, refs_of}
 use Rattle.dirac_picture.specs.Grammar.{are_listed}

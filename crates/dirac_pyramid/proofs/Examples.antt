@@ -1,6 +1,6 @@
 -- Levels worked out by hand.
 use Rattle.std.proofs.Common.{◌≡◌, pos, negsuc, ◌∷◌, [], refl}
-use Rattle.dirac_types.specs.Table.{Table, filled}
+use Rattle.dirac_common.specs.Table.{Table, filled}
 use Rattle.dirac_pyramid.specs.Pyramid.{pyramid_of, shrunk}
 
 -- the level above a row 1, 2, 5 is 2, 5

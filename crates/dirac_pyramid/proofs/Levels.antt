@@ -4,8 +4,8 @@ use Rattle.std.specs.List.{range_with_len}
 use Rattle.std.proofs.lemmas.Int.{ints}
 use Rattle.std.proofs.lemmas.Bool.{cases_eq}
 use Rattle.std.proofs.lemmas.List.FromFn.{get_or-map-range_with_len, length-map-range_with_len}
-use Rattle.dirac_types.specs.Table.{Table, clamped_to, row_of}
-use Rattle.dirac_types.proofs.Rows.{row_at, RowsFilled, rows_all}
+use Rattle.dirac_common.specs.Table.{Table, clamped_to, row_of}
+use Rattle.dirac_common.proofs.Rows.{row_at, RowsFilled, rows_all}
 use Rattle.dirac_pyramid.specs.Pyramid.{mean_at, half_row, shrunk_at, shrunk, level_of}
 
 -- one more place of a row is written

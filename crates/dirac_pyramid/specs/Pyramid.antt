@@ -3,7 +3,7 @@ use Rattle.std.specs.Prelude.{ℕ, zero, suc, ℤ, pos, ◌+◌, ◌-◌, ◌*�
 use Rattle.std.specs.Prelude.{slice_index_or}
 use Rattle.std.specs.Int.{int_shr}
 use Rattle.std.specs.List.{range_with_len}
-use Rattle.dirac_types.specs.Table.{Table, clamped_at, table_of}
+use Rattle.dirac_common.specs.Table.{Table, clamped_at, table_of}
 
 -- the mean of four samples, rounded to the nearest, halves up
 abbrev pub mean_of_four : ℤ → ℤ → ℤ → ℤ → ℤ

@@ -2,7 +2,7 @@ ghost use Rattle.std.specs.Prelude.{◌≡◌, ◌+◌, ◌<◌, ◌≤◌, leng
 ghost use Rattle.dirac_pyramid.specs.Pyramid.{no_plane, pyramid_of};
 
 use crate::shrink::shrink;
-use dirac_types::{LARGEST_TABLE_SIDE, NoMemory, Plane};
+use dirac_common::{LARGEST_TABLE_SIDE, NoMemory, Plane};
 use std::alloc::Global;
 use std::marker::Model;
 
@@ -16,7 +16,7 @@ pub struct Pyramid {
 
 impl Model for Pyramid {
     ghost use Rattle.std.specs.Prelude.{List};
-    ghost use Rattle.dirac_types.specs.Table.{Table};
+    ghost use Rattle.dirac_common.specs.Table.{Table};
 
     ghost Value = { List Table };
 

@@ -3,7 +3,7 @@ ghost use Rattle.std.specs.Prelude.{IfOk};
 ghost use Rattle.std.specs.Int.{int_shr};
 ghost use Rattle.dirac_pyramid.specs.Pyramid.{half_row, mean_at, mean_of_four, shrunk};
 
-use dirac_types::{LARGEST_TABLE_SIDE, NoMemory, Plane};
+use dirac_common::{LARGEST_TABLE_SIDE, NoMemory, Plane};
 use std::alloc::Global;
 
 /// The sum of two samples.

@@ -1,9 +1,9 @@
 ghost use Rattle.std.specs.Prelude.{◌≡◌, ℕ, ◌^◌, ◌*◌, ◌/◌, ◌+◌, ◌<◌, ◌≤◌, ◌-◌, unsigned_abs};
-ghost use Rattle.dirac_types.specs.Limits.{IsIndex};
+ghost use Rattle.dirac_common.specs.Limits.{IsIndex};
 ghost use Rattle.dirac_quant.specs.Quantiser.{factor_of, offset_of, restored, restored_magnitude, reduced, scaled};
 ghost use Rattle.dirac_quant.specs.Quantiser.{with_sign_of};
 
-use dirac_types::{Kind, LARGEST_NARROW};
+use dirac_common::{Kind, LARGEST_NARROW};
 
 /// Four times the greatest magnitude of a narrow plane, and what rounding down by four drops at most.
 pub const MOST_QUARTERS: u64 = 16383;

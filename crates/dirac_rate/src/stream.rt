@@ -8,8 +8,9 @@ ghost use Rattle.dirac_encode_laws.specs.Encoding.{AnswersEncode, EndsStream, Is
 ghost use Rattle.dirac_encode_laws.specs.Fit.{AllFitOrNone, fit};
 ghost use Rattle.dirac_encode_laws.specs.Standing.{jobs_in};
 
+use dirac_common::RowGate;
 use dirac_encode::{Encoded, StreamCoder, encode_by, streams_show_their_pictures};
-use dirac_io::{RowGate, Sink, Source};
+use dirac_io::{Sink, Source};
 use dirac_types::Settings;
 use std::alloc::Global;
 use std::thread::Threads;

@@ -1,8 +1,8 @@
 -- A header is refused exactly where it breaks.
 use Rattle.std.proofs.Common.{◌≡◌, ℕ, ◌*◌, ◌⊎◌, Bool, [], ◌∷◌, refl, sym, ap, inl, inr, Result, Ok, Err}
-use Rattle.dirac_types.specs.declared.faults.Cause.{Cause}
-use Rattle.dirac_types.specs.declared.faults.Refusal.{Refusal}
-use Rattle.dirac_types.specs.Chain.{◌>>=◌}
+use Rattle.dirac_common.specs.declared.faults.Cause.{Cause}
+use Rattle.dirac_common.specs.declared.faults.Refusal.{Refusal}
+use Rattle.dirac_common.specs.Chain.{◌>>=◌}
 use Rattle.dirac_bits.specs.Cursor.{Cursor, place, skip, aligned, bit_next, Passes}
 use Rattle.dirac_bits.specs.Fields.{block_at, bytes_on, flag_at, from, literal_at, literal_on, number_on, signed_on, sint_at, uint_at}
 use Rattle.dirac_bits.specs.Syntax.{Syntax, done, flag_then, uint_then, sint_then, literal_then, block_then, align_then, here_then, refuse, read}

@@ -1,6 +1,6 @@
 -- A header is spelled or breaks, and not both, in one way.
 use Rattle.std.proofs.Common.{◌≡◌, ◌∙◌, ◌⊎◌, ◌*◌, ◌≤◌, length, sym, ap, refl, inl, inr, Result, Ok, Err}
-use Rattle.dirac_types.specs.declared.faults.Refusal.{Refusal}
+use Rattle.dirac_common.specs.declared.faults.Refusal.{Refusal}
 use Rattle.dirac_bits.specs.Cursor.{Cursor}
 use Rattle.dirac_bits.specs.Laws.{BeginsWith}
 use Rattle.dirac_bits.specs.Syntax.{Syntax, read}

@@ -1,9 +1,9 @@
 -- Headers that break, worked out.
 use Rattle.std.proofs.Common.{ℕ, true, false, [], ◌∷◌, List, ℤ, replicate, refl, inl, inr, arith}
-use Rattle.dirac_types.specs.declared.faults.Cause.{Cause}
-use Rattle.dirac_types.specs.declared.faults.Cause.TheVariants.{BlockSize, NumberTooLong, UnitShort}
-use Rattle.dirac_types.specs.declared.faults.Refusal.{Refusal}
-use Rattle.dirac_types.specs.Numbers.{digits_of, digits_within}
+use Rattle.dirac_common.specs.declared.faults.Cause.{Cause}
+use Rattle.dirac_common.specs.declared.faults.Cause.TheVariants.{BlockSize, NumberTooLong, UnitShort}
+use Rattle.dirac_common.specs.declared.faults.Refusal.{Refusal}
+use Rattle.dirac_common.specs.Numbers.{digits_of, digits_within}
 use Rattle.dirac_bits.specs.Cursor.{Cursor, bits_left, start}
 use Rattle.dirac_bits.specs.Syntax.{Syntax, done, flag_then, uint_then, sint_then, align_then, here_then, refuse, uint}
 use Rattle.dirac_reading_laws.specs.Broken.{Breaks, EndsBadly}

@@ -2,11 +2,11 @@
 use Rattle.std.proofs.Common.{◌≡◌, ℕ, zero, suc, ◌+◌, ◌-◌, ◌*◌, ◌<◌, ◌≤◌, ◌^◌, ◌==◌, ◌⊎◌, Bool, true, false, List, [], ◌∷◌, ◌++◌, length, drop, take, refl, sym, ap, subst, ◌∙◌, arith, inl, inr, Result, Ok, Err}
 use Rattle.std.proofs.lemmas.Bool.{cases_lt, ne_eqb}
 use Rattle.std.proofs.lemmas.List.{length-take, length-drop, take-append-drop}
-use Rattle.dirac_types.specs.declared.faults.Cause.{Cause}
-use Rattle.dirac_types.specs.declared.faults.Cause.TheVariants.{NumberTooLong, UnitShort}
-use Rattle.dirac_types.specs.Bits.{bit_value, number_from}
-use Rattle.dirac_types.specs.Numbers.{followed, uint}
-use Rattle.dirac_types.specs.Chain.{◌>>=◌}
+use Rattle.dirac_common.specs.declared.faults.Cause.{Cause}
+use Rattle.dirac_common.specs.declared.faults.Cause.TheVariants.{NumberTooLong, UnitShort}
+use Rattle.dirac_common.specs.Bits.{bit_value, number_from}
+use Rattle.dirac_common.specs.Numbers.{followed, uint}
+use Rattle.dirac_common.specs.Chain.{◌>>=◌}
 use Rattle.dirac_bits.specs.Cursor.{Cursor, skip, bits_left, first_of, bit_next, Passes}
 use Rattle.dirac_bits.specs.Fields.{bits_on, bytes_on, literal_on, number_of, number_on, sign_on, signed_on}
 use Rattle.dirac_bits.proofs.Doublings.{ends_number, goes_on, no_digit, no_follow, too_long}

@@ -1,6 +1,6 @@
 -- Each list of bytes shows exactly one outcome.
 use Rattle.std.proofs.Common.{◌≡◌, ◌∙◌, ℕ, List, Option, sym, ap, refl, length, arith}
-use Rattle.dirac_types.specs.declared.faults.Fault.{Fault}
+use Rattle.dirac_common.specs.declared.faults.Fault.{Fault}
 use Rattle.dirac_units.specs.Cut.{UnitText, start, front_of}
 use Rattle.dirac_units.proofs.Cuts.{cut_by, one_cut}
 use Rattle.dirac_decode.specs.StreamState.{begun}

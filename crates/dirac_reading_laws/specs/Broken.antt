@@ -3,12 +3,12 @@
 use Rattle.std.specs.Prelude.{◌≡◌, ◌⊎◌, ℕ, zero, suc, ℤ, ◌+◌, ◌-◌, ◌*◌, ◌<◌, ◌≤◌, ◌^◌, Bool, true, false, List, [], ◌∷◌}
 use Rattle.std.specs.Prelude.{length, unsigned_abs}
 use Rattle.std.specs.List.{AllByRecursion}
-use Rattle.dirac_types.specs.declared.limits.TheConstants.{MOST_DIGITS}
-use Rattle.dirac_types.specs.declared.faults.Cause.{Cause}
-use Rattle.dirac_types.specs.declared.faults.Cause.TheVariants.{NumberTooLong, UnitShort}
-use Rattle.dirac_types.specs.declared.faults.Refusal.{Refusal}
-use Rattle.dirac_types.specs.Bits.{bits_of}
-use Rattle.dirac_types.specs.Numbers.{followed, literal, sint, uint}
+use Rattle.dirac_common.specs.declared.limits.TheConstants.{MOST_DIGITS}
+use Rattle.dirac_common.specs.declared.faults.Cause.{Cause}
+use Rattle.dirac_common.specs.declared.faults.Cause.TheVariants.{NumberTooLong, UnitShort}
+use Rattle.dirac_common.specs.declared.faults.Refusal.{Refusal}
+use Rattle.dirac_common.specs.Bits.{bits_of}
+use Rattle.dirac_common.specs.Numbers.{followed, literal, sint, uint}
 use Rattle.dirac_bits.specs.Cursor.{Cursor, place, aligned, bits_left, Passes}
 use Rattle.dirac_bits.specs.Syntax.{Syntax, done, flag_then, uint_then, sint_then, literal_then, block_then, align_then}
 use Rattle.dirac_bits.specs.Syntax.{here_then, refuse}

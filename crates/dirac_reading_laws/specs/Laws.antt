@@ -1,6 +1,6 @@
 -- The laws of this crate.
 use Rattle.std.specs.Prelude.{◌≡◌, ◌↔◌, ◌⊎◌, ℕ, ◌*◌, ◌≤◌, List, length, Err}
-use Rattle.dirac_types.specs.declared.faults.Refusal.{Refusal}
+use Rattle.dirac_common.specs.declared.faults.Refusal.{Refusal}
 use Rattle.dirac_bits.specs.Cursor.{Cursor}
 use Rattle.dirac_bits.specs.Laws.{BeginsWith}
 use Rattle.dirac_bits.specs.Syntax.{Syntax, read}

@@ -1,7 +1,7 @@
 -- The list of reference pictures: its length, and how pictures leave it one after another.
 use Rattle.std.proofs.Common.{◌≡◌, ◌<◌, ◌≤◌, ◌==◌, List, [], ◌∷◌, ◌++◌, Option, None, Some, length, take, drop, ℕ, nat_le, Bool, true, false, if◌then◌else◌, not, refl, arith, length-append, length-drop}
 use Rattle.std.proofs.lemmas.List.Sums.{length-filter, count_by-le-length}
-use Rattle.dirac_types.specs.declared.picture.Picture.{Picture}
+use Rattle.dirac_common.specs.declared.picture.Picture.{Picture}
 use Rattle.dirac_refs.specs.References.{without, retire, append, appended, committed, Commit, refs_from, RefsAreFew}
 
 -- the list without a number is no longer

@@ -1,9 +1,9 @@
 -- The half samples of a reference picture, which are kept beside it.
 use Rattle.std.specs.Prelude.{◌≡◌, ◌≤◌}
 use Rattle.std.specs.List.{All}
-use Rattle.dirac_types.specs.declared.limits.TheConstants.{LARGEST_SIDE}
-use Rattle.dirac_types.specs.declared.picture.Picture.{Picture}
-use Rattle.dirac_types.specs.Table.{Table}
+use Rattle.dirac_common.specs.declared.limits.TheConstants.{LARGEST_SIDE}
+use Rattle.dirac_common.specs.declared.picture.Picture.{Picture}
+use Rattle.dirac_common.specs.Table.{Table}
 use Rattle.dirac_upconvert.specs.HalfSamples.{IsSample, half}
 use Rattle.dirac_upconvert.specs.SubSamples.{Up}
 use Rattle.dirac_refs.specs.declared.reference.Halves.{Halves}

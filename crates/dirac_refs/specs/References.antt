@@ -2,9 +2,9 @@
 use Rattle.std.specs.Prelude.{ℕ, ◌==◌, nat_le, not, if◌then◌else◌, Bool, true, List, [], ◌∷◌, ◌++◌, Option, None, Some}
 use Rattle.std.specs.Prelude.{is_some, length, drop, ◌≤◌}
 use Rattle.std.specs.List.{filter}
-use Rattle.dirac_types.specs.declared.picture.Picture.{Picture}
+use Rattle.dirac_common.specs.declared.picture.Picture.{Picture}
 use Rattle.dirac_refs.specs.declared.ref_buffer.TheConstants.{MOST_REFERENCES}
-use Rattle.dirac_units.specs.Codes.{is_reference}
+use Rattle.dirac_common.specs.Codes.{is_reference}
 
 -- the first listed picture of this number
 abbrev pub listed : List Picture → ℕ → Option Picture

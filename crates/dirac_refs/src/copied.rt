@@ -1,8 +1,7 @@
 ghost use Rattle.std.specs.Prelude.{◌≡◌, IfOk};
 ghost use Rattle.dirac_refs.specs.References.{as_reference};
 
-use dirac_types::{NoMemory, Picture};
-use dirac_units::is_reference;
+use dirac_common::{NoMemory, Picture, is_reference};
 use std::alloc::Global;
 
 /// A picture once more, where later pictures may refer to one with this parse code.

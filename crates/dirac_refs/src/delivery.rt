@@ -4,7 +4,7 @@ ghost use Rattle.dirac_refs.specs.Delivery.{delivered, key_at, key_of, least, le
 
 use crate::bounded::Bounded;
 use crate::waiting::Waiting;
-use dirac_types::Picture;
+use dirac_common::Picture;
 use std::marker::Model;
 
 /// The most decoded pictures that wait for delivery.

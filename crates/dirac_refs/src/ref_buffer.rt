@@ -7,7 +7,7 @@ ghost use Rattle.dirac_refs.specs.References.{append, committed, listed, without
 
 use crate::bounded::Bounded;
 use crate::reference::Reference;
-use dirac_types::Picture;
+use dirac_common::Picture;
 use std::alloc::Global;
 use std::marker::Model;
 
@@ -22,7 +22,7 @@ pub struct RefBuffer {
 
 impl Model for RefBuffer {
     ghost use Rattle.std.specs.Prelude.{List, length, ◌≤◌};
-    ghost use Rattle.dirac_types.specs.declared.picture.Picture.{Picture};
+    ghost use Rattle.dirac_common.specs.declared.picture.Picture.{Picture};
     ghost use Rattle.dirac_refs.specs.declared.ref_buffer.TheConstants.{MOST_REFERENCES};
 
     ghost Value = { List Picture };

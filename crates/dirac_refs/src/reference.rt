@@ -2,7 +2,7 @@ ghost use Rattle.std.specs.Prelude.{◌≡◌, IfOk};
 ghost use Rattle.std.specs.Option.{ForSome, option_copied};
 ghost use Rattle.dirac_refs.specs.Halves.{AreHalves, IsDoublable};
 
-use dirac_types::{NoMemory, Picture, Plane};
+use dirac_common::{NoMemory, Picture, Plane};
 use dirac_upconvert::{UpPlane, upconvert};
 use std::alloc::Global;
 use std::marker::Model;
@@ -28,7 +28,7 @@ pub struct Reference {
 
 impl Model for Reference {
     ghost use Rattle.std.specs.Option.{ForSome};
-    ghost use Rattle.dirac_types.specs.declared.picture.Picture.{Picture};
+    ghost use Rattle.dirac_common.specs.declared.picture.Picture.{Picture};
     ghost use Rattle.dirac_refs.specs.Halves.{AreHalves};
 
     ghost Value = { Picture };

@@ -1,4 +1,4 @@
-use dirac_types::Picture;
+use dirac_common::Picture;
 
 /// A decoded picture that waits for its delivery, under its key.
 #[derive(Debug, Drop)]

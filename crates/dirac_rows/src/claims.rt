@@ -6,7 +6,7 @@ ghost use Rattle.dirac_rows.specs.Claims.{DrawsNumber, first_seat, less_a_share,
 use crate::rule::{ClaimRule, Drawing, Joining, Splitting};
 use crate::view::{Terms, View};
 use atomic_table::{Seat, Table};
-use dirac_types::NoMemory;
+use dirac_common::NoMemory;
 use std::alloc::Global;
 use std::marker::Model;
 

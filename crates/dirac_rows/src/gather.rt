@@ -2,7 +2,7 @@ ghost use Rattle.std.specs.Prelude.{◌≡◌, ℕ, ◌<◌, All, Contains, IfOk
 ghost use Rattle.dirac_rows.specs.Weights.{times};
 ghost use Rattle.dirac_rows.specs.Answers.{AnswerRows, rows_of};
 
-use dirac_types::NoMemory;
+use dirac_common::NoMemory;
 use std::alloc::Global;
 
 /// The items that were found for rows, in the order of the rows.

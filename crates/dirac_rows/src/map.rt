@@ -4,8 +4,7 @@ ghost use Rattle.dirac_rows.specs.Answers.{AnswerRows, Gathers};
 
 use crate::claims::{RowClaims, RowSeat};
 use crate::gather::in_order;
-use dirac_io::RowGate;
-use dirac_types::NoMemory;
+use dirac_common::{NoMemory, RowGate};
 use std::alloc::Global;
 use std::marker::Sync;
 use std::thread::{Threads, join};

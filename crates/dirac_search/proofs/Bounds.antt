@@ -3,7 +3,7 @@ use Rattle.std.proofs.Common.{◌≡◌, ℕ, ℤ, zero, suc, ◌+◌, ◌-◌, 
 use Rattle.std.specs.List.{All}
 use Rattle.std.proofs.lemmas.Int.{ints}
 use Rattle.std.proofs.lemmas.Bool.{cases_lt, cases_Bool}
-use Rattle.dirac_types.specs.declared.formats.Vector.{Vector}
+use Rattle.dirac_common.specs.declared.formats.Vector.{Vector}
 use Rattle.dirac_types.specs.declared.settings.Settings.{Settings}
 use Rattle.dirac_vectors.specs.Neighbours.{IsShort}
 use Rattle.dirac_vectors.specs.Predictions.{IsShortVector}

@@ -2,8 +2,8 @@
 use Rattle.std.proofs.Common.{◌≡◌, ℕ, ℤ, pos, negsuc, to_z, of_z, ◌+◌, ◌*◌, ◌^◌, ◌<◌, ◌≤◌, ◌+ℤ◌, ◌-ℤ◌, ◌≤ℤ◌, unsigned_abs, List, length, get_or, refl, ap, ap₂, sym, ◌∙◌, arith}
 use Rattle.std.specs.Int.{w32}
 use Rattle.std.proofs.lemmas.Int.{ints, to_z-of_z}
-use Rattle.dirac_types.specs.Table.{Table, table_at, clamped_to, clamped_at}
-use Rattle.dirac_types.specs.declared.formats.Vector.{Vector}
+use Rattle.dirac_common.specs.Table.{Table, table_at, clamped_to, clamped_at}
+use Rattle.dirac_common.specs.declared.formats.Vector.{Vector}
 use Rattle.dirac_upconvert.specs.SubSamples.{Up, sub_sample}
 use Rattle.dirac_costs.specs.Bits.{bits_of_vector}
 use Rattle.dirac_costs.specs.Sums.{sum_below}

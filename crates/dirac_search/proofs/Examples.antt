@@ -1,7 +1,7 @@
 -- On constant planes with bias 4 the vector (1, 0) costs 20 and the one of no motion 8.
 use Rattle.std.proofs.Common.{◌≡◌, pos, negsuc, ◌∷◌, [], refl}
-use Rattle.dirac_types.specs.Numbers.{digits_of, digits_within}
-use Rattle.dirac_types.specs.Table.{Table}
+use Rattle.dirac_common.specs.Numbers.{digits_of, digits_within}
+use Rattle.dirac_common.specs.Table.{Table}
 use Rattle.dirac_costs.specs.Least.{first_least}
 use Rattle.dirac_search.specs.declared.stage.Stage.TheVariants as stage
 use Rattle.dirac_search.specs.ByRows.{by_rows}

@@ -1,6 +1,6 @@
 -- Lists among which the same is chosen.
 use Rattle.std.specs.Prelude.{◌≡◌, ℕ, ◌<◌, List, slice_index_or}
-use Rattle.dirac_types.specs.declared.formats.Vector.{Vector}
+use Rattle.dirac_common.specs.declared.formats.Vector.{Vector}
 use Rattle.dirac_costs.specs.Least.{first_least}
 use Rattle.dirac_search.specs.Candidates.{no_motion}
 

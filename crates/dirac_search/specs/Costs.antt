@@ -1,8 +1,8 @@
 -- What a vector costs a block at a stage of the search.
 use Rattle.std.specs.Prelude.{◌≡◌, ℕ, ℤ, pos, ◌+◌, ◌*◌, ◌/◌, ◌^◌, ◌<◌, ◌≤◌, ◌==◌, ◌+ℤ◌, ◌-ℤ◌, unsigned_abs}
 use Rattle.std.specs.Prelude.{if◌then◌else◌, length, slice_index_or}
-use Rattle.dirac_types.specs.Table.{Table, clamped_at}
-use Rattle.dirac_types.specs.declared.formats.Vector.{Vector}
+use Rattle.dirac_common.specs.Table.{Table, clamped_at}
+use Rattle.dirac_common.specs.declared.formats.Vector.{Vector}
 use Rattle.dirac_upconvert.specs.SubSamples.{sub_sample}
 use Rattle.dirac_costs.specs.Bits.{bits_of_vector}
 use Rattle.dirac_costs.specs.Windows.{over, sample_at}

@@ -2,8 +2,8 @@
 use Rattle.std.specs.Prelude.{◌≡◌, ℕ, ℤ, pos, ◌+◌, ◌*◌, ◌^◌, ◌<◌, ◌≤◌, ◌+ℤ◌, ◌-ℤ◌, ◌≤ℤ◌, unsigned_abs, List}
 use Rattle.std.specs.Prelude.{slice_index}
 use Rattle.std.specs.Prelude.{slice_index_or, true}
-use Rattle.dirac_types.specs.Table.{Table, clamped_at, clamped_to, table_at}
-use Rattle.dirac_types.specs.declared.formats.Vector.{Vector}
+use Rattle.dirac_common.specs.Table.{Table, clamped_at, clamped_to, table_at}
+use Rattle.dirac_common.specs.declared.formats.Vector.{Vector}
 use Rattle.dirac_upconvert.specs.SubSamples.{Up, sub_sample}
 use Rattle.dirac_costs.specs.Sums.{sum_below}
 use Rattle.dirac_costs.specs.Windows.{row_from, values_apart, values_from}

@@ -6,7 +6,7 @@ ghost use Rattle.dirac_search.specs.Candidates.{IsWithinReach, around, near};
 ghost use Rattle.dirac_search.specs.Choices.{ChoosesAs, Recurs};
 
 use crate::candidate_list::CandidateList;
-use dirac_types::{NoMemory, Vector};
+use dirac_common::{NoMemory, Vector};
 
 /// The component of a vector at place `place` of those at most `reach` from a centre.
 #[inline(always)]

@@ -1,7 +1,7 @@
 ghost use Rattle.std.specs.Prelude.{◌≡◌, ◌<◌, [], ◌∷◌, ◌++◌, length, slice_index_or, IfOk};
 ghost use Rattle.dirac_search.specs.Candidates.{no_motion};
 
-use dirac_types::{NoMemory, Vector};
+use dirac_common::{NoMemory, Vector};
 use std::alloc::Global;
 use std::marker::Model;
 
@@ -15,7 +15,7 @@ pub struct CandidateList {
 
 impl Model for CandidateList {
     ghost use Rattle.std.specs.Prelude.{List};
-    ghost use Rattle.dirac_types.specs.declared.formats.Vector.{Vector};
+    ghost use Rattle.dirac_common.specs.declared.formats.Vector.{Vector};
 
     ghost Value = { List Vector };
 

@@ -3,7 +3,7 @@ ghost use Rattle.dirac_costs.specs.Sums.{sum_below};
 ghost use Rattle.dirac_search.specs.Rows.{AddsEight, IsRowNearest, apart_at, four_rows_apart, four_rows_from};
 
 use crate::places::nearest_row;
-use dirac_types::Plane;
+use dirac_common::Plane;
 use dirac_costs::difference;
 
 /// How far two samples are apart, `k` places behind two places.

@@ -1,7 +1,7 @@
 ghost use Rattle.std.specs.Prelude.{◌≡◌, ◌+◌, ◌*◌, ◌<◌, ◌≤◌, length};
 ghost use Rattle.dirac_search.specs.Candidates.{Vectors, vector_at};
 
-use dirac_types::{MOST_SUPERBLOCKS, Vector};
+use dirac_common::{MOST_SUPERBLOCKS, Vector};
 use std::marker::Model;
 
 /// A vector for each block of a picture, by rows; `across` and `down` count superblocks, of four by four blocks each.

@@ -11,8 +11,9 @@ use crate::field::Field;
 use crate::stage::{Search, Stage};
 use crate::stage_candidates::push_choice;
 use crate::window_costs::{cost_below, whole_cost, window};
-use dirac_types::{NoMemory, Settings, Vector};
+use dirac_common::{NoMemory, Vector};
 use dirac_costs::Window;
+use dirac_types::Settings;
 use std::alloc::Global;
 
 /// Whether two vectors are the same.

@@ -1,8 +1,8 @@
 ghost use Rattle.std.specs.Prelude.{◌≡◌, pos, ◌^◌, ◌<◌, ◌≤◌, ◌+ℤ◌, ◌≤ℤ◌, IsTrue, unsigned_abs, length};
-ghost use Rattle.dirac_types.specs.Table.{clamped_at, clamped_to};
+ghost use Rattle.dirac_common.specs.Table.{clamped_at, clamped_to};
 ghost use Rattle.dirac_search.specs.Rows.{IsRowNearest};
 
-use dirac_types::Plane;
+use dirac_common::Plane;
 
 /// The place from 0 to `size - 1` that is nearest to `place`.
 #[inline(always)]

@@ -1,5 +1,5 @@
+use dirac_common::BlockGrid;
 use dirac_pyramid::Pyramid;
-use dirac_types::BlockGrid;
 use dirac_upconvert::UpPlane;
 
 /// A stage of the search.

@@ -9,7 +9,8 @@ use crate::around::{push_around, push_round_all, push_round_each};
 use crate::candidate_list::CandidateList;
 use crate::field::Field;
 use crate::stage::Stage;
-use dirac_types::{NoMemory, Settings, Vector};
+use dirac_common::{NoMemory, Vector};
+use dirac_types::Settings;
 use std::alloc::Global;
 
 /// Twice a component of a vector.

@@ -5,9 +5,9 @@ ghost use Rattle.dirac_search.specs.Rows.{four_sub_rows_apart, sub_row_apart, su
 
 use crate::eight_columns::four_rows_beside;
 use crate::places::moved;
-use dirac_types::{Plane, Vector};
-use dirac_upconvert::UpPlane;
+use dirac_common::{Plane, Vector};
 use dirac_costs::{Window, row_differences};
+use dirac_upconvert::UpPlane;
 
 /// A place counted in 2 to the power `precision` parts of a sample.
 #[inline(always)]

@@ -6,7 +6,7 @@ ghost use Rattle.dirac_search.specs.Rows.{AreColumns, clamped_row, row_apart, wh
 
 use crate::eight_columns::four_rows;
 use crate::places::{column, is_inside, moved, moved_inside, nearest_row, sample_behind};
-use dirac_types::{Plane, Vector};
+use dirac_common::{Plane, Vector};
 use dirac_costs::{Window, difference, values_differences};
 
 /// How far a sample of the source and one of the reference are apart, `k` places behind these positions, which are

@@ -11,8 +11,9 @@ ghost use Rattle.dirac_search.specs.Given.{given};
 use crate::stage::{Search, Stage};
 use crate::sub_sums::sub_below;
 use crate::whole_sums::whole_below;
-use dirac_types::{Settings, Vector};
+use dirac_common::Vector;
 use dirac_costs::{Window, vector_bits};
+use dirac_types::Settings;
 
 /// The level of the pyramids on which a stage compares.
 fn level_of(stage: Stage) -> u8

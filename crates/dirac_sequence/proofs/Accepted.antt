@@ -5,8 +5,8 @@ use Rattle.dirac_types.specs.declared.settings.Settings.{Settings}
 use Rattle.dirac_types.specs.Settings.{IsAccepted, step_across, step_down, step_of_height}
 use Rattle.dirac_types.proofs.Accepted.{in_range}
 use Rattle.dirac_types.proofs.Heights.{height_divides}
-use Rattle.dirac_sequence.specs.Grammar.{chroma_of}
-use Rattle.dirac_sequence.specs.Ratios.{ratio_across, ratio_down}
+use Rattle.dirac_sequence_header.specs.Grammar.{chroma_of}
+use Rattle.dirac_common.specs.Ratios.{ratio_across, ratio_down}
 use Rattle.dirac_sequence.specs.Written.{IsWritable}
 
 across_same : (c : ℕ) → step_across c ≡ ratio_across (chroma_of c)

@@ -1,5 +1,4 @@
 pub mod Accepted
 mod Examples
-pub mod Heights
-pub mod Packed
+pub mod Sizes
 pub mod Written

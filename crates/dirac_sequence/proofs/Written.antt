@@ -1,18 +1,18 @@
 -- The bits of a sequence header spell the sequence of its settings.
 use Rattle.std.proofs.Common.{◌≡◌, ℕ, ◌+◌, ◌*◌, ◌≤◌, ◌==◌, ◌%◌, ◌/◌, ◌&&◌, not, if◌then◌else◌, Bool, true, false, List, [], ◌∷◌, ◌++◌, length, refl, sym, ap, ap₂, subst, ◌∙◌, arith, inl, inr, append_assoc, append-nil}
 use Rattle.std.proofs.lemmas.Bool.{and_parts, and_from, eq-eqb, eqb-true, cases_eq, ne_eqb}
-use Rattle.dirac_sequence.specs.Ratios.{ratio_across, ratio_down}
-use Rattle.dirac_types.specs.declared.faults.Cause.TheVariants.{Preset, Size, ChromaFormat, RateIndex, SignalRange as SignalIndex, Depth8}
-use Rattle.dirac_types.specs.declared.formats.Chroma.{Chroma}
-use Rattle.dirac_types.specs.declared.formats.Chroma.TheVariants.{C444, C422, C420}
+use Rattle.dirac_common.specs.Ratios.{ratio_across, ratio_down}
+use Rattle.dirac_common.specs.declared.faults.Cause.TheVariants.{Preset, Size, ChromaFormat, RateIndex, SignalRange as SignalIndex, Depth8}
+use Rattle.dirac_common.specs.declared.formats.Chroma.{Chroma}
+use Rattle.dirac_common.specs.declared.formats.Chroma.TheVariants.{C444, C422, C420}
 use Rattle.dirac_types.specs.declared.settings.Settings.{Settings}
-use Rattle.dirac_types.specs.Numbers.{uint}
+use Rattle.dirac_common.specs.Numbers.{uint}
 use Rattle.dirac_bits.specs.Spelling.{Spells}
 use Rattle.dirac_bits.specs.Syntax.{Syntax, done, refuse, ◌>>=◌, field, between, custom}
-use Rattle.dirac_sequence.specs.declared.sequence.Sequence.{Sequence}
-use Rattle.dirac_sequence.specs.declared.sequence.SignalRange.{SignalRange}
-use Rattle.dirac_sequence.specs.Grammar.{base_format, size, chroma_of, own_chroma, is_whole, chroma, sampling, rate, fraction, frames, aspect, clean_area, own_range, signal_range, signal, is_depth, samples, colours, values, has_whole_fields, coding_mode, sequence}
-use Rattle.dirac_sequence.specs.Tables.{preset, rate_of, range_of}
+use Rattle.dirac_sequence_header.specs.declared.sequence.Sequence.{Sequence}
+use Rattle.dirac_sequence_header.specs.declared.sequence.SignalRange.{SignalRange}
+use Rattle.dirac_sequence_header.specs.Grammar.{base_format, size, chroma_of, own_chroma, is_whole, chroma, sampling, rate, fraction, frames, aspect, clean_area, own_range, signal_range, signal, is_depth, samples, colours, values, has_whole_fields, coding_mode, sequence}
+use Rattle.dirac_sequence_header.specs.Tables.{preset, rate_of, range_of}
 use Rattle.dirac_sequence.specs.Written.{IsWritable, is_same, index_of, is_own_size, is_own_chroma, is_own_rate, is_own_signal, custom_bits, base_bits, whole_area_bits, frames_bits, samples_bits, sequence_bits, sequence_of}
 use Rattle.dirac_bits.proofs.Fields.{spells_then, spells_last, field_spelled, between_is}
 

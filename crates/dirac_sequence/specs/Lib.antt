@@ -1,6 +1,6 @@
-pub mod Ratios
-pub mod Sizes
-pub mod Tables
+pub use Rattle.dirac_common.specs.Ratios
+pub use Rattle.dirac_sequence_header.specs.Grammar
+pub use Rattle.dirac_sequence_header.specs.Lawful
+pub use Rattle.dirac_sequence_header.specs.Sizes
+pub use Rattle.dirac_sequence_header.specs.Tables
 pub mod Written
-pub mod Grammar
-pub mod Lawful

@@ -1,17 +1,17 @@
 -- The sequence header that the encoder writes for its settings.
 use Rattle.std.specs.Prelude.{◌≡◌, ℕ, ◌≤◌, ◌*◌, ◌%◌, ◌==◌, ◌&&◌, not, if◌then◌else◌, Bool, true, false, List, [], ◌∷◌}
 use Rattle.std.specs.Prelude.{◌++◌}
-use Rattle.dirac_types.specs.declared.formats.Chroma.{Chroma}
-use Rattle.dirac_types.specs.declared.formats.Chroma.TheVariants.{C444, C422, C420}
+use Rattle.dirac_common.specs.declared.formats.Chroma.{Chroma}
+use Rattle.dirac_common.specs.declared.formats.Chroma.TheVariants.{C444, C422, C420}
 use Rattle.dirac_types.specs.declared.settings.Settings.{Settings}
-use Rattle.dirac_types.specs.Bytes.{bytes_of}
-use Rattle.dirac_types.specs.Numbers as numbers
+use Rattle.dirac_common.specs.Bytes.{bytes_of}
+use Rattle.dirac_common.specs.Numbers as numbers
 pub use Rattle.dirac_bits.specs.Writing.{up_to_byte}
-use Rattle.dirac_sequence.specs.declared.sequence.Sequence.{Sequence}
-use Rattle.dirac_sequence.specs.Grammar.{chroma_of}
-use Rattle.dirac_sequence.specs.Lawful.{IsSize}
-use Rattle.dirac_sequence.specs.Ratios.{ratio_across, ratio_down}
-use Rattle.dirac_sequence.specs.Tables.{preset, rate_of, range_of}
+use Rattle.dirac_sequence_header.specs.declared.sequence.Sequence.{Sequence}
+use Rattle.dirac_sequence_header.specs.Grammar.{chroma_of}
+use Rattle.dirac_sequence_header.specs.Lawful.{IsSize}
+use Rattle.dirac_common.specs.Ratios.{ratio_across, ratio_down}
+use Rattle.dirac_sequence_header.specs.Tables.{preset, rate_of, range_of}
 
 -- settings that a header can have
 pub record IsWritable (t : Settings) : Type 0 where

@@ -1,15 +1,8 @@
-//! Sequence headers: what a stream's pictures have in common, and how a header's bits spell it.
+//! The sequence header that the encoder writes for its settings. Sequences and how they are read are those of
+//! `dirac_sequence_header`, passed on.
 #![tactic(auto)]
 
-mod details;
-mod frames;
-mod read;
-mod sequence;
-mod shared;
-mod tables;
 mod write;
 
-pub use read::read_sequence;
-pub use sequence::{Sequence, ratio_across, ratio_down};
-pub use tables::preset;
+pub use dirac_sequence_header::{Sequence, preset, read_sequence};
 pub use write::{sequence_of, write_sequence};

@@ -3,18 +3,18 @@
 ghost use Rattle.std.specs.Prelude.{◌≡◌, ◌≤◌, ◌<◌, ◌^◌, ◌++◌, not, Ok, OnOk, IfOk};
 ghost use Rattle.dirac_types.specs.Settings.{IsAccepted};
 ghost use Rattle.std.specs.List.{AllByRecursion};
-ghost use Rattle.dirac_types.specs.Bits.{bits_of};
-ghost use Rattle.dirac_types.specs.Numbers as numbers;
+ghost use Rattle.dirac_common.specs.Bits.{bits_of};
+ghost use Rattle.dirac_common.specs.Numbers as numbers;
 ghost use Rattle.dirac_bits.specs.Laws.{StartsWith};
-ghost use Rattle.dirac_sequence.specs.Grammar as grammar;
-ghost use Rattle.dirac_sequence.specs.Lawful.{IsSequence};
-ghost use Rattle.dirac_sequence.specs.Tables.{preset as preset_of};
+ghost use Rattle.dirac_sequence_header.specs.Grammar as grammar;
+ghost use Rattle.dirac_sequence_header.specs.Lawful.{IsSequence};
+ghost use Rattle.dirac_sequence_header.specs.Tables.{preset as preset_of};
 ghost use Rattle.dirac_sequence.specs.Written as written;
 
-use crate::sequence::Sequence;
-use crate::tables::{preset, range, rate};
 use dirac_bits::BitWriter;
-use dirac_types::{Chroma, NoMemory, Settings};
+use dirac_common::{Chroma, NoMemory};
+use dirac_sequence_header::{Sequence, frame_rate, preset, signal_range};
+use dirac_types::Settings;
 use std::alloc::Global;
 
 /// The sequence that the encoder's pictures make with these settings: version 2.2, its picture size, chroma format,
@@ -35,7 +35,7 @@ fn made(settings: &Settings) -> Sequence
     ensures lawful { IsSequence result }
 {
     let base = preset(settings.base as u8);
-    let signal = range(u64::from(settings.signal));
+    let signal = signal_range(u64::from(settings.signal));
     let clean = if is_own_size(settings, &base) {
         (u64::from(settings.width), u64::from(settings.height), 0, 0)
     } else {
@@ -49,7 +49,7 @@ fn made(settings: &Settings) -> Sequence
         width: settings.width,
         height: settings.height,
         chroma: chroma_of(settings.chroma),
-        rate: rate(u64::from(settings.rate)),
+        rate: frame_rate(u64::from(settings.rate)),
         clean,
         luma: signal.luma,
         colour: signal.colour,
@@ -103,7 +103,7 @@ fn is_own_rate(settings: &Settings, base: &Sequence) -> bool
     requires rate { (1 ≤ settings.now.rate) × (settings.now.rate ≤ 10) }
     ensures { result ≡ written.is_own_rate settings.now }
 {
-    !is_same(rate(u64::from(settings.rate)), base.rate)
+    !is_same(frame_rate(u64::from(settings.rate)), base.rate)
 }
 
 fn is_own_signal(settings: &Settings, base: &Sequence) -> bool
@@ -111,7 +111,7 @@ fn is_own_signal(settings: &Settings, base: &Sequence) -> bool
     requires signal { (1 ≤ settings.now.signal) × (settings.now.signal ≤ 2) }
     ensures { result ≡ written.is_own_signal settings.now }
 {
-    let signal = range(u64::from(settings.signal));
+    let signal = signal_range(u64::from(settings.signal));
     !(is_same(signal.luma, base.luma) && is_same(signal.colour, base.colour))
 }
 

@@ -5,10 +5,10 @@ use Rattle.std.proofs.lemmas.Bool.{cases_eq, cases_lt, ne_eqb, lt-ltb, le-ltb}
 use Rattle.std.proofs.lemmas.List.{get_or-set_same, get_or-set_other, get_or-map}
 use Rattle.std.proofs.lemmas.Nat.{mul-add-lt}
 use Rattle.std.proofs.lemmas.List.Elements.{All-take, All-drop, All-map}
-use Rattle.dirac_types.specs.declared.formats.Kind.{Kind}
-use Rattle.dirac_types.specs.Table.{Table, row_of, table_at}
-use Rattle.dirac_types.proofs.Bounds.{told_bound, values_bound}
-use Rattle.dirac_types.proofs.Rows.{filled_at, rows_all}
+use Rattle.dirac_common.specs.declared.formats.Kind.{Kind}
+use Rattle.dirac_common.specs.Table.{Table, row_of, table_at}
+use Rattle.dirac_common.proofs.Bounds.{told_bound, values_bound}
+use Rattle.dirac_common.proofs.Rows.{filled_at, rows_all}
 use Rattle.dirac_quant.specs.Quantiser.{factor_of, offset_of, restored, scaled}
 use Rattle.dirac_bands.specs.Interleaving.{joined, joined_at}
 use Rattle.dirac_coeffs.specs.declared.layout.CodedBand.{CodedBand}

@@ -2,8 +2,8 @@
 use Rattle.std.proofs.Common.{ℕ, ℤ, ◌+◌, ◌*◌, ◌/◌, ◌%◌, ◌<◌, ◌≤◌, unsigned_abs, List, arith, inl, inr, eq-eqb}
 use Rattle.std.specs.List.{All}
 use Rattle.std.proofs.lemmas.Bool.{cases_eq, ne_eqb}
-use Rattle.dirac_types.specs.Table.{Table, table_at, table_of}
-use Rattle.dirac_types.proofs.Bounds.{values_bound, told_bound}
+use Rattle.dirac_common.specs.Table.{Table, table_at, table_of}
+use Rattle.dirac_common.proofs.Bounds.{values_bound, told_bound}
 use Rattle.dirac_bands.specs.Interleaving.{joined_at, joined}
 
 pub all_below : (a b : ℕ) (xs : List ℤ) → a ≤ b → All (λ v. unsigned_abs v < a) xs → All (λ v. unsigned_abs v ≤ b) xs

@@ -5,10 +5,10 @@ use Rattle.std.proofs.lemmas.Bool.{cases_eq, cases_lt}
 use Rattle.std.proofs.lemmas.List.{get_or-map, get_or_past, length-map}
 use Rattle.std.proofs.lemmas.List.FromFn.{fill_by_all}
 use Rattle.std.proofs.lemmas.Nat.{div-add-mod', div_below, le-div, mod_below, mul-add-lt, mul-le}
-use Rattle.dirac_types.specs.declared.formats.Kind.{Kind}
-use Rattle.dirac_types.specs.Table.{Table, filled, row_of, table_at}
-use Rattle.dirac_types.proofs.Bounds.{told_bound}
-use Rattle.dirac_types.proofs.Rows.{row_at}
+use Rattle.dirac_common.specs.declared.formats.Kind.{Kind}
+use Rattle.dirac_common.specs.Table.{Table, filled, row_of, table_at}
+use Rattle.dirac_common.proofs.Bounds.{told_bound}
+use Rattle.dirac_common.proofs.Rows.{row_at}
 use Rattle.dirac_quant.specs.Quantiser.{factor_of, offset_of, restored, scaled}
 use Rattle.dirac_bands.specs.Geometry.{edge_of}
 use Rattle.dirac_coeffs.specs.declared.layout.CodedBand.{CodedBand}

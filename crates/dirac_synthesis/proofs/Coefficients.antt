@@ -5,9 +5,9 @@ use Rattle.std.proofs.Math.Pow.{pow_mono}
 use Rattle.std.proofs.lemmas.Bool.{cases_eq, ne_eqb}
 use Rattle.std.proofs.lemmas.List.Elements.{All-map}
 use Rattle.std.proofs.lemmas.Nat.{mul-le}
-use Rattle.dirac_types.specs.Table.{Table}
-use Rattle.dirac_types.specs.declared.formats.Kind.{Kind}
-use Rattle.dirac_types.specs.declared.formats.Kind.TheVariants.{Intra, Inter}
+use Rattle.dirac_common.specs.Table.{Table}
+use Rattle.dirac_common.specs.declared.formats.Kind.{Kind}
+use Rattle.dirac_common.specs.declared.formats.Kind.TheVariants.{Intra, Inter}
 use Rattle.dirac_quant.specs.Quantiser.{factor_of, general_offset, offset_of, with_sign_of, restored_magnitude, restored}
 use Rattle.dirac_coeffs.specs.declared.layout.CodedBand.{CodedBand}
 use Rattle.dirac_synthesis.specs.Fits.{IsBesides}

@@ -2,7 +2,7 @@
 use Rattle.std.proofs.Common.{◌≡◌, ℕ, pos, ◌+◌, ◌*◌, ◌<◌, ◌≤◌, length, get_or, take, arith, refl, mul_comm}
 use Rattle.std.proofs.lemmas.List.{length-take-le, get_or-take}
 use Rattle.std.proofs.lemmas.Nat.{row_fits, mul-le}
-use Rattle.dirac_types.specs.Table.{Table, table_at}
+use Rattle.dirac_common.specs.Table.{Table, table_at}
 use Rattle.dirac_bands.proofs.Undoing.{table_is}
 use Rattle.dirac_synthesis.specs.Residual.{cut}
 

@@ -1,7 +1,7 @@
 -- What is held in another form grows as the values do.
 use Rattle.std.proofs.Common.{◌≡◌, ℕ, ◌+◌, ◌*◌, ◌^◌, ◌≤◌, Result, IfOk, unsigned_abs, sym, subst}
 use Rattle.std.specs.List.{All}
-use Rattle.dirac_types.specs.Table.{Table}
+use Rattle.dirac_common.specs.Table.{Table}
 use Rattle.dirac_synthesis.proofs.Maps.{ok_weaker}
 
 -- one level's growth

@@ -3,8 +3,8 @@ use Rattle.std.proofs.Common.{◌≡◌, ◌≢◌, ℕ, ℤ, pos, ◌+◌, ◌-
 use Rattle.std.proofs.lemmas.Bool.{cases_eq}
 use Rattle.std.proofs.lemmas.List.{get_or-set_same, get_or-set_other, length-map, get_or-map, take-map, drop-map}
 use Rattle.std.proofs.lemmas.Nat.{div-mul-add, mod-mul-add}
-use Rattle.dirac_types.specs.declared.formats.Kind.{Kind}
-use Rattle.dirac_types.specs.Table.{row_of}
+use Rattle.dirac_common.specs.declared.formats.Kind.{Kind}
+use Rattle.dirac_common.specs.Table.{row_of}
 use Rattle.dirac_quant.specs.Quantiser.{restored}
 use Rattle.dirac_bands.specs.Interleaving.{interleaved}
 use Rattle.dirac_bands.proofs.Interleaves.{at_even, at_odd, interleaved_all}

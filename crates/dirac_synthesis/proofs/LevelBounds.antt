@@ -1,8 +1,8 @@
 -- How large a level makes what it is made of.
 use Rattle.std.proofs.Common.{ℕ, ◌+◌, ◌*◌, ◌^◌, ◌≤◌, unsigned_abs, arith}
 use Rattle.std.specs.List.{All}
-use Rattle.dirac_types.specs.declared.formats.Kind.{Kind}
-use Rattle.dirac_types.specs.Table.{Table}
+use Rattle.dirac_common.specs.declared.formats.Kind.{Kind}
+use Rattle.dirac_common.specs.Table.{Table}
 use Rattle.dirac_bands.specs.Interleaving.{joined, joined_at}
 use Rattle.dirac_coeffs.specs.declared.layout.CodedBand.{CodedBand}
 use Rattle.dirac_lift.specs.Level.{level}

@@ -1,8 +1,8 @@
 -- The LL band of one level more.
 use Rattle.std.proofs.Common.{◌≡◌, ℕ, suc, ◌+◌, ◌*◌, List, slice_get, Some, arith, refl, ap, sym, ◌∙◌, subst}
-use Rattle.dirac_types.specs.declared.formats.Kind.{Kind}
-use Rattle.dirac_types.specs.declared.formats.Kind.TheVariants.{Intra, Inter}
-use Rattle.dirac_types.specs.Table.{Table}
+use Rattle.dirac_common.specs.declared.formats.Kind.{Kind}
+use Rattle.dirac_common.specs.declared.formats.Kind.TheVariants.{Intra, Inter}
+use Rattle.dirac_common.specs.Table.{Table}
 use Rattle.dirac_bands.specs.Geometry.{level_of}
 use Rattle.dirac_header.specs.Counts.{counts_among, counts_at}
 use Rattle.dirac_header.specs.declared.transform.Transform.{Transform}

@@ -5,10 +5,10 @@ use Rattle.std.specs.Prelude.{replicate, slice_get}
 use Rattle.std.proofs.lemmas.Bool.{and_parts}
 use Rattle.std.proofs.lemmas.List.{ext_get_or, length-replicate}
 use Rattle.std.proofs.lemmas.List.FromFn.{length-map-range_with_len}
-use Rattle.dirac_types.specs.Samples.{mean_of_three}
-use Rattle.dirac_types.specs.declared.formats.Kind.{Kind}
-use Rattle.dirac_types.specs.declared.formats.Kind.TheVariants.{Intra, Inter}
-use Rattle.dirac_types.specs.Table.{Table, filled, table_at}
+use Rattle.dirac_common.specs.Samples.{mean_of_three}
+use Rattle.dirac_common.specs.declared.formats.Kind.{Kind}
+use Rattle.dirac_common.specs.declared.formats.Kind.TheVariants.{Intra, Inter}
+use Rattle.dirac_common.specs.Table.{Table, filled, table_at}
 use Rattle.dirac_quant.specs.Quantiser.{restored}
 use Rattle.dirac_bands.specs.DcSum.{prediction_in, sums_up_to, value_at}
 use Rattle.dirac_bands.specs.Geometry.{level_of}

@@ -1,8 +1,8 @@
 -- What the bands of a plane are, whatever their values.
 use Rattle.std.specs.Prelude.{◌≡◌, ℕ, ◌+◌, ◌-◌, ◌*◌, ◌^◌, ◌<◌, List, length, Some, slice_get, unsigned_abs}
 use Rattle.std.specs.List.{All}
-use Rattle.dirac_types.specs.Limits.{IsIndex}
-use Rattle.dirac_types.specs.Table.{Table}
+use Rattle.dirac_common.specs.Limits.{IsIndex}
+use Rattle.dirac_common.specs.Table.{Table}
 use Rattle.dirac_bands.specs.Geometry.{level_of, band_length}
 use Rattle.dirac_header.specs.Counts.{counts_at}
 use Rattle.dirac_header.specs.declared.transform.Transform.{Transform}

@@ -1,9 +1,9 @@
 -- Rows whose even columns stand before their odd ones, and when 32 bits are enough for them.
 use Rattle.std.specs.Prelude.{ℕ, ℤ, ◌+◌, ◌-◌, ◌*◌, ◌^◌, ◌<◌, ◌≤◌, nat_lt, if◌then◌else◌, unsigned_abs}
 use Rattle.std.specs.List.{All}
-use Rattle.dirac_types.specs.declared.formats.Kind.{Kind}
-use Rattle.dirac_types.specs.declared.limits.TheConstants.{LARGEST_NARROW}
-use Rattle.dirac_types.specs.Table.{Table, table_at, table_of}
+use Rattle.dirac_common.specs.declared.formats.Kind.{Kind}
+use Rattle.dirac_common.specs.declared.limits.TheConstants.{LARGEST_NARROW}
+use Rattle.dirac_common.specs.Table.{Table, table_at, table_of}
 use Rattle.dirac_quant.specs.Quantiser.{factor_of, offset_of, restored}
 use Rattle.dirac_quant.specs.declared.quantiser.TheConstants.{MOST_QUARTERS}
 use Rattle.dirac_coeffs.specs.declared.layout.CodedBand.{CodedBand}

@@ -1,5 +1,5 @@
 -- The values that a residual holds, in 32 bits or wide.
-use Rattle.dirac_types.specs.Table.{Table}
+use Rattle.dirac_common.specs.Table.{Table}
 use Rattle.dirac_synthesis.specs.declared.held.Held.{Held}
 use Rattle.dirac_synthesis.specs.declared.held.Held.TheVariants.{Narrow, Wide}
 

@@ -1,8 +1,8 @@
 -- Bands of zeros, and what they stand for.
 use Rattle.std.specs.Prelude.{◌≡◌, ℕ, pos, ◌*◌, Bool, true, List, replicate}
 use Rattle.std.specs.List.{list_all}
-use Rattle.dirac_types.specs.declared.formats.Kind.TheVariants.{Inter}
-use Rattle.dirac_types.specs.Table.{Table}
+use Rattle.dirac_common.specs.declared.formats.Kind.TheVariants.{Inter}
+use Rattle.dirac_common.specs.Table.{Table}
 use Rattle.dirac_header.specs.declared.transform.Transform.{Transform}
 use Rattle.dirac_coeffs.specs.declared.layout.CodedBand.{CodedBand}
 use Rattle.dirac_coeffs.specs.Written.{is_zero_band}

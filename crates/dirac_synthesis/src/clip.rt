@@ -1,11 +1,11 @@
 ghost use Rattle.std.specs.Prelude.{◌≡◌, ◌<◌, ◌≤◌, ◌^◌, ◌+ℤ◌, pos, length, map, slice_index_or, slice_set};
 ghost use Rattle.std.specs.Prelude.{unsigned_abs, IfOk};
 ghost use Rattle.std.specs.List.{All};
-ghost use Rattle.dirac_types.specs.Samples.{clip};
+ghost use Rattle.dirac_common.specs.Samples.{clip};
 ghost use Rattle.dirac_synthesis.specs.Residual.{clipped, summed_with, with_prediction};
 
 use crate::held::{Held, Residual};
-use dirac_types::{LARGEST_TABLE_SIDE, NoMemory, Plane};
+use dirac_common::{LARGEST_TABLE_SIDE, NoMemory, Plane};
 use std::alloc::Global;
 
 /// A value clipped to the range of samples, -128 to 127.

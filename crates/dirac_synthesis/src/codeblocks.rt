@@ -2,8 +2,8 @@
 ghost use Rattle.std.specs.Prelude.{◌≡◌, ℕ, pos, true, ◌+◌, ◌-◌, ◌*◌, ◌^◌, ◌<◌, ◌≤◌, length, slice_index_or};
 ghost use Rattle.std.specs.Prelude.{unsigned_abs, IfOk};
 ghost use Rattle.std.specs.List.{All};
-ghost use Rattle.dirac_types.specs.Limits.{IsIndex};
-ghost use Rattle.dirac_types.specs.declared.formats.Kind.{Kind as TheKind};
+ghost use Rattle.dirac_common.specs.Limits.{IsIndex};
+ghost use Rattle.dirac_common.specs.declared.formats.Kind.{Kind as TheKind};
 ghost use Rattle.dirac_quant.specs.Quantiser.{restored, scaled};
 ghost use Rattle.dirac_coeffs.specs.Indices.{index_at};
 ghost use Rattle.dirac_synthesis.specs.Codeblocks.{HasIndices, codeblock_of, restored_band, restored_by_one};
@@ -11,7 +11,7 @@ ghost use Rattle.dirac_synthesis.specs.Codeblocks.{HasIndices, codeblock_of, res
 use crate::scale::{Scale, scale_of};
 use dirac_bands::edge;
 use dirac_coeffs::{CodedBand, Indices};
-use dirac_types::{Kind, LARGEST_TABLE_SIDE, MOST_CODEBLOCKS, NoMemory, Wide};
+use dirac_common::{Kind, LARGEST_TABLE_SIDE, MOST_CODEBLOCKS, NoMemory, Wide};
 use std::alloc::Global;
 
 /// Whether all of that many indices are this one.

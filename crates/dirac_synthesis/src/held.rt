@@ -1,6 +1,6 @@
 ghost use Rattle.std.specs.Prelude.{◌≡◌, ◌*◌, ◌≤◌, length, take, IfOk};
 
-use dirac_types::{LARGEST_TABLE_SIDE, Narrow, NoMemory, Wide};
+use dirac_common::{LARGEST_TABLE_SIDE, Narrow, NoMemory, Wide};
 use std::alloc::Global;
 use std::marker::Model;
 
@@ -18,7 +18,7 @@ pub struct Residual {
 }
 
 impl Model for Residual {
-    ghost use Rattle.dirac_types.specs.Table.{Table};
+    ghost use Rattle.dirac_common.specs.Table.{Table};
     ghost use Rattle.dirac_synthesis.specs.Held.{held_table};
 
     ghost Value = { Table };

@@ -1,7 +1,7 @@
 ghost use Rattle.std.specs.Prelude.{◌≡◌, ◌≢◌, ℕ, pos, ◌-◌, ◌*◌, ◌%◌, ◌^◌, ◌<◌, ◌≤◌, length, map, slice_index_or};
 ghost use Rattle.std.specs.Prelude.{unsigned_abs, IfOk};
 ghost use Rattle.std.specs.List.{All};
-ghost use Rattle.dirac_types.specs.Limits.{IsIndex};
+ghost use Rattle.dirac_common.specs.Limits.{IsIndex};
 ghost use Rattle.dirac_quant.specs.Quantiser.{restored};
 ghost use Rattle.dirac_bands.specs.Interleaving.{interleaved, joined};
 ghost use Rattle.dirac_synthesis.specs.Fits.{IsBesides};
@@ -9,7 +9,7 @@ ghost use Rattle.dirac_synthesis.specs.Codeblocks.{restored_by_one};
 
 use crate::restore::restore_into;
 use dirac_coeffs::CodedBand;
-use dirac_types::{Kind, LARGEST_SIDE, NoMemory, Wide};
+use dirac_common::{Kind, LARGEST_SIDE, NoMemory, Wide};
 use std::alloc::Global;
 
 /// Copies values to the places 2n of a line of twice the length.

@@ -1,7 +1,7 @@
 //! One level of the synthesis: from an LL band and the three coded bands beside it to the LL band of the next level.
 ghost use Rattle.std.specs.Prelude.{◌≡◌, ℕ, ◌+◌, ◌*◌, ◌^◌, ◌≤◌, unsigned_abs, IfOk};
 ghost use Rattle.std.specs.List.{All};
-ghost use Rattle.dirac_types.specs.Limits.{IsWavelet};
+ghost use Rattle.dirac_common.specs.Limits.{IsWavelet};
 ghost use Rattle.dirac_lift.specs.Level.{level};
 ghost use Rattle.dirac_synthesis.specs.Codeblocks.{HasIndices, restored_band, restored_by_one};
 ghost use Rattle.dirac_synthesis.specs.Fits.{IsBesides};
@@ -13,8 +13,8 @@ use crate::narrow::{is_narrow, is_narrow_band, narrow_level};
 use crate::restore::restore_band;
 use dirac_bands::join_bands;
 use dirac_coeffs::CodedBand;
+use dirac_common::{Kind, LARGEST_SIDE, Narrow, NoMemory, Wide};
 use dirac_lift::synth_level;
-use dirac_types::{Kind, LARGEST_SIDE, Narrow, NoMemory, Wide};
 use std::alloc::Global;
 
 /// The LL band of the next level, wide, where the codeblocks of each band have its index.

@@ -3,8 +3,8 @@
 ghost use Rattle.std.specs.Prelude.{◌≡◌, ℕ, pos, true, ◌+◌, ◌*◌, ◌^◌, ◌<◌, ◌≤◌, length, slice_index_or, slice_set};
 ghost use Rattle.std.specs.Prelude.{unsigned_abs, IfOk};
 ghost use Rattle.std.specs.List.{All};
-ghost use Rattle.dirac_types.specs.Limits.{IsIndex, IsWavelet};
-ghost use Rattle.dirac_types.specs.Table.{table_at};
+ghost use Rattle.dirac_common.specs.Limits.{IsIndex, IsWavelet};
+ghost use Rattle.dirac_common.specs.Table.{table_at};
 ghost use Rattle.dirac_quant.specs.Quantiser.{scaled};
 ghost use Rattle.dirac_lift.specs.Level.{level};
 ghost use Rattle.dirac_synthesis.specs.Fits.{IsBesides};
@@ -13,9 +13,9 @@ ghost use Rattle.dirac_synthesis.specs.Codeblocks.{restored_by_one};
 
 use crate::scale::{Scale, scale_of};
 use dirac_coeffs::{CodedBand, Coefficients};
+use dirac_common::{Kind, LARGEST_NARROW, LARGEST_SIDE, Narrow, NoMemory};
 use dirac_lift::synth_halves_level;
 use dirac_quant::{narrow_limit, restore_narrow};
-use dirac_types::{Kind, LARGEST_NARROW, LARGEST_SIDE, Narrow, NoMemory};
 use std::alloc::Global;
 
 /// Whether all values are at most 4,095 in magnitude.

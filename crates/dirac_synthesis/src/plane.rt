@@ -1,7 +1,7 @@
 ghost use Rattle.std.specs.Prelude.{◌≡◌, ℕ, true, ◌+◌, ◌-◌, ◌*◌, ◌^◌, ◌<◌, ◌≤◌, length, unsigned_abs, IfOk};
 ghost use Rattle.std.specs.Prelude.{slice_get, Some};
 ghost use Rattle.std.specs.List.{All};
-ghost use Rattle.dirac_types.specs.Limits.{IsDepth, IsIndex, IsWavelet};
+ghost use Rattle.dirac_common.specs.Limits.{IsDepth, IsIndex, IsWavelet};
 ghost use Rattle.dirac_coeffs.specs.declared.layout.CodedBand.{CodedBand as TheBand};
 ghost use Rattle.dirac_lift.specs.Zeros.{AreZeros};
 ghost use Rattle.dirac_synthesis.specs.Codeblocks.{HasIndices, restored_band};
@@ -14,8 +14,8 @@ use crate::levels::{Synthesis, next_level};
 use crate::restore::restore_band;
 use dirac_bands::dc_add;
 use dirac_coeffs::CodedBand;
+use dirac_common::{Kind, LARGEST_SIDE, LARGEST_TABLE_SIDE, NoMemory, Wide};
 use dirac_header::Transform;
-use dirac_types::{Kind, LARGEST_SIDE, LARGEST_TABLE_SIDE, NoMemory, Wide};
 use std::alloc::Global;
 
 /// The LL band of level 0, whose values an intra picture codes as differences from their predictions.

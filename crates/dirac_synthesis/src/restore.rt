@@ -1,14 +1,14 @@
 ghost use Rattle.std.specs.Prelude.{◌≡◌, ◌≢◌, ℕ, pos, ◌+◌, ◌-◌, ◌*◌, ◌%◌, ◌^◌, ◌<◌, ◌≤◌, length, map, slice_index_or};
 ghost use Rattle.std.specs.Prelude.{unsigned_abs, IfOk};
 ghost use Rattle.std.specs.List.{All};
-ghost use Rattle.dirac_types.specs.Limits.{IsIndex};
+ghost use Rattle.dirac_common.specs.Limits.{IsIndex};
 ghost use Rattle.dirac_quant.specs.Quantiser.{restored};
 ghost use Rattle.dirac_synthesis.specs.Codeblocks.{HasIndices, restored_band, restored_by_one};
 
 use crate::codeblocks::{has_one_index, restore_codeblocks};
 use dirac_coeffs::CodedBand;
+use dirac_common::{Kind, LARGEST_TABLE_SIDE, NoMemory, Wide};
 use dirac_quant::restore;
-use dirac_types::{Kind, LARGEST_TABLE_SIDE, NoMemory, Wide};
 use std::alloc::Global;
 
 /// Writes the coefficient that each coded number stands for to the places n * `step` + `first` of a line; its other

@@ -1,9 +1,9 @@
 ghost use Rattle.std.specs.Prelude.{◌≡◌, ◌^◌, ◌<◌};
-ghost use Rattle.dirac_types.specs.Limits.{IsIndex};
+ghost use Rattle.dirac_common.specs.Limits.{IsIndex};
 ghost use Rattle.dirac_quant.specs.Quantiser.{factor_of, offset_of};
 
+use dirac_common::Kind;
 use dirac_quant::{factor, offset};
-use dirac_types::Kind;
 
 /// What a coded number is restored by: a quantiser's factor and its offset.
 #[derive(Clone, Copy)]

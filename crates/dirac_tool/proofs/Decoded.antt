@@ -3,7 +3,7 @@ use Rattle.std.proofs.Common.{List, [], Option, None, Some, refl, sym, append-ni
 use Rattle.std.specs.Prelude.{ℕ, IfSome}
 use Rattle.std.specs.Io.KnownBytes.{Appends}
 use Rattle.std.proofs.KnownBytes.{Appends-nil}
-use Rattle.dirac_types.specs.declared.faults.Fault.{Fault}
+use Rattle.dirac_common.specs.declared.faults.Fault.{Fault}
 use Rattle.dirac_io.specs.Writing.{AppendsFront}
 use Rattle.dirac_decode.specs.declared.answers.Decoded.TheVariants as decoded
 use Rattle.dirac_decode.specs.declared.answers.Tally.{Tally}

@@ -4,7 +4,7 @@ use Rattle.std.specs.Prelude.{slice_range, false}
 use Rattle.std.specs.Io.KnownBytes.{Appends, prepend_known}
 use Rattle.std.proofs.KnownBytes.{Appends-trans, Appends-nil}
 use Rattle.dirac_io.specs.Writing.{AppendsFront}
-use Rattle.dirac_types.specs.declared.faults.Fault.{Fault}
+use Rattle.dirac_common.specs.declared.faults.Fault.{Fault}
 use Rattle.dirac_units.specs.declared.info.ParseInfo.{ParseInfo}
 use Rattle.dirac_units.specs.declared.unit.Unit.{Unit}
 use Rattle.dirac_units.specs.declared.unit_place.UnitPlace.{UnitPlace}

@@ -12,12 +12,12 @@ use Rattle.dirac_types.specs.declared.settings.Settings.{Settings}
 use Rattle.dirac_types.specs.Settings.{IsAccepted, first_bad, is_in_range, setting, step_down, verdict}
 use Rattle.dirac_types.specs.Sizes.{picture_height}
 use Rattle.dirac_types.proofs.Accepted.{in_range}
-use Rattle.dirac_types.specs.declared.formats.Chroma.TheVariants.{C444, C422, C420}
-use Rattle.dirac_sequence.specs.Grammar.{chroma_of}
-use Rattle.dirac_sequence.specs.Ratios.{ratio_across, ratio_down}
+use Rattle.dirac_common.specs.declared.formats.Chroma.TheVariants.{C444, C422, C420}
+use Rattle.dirac_sequence_header.specs.Grammar.{chroma_of}
+use Rattle.dirac_common.specs.Ratios.{ratio_across, ratio_down}
 use Rattle.dirac_sequence.specs.Written.{sequence_of}
 use Rattle.dirac_picture.specs.Grammar.{chroma_height, chroma_width}
-use Rattle.dirac_decode.specs.Raw.{left_over, raw_length, sources, whole_pictures}
+use Rattle.dirac_sources.specs.Sources.{left_over, raw_length, sources, whole_pictures}
 use Rattle.dirac_encode_laws.specs.declared.answers.Encoded.{Encoded}
 use Rattle.dirac_encode_laws.specs.declared.answers.Encoded.TheVariants as encoded
 use Rattle.dirac_encode_laws.specs.Coding.{Made}

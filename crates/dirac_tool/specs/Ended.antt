@@ -1,6 +1,6 @@
 -- What the program says of each answer, and its exit status.
 use Rattle.std.specs.Prelude.{ℕ, Bool, if◌then◌else◌, List, [], ◌++◌, codes, decimal}
-use Rattle.dirac_types.specs.declared.faults.Fault.{Fault}
+use Rattle.dirac_common.specs.declared.faults.Fault.{Fault}
 use Rattle.dirac_types.specs.declared.settings.BadSetting.{BadSetting}
 use Rattle.dirac_types.specs.Causes.{name_of}
 use Rattle.dirac_types.specs.Names.{text_of as text_of_name}

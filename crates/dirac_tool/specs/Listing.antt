@@ -2,7 +2,7 @@
 use Rattle.std.specs.Prelude.{◌≡◌, ℕ, List, Option, None, Some, ⊤}
 use Rattle.std.specs.Io.KnownBytes.{Appends}
 use Rattle.dirac_io.specs.Writing.{AppendsFront}
-use Rattle.dirac_types.specs.declared.faults.Fault.{Fault}
+use Rattle.dirac_common.specs.declared.faults.Fault.{Fault}
 use Rattle.dirac_units.specs.Cut.{UnitText, start, IsCut}
 use Rattle.dirac_tool.specs.declared.ended.Ended.{Ended}
 use Rattle.dirac_tool.specs.declared.ended.Ended.TheVariants as ended

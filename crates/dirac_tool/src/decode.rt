@@ -8,11 +8,12 @@ ghost use Rattle.dirac_tool.specs.Decoding.{IsDecodeAnswer, IsDecoded, TellsFew,
 ghost use Rattle.dirac_tool.specs.Workers.{bad_workers};
 
 use crate::ended::Ended;
+use dirac_common::{NoMemory, RowGate};
 use dirac_decode::{Decoded, Tally, decode_stream};
-use dirac_io::{Put, RowGate, Sink, Source, put_all};
+use dirac_io::{Put, Sink, Source, put_all};
 use dirac_pardec::decode_rows;
 use dirac_refs::MOST_REFERENCES;
-use dirac_types::{BadSetting, Name, NoMemory};
+use dirac_types::{BadSetting, Name};
 use std::alloc::Global;
 use std::thread::Threads;
 

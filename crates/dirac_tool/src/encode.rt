@@ -5,8 +5,9 @@ ghost use Rattle.dirac_types.specs.Settings.{IsAccepted};
 ghost use Rattle.dirac_tool.specs.Encoding.{IsEncoded, IsEncodeAnswer};
 
 use crate::ended::Ended;
+use dirac_common::RowGate;
 use dirac_encode::{Encoded, encode_stream};
-use dirac_io::{RowGate, Sink, Source};
+use dirac_io::{Sink, Source};
 use dirac_types::Settings;
 use std::alloc::Global;
 use std::thread::Threads;

@@ -2,7 +2,8 @@ ghost use Rattle.std.specs.Prelude.{◌≡◌, IfOk, string_bytes};
 ghost use Rattle.dirac_tool.specs.Ended.{status_of, text_of, fault_text as text_of_fault};
 ghost use Rattle.dirac_tool.specs.Ended.{bad_setting_text as text_of_bad_setting, after_flushes as ended_after_flushes};
 
-use dirac_types::{BadSetting, Fault, NoMemory};
+use dirac_common::{Fault, NoMemory};
+use dirac_types::{BadSetting, cause_name};
 use std::alloc::Global;
 
 /// How a run ended.
@@ -88,7 +89,7 @@ pub fn ended_text(alloc: Global, ended: &Ended) -> Result<String, NoMemory>
 fn fault_text(alloc: Global, fault: &Fault) -> Result<String, NoMemory>
     ensures { IfOk result (λ text. string_bytes text ≡ text_of_fault fault.now) }
 {
-    let (unit, at, name) = (fault.unit, fault.at, fault.cause.name());
+    let (unit, at, name) = (fault.unit, fault.at, cause_name(fault.cause));
     Ok(format!(in alloc; "fault unit={unit} at={at} cause={name}")?)
 }
 

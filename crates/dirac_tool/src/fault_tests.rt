@@ -1,5 +1,5 @@
 use crate::tests::{SMALL, STREAM, faulty, joined, shows};
-use dirac_types::Cause;
+use dirac_common::Cause;
 use std::alloc::Global;
 use std::test::Fail;
 

@@ -1,6 +1,6 @@
 use crate::ended::Ended;
 use crate::tests::{SMALL, STREAM, faulty, header, joined, shows};
-use dirac_types::Cause;
+use dirac_common::Cause;
 use std::alloc::Global;
 use std::test::Fail;
 

@@ -2,7 +2,7 @@ use crate::cut_tests::writes;
 use crate::ended::Ended;
 use crate::tests::{STREAM, faulty, header, joined};
 use crate::tries::{Outside, counts_its_fault, pieces, tried, words_of};
-use dirac_types::Cause;
+use dirac_common::Cause;
 use std::alloc::Global;
 use std::test::Fail;
 

@@ -1,7 +1,7 @@
 ghost use Rattle.std.specs.Prelude.{◌≡◌, IfOk, string_bytes};
 ghost use Rattle.dirac_tool.specs.Line.{name_of_code, line_with, line_text};
 
-use dirac_types::NoMemory;
+use dirac_common::NoMemory;
 use dirac_units::{ParseInfo, Unit, UnitKind, kind_of};
 use std::alloc::Global;
 

@@ -6,10 +6,11 @@ ghost use Rattle.dirac_tool.specs.Making.{AnswersMake, first_bad_for_make, line_
 ghost use Rattle.dirac_tool.specs.Unmade.{AnswersUnmade};
 
 use crate::ended::Ended;
+use dirac_common::{NoMemory, RowGate};
 use dirac_encode::{Encoded, encode_stream};
 use dirac_generator::{Generator, KeptBytes, exact_pictures, picture_length};
-use dirac_io::{Put, RowGate, Sink, put_all};
-use dirac_types::{BadSetting, Name, NoMemory, Settings};
+use dirac_io::{Put, Sink, put_all};
+use dirac_types::{BadSetting, Name, Settings};
 use std::alloc::Global;
 use std::thread::Threads;
 

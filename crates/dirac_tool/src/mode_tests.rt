@@ -1,7 +1,8 @@
 use crate::encode_tests::{encode_words, encodes};
 use crate::ended::Ended;
 use crate::tests::{SMALL, faulty, joined, shows};
-use dirac_types::{BadSetting, Cause, Name};
+use dirac_common::Cause;
+use dirac_types::{BadSetting, Name};
 use std::alloc::Global;
 use std::test::Fail;
 

@@ -8,8 +8,9 @@ ghost use Rattle.dirac_tool.specs.Encoding.{IsEncodeAnswer};
 ghost use Rattle.dirac_tool.specs.Rating.{IsRated, first_bad_for_rate};
 
 use crate::ended::Ended;
+use dirac_common::RowGate;
 use dirac_encode::Encoded;
-use dirac_io::{RowGate, Sink, Source};
+use dirac_io::{Sink, Source};
 use dirac_rate::rate_stream;
 use dirac_types::{BadSetting, Name, Settings};
 use std::alloc::Global;

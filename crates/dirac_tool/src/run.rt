@@ -16,7 +16,8 @@ use crate::list::list;
 use crate::make::{check_make, make};
 use crate::rate::{check_rate, rate};
 use crate::words::{Command, Words, WordsStop, read_words};
-use dirac_io::{RowGate, Sink, Source};
+use dirac_common::RowGate;
+use dirac_io::{Sink, Source};
 use std::alloc::Global;
 use std::thread::Threads;
 

@@ -1,7 +1,8 @@
 use crate::ended::{Ended, ended_text, status};
 use crate::tries::{Left, Outside, counts_its_fault, pieces, tried, words_of};
+use dirac_common::{Cause, Fault};
 use dirac_io::{Got, Source};
-use dirac_types::{BadSetting, Cause, Fault, Name};
+use dirac_types::{BadSetting, Name};
 use std::alloc::Global;
 use std::process::Abort;
 use std::test::Fail;

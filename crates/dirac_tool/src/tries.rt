@@ -3,7 +3,8 @@
 use crate::ended::Ended;
 use crate::run::run;
 use crate::words::Words;
-use dirac_io::{MemSink, MemSource, OpenGate};
+use dirac_common::OpenGate;
+use dirac_io::{MemSink, MemSource};
 use std::alloc::Global;
 use std::process::Abort;
 use std::test::Fail;

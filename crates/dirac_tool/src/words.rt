@@ -11,7 +11,8 @@ use crate::options::{
 };
 use crate::points::Points;
 use crate::rate::check_rate;
-use dirac_types::{BadSetting, NoMemory, Settings};
+use dirac_common::NoMemory;
+use dirac_types::{BadSetting, Settings};
 use std::alloc::Global;
 use std::marker::Model;
 

@@ -1,12 +1,13 @@
 -- What accepted settings have: each is in its range, by its name.
 use Rattle.std.proofs.Common.{◌≡◌, ℕ, ◌≤◌, ◌%◌}
-use Rattle.dirac_types.specs.declared.limits.TheConstants.{LARGEST_ENCODED_DEPTH, LARGEST_HEIGHT, LARGEST_INDEX, LARGEST_WAVELET, LARGEST_WIDTH}
+use Rattle.dirac_common.specs.declared.limits.TheConstants.{LARGEST_ENCODED_DEPTH, LARGEST_HEIGHT, LARGEST_INDEX, LARGEST_WAVELET, LARGEST_WIDTH}
+use Rattle.dirac_base_formats.specs.declared.base_formats.TheConstants.{LAST_BASE}
 use Rattle.dirac_types.specs.declared.settings.Settings.{Settings}
 use Rattle.dirac_types.specs.Settings.{IsAccepted, step_across, step_of_height, table}
 
 -- the ranges of the settings, and what divides the sizes
 pub record AreInRange (s : Settings) : Type 0 where
-  pub base : s.base ≤ 16
+  pub base : s.base ≤ LAST_BASE
   pub chroma : s.chroma ≤ 2
   pub width : (1 ≤ s.width) × (s.width ≤ LARGEST_WIDTH)
   pub height : (1 ≤ s.height) × (s.height ≤ LARGEST_HEIGHT)

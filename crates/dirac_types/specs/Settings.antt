@@ -2,12 +2,13 @@
 use Rattle.std.specs.Prelude.{◌≡◌, ℕ, ◌≤◌, ◌*◌, ◌%◌, ◌==◌, nat_le, ◌&&◌, if◌then◌else◌, Bool, List, [], ◌∷◌, map}
 use Rattle.std.specs.Prelude.{slice_index_or, Option, Some, None, Result, Ok, Err}
 use Rattle.std.specs.List.{AllByRecursion}
-use Rattle.dirac_types.specs.declared.limits.TheConstants.{LARGEST_ENCODED_DEPTH, LARGEST_HEIGHT, LARGEST_INDEX}
-use Rattle.dirac_types.specs.declared.limits.TheConstants.{LARGEST_WAVELET, LARGEST_WIDTH}
-use Rattle.dirac_types.specs.BaseFormats.{base_formats}
-use Rattle.dirac_types.specs.declared.base_formats.BaseFormat.{BaseFormat}
-use Rattle.dirac_types.specs.declared.formats.Chroma.{Chroma}
-use Rattle.dirac_types.specs.declared.formats.Chroma.TheVariants.{C444, C422, C420}
+use Rattle.dirac_common.specs.declared.limits.TheConstants.{LARGEST_ENCODED_DEPTH, LARGEST_HEIGHT, LARGEST_INDEX}
+use Rattle.dirac_common.specs.declared.limits.TheConstants.{LARGEST_WAVELET, LARGEST_WIDTH}
+use Rattle.dirac_base_formats.specs.BaseFormats.{base_formats}
+use Rattle.dirac_base_formats.specs.declared.base_formats.TheConstants.{LAST_BASE}
+use Rattle.dirac_base_formats.specs.declared.base_formats.BaseFormat.{BaseFormat}
+use Rattle.dirac_common.specs.declared.formats.Chroma.{Chroma}
+use Rattle.dirac_common.specs.declared.formats.Chroma.TheVariants.{C444, C422, C420}
 use Rattle.dirac_types.specs.declared.settings.BadSetting.{BadSetting}
 use Rattle.dirac_types.specs.declared.settings.Name.{Name}
 use Rattle.dirac_types.specs.declared.settings.Name.TheVariants as name
@@ -34,7 +35,7 @@ step_of_height chroma fields = if fields == 1 then 2 * step_down chroma else ste
 -- the settings with their ranges, in the order in which they are checked
 unfoldable pub table : Settings → List Ranged
 table s =
-    setting name.Base s.base 0 16 1
+    setting name.Base s.base 0 LAST_BASE 1
     ∷ setting name.Chroma s.chroma 0 2 1
     ∷ setting name.Width s.width 1 LARGEST_WIDTH (step_across s.chroma)
     ∷ setting name.Height s.height 1 LARGEST_HEIGHT (step_of_height s.chroma s.fields)

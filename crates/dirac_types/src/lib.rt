@@ -1,31 +1,20 @@
-//! What all crates of the codec share: sample tables and pictures, signed numbers, the causes of faults, and the
-//! definitions of the standard's numbers (in `specs/`).
+//! The settings of the encoder, with their ranges, names and defaults, the sizes of their pictures, and the names of
+//! causes. Tables, pictures, limits and causes themselves are those of `dirac_common`, passed on.
 #![tactic(auto)]
 
-mod base_formats;
-mod element;
-mod faults;
-mod formats;
-mod limits;
-mod memory;
-mod numbers;
-mod picture;
+mod causes;
 mod ranges;
 mod settings;
 mod shared;
 mod sizes;
-mod table;
 
-pub use base_formats::{BaseFormat, base_format};
-pub use faults::{Cause, Fault, Refusal, Stop};
-pub use formats::{Band, BlockGrid, Chroma, Component, Kind, Vector};
-pub use limits::{
-    LARGEST_DEPTH, LARGEST_ENCODED_DEPTH, LARGEST_HEIGHT, LARGEST_INDEX, LARGEST_NARROW,
-    LARGEST_SIDE, LARGEST_TABLE_SIDE, LARGEST_WAVELET, LARGEST_WIDTH, MOST_CODEBLOCKS, MOST_DIGITS,
-    MOST_SAMPLES, MOST_SUPERBLOCKS,
+pub use causes::cause_name;
+pub use dirac_base_formats::{BaseFormat, LAST_BASE, base_format};
+pub use dirac_common::{
+    Band, BandTable, BlockGrid, Cause, Chroma, Component, Fault, Kind, LARGEST_DEPTH,
+    LARGEST_ENCODED_DEPTH, LARGEST_HEIGHT, LARGEST_INDEX, LARGEST_NARROW, LARGEST_SIDE,
+    LARGEST_TABLE_SIDE, LARGEST_WAVELET, LARGEST_WIDTH, MOST_CODEBLOCKS, MOST_DIGITS, MOST_SAMPLES,
+    MOST_SUPERBLOCKS, Narrow, NoMemory, Picture, Plane, Refusal, Stop, Table, Vector, Wide,
+    with_sign,
 };
-pub use memory::NoMemory;
-pub use numbers::with_sign;
-pub use picture::Picture;
 pub use settings::{BadSetting, Name, Settings};
-pub use table::{BandTable, Narrow, Plane, Table, Wide};

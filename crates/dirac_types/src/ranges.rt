@@ -3,12 +3,11 @@
 ghost use Rattle.std.specs.Prelude.{◌≡◌, ◌≤◌, ◌<◌, ◌==◌, if◌then◌else◌, All};
 ghost use Rattle.dirac_types.specs.Settings as settings;
 
-use crate::base_formats::{BaseFormat, base_format};
-use crate::formats::Chroma;
-use crate::limits::{
-    LARGEST_ENCODED_DEPTH, LARGEST_HEIGHT, LARGEST_INDEX, LARGEST_WAVELET, LARGEST_WIDTH,
-};
 use crate::settings::{BadSetting, Name, Settings};
+use dirac_base_formats::{BaseFormat, LAST_BASE, base_format};
+use dirac_common::{
+    Chroma, LARGEST_ENCODED_DEPTH, LARGEST_HEIGHT, LARGEST_INDEX, LARGEST_WAVELET, LARGEST_WIDTH,
+};
 
 /// A setting with its value and its range: from `least` to `most`, and a multiple of `step`.
 #[derive(Clone, Copy)]
@@ -37,7 +36,7 @@ pub fn table(s: &Settings) -> [Ranged; 25]
     ensures steps_at_least_1 { All (λ r. 1 ≤ r.step) result }
 {
     [
-        setting(Name::Base, s.base, 0, 16, 1),
+        setting(Name::Base, s.base, 0, LAST_BASE, 1),
         setting(Name::Chroma, s.chroma, 0, 2, 1),
         setting(
             Name::Width,
@@ -142,7 +141,7 @@ fn is_in_range(row: &Ranged) -> bool
 
 /// The settings that depend on the base video format.
 pub fn format_of(base: u32) -> Format
-    requires { base ≤ 16 }
+    requires { base ≤ LAST_BASE }
     ensures { result ≡ settings.format_of base }
 {
     let format = base_format(base);

@@ -3,6 +3,7 @@ ghost use Rattle.dirac_types.specs.Names.{text_of};
 ghost use Rattle.dirac_types.specs.Settings as settings;
 
 use crate::ranges::{first_bad, format_of, table};
+use dirac_base_formats::LAST_BASE;
 
 /// A setting of the encoder, the count of generated pictures, or the budget of a picture's unit.
 #[derive(Clone, Copy, Debug, PartialEq, Eq)]
@@ -137,7 +138,7 @@ pub struct Settings {
 impl Settings {
     /// The defaults with this base video format.
     pub fn of_base(base: u32) -> Settings
-        requires { base ≤ 16 }
+        requires { base ≤ LAST_BASE }
         ensures { result ≡ settings.of_base base }
     {
         let format = format_of(base);

@@ -2,9 +2,9 @@
 
 ghost use Rattle.std.specs.Prelude.{◌≡◌};
 
-use crate::formats::Component;
 use crate::ranges::{step_across, step_down};
 use crate::settings::Settings;
+use dirac_common::Component;
 
 impl Settings {
     ghost use Rattle.dirac_types.specs.Sizes as sizes;

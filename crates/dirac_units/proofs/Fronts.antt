@@ -2,12 +2,12 @@
 use Rattle.std.proofs.Common.{◌≡◌, ℕ, ◌≤◌, List, ◌++◌, length, take, ap, ◌∙◌, refl, subst, arith, Option, None, Some, Result, Ok, Err, length-append, Bool, true, false, ◌⊎◌, inl, inr, nat_lt, ◌==◌, if◌then◌else◌}
 use Rattle.std.proofs.lemmas.Bool.{ltb-false, le-ltb, ne_eqb}
 use Rattle.std.proofs.lemmas.List.{take-append-le}
-use Rattle.dirac_types.specs.declared.faults.Refusal.{Refusal}
-use Rattle.dirac_types.specs.declared.faults.Fault.{Fault}
+use Rattle.dirac_common.specs.declared.faults.Refusal.{Refusal}
+use Rattle.dirac_common.specs.declared.faults.Fault.{Fault}
 use Rattle.dirac_units.specs.declared.info.ParseInfo.{ParseInfo}
 use Rattle.dirac_units.specs.declared.unit_place.UnitPlace.{UnitPlace}
 use Rattle.dirac_units.specs.Info.{IsLawful, refusal_of, unless_refused, info_read, span_of, info_of, prefix}
-use Rattle.dirac_types.specs.declared.faults.Cause.TheVariants.{BadPrefix, MissingEnd, Truncated}
+use Rattle.dirac_common.specs.declared.faults.Cause.TheVariants.{BadPrefix, MissingEnd, Truncated}
 use Rattle.std.specs.Prelude.{nat_eq}
 use Rattle.std.specs.List.{starts_with}
 use Rattle.dirac_units.specs.Cut.{front_of, unit_front, fault_at}

@@ -3,13 +3,13 @@ use Rattle.std.specs.Prelude.{◌≡◌, ℕ, ◌+◌, ◌==◌, nat_eq, nat_le,
 use Rattle.std.specs.Prelude.{slice_index, max, Option, None, Some, Result, Ok, Err}
 use Rattle.std.specs.List.{starts_with}
 use Rattle.std.specs.Int.{from_be_bytes, w32}
-use Rattle.dirac_types.specs.declared.faults.Cause.{Cause}
-use Rattle.dirac_types.specs.declared.faults.Cause.TheVariants as cause
-use Rattle.dirac_types.specs.declared.faults.Refusal.{Refusal}
-use Rattle.dirac_units.specs.declared.codes.TheConstants.{AUXILIARY_DATA, END_OF_SEQUENCE, PADDING, SEQUENCE_HEADER}
-use Rattle.dirac_units.specs.declared.codes.TheConstants.{INTER_NON_REFERENCE_1, INTER_NON_REFERENCE_2}
-use Rattle.dirac_units.specs.declared.codes.TheConstants.{INTER_REFERENCE_1, INTER_REFERENCE_2}
-use Rattle.dirac_units.specs.declared.codes.TheConstants.{INTRA_NON_REFERENCE, INTRA_REFERENCE}
+use Rattle.dirac_common.specs.declared.faults.Cause.{Cause}
+use Rattle.dirac_common.specs.declared.faults.Cause.TheVariants as cause
+use Rattle.dirac_common.specs.declared.faults.Refusal.{Refusal}
+use Rattle.dirac_common.specs.declared.codes.TheConstants.{AUXILIARY_DATA, END_OF_SEQUENCE, PADDING, SEQUENCE_HEADER}
+use Rattle.dirac_common.specs.declared.codes.TheConstants.{INTER_NON_REFERENCE_1, INTER_NON_REFERENCE_2}
+use Rattle.dirac_common.specs.declared.codes.TheConstants.{INTER_REFERENCE_1, INTER_REFERENCE_2}
+use Rattle.dirac_common.specs.declared.codes.TheConstants.{INTRA_NON_REFERENCE, INTRA_REFERENCE}
 use Rattle.dirac_units.specs.declared.info.ParseInfo.{ParseInfo}
 use Rattle.dirac_units.specs.declared.info.UnitKind.{UnitKind}
 use Rattle.dirac_units.specs.declared.info.UnitKind.TheVariants as kind

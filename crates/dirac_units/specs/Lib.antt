@@ -1,4 +1,4 @@
-pub mod Codes
+pub use Rattle.dirac_common.specs.Codes
 pub mod Info
 pub mod Cut
 pub mod Progress

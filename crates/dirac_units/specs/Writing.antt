@@ -1,7 +1,7 @@
 -- Units, written.
 use Rattle.std.specs.Prelude.{◌≡◌, ℕ, ◌+◌, ◌<◌, ◌^◌, List, ◌∷◌, ◌++◌, length, Ok}
 use Rattle.std.specs.Int.{to_be_bytes, w32}
-use Rattle.dirac_units.specs.declared.codes.TheConstants.{END_OF_SEQUENCE}
+use Rattle.dirac_common.specs.declared.codes.TheConstants.{END_OF_SEQUENCE}
 use Rattle.dirac_units.specs.declared.info.ParseInfo.{ParseInfo}
 use Rattle.dirac_units.specs.Info.{IsLawful, info_read, prefix}
 

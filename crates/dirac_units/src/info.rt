@@ -2,12 +2,11 @@ ghost use Rattle.std.specs.Prelude.{◌≡◌, ℕ, ◌≤◌, ◌<◌, ◌^◌,
 ghost use Rattle.dirac_units.specs.Info.{unit_kind, fields_are_read as has_fields, offset_is_lawful, info_read};
 ghost use Rattle.dirac_units.specs.Info.{span_of};
 
-use crate::codes::{
-    AUXILIARY_DATA, END_OF_SEQUENCE, INTER_NON_REFERENCE_1, INTER_NON_REFERENCE_2,
-    INTER_REFERENCE_1, INTER_REFERENCE_2, INTRA_NON_REFERENCE, INTRA_REFERENCE, PADDING,
+use dirac_common::{
+    AUXILIARY_DATA, Cause, END_OF_SEQUENCE, INTER_NON_REFERENCE_1, INTER_NON_REFERENCE_2,
+    INTER_REFERENCE_1, INTER_REFERENCE_2, INTRA_NON_REFERENCE, INTRA_REFERENCE, PADDING, Refusal,
     SEQUENCE_HEADER,
 };
-use dirac_types::{Cause, Refusal};
 
 /// How many bytes a parse info takes.
 pub const PARSE_INFO_LENGTH: usize = 13;

@@ -1,7 +1,6 @@
 //! Data units: how the bytes of a stream are cut into units, the first fault of the cutting, and units written.
 #![tactic(auto)]
 
-mod codes;
 mod info;
 mod law;
 mod take;
@@ -10,11 +9,6 @@ mod unit_place;
 mod units;
 mod write;
 
-pub use codes::{
-    AUXILIARY_DATA, END_OF_SEQUENCE, INTER_NON_REFERENCE_1, INTER_NON_REFERENCE_2,
-    INTER_REFERENCE_1, INTER_REFERENCE_2, INTRA_NON_REFERENCE, INTRA_REFERENCE, PADDING,
-    SEQUENCE_HEADER, is_intra, is_reference, references,
-};
 pub use info::{PARSE_INFO_LENGTH, ParseInfo, UnitKind, fields_are_read, kind_of, read_info};
 pub use law::bytes_have_one_cut;
 pub use unit::{Payload, StreamEnd, Unit, UnitStep};

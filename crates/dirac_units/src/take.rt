@@ -7,8 +7,8 @@ ghost use Rattle.dirac_units.specs.Taking.{CutsPayload, TakesInfo, TakesNone, Ta
 use crate::info::{PARSE_INFO_LENGTH, ParseInfo, fields_are_read, read_info};
 use crate::unit::{Payload, Unit};
 use crate::unit_place::UnitPlace;
+use dirac_common::{Cause, Fault};
 use dirac_io::{Filled, Source, fill};
-use dirac_types::{Cause, Fault};
 use std::alloc::Global;
 
 /// The most bytes of a payload that are read at once.

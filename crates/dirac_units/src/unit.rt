@@ -1,7 +1,7 @@
 ghost use Rattle.std.specs.Prelude.{◌≡◌};
 
 use crate::info::ParseInfo;
-use dirac_types::Fault;
+use dirac_common::Fault;
 use std::marker::Model;
 
 /// The bytes of a unit behind its parse info.

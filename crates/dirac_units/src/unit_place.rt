@@ -1,9 +1,8 @@
 ghost use Rattle.std.specs.Prelude.{◌≡◌, ℕ, ◌+◌, ◌<◌, ◌^◌};
 ghost use Rattle.dirac_units.specs.Info.{span_of};
 
-use crate::codes::END_OF_SEQUENCE;
 use crate::info::ParseInfo;
-use dirac_types::{Cause, Fault};
+use dirac_common::{Cause, END_OF_SEQUENCE, Fault};
 
 /// Where a unit begins: its number, from 0, its first byte's number, and whether the unit before is
 /// an end unit.

@@ -5,8 +5,8 @@ ghost use Rattle.dirac_units.specs.Progress.{begun, Ends, GivesUnit, HoldsWhatFo
 use crate::take::{NoUnit, take_unit};
 use crate::unit::{StreamEnd, UnitStep};
 use crate::unit_place::UnitPlace;
+use dirac_common::Fault;
 use dirac_io::Source;
-use dirac_types::Fault;
 use std::alloc::Global;
 use std::marker::Model;
 

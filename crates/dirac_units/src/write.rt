@@ -5,8 +5,8 @@ ghost use Rattle.dirac_io.specs.Writing.{AppendsFront};
 ghost use Rattle.dirac_units.specs.Info.{IsLawful, info_read};
 ghost use Rattle.dirac_units.specs.Writing.{end_unit, info_bytes, IsReadAsWritten, unit};
 
-use crate::codes::END_OF_SEQUENCE;
 use crate::info::{PARSE_INFO_LENGTH, ParseInfo};
+use dirac_common::END_OF_SEQUENCE;
 use dirac_io::{Put, Sink, put_all};
 
 /// The bytes of a parse info header (parse info, Dirac specification, section 9.6).

@@ -4,7 +4,7 @@ use Rattle.std.specs.Int.{int_shr}
 use Rattle.std.proofs.lemmas.Int.{ints, clamps}
 use Rattle.std.proofs.lemmas.List.{get_or-set_same, get_or-set_other}
 use Rattle.std.proofs.lemmas.Bool.{cases_eq, cases_lt, ne_eqb}
-use Rattle.dirac_types.specs.Samples.{clip}
+use Rattle.dirac_common.specs.Samples.{clip}
 use Rattle.dirac_upconvert.specs.HalfSamples.{IsSample, between, weighted, half_behind, doubled_at}
 use Rattle.dirac_upconvert.specs.Phases.{place_in_row}
 use Rattle.dirac_upconvert.specs.SubSamples.{PutFrom}

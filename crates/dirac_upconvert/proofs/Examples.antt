@@ -1,6 +1,6 @@
 -- The definitions of half samples and of positions between, computed on small cases.
 use Rattle.std.proofs.Common.{◌≡◌, ℤ, pos, negsuc, List, [], ◌∷◌, length, get_or, refl}
-use Rattle.dirac_types.specs.Table.{Table, filled}
+use Rattle.dirac_common.specs.Table.{Table, filled}
 use Rattle.dirac_upconvert.specs.HalfSamples.{between, half}
 use Rattle.dirac_upconvert.specs.SubSamples.{Up, part_sample, sub_sample}
 

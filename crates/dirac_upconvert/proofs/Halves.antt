@@ -5,11 +5,11 @@ use Rattle.std.proofs.lemmas.Int.{ints}
 use Rattle.std.proofs.lemmas.List.{get_or_default, get_or_past}
 use Rattle.std.proofs.lemmas.List.FromFn.{get_or-map-range_with_len, length-map-range_with_len}
 use Rattle.std.proofs.lemmas.Bool.{cases_lt, ne_eqb}
-use Rattle.dirac_types.specs.Table.{Table, table_at, clamped_to, clamped_at, filled}
+use Rattle.dirac_common.specs.Table.{Table, table_at, clamped_to, clamped_at, filled}
 use Rattle.dirac_upconvert.specs.HalfSamples.{IsSample, half_behind, doubled_at, row_doubled_at, half_at, half}
 use Rattle.dirac_upconvert.specs.SubSamples.{IsUp, Up}
 use Rattle.dirac_upconvert.proofs.Doubling.{at_even, doubled_same, doubled_sample}
-use Rattle.dirac_types.proofs.Rows.{filled_at}
+use Rattle.dirac_common.proofs.Rows.{filled_at}
 
 -- a value of samples is a sample; so is 0, which stands for those beyond
 pub sample_at : (xs : List ℤ) → All IsSample xs → (k : ℕ) → IsSample (get_or xs k (pos 0))

@@ -11,7 +11,7 @@ use Rattle.std.proofs.lemmas.Slice.{take-put_mid, take-put_mid_below}
 use Rattle.std.proofs.Math.Nat.{suc-mul}
 use Rattle.std.proofs.Math.Pow.{pow_mono}
 use borrow.Rule.Slice.PartMut.{put_mid}
-use Rattle.dirac_types.specs.Table.{Table}
+use Rattle.dirac_common.specs.Table.{Table}
 use Rattle.dirac_upconvert.specs.SubSamples.{IsRest, PutFrom, bilinear, rounded}
 
 -- a rest, through its bits

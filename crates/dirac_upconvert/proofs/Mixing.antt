@@ -8,7 +8,7 @@ use Rattle.std.proofs.Math.Pow.{pow_mono}
 use Rattle.std.proofs.Math.IntN.{zero-*ℤ, suc_ℤ-*ℤ, pred_ℤ-*ℤ}
 use lib.Signed.{shr_z}
 use mir.Val.{SFits}
-use Rattle.dirac_types.proofs.Shifts.{shr_sum_is}
+use Rattle.dirac_common.proofs.Shifts.{shr_sum_is}
 use Rattle.dirac_upconvert.specs.HalfSamples.{IsSample}
 use Rattle.dirac_upconvert.specs.SubSamples.{IsRest, IsWithin, mixed, product, rounded}
 

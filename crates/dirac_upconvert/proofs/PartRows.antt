@@ -6,7 +6,7 @@ use Rattle.std.proofs.lemmas.List.{get_or-set_same, get_or-set_other}
 use Rattle.std.proofs.lemmas.Nat.{pow_pos}
 use Rattle.std.proofs.Math.IntN.{zero-*ℤ, *ℤ-zero}
 use lib.Signed.{shr_z}
-use Rattle.dirac_types.specs.Table.{Table, clamped_at, clamped_to, table_at}
+use Rattle.dirac_common.specs.Table.{Table, clamped_at, clamped_to, table_at}
 use Rattle.dirac_upconvert.specs.Phases.{place_in_row}
 use Rattle.dirac_upconvert.specs.SubSamples.{AreParts, ArePlaces, IsRest, between_sides, bilinear, four, part_sample, place_at, rest_at, rounded}
 use Rattle.dirac_upconvert.proofs.Phased.{held_more}

@@ -5,8 +5,8 @@ use Rattle.std.proofs.lemmas.Bool.{cases_eq, cases_lt}
 use Rattle.std.proofs.lemmas.List.FromFn.{length-map-range_with_len}
 use Rattle.std.proofs.lemmas.Nat.{row_fits}
 use borrow.Rule.Slice.PartMut.{put_mid}
-use Rattle.dirac_types.specs.Table.{filled, table_at, table_of}
-use Rattle.dirac_types.proofs.Rows.{RowsFilled, filled_at, rows_all}
+use Rattle.dirac_common.specs.Table.{filled, table_at, table_of}
+use Rattle.dirac_common.proofs.Rows.{RowsFilled, filled_at, rows_all}
 use Rattle.dirac_upconvert.specs.Phases.{phase_at, place_in_row, table_of_phases}
 use Rattle.dirac_upconvert.proofs.Lanes.{part_before, part_inside, part_read}
 

@@ -4,7 +4,7 @@ use Rattle.std.specs.List.{All}
 use Rattle.std.proofs.lemmas.Bool.{cases_eq, ne_eqb}
 use Rattle.std.proofs.lemmas.Int.{ints}
 use Rattle.std.proofs.lemmas.Nat.{pow_pos}
-use Rattle.dirac_types.specs.Table.{Table, clamped_at}
+use Rattle.dirac_common.specs.Table.{Table, clamped_at}
 use Rattle.dirac_upconvert.specs.HalfSamples.{IsSample}
 use Rattle.dirac_upconvert.specs.SubSamples.{AreParts, ArePartsByFour, ArePartsByRows, ArePlaces, IsRest, IsWithin, Up, bilinear, part_sample, place_at, rest_at, rounded, sub_sample}
 use Rattle.dirac_upconvert.proofs.Halves.{all_samples, clamped_sample}

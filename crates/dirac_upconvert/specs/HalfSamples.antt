@@ -2,8 +2,8 @@
 use Rattle.std.specs.Prelude.{ℕ, ℤ, pos, negsuc, ◌+◌, ◌-◌, ◌*◌, ◌/◌, ◌%◌, ◌==◌, ◌+ℤ◌, ◌-ℤ◌, ◌*ℤ◌, ◌≤ℤ◌, min}
 use Rattle.std.specs.Prelude.{if◌then◌else◌}
 use Rattle.std.specs.Int.{int_shr}
-use Rattle.dirac_types.specs.Table.{Table, table_at, table_of}
-use Rattle.dirac_types.specs.Samples.{clip}
+use Rattle.dirac_common.specs.Table.{Table, table_at, table_of}
+use Rattle.dirac_common.specs.Samples.{clip}
 
 -- a sample of eight bits, signed
 pub record IsSample (v : ℤ) : Type 0 where

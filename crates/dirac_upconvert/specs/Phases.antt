@@ -1,6 +1,6 @@
 -- Rows that hold their even columns first and then their odd ones.
 use Rattle.std.specs.Prelude.{ℕ, ℤ, pos, ◌+◌, ◌-◌, ◌*◌, ◌/◌, ◌%◌, List, slice_index_or}
-use Rattle.dirac_types.specs.Table.{Table, table_of}
+use Rattle.dirac_common.specs.Table.{Table, table_of}
 
 -- where column x stands in a row of so many places, the even columns first
 abbrev pub place_in_row : ℕ → ℕ → ℕ

@@ -2,7 +2,7 @@ ghost use Rattle.std.specs.Prelude.{◌≡◌, ℕ, pos, ◌+◌, ◌-◌, ◌<�
 ghost use Rattle.std.specs.Prelude.{slice_index_or};
 ghost use Rattle.std.specs.List.{All};
 ghost use Rattle.std.specs.Int.{int_shr};
-ghost use Rattle.dirac_types.specs.Samples.{clip};
+ghost use Rattle.dirac_common.specs.Samples.{clip};
 ghost use Rattle.dirac_upconvert.specs.HalfSamples.{IsSample, between, weighted};
 
 #[inline(always)]

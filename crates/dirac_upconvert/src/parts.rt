@@ -1,7 +1,7 @@
 ghost use Rattle.std.specs.Prelude.{◌≡◌, ℕ, pos, ◌+◌, ◌*◌, ◌^◌, ◌<◌, ◌≤◌, ◌≤ℤ◌, ◌+ℤ◌, ◌*ℤ◌, unsigned_abs};
 ghost use Rattle.std.specs.Int.{int_rem_euclid};
 ghost use Rattle.std.specs.List.{All};
-ghost use Rattle.dirac_types.specs.Table.{clamped_at};
+ghost use Rattle.dirac_common.specs.Table.{clamped_at};
 ghost use Rattle.dirac_upconvert.specs.HalfSamples.{IsSample};
 ghost use Rattle.dirac_upconvert.specs.SubSamples.{IsRest, IsWithin, bilinear, mixed, part_sample, place_at, rest_at};
 ghost use Rattle.dirac_upconvert.specs.SubSamples.{rounded};

@@ -1,9 +1,9 @@
 ghost use Rattle.std.specs.Prelude.{◌≡◌, ℕ, pos, ◌+◌, ◌-◌, ◌*◌, ◌%◌, ◌<◌, ◌≤◌, length, slice_index_or};
-ghost use Rattle.dirac_types.specs.Table.{clamped_at, clamped_to, table_at};
+ghost use Rattle.dirac_common.specs.Table.{clamped_at, clamped_to, table_at};
 ghost use Rattle.dirac_upconvert.specs.HalfSamples.{IsSample};
 ghost use Rattle.dirac_upconvert.specs.Phases.{place_in_row, table_of_phases};
 
-use dirac_types::LARGEST_SIDE;
+use dirac_common::LARGEST_SIDE;
 use std::marker::Model;
 
 /// A table of samples, row by row: of each row first the samples of its even columns, and then those of its odd ones.
@@ -19,8 +19,8 @@ pub struct Phases {
 
 impl Model for Phases {
     ghost use Rattle.std.specs.Prelude.{◌≡◌, ◌-◌, ◌*◌, ◌≤◌, length};
-    ghost use Rattle.dirac_types.specs.declared.limits.TheConstants.{LARGEST_SIDE};
-    ghost use Rattle.dirac_types.specs.Table.{Table};
+    ghost use Rattle.dirac_common.specs.declared.limits.TheConstants.{LARGEST_SIDE};
+    ghost use Rattle.dirac_common.specs.Table.{Table};
     ghost use Rattle.dirac_upconvert.specs.Phases.{table_of_phases};
 
     ghost Value = { Table };

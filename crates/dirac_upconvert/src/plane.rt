@@ -1,7 +1,7 @@
 ghost use Rattle.std.specs.Prelude.{◌≡◌, ℕ, ℤ, pos, ◌+◌, ◌-◌, ◌*◌, ◌/◌, ◌%◌, ◌^◌, ◌<◌, ◌≤◌, ◌+ℤ◌, unsigned_abs, length};
 ghost use Rattle.std.specs.Prelude.{slice_index_or, IfOk};
 ghost use Rattle.std.specs.List.{All};
-ghost use Rattle.dirac_types.specs.Table.{Table, clamped_at, table_at};
+ghost use Rattle.dirac_common.specs.Table.{Table, clamped_at, table_at};
 ghost use Rattle.dirac_upconvert.specs.HalfSamples.{IsSample, half, half_at, half_behind};
 ghost use Rattle.dirac_upconvert.specs.Phases.{phase_at, place_in_row};
 ghost use Rattle.dirac_upconvert.specs.SubSamples.{ArePartsByFour, IsRest, IsUp, Up, sub_sample};
@@ -10,7 +10,7 @@ use crate::lines::{double_line, half_of_rows};
 use crate::parts::{part, place, twice, whole_sample};
 use crate::phases::Phases;
 use crate::rows::{Rests, ahead, parts, places, put, rests_of, row_parts, rows_of_parts};
-use dirac_types::{LARGEST_SIDE, NoMemory, Plane};
+use dirac_common::{LARGEST_SIDE, NoMemory, Plane};
 use std::alloc::Global;
 use std::marker::Model;
 

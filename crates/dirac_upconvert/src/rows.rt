@@ -2,7 +2,7 @@ ghost use Rattle.std.specs.Prelude.{◌≡◌, ℕ, pos, ◌+◌, ◌-◌, ◌*�
 ghost use Rattle.std.specs.Prelude.{unsigned_abs};
 ghost use Rattle.std.specs.Prelude.{length, slice_index_or};
 ghost use Rattle.std.specs.List.{All};
-ghost use Rattle.dirac_types.specs.Table.{clamped_at};
+ghost use Rattle.dirac_common.specs.Table.{clamped_at};
 ghost use Rattle.dirac_upconvert.specs.HalfSamples.{IsSample};
 ghost use Rattle.dirac_upconvert.specs.Phases.{place_in_row};
 ghost use Rattle.dirac_upconvert.specs.SubSamples.{AreParts, ArePartsByRows, ArePlaces, IsRest, IsWithin, PutFrom};
@@ -10,7 +10,7 @@ ghost use Rattle.dirac_upconvert.specs.SubSamples.{between_sides, bilinear, four
 
 use crate::parts::{mix, place, rest, rounded_sum, sample};
 use crate::phases::{Phases, held_at, widened};
-use dirac_types::LARGEST_SIDE;
+use dirac_common::LARGEST_SIDE;
 
 /// The place `count` whole samples behind another one.
 #[inline(always)]

@@ -3,7 +3,7 @@ use Rattle.std.proofs.Common.{◌≡◌, ℤ, pos, negsuc, ◌+ℤ◌, arith, to
 use Rattle.std.proofs.lemmas.Int.{ints, clamps}
 use Rattle.std.specs.Int.{int_div_euclid, w32}
 use Rattle.std.specs.Prelude.{◌≤ℤ◌}
-use Rattle.dirac_types.specs.Samples.{mean_of_three}
+use Rattle.dirac_common.specs.Samples.{mean_of_three}
 use Rattle.dirac_vectors.specs.Neighbours.{IsShort, mean_of_two, median}
 
 -- half of a sum of two such values and one

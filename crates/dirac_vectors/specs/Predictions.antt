@@ -1,7 +1,7 @@
 -- The predictions of block tables. A neighbour is None where it isn't there, or doesn't count.
 use Rattle.std.specs.Prelude.{ℕ, ℤ, pos, ◌+◌, ◌/◌, Bool, false, Option, Some, None, option_map}
-use Rattle.dirac_types.specs.declared.formats.Vector.{Vector}
-use Rattle.dirac_types.specs.Samples.{mean_of_three}
+use Rattle.dirac_common.specs.declared.formats.Vector.{Vector}
+use Rattle.dirac_common.specs.Samples.{mean_of_three}
 use Rattle.dirac_vectors.specs.Neighbours.{IsShort, mean_of_two, median, majority}
 
 -- a vector whose components have 16 bits

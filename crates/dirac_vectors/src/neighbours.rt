@@ -1,5 +1,5 @@
 ghost use Rattle.std.specs.Prelude.{◌≡◌};
-ghost use Rattle.dirac_types.specs.Samples.{mean_of_three};
+ghost use Rattle.dirac_common.specs.Samples.{mean_of_three};
 ghost use Rattle.dirac_vectors.specs.Neighbours.{IsShort, mean_of_two, median, majority};
 
 /// The mean of two values; of the two whole numbers beside a half, the greater.

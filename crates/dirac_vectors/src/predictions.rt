@@ -4,7 +4,7 @@ ghost use Rattle.dirac_vectors.specs.Neighbours.{IsShort};
 ghost use Rattle.dirac_vectors.specs.Predictions.{IsShortVector, split_of, mode_of, component_of, vector_of, dc_of};
 
 use crate::neighbours::{half_of, majority_of, median_of, third_of};
-use dirac_types::Vector;
+use dirac_common::Vector;
 
 /// The split of a superblock, from those of its neighbours to the left, above, and above and left;
 /// None is outside the picture (split prediction, Dirac specification).

@@ -1,6 +1,6 @@
 -- What the callers get, in the words of the crates that they call.
 use Rattle.std.specs.Prelude.{◌≡◌, ℕ, List, None, Some, ⊤}
-use Rattle.dirac_types.specs.declared.faults.Fault.{Fault}
+use Rattle.dirac_common.specs.declared.faults.Fault.{Fault}
 use Rattle.dirac_types.specs.declared.settings.Settings.{Settings}
 use Rattle.dirac_types.specs.Settings.{first_bad, table}
 use Rattle.dirac_decode.specs.declared.answers.Decoded.{Decoded}

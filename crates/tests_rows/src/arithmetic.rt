@@ -1,5 +1,5 @@
 use dirac_arith::{Decoder, Encoder};
-use dirac_types::{Cause, NoMemory};
+use dirac_common::{Cause, NoMemory};
 use std::alloc::Global;
 use std::process::Abort;
 

@@ -1,5 +1,5 @@
 use dirac_bits::BitReader;
-use dirac_types::{Cause, Refusal};
+use dirac_common::{Cause, Refusal};
 
 const AT_ZERO: u64 = 0;
 

@@ -6,9 +6,10 @@ ghost use Rattle.dirac_decide.specs.Given.{view_of};
 ghost use Rattle.dirac_vectors.specs.Predictions.{IsShortVector};
 
 use dirac_blocks::{Block, BlockData};
+use dirac_common::{NoMemory, Picture, Plane, Vector};
 use dirac_decide::{RefView, decide};
 use dirac_search::Field;
-use dirac_types::{NoMemory, Picture, Plane, Settings, Vector};
+use dirac_types::Settings;
 use dirac_upconvert::{UpPlane, upconvert};
 use std::alloc::Global;
 use std::process::Abort;

@@ -1,7 +1,7 @@
 use dirac_bits::{BitReader, BitWriter};
 use dirac_blocks::{Block, BlockData, read_blocks, write_blocks};
+use dirac_common::{NoMemory, Vector};
 use dirac_obmc::weight;
-use dirac_types::{NoMemory, Vector};
 use std::alloc::Global;
 use std::process::Abort;
 

@@ -1,7 +1,7 @@
 ghost use Rattle.std.specs.Prelude.{◌-◌, ◌<◌, ◌^◌, nat_abs};
 
 use dirac_arith::{Decoder, Encoder};
-use dirac_types::NoMemory;
+use dirac_common::NoMemory;
 use std::alloc::Global;
 
 fn block_of(alloc: Global, truths: &[bool]) -> Result<Vec<u8>, NoMemory> {

@@ -1,5 +1,5 @@
 use dirac_bands::{band_size, dc_add, dc_subtract, edge, join_bands, padded, split_bands};
-use dirac_types::{NoMemory, Wide};
+use dirac_common::{NoMemory, Wide};
 
 #[test]
 fn sizes_of_bands(rt: HostRuntime) {

@@ -1,7 +1,7 @@
 ghost use Rattle.std.specs.Prelude.{All, IsTrue};
 ghost use Rattle.dirac_upconvert.specs.HalfSamples.{IsSample};
 
-use dirac_types::{NoMemory, Plane};
+use dirac_common::{NoMemory, Plane};
 use dirac_upconvert::{UpPlane, upconvert};
 use std::alloc::Global;
 use std::process::Abort;

@@ -1,7 +1,7 @@
 use dirac_bits::{BitReader, BitWriter};
 use dirac_coeffs::{BandLayout, read_band};
+use dirac_common::{Band, BlockGrid, Cause, Chroma, NoMemory, Refusal, Stop};
 use dirac_header::{read_header, read_prediction, read_transform, write_prediction};
-use dirac_types::{Band, BlockGrid, Cause, Chroma, NoMemory, Refusal, Stop};
 use std::alloc::Global;
 
 #[test]

@@ -1,9 +1,9 @@
+use dirac_common::{NoMemory, OpenGate};
 use dirac_encode::{Coded, code_picture, picture_of, raw_length};
-use dirac_io::OpenGate;
 use dirac_plan::Planned;
 use dirac_refs::RefBuffer;
 use dirac_sequence::write_sequence;
-use dirac_types::{NoMemory, Settings};
+use dirac_types::Settings;
 use std::alloc::Global;
 use std::process::Abort;
 use std::thread::Threads;

@@ -1,5 +1,5 @@
+use dirac_common::{NoMemory, Picture, Plane};
 use dirac_refs::{Delivery, RefBuffer, key};
-use dirac_types::{NoMemory, Picture, Plane};
 use std::alloc::Global;
 
 /// A picture of one grey sample a plane.

@@ -1,10 +1,10 @@
 ghost use Rattle.std.specs.Prelude.{◌≡◌, ◌+◌, All, IsTrue, IfOk, length};
 ghost use Rattle.dirac_upconvert.specs.HalfSamples.{IsSample};
 
-use dirac_io::OpenGate;
+use dirac_common::{BlockGrid, NoMemory, OpenGate, Plane, Vector};
 use dirac_pyramid::Pyramid;
 use dirac_search::{Field, Search, Stage, best, candidates, cost, search_field};
-use dirac_types::{BlockGrid, NoMemory, Plane, Settings, Vector};
+use dirac_types::Settings;
 use dirac_upconvert::{UpPlane, upconvert};
 use std::alloc::Global;
 use std::marker::Sync;

@@ -1,5 +1,5 @@
+use dirac_common::{Narrow, NoMemory, Wide};
 use dirac_lift::synth_level_narrow;
-use dirac_types::{Narrow, NoMemory, Wide};
 
 #[test]
 fn tables_of_32_bits(rt: HostRuntime) -> Result<(), NoMemory> {

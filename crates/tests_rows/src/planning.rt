@@ -1,7 +1,8 @@
 ghost use Rattle.std.specs.Prelude.{◌≡◌, ◌+◌, ◌<◌, false, IfOk, OnOk};
 
+use dirac_common::{NoMemory, Picture, Plane};
 use dirac_plan::{Planned, Planner, plan};
-use dirac_types::{NoMemory, Picture, Plane, Settings};
+use dirac_types::Settings;
 use std::alloc::Global;
 use std::process::Abort;
 

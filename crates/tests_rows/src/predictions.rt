@@ -1,4 +1,4 @@
-use dirac_types::Vector;
+use dirac_common::Vector;
 use dirac_vectors::{predict_dc, predict_mode, predict_split, predict_vector};
 
 #[test]

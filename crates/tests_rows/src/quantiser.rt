@@ -1,5 +1,5 @@
+use dirac_common::Kind;
 use dirac_quant::{factor, reduce, restore};
-use dirac_types::Kind;
 
 #[test]
 fn factors(rt: HostRuntime) {

@@ -1,5 +1,5 @@
-use dirac_sequence::{Sequence, preset, read_sequence};
-use dirac_types::{Cause, Chroma, Refusal};
+use dirac_common::{Cause, Chroma, Refusal};
+use dirac_sequence_header::{Sequence, preset, read_sequence};
 
 #[test]
 fn refused_headers(rt: HostRuntime) {

@@ -1,5 +1,5 @@
+use dirac_common::NoMemory;
 use dirac_io::{Filled, MemSource, fill};
-use dirac_types::NoMemory;
 use dirac_units::{ParseInfo, UnitStep, Units, write_info};
 
 #[test]

@@ -1,8 +1,8 @@
 use crate::gates::HoldsEachCall;
+use dirac_common::NoMemory;
 use dirac_decode::{Decoded, Tally};
 use dirac_io::{MemSink, MemSource};
 use dirac_pardec::decode_rows;
-use dirac_types::NoMemory;
 
 // A sequence header, a grey intra picture of 8 by 8 samples, 4:2:0, an inter picture like it, and an end unit.
 const STREAM: [u8; 95] = [

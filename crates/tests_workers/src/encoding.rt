@@ -1,7 +1,8 @@
 use crate::gates::{FIRST, HoldsRows, SECOND, THIRD};
+use dirac_common::{NoMemory, OpenGate, RowGate};
 use dirac_encode::{Encoded, encode_stream};
-use dirac_io::{MemSink, MemSource, OpenGate, RowGate};
-use dirac_types::{NoMemory, Settings};
+use dirac_io::{MemSink, MemSource};
+use dirac_types::Settings;
 use std::alloc::Global;
 use std::thread::Threads;
 

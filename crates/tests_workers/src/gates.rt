@@ -1,4 +1,4 @@
-use dirac_io::RowGate;
+use dirac_common::RowGate;
 use std::sync::atomic::Ordering::SeqCst;
 use std::sync::atomic::{AtomicBool, AtomicU64};
 use std::thread;

@@ -3,9 +3,8 @@ ghost use Rattle.std.specs.Thread.{IsSync};
 ghost use Rattle.dirac_rows.specs.Answers.{AnswerRows};
 
 use crate::gates::{FIRST, HoldsRows, SECOND, THIRD};
-use dirac_io::{OpenGate, RowGate};
+use dirac_common::{NoMemory, OpenGate, RowGate};
 use dirac_rows::{RowClaims, RowSeat, map_rows, split_rows};
-use dirac_types::NoMemory;
 use std::alloc::Global;
 use std::sync::Wait;
 use std::sync::atomic::AtomicU64;

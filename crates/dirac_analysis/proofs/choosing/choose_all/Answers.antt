@@ -2,7 +2,7 @@ use Rattle.std.proofs.Common.{◌≡◌, ◌+◌, ◌*◌, suc, length, length-s
 use Rattle.std.proofs.lemmas.List.{length-replicate}
 use Rattle.std.proofs.lemmas.List.Elements.{All-replicate, All-same, All-set}
 use Rattle.std.proofs.lemmas.List.FromFn.{fill_by_all}
-use Rattle.dirac_types.specs.Limits.{IsIndex}
+use Rattle.dirac_common.specs.Limits.{IsIndex}
 use Rattle.dirac_analysis.specs.Coded.{chosen_at, index_behind}
 use Rattle.dirac_analysis.proofs.Flatness.{behind_more, set_more}
 use Rattle.dirac_analysis.proofs.choosing.choose_all.Goals as goal

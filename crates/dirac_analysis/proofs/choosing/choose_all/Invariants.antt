@@ -1,6 +1,6 @@
 use Rattle.std.proofs.Common.{◌≡◌, ◌<◌, ℕ, suc, length, slice_index_or}
 use Rattle.std.specs.List.{All}
-use Rattle.dirac_types.specs.Limits.{IsIndex}
+use Rattle.dirac_common.specs.Limits.{IsIndex}
 use Rattle.dirac_analysis.specs.Coded.{chosen_at, index_behind}
 use Rattle.dirac_analysis.proofs.choosing.choose_all.Given as goal
 

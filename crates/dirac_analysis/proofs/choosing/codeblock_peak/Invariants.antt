@@ -1,5 +1,5 @@
 use Rattle.std.proofs.Common.{◌<◌, ◌≤◌, ◌^◌, ℕ, unsigned_abs}
-use Rattle.dirac_types.specs.Table.{table_at}
+use Rattle.dirac_common.specs.Table.{table_at}
 use Rattle.dirac_analysis.proofs.choosing.codeblock_peak.Given as goal
 
 abbrev pub invariant-loop-y : goal.invariant-loop-y

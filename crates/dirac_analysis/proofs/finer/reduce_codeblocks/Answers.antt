@@ -1,6 +1,6 @@
 use Rattle.std.proofs.Common.{◌+◌, ◌*◌, pos, get_or, refl, ap, ◌∙◌, arith}
-use Rattle.dirac_types.specs.Table.{table_at}
-use Rattle.dirac_types.proofs.Rows.{row_at, rows_all, rows_more}
+use Rattle.dirac_common.specs.Table.{table_at}
+use Rattle.dirac_common.proofs.Rows.{row_at, rows_all, rows_more}
 use Rattle.dirac_quant.specs.Quantiser.{reduced}
 use Rattle.dirac_coeffs.specs.Indices.{index_at}
 use Rattle.dirac_synthesis.specs.Codeblocks.{codeblock_of}

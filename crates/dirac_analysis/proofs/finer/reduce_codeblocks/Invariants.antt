@@ -1,6 +1,6 @@
 use Rattle.std.proofs.Common.{◌≡◌, ◌+◌, ◌*◌}
-use Rattle.dirac_types.specs.Table.{table_at}
-use Rattle.dirac_types.proofs.Rows.{RowsFilled}
+use Rattle.dirac_common.specs.Table.{table_at}
+use Rattle.dirac_common.proofs.Rows.{RowsFilled}
 use Rattle.dirac_quant.specs.Quantiser.{reduced}
 use Rattle.dirac_coeffs.specs.Indices.{index_at}
 use Rattle.dirac_synthesis.specs.Codeblocks.{codeblock_of}

@@ -1,6 +1,6 @@
 use Rattle.std.proofs.Common.{◌≡◌, ◌+◌, pos, get_or, arith, refl, ap, ◌∙◌}
-use Rattle.dirac_types.specs.Table.{table_at}
-use Rattle.dirac_types.proofs.Rows.{row_at, rows_more, rows_all}
+use Rattle.dirac_common.specs.Table.{table_at}
+use Rattle.dirac_common.proofs.Rows.{row_at, rows_more, rows_all}
 use Rattle.dirac_analysis.proofs.narrow.left_half.Goals as goal
 
 pub loop-y-preserved : goal.loop-y-preserved

@@ -1,5 +1,5 @@
 use Rattle.std.proofs.Common.{◌/◌, arith, ◌∙◌, ap}
-use Rattle.dirac_types.specs.Table.{Table}
+use Rattle.dirac_common.specs.Table.{Table}
 use Rattle.dirac_bands.specs.Interleaving.{band_of}
 use Rattle.dirac_analysis.proofs.HalfBands.{even_band, odd_band, whole_level}
 use Rattle.dirac_analysis.proofs.narrow.split_narrow.Goals as goal

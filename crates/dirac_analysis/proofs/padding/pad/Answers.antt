@@ -1,7 +1,7 @@
 use Rattle.std.proofs.Common.{◌+◌, ◌-◌, ◌<◌, min, pos, get_or, arith, refl, ap, subst, ◌≡◌, ◌≤◌, ◌∙◌}
 use Rattle.dirac_bands.specs.Geometry.{padded_size}
-use Rattle.dirac_types.specs.Table.{table_at}
-use Rattle.dirac_types.proofs.Rows.{rows_more, rows_all, row_at}
+use Rattle.dirac_common.specs.Table.{table_at}
+use Rattle.dirac_common.proofs.Rows.{rows_more, rows_all, row_at}
 use Rattle.dirac_analysis.proofs.Fitting.{min_below}
 use Rattle.dirac_analysis.proofs.padding.pad.Goals as goal
 

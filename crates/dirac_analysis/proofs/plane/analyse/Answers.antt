@@ -1,5 +1,5 @@
 use Rattle.std.proofs.Common.{◌-◌, ap, ◌∙◌}
-use Rattle.dirac_types.specs.Table.{Table}
+use Rattle.dirac_common.specs.Table.{Table}
 use Rattle.dirac_synthesis.proofs.Maps.{ok_weaker}
 use Rattle.dirac_analysis.specs.Analysis.{analysis_of}
 use Rattle.dirac_analysis.proofs.Fitting.{padded_small}

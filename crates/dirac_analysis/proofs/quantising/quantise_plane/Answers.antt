@@ -1,5 +1,5 @@
 use Rattle.std.proofs.Common.{◌∷◌, ◌∙◌, List, ap, arith}
-use Rattle.dirac_types.specs.Table.{Table}
+use Rattle.dirac_common.specs.Table.{Table}
 use Rattle.dirac_header.specs.Counts.{counts_at}
 use Rattle.dirac_analysis.specs.Analysis.{coded_from, lowest_index}
 use Rattle.dirac_analysis.specs.Coded.{coded}

@@ -2,7 +2,7 @@ use Rattle.std.proofs.Common.{◌≡◌, ◌+◌, ◌*◌, arith, refl, ap, ◌�
 use Rattle.dirac_bands.specs.Interleaving.{joined, band_of}
 use Rattle.dirac_bands.proofs.Interleaves.{even_row, odd_row}
 use Rattle.dirac_bands.proofs.Undoing.{ll_again, hl_again, lh_again, hh_again}
-use Rattle.dirac_types.proofs.Rows.{rows_more, rows_all}
+use Rattle.dirac_common.proofs.Rows.{rows_more, rows_all}
 use Rattle.dirac_bands.proofs.interleaving.join_bands.Goals as goal
 
 pub loop-y-preserved : goal.loop-y-preserved

@@ -1,6 +1,6 @@
 use Rattle.std.proofs.Common.{◌+◌, arith, refl}
 use Rattle.dirac_bands.proofs.Interleaves.{band_row}
-use Rattle.dirac_types.proofs.Rows.{rows_more, rows_all}
+use Rattle.dirac_common.proofs.Rows.{rows_more, rows_all}
 use Rattle.dirac_bands.proofs.interleaving.split_band.Goals as goal
 
 pub loop-y-preserved : goal.loop-y-preserved

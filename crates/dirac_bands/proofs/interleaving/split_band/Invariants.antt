@@ -1,6 +1,6 @@
 use Rattle.std.proofs.Common.{◌≡◌, ◌*◌, ◌+◌, ◌/◌}
-use Rattle.dirac_types.specs.Table.{table_at}
-use Rattle.dirac_types.proofs.Rows.{RowsFilled}
+use Rattle.dirac_common.specs.Table.{table_at}
+use Rattle.dirac_common.proofs.Rows.{RowsFilled}
 use Rattle.dirac_bands.proofs.interleaving.split_band.Given as goal
 
 abbrev pub invariant-loop-y : goal.invariant-loop-y

@@ -1,6 +1,6 @@
 use Rattle.std.proofs.Common.{◌≡◌, ℕ, ◌+◌, ◌*◌, arith, ap, ◌∙◌, List, Result, Ok}
 use Rattle.std.specs.Prelude.{slice_range}
-use Rattle.dirac_types.specs.declared.faults.Cause.{Cause}
+use Rattle.dirac_common.specs.declared.faults.Cause.{Cause}
 use Rattle.dirac_bits.specs.Cursor.{Cursor}
 use Rattle.dirac_bits.proofs.Blocks.{bytes_are, bytes_short}
 use Rattle.dirac_bits.proofs.numbers.next_block.Goals as goal

@@ -1,7 +1,7 @@
 use Rattle.std.proofs.Common.{◌≡◌, ◌+◌, ◌-◌, ◌≤◌, ◌^◌, arith, sym, ◌∙◌, pow_mono}
 use Rattle.std.proofs.lemmas.Result.{err_from_is_err_and}
-use Rattle.dirac_types.proofs.Digits.{power_doubled, bit_value-below}
-use Rattle.dirac_types.specs.Bits.{bit_value}
+use Rattle.dirac_common.proofs.Digits.{power_doubled, bit_value-below}
+use Rattle.dirac_common.specs.Bits.{bit_value}
 use Rattle.dirac_bits.proofs.Doublings.{goes_on, ends_number, too_long, no_follow, no_digit, from_bool-bit_value}
 use Rattle.dirac_bits.proofs.numbers.next_number.Goals as goal
 

@@ -1,6 +1,6 @@
 use Rattle.std.proofs.Common.{◌≡◌, ◌+◌, ◌-◌, ◌/◌, ◌≤◌, ◌^◌, ◌++◌, refl, arith, sym, ap, ◌∙◌, pow_mono}
-use Rattle.dirac_types.specs.Numbers.{followed, digits_of, uint}
-use Rattle.dirac_types.proofs.Digits.{power_doubled}
+use Rattle.dirac_common.specs.Numbers.{followed, digits_of, uint}
+use Rattle.dirac_common.proofs.Digits.{power_doubled}
 use Rattle.dirac_bits.specs.Writing.{bits_below}
 use Rattle.dirac_bits.proofs.Runs.{uint_step, last_bit, digits_of-none, some_room}
 use Rattle.dirac_bits.proofs.spelling.unsigned.Goals as goal

@@ -1,5 +1,5 @@
 use Rattle.std.proofs.Common.{◌≡◌, ◌-◌, ◌/◌, ◌%◌, ◌<◌, ◌≤◌, ◌^◌, ◌++◌}
-use Rattle.dirac_types.specs.Numbers.{digits_of, followed, uint}
+use Rattle.dirac_common.specs.Numbers.{digits_of, followed, uint}
 use Rattle.dirac_bits.specs.Writing.{bits_below}
 use Rattle.dirac_bits.proofs.spelling.unsigned.Given as goal
 

@@ -1,5 +1,5 @@
 use Rattle.std.proofs.Common.{◌≡◌, ◌+◌, ◌*◌, ◌++◌, length, take}
-use Rattle.dirac_types.specs.Bits.{bits_of}
+use Rattle.dirac_common.specs.Bits.{bits_of}
 use Rattle.dirac_bits.specs.Writing.{bits_below}
 use Rattle.dirac_bits.proofs.spelling.whole_bytes.Given as goal
 

@@ -1,5 +1,5 @@
 use Rattle.std.proofs.Common.{rules, ◌≡◌, ℤ, false, ◌||◌, ap, ◌∙◌, subst, sym, to_z, of_z, w32, Ok, [], ◌∷◌}
-use Rattle.dirac_types.specs.declared.faults.Cause.TheVariants as causes
+use Rattle.dirac_common.specs.declared.faults.Cause.TheVariants as causes
 use Rattle.dirac_arith.specs.Reading.{Reading}
 use Rattle.dirac_vectors.specs.Neighbours.{IsShort}
 use Rattle.dirac_vectors.specs.Predictions.{dc_of}

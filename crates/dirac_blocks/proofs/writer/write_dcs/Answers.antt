@@ -1,5 +1,5 @@
 use Rattle.std.proofs.Common.{[], ◌∷◌}
-use Rattle.dirac_types.specs.declared.formats.Component.TheVariants as components
+use Rattle.dirac_common.specs.declared.formats.Component.TheVariants as components
 use Rattle.dirac_bits.proofs.Fronts.{err_so}
 use Rattle.dirac_blocks.specs.declared.parts.ListKind.TheVariants as parts
 use Rattle.dirac_blocks.specs.Decisions.{unit_decisions}

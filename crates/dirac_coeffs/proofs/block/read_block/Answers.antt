@@ -1,8 +1,8 @@
 use Rattle.std.proofs.Common.{◌≡◌, ℤ, pos, ◌*◌, length, List, replicate, Result, Ok, Err, refl, sym, ap, ◌∙◌, subst}
-use Rattle.dirac_types.specs.declared.faults.Cause.{Cause}
-use Rattle.dirac_types.specs.declared.faults.Cause.TheVariants as causes
-use Rattle.dirac_types.specs.declared.faults.Stop.{Stop}
-use Rattle.dirac_types.specs.declared.faults.Stop.TheVariants as stop
+use Rattle.dirac_common.specs.declared.faults.Cause.{Cause}
+use Rattle.dirac_common.specs.declared.faults.Cause.TheVariants as causes
+use Rattle.dirac_common.specs.declared.faults.Stop.{Stop}
+use Rattle.dirac_common.specs.declared.faults.Stop.TheVariants as stop
 use Rattle.dirac_coeffs.specs.declared.layout.BandBlock.{BandBlock}
 use Rattle.dirac_coeffs.specs.BandRead.{band_progress, content, band_read}
 use Rattle.dirac_coeffs.proofs.Read.{steps_answer, band_carried, break_carried, plain_is_equal, written_over, table_written}

@@ -1,7 +1,7 @@
 use Rattle.std.proofs.Common.{◌≡◌, ℤ, ◌+◌, ◌*◌, ◌≤◌, ◌++◌, ℕ, List, length, take, unsigned_abs, arith, refl, ap, sym, ◌∙◌, subst}
 use Rattle.std.specs.List.{All}
 use Rattle.std.proofs.lemmas.List.{take_all}
-use Rattle.dirac_types.specs.Table.{Table}
+use Rattle.dirac_common.specs.Table.{Table}
 use Rattle.dirac_coeffs.specs.Held.{IsLargest}
 use Rattle.dirac_coeffs.proofs.Largest.{row_narrowed}
 use Rattle.dirac_coeffs.proofs.coefficients.append_all_narrowed.Goals as goal

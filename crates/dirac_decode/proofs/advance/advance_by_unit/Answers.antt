@@ -1,5 +1,5 @@
 use Rattle.std.proofs.Common.{Err, subst}
-use Rattle.dirac_types.specs.declared.faults.Stop.{Stop}
+use Rattle.dirac_common.specs.declared.faults.Stop.{Stop}
 use Rattle.dirac_decode.specs.StreamState.{unit_step}
 use Rattle.dirac_decode.specs.Taking.{IsTook}
 use Rattle.dirac_decode.proofs.Leading.{brings_end, brings_fault, brings_refused, brings_step}

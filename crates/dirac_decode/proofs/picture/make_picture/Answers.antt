@@ -1,5 +1,5 @@
 use Rattle.std.proofs.Common.{List, subst, sym}
-use Rattle.dirac_types.specs.declared.picture.Picture.{Picture}
+use Rattle.dirac_common.specs.declared.picture.Picture.{Picture}
 use Rattle.dirac_decode.specs.Content.{AreReferences}
 use Rattle.dirac_decode.proofs.Doubling.{references_doubled}
 use Rattle.dirac_decode.proofs.Listing.{references_fit}

@@ -1,6 +1,6 @@
 use Rattle.std.proofs.Common.{◌≡◌, ◌∙◌, ◌+◌, Bool, arith, cond, sym, ap}
 use Rattle.std.proofs.lemmas.Bool.{cond-false, cond-true}
-use Rattle.dirac_units.specs.Codes.{is_intra}
+use Rattle.dirac_common.specs.Codes.{is_intra}
 use Rattle.dirac_edit.proofs.Going.{points_all, points_more}
 use Rattle.dirac_edit.proofs.bounds.points_of.Goals as goal
 use Rattle.dirac_edit.proofs.bounds.points_of.Goals.{else-is_intra, then-is_intra}

@@ -1,5 +1,5 @@
 use Rattle.std.proofs.Common.{◌≡◌, ◌<◌, ◌∙◌, refl, sym, ap, subst, arith}
-use Rattle.dirac_decode.specs.Raw.{picture_from}
+use Rattle.dirac_sources.specs.Sources.{picture_from}
 use Rattle.dirac_plan.specs.Planning.{Planning, is_closed, with_picture}
 use Rattle.std.specs.Prelude.{IfSome}
 use Rattle.dirac_encode_laws.specs.declared.answers.Encoded.{Encoded}

@@ -1,5 +1,5 @@
 use Rattle.std.proofs.Common.{◌≡◌, ◌≤◌, ◌-◌, length, false}
-use Rattle.dirac_decode.specs.Raw.{raw_length}
+use Rattle.dirac_sources.specs.Sources.{raw_length}
 use Rattle.dirac_plan.specs.Planning.{is_closed}
 use Rattle.dirac_encode_laws.specs.Fit.{rule_of}
 use Rattle.dirac_encode.specs.Going.{Lists, so_far}

@@ -1,12 +1,14 @@
 use Rattle.std.proofs.Common.{◌≡◌, ◌<◌, ◌^◌, ℕ, [], List, ap, ◌∙◌, sym, subst}
 use Rattle.std.specs.List.{AllByRecursion}
-use Rattle.dirac_types.specs.Bytes.{bytes_of}
+use Rattle.dirac_common.specs.Bytes.{bytes_of}
 use Rattle.dirac_bits.specs.Writing.{up_to_byte}
-use Rattle.dirac_sequence.proofs.Packed.{packed}
+use Rattle.dirac_bits.proofs.Packed.{packed}
 use Rattle.dirac_sequence.specs.Written.{sequence_of}
 use Rattle.dirac_decode.specs.Content.{rebuilt}
+use Rattle.dirac_sequence_header.specs.declared.sequence.Sequence.{Sequence}
+use Rattle.dirac_picture.specs.Written.{payload_by, with_coded}
 use Rattle.dirac_picture.specs.declared.coded.CodedPicture.{CodedPicture}
-use Rattle.dirac_picture.specs.Written.{payload_of, with_picture}
+use Rattle.dirac_encode_laws.specs.Payloads.{payload_of, with_picture}
 use Rattle.dirac_encode_laws.specs.Coded.{motion_among}
 use Rattle.dirac_encode_laws.proofs.Reading.{predicting}
 use Rattle.dirac_encode_picture.specs.Asked.{coded_by}
@@ -15,8 +17,8 @@ use Rattle.dirac_encode_picture.proofs.Facts.{coded_fits, moves_of, payload_read
 use Rattle.dirac_encode_picture.proofs.Finishing.{can_finish}
 use Rattle.dirac_encode_picture.proofs.picture.code_at.Goals as goal
 
-pub payload_bytes-requires-clause-blocks : goal.payload_bytes-requires-clause-blocks
-payload_bytes-requires-clause-blocks g c = let is = predicting c.args.settings.now c.requires.prepared.asked.accepted in (is.some_blocks, is.most_blocks)
+pub payload_bytes-requires-clause-index : goal.payload_bytes-requires-clause-index
+payload_bytes-requires-clause-index g c = let is = predicting c.args.settings.now c.requires.prepared.asked.accepted in (is.some_blocks, is.most_blocks)
 
 pub payload_bytes-requires-clause-precision : goal.payload_bytes-requires-clause-precision
 payload_bytes-requires-clause-precision g c = (predicting c.args.settings.now c.requires.prepared.asked.accepted).precision
@@ -32,7 +34,7 @@ finish-requires-clause-finishing g c =
     can_finish c.args.settings.now c.sequence_of-sequence.result c.args.refs.now c.args.planned.now c.args.source.now c.args.prepared.now c.in_ok-coded.coded c.requires.prepared c.sequence_of-sequence.ensures.value c.in_ok-coded.ensures
 
 pub returns : goal.returns
-unfolding payload_of
+unfolding payload_by
 returns g c =
     let t = c.args.settings.now in
     let refs = c.args.refs.now in
@@ -45,7 +47,8 @@ returns g c =
     c.in_ok-finished.ensures.shown ∙ shown_from c.sequence_of-sequence.result (sequence_of t) refs coded _ c.sequence_of-sequence.ensures.value c.in_ok-coded.ensures in
     let exact : c.in_ok-payload.payload.items ≡ payload_of t (coded_by t refs q p o) =
     packed (up_to_byte (with_picture t coded [])) c.in_ok-payload.payload.items
-    (subst (λ (l : List ℕ). AllByRecursion (λ b. b < 2 ^ 8) l) c.as_slice.ensures.value c.are_bytes.ensures) c.in_ok-payload.ensures.value
+    (subst (λ (l : List ℕ). AllByRecursion (λ b. b < 2 ^ 8) l) c.as_slice.ensures.value c.are_bytes.ensures)
+    (c.in_ok-payload.ensures.value ∙ ap (λ (s : Sequence). up_to_byte (with_coded s t.blocks t.precision coded [])) c.sequence_of-sequence.ensures.value)
     ∙ ap (λ (x : CodedPicture). bytes_of (up_to_byte (with_picture t x []))) c.in_ok-coded.ensures in
     record {
       payload = exact;

@@ -1,5 +1,5 @@
 use Rattle.std.proofs.Common.{Some, ap, subst, sym}
-use Rattle.dirac_sequence.specs.declared.sequence.Sequence.{Sequence}
+use Rattle.dirac_sequence_header.specs.declared.sequence.Sequence.{Sequence}
 use Rattle.dirac_picture.specs.declared.coded.CodedMotion.{CodedMotion}
 use Rattle.dirac_encode_laws.proofs.Coding.{codable}
 use Rattle.dirac_encode_laws.proofs.Reading.{predicting}

@@ -2,7 +2,7 @@ use Rattle.dirac_encode_laws.specs.Coded.{less_prediction}
 use Rattle.dirac_synthesis.proofs.Maps.{ok_weaker}
 use Rattle.dirac_encode_picture.proofs.Asking.{left_small}
 use Rattle.dirac_encode_picture.proofs.Preparing.{analysed_same}
-use Rattle.dirac_types.specs.declared.formats.Kind.TheVariants.{Inter}
+use Rattle.dirac_common.specs.declared.formats.Kind.TheVariants.{Inter}
 use Rattle.dirac_encode_picture.proofs.residual.analyse_difference.Goals as goal
 
 pub analyse_values-requires-clause-magnitudes_bounded : goal.analyse_values-requires-clause-magnitudes_bounded

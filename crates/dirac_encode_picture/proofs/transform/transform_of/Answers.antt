@@ -4,7 +4,7 @@ use Rattle.dirac_picture.specs.Fits.{IsLayout}
 use Rattle.dirac_picture.proofs.Lawful.{layout_lawful}
 use Rattle.dirac_encode_laws.specs.Coded.{transform_of}
 use Rattle.dirac_encode_laws.proofs.Counting.{transform_lawful}
-use Rattle.dirac_decode.proofs.Sizes.{size_of_pictures}
+use Rattle.dirac_sequence.proofs.Sizes.{size_of_pictures}
 use Rattle.dirac_encode_picture.proofs.transform.transform_of.Goals as goal
 
 pub parameters_of-requires-clause-width : goal.parameters_of-requires-clause-width

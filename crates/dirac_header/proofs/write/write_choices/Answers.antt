@@ -1,5 +1,5 @@
 use Rattle.std.proofs.Common.{◌∷◌, [], ◌++◌, false}
-use Rattle.dirac_types.specs.Numbers.{uint}
+use Rattle.dirac_common.specs.Numbers.{uint}
 use Rattle.dirac_bits.specs.Writing.{gap}
 use Rattle.dirac_bits.proofs.Fronts.{on_err, none_stand, both_written, first_stand, others_stand}
 use Rattle.dirac_header.proofs.write.write_choices.Goals as goal

@@ -1,4 +1,4 @@
-use Rattle.dirac_types.specs.Numbers.{uint}
+use Rattle.dirac_common.specs.Numbers.{uint}
 use Rattle.dirac_bits.proofs.Fronts.{on_err, none_stand, first_stand, others_stand}
 use Rattle.dirac_header.proofs.write.write_parameters.Goals as goal
 

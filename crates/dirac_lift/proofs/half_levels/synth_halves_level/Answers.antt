@@ -1,5 +1,5 @@
 use Rattle.std.proofs.Common.{◌+◌, ◌*◌, arith, refl, ◌∙◌}
-use Rattle.dirac_types.proofs.Rows.{rows_more, rows_all}
+use Rattle.dirac_common.proofs.Rows.{rows_more, rows_all}
 use Rattle.dirac_lift.proofs.HalfPlanes.{even_line, even_row_narrow, level_at, level_filled, odd_line, odd_row_narrow}
 use Rattle.dirac_lift.proofs.half_levels.synth_halves_level.Goals as goal
 

@@ -1,5 +1,5 @@
 use Rattle.std.proofs.Common.{◌≡◌, ◌*◌, vec_len}
-use Rattle.dirac_types.proofs.Rows.{RowsFilled}
+use Rattle.dirac_common.proofs.Rows.{RowsFilled}
 use Rattle.dirac_lift.proofs.HalfPlanes.{level_at}
 use Rattle.dirac_lift.proofs.half_levels.synth_halves_level.Given as goal
 

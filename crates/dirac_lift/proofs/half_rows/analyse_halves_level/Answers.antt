@@ -1,7 +1,7 @@
 use Rattle.std.proofs.Common.{ℤ, ◌*◌, ◌/◌, ◌≤◌, List, unsigned_abs, length, drop, arith, ap, ap₂, sym, subst, ◌∙◌}
 use Rattle.std.specs.List.{All}
 use Rattle.std.proofs.lemmas.List.{take_at}
-use Rattle.dirac_types.specs.Table.{Table}
+use Rattle.dirac_common.specs.Table.{Table}
 use Rattle.dirac_lift.proofs.HalfAnalysis.{level_in_halves, rows_small}
 use Rattle.dirac_lift.proofs.half_rows.analyse_halves_level.Goals as goal
 

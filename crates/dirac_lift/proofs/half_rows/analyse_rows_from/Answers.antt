@@ -1,5 +1,5 @@
 use Rattle.std.proofs.Common.{◌+◌, ◌*◌, pos, get_or, arith, refl, ap, ◌∙◌}
-use Rattle.dirac_types.proofs.Rows.{rows_more, rows_all}
+use Rattle.dirac_common.proofs.Rows.{rows_more, rows_all}
 use Rattle.dirac_lift.specs.HalfRows.{column_of}
 use Rattle.dirac_lift.specs.Level.{begun, row_in}
 use Rattle.dirac_lift.specs.Wavelets.{analyse}

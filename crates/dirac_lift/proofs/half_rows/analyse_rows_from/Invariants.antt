@@ -1,5 +1,5 @@
 use Rattle.std.proofs.Common.{◌≡◌, ◌+◌, ◌*◌, ◌/◌, pos, slice_index_or}
-use Rattle.dirac_types.proofs.Rows.{RowsFilled}
+use Rattle.dirac_common.proofs.Rows.{RowsFilled}
 use Rattle.dirac_lift.specs.HalfRows.{column_of}
 use Rattle.dirac_lift.specs.Level.{begun, row_in}
 use Rattle.dirac_lift.specs.Wavelets.{analyse}

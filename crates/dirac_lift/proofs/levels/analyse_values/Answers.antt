@@ -1,6 +1,6 @@
 use Rattle.std.proofs.Common.{ℤ, ◌+◌, ◌*◌, ◌^◌, ◌≤◌, ◌≡◌, List, unsigned_abs, length, arith, sym, ◌∙◌, subst}
 use Rattle.std.specs.List.{All}
-use Rattle.dirac_types.proofs.Bounds.{all_weaker}
+use Rattle.dirac_common.proofs.Bounds.{all_weaker}
 use Rattle.dirac_lift.specs.Level.{begun}
 use Rattle.dirac_lift.specs.Places.{RowsBecome}
 use Rattle.dirac_lift.specs.Wavelets.{analyse, analyse_bound}

@@ -1,6 +1,6 @@
 use Rattle.std.proofs.Common.{ℤ, ◌*◌, ◌+◌, ◌^◌, ◌≤◌, List, unsigned_abs, arith, sym, ◌∙◌, subst}
 use Rattle.std.specs.List.{All}
-use Rattle.dirac_types.proofs.Bounds.{all_weaker}
+use Rattle.dirac_common.proofs.Bounds.{all_weaker}
 use Rattle.dirac_lift.specs.Wavelets.{synth_bound}
 use Rattle.dirac_lift.proofs.LevelLemmas.{synth_columns_safe, synth_columns_grow, synth_rows_grow, synth_bound_most, synth_bound_twice, level_bound, level_value}
 use Rattle.dirac_lift.proofs.levels.synth_values.Goals as goal

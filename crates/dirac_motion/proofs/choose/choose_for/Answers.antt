@@ -1,6 +1,6 @@
 use Rattle.std.proofs.Common.{Option, Some, ap, sym, subst, ◌∙◌}
 use Rattle.std.specs.Option.{ForSome, option_copied}
-use Rattle.dirac_types.specs.declared.picture.Picture.{Picture}
+use Rattle.dirac_common.specs.declared.picture.Picture.{Picture}
 use Rattle.dirac_sequence.specs.Written.{sequence_of}
 use Rattle.dirac_decode.specs.Content.{IsPicture}
 use Rattle.dirac_motion.specs.Lent.{first_of, second_of}

@@ -1,6 +1,6 @@
 use Rattle.std.proofs.Common.{◌≡◌, ◌+◌, ◌-◌, ◌*◌, length, arith, ap, ◌∙◌}
-use Rattle.dirac_types.specs.Table.{Table, table_at}
-use Rattle.dirac_types.proofs.Rows.{filled_at}
+use Rattle.dirac_common.specs.Table.{Table, table_at}
+use Rattle.dirac_common.proofs.Rows.{filled_at}
 use Rattle.dirac_obmc.specs.Compensation.{predicted_at}
 use Rattle.dirac_obmc.specs.Given.{given}
 use Rattle.dirac_obmc.proofs.Predictions.{lines_are, rows_are_small}

@@ -1,5 +1,5 @@
 use Rattle.std.proofs.Common.{ap, sym, ◌∙◌, length}
-use Rattle.dirac_types.specs.declared.formats.Kind.TheVariants.{Inter}
+use Rattle.dirac_common.specs.declared.formats.Kind.TheVariants.{Inter}
 use Rattle.dirac_pardec.specs.Given.{given}
 use Rattle.dirac_pardec.specs.Places.{component_at}
 use Rattle.dirac_pardec.proofs.Placed.{residual_length}

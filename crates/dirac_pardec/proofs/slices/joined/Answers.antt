@@ -1,5 +1,5 @@
 use Rattle.std.proofs.Common.{◌≡◌, ap, arith, rules, ◌∙◌}
-use Rattle.dirac_types.specs.Table.{Table}
+use Rattle.dirac_common.specs.Table.{Table}
 use Rattle.dirac_pardec.specs.Slices.{slice_of}
 use Rattle.dirac_pardec.proofs.Sliced.{slices_none, slices_more, slices_all}
 use Rattle.dirac_pardec.proofs.slices.joined.Goals as goal

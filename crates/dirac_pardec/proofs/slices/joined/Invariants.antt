@@ -1,5 +1,5 @@
 use Rattle.std.proofs.Common.{◌≡◌, ℕ, ℤ, ◌+◌, ◌/◌, ◌≤◌}
-use Rattle.dirac_types.specs.Table.{filled}
+use Rattle.dirac_common.specs.Table.{filled}
 use Rattle.dirac_pardec.specs.Slices.{AreSlices, reach}
 use Rattle.dirac_pardec.proofs.slices.joined.Given as goal
 

@@ -1,6 +1,6 @@
 use Rattle.std.proofs.Common.{◌≤◌, arith}
-use Rattle.dirac_sequence.specs.Sizes.{picture_height}
-use Rattle.dirac_sequence.proofs.Heights.{picture_size}
+use Rattle.dirac_sequence_header.specs.Sizes.{picture_height}
+use Rattle.dirac_sequence_header.proofs.Heights.{picture_size}
 use Rattle.dirac_picture.specs.Fits.{IsTransform}
 use Rattle.dirac_picture.proofs.Lawful.{layout_lawful, transform_lawful}
 use Rattle.dirac_picture.proofs.picture.read_residual.Goals as goal

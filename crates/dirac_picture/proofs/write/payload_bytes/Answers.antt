@@ -3,16 +3,16 @@ use Rattle.dirac_bits.specs.Writing.{up_to_byte}
 use Rattle.dirac_header.specs.Written.{header_bits}
 use Rattle.dirac_picture.proofs.Apart.{up_is_whole}
 use Rattle.dirac_picture.proofs.write.payload_bytes.Goals as goal
-use Rattle.dirac_picture.specs.Written.{HasSpelledBlocks, with_picture}
+use Rattle.dirac_picture.specs.Written.{HasSpelledTable, with_coded}
 
 pub finish-requires : goal.finish-requires
-finish-requires c = up_is_whole (with_picture c.args.settings.now c.args.coded.now c.new-w.result) c.write_picture.new.w c.in_ok-write_picture.ensures.value
+finish-requires c = up_is_whole (with_coded c.args.sequence.now c.args.index c.args.precision c.args.coded.now c.new-w.result) c.write_picture.new.w c.in_ok-write_picture.ensures.value
 
 pub returns-clause-value : goal.returns-clause-value
 returns-clause-value c =
     c.in_ok-bytes.ensures ∙ c.in_ok-write_picture.ensures.value
-    ∙ ap (λ (l : List Bool). up_to_byte (with_picture c.args.settings.now c.args.coded.now l)) c.new-w.ensures
+    ∙ ap (λ (l : List Bool). up_to_byte (with_coded c.args.sequence.now c.args.index c.args.precision c.args.coded.now l)) c.new-w.ensures
 
 pub returns-clause-spelled : goal.returns-clause-spelled
 returns-clause-spelled c =
-    subst (λ (l : List Bool). HasSpelledBlocks c.args.settings.now c.args.coded.now.motion (l ++ header_bits l c.args.coded.now.code c.args.coded.now.header)) c.new-w.ensures c.in_ok-write_picture.ensures.spelled
+    subst (λ (l : List Bool). HasSpelledTable c.args.index c.args.precision c.args.coded.now.motion (l ++ header_bits l c.args.coded.now.code c.args.coded.now.header)) c.new-w.ensures c.in_ok-write_picture.ensures.spelled

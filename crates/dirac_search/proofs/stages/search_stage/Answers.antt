@@ -1,7 +1,7 @@
 use Rattle.std.specs.Prelude.{List, option_map}
 use Rattle.std.proofs.Common.{ap, ◌∙◌}
 use Rattle.std.specs.List.{flat_map}
-use Rattle.dirac_types.specs.declared.formats.Vector.{Vector}
+use Rattle.dirac_common.specs.declared.formats.Vector.{Vector}
 use Rattle.dirac_search.specs.Fields.{stage_field}
 use Rattle.dirac_search.specs.Given.{given}
 use Rattle.dirac_search.proofs.Gathered.{items_of, stage_is}

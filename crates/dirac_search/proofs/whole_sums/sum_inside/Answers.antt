@@ -1,7 +1,7 @@
 use Rattle.std.proofs.Common.{ap, ◌∙◌, sym}
 use Rattle.std.specs.Int.{w64}
 use Rattle.std.proofs.lemmas.Int.{to_z-of_z}
-use Rattle.dirac_types.specs.Table.{table_at, clamped_to}
+use Rattle.dirac_common.specs.Table.{table_at, clamped_to}
 use Rattle.dirac_search.proofs.Differences.{rows_inside}
 use Rattle.dirac_search.proofs.whole_sums.sum_inside.Goals as goal
 

@@ -1,5 +1,5 @@
 use Rattle.std.proofs.Common.{arith}
-use Rattle.dirac_sequence.proofs.Packed.{all_below}
+use Rattle.dirac_bits.proofs.Packed.{all_below}
 use Rattle.dirac_sequence.proofs.write.are_bytes.Goals as goal
 
 pub returns : goal.returns

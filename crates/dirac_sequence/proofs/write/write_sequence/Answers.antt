@@ -2,10 +2,10 @@ use Rattle.std.proofs.Common.{ℕ, ◌<◌, ◌^◌, List, subst}
 use Rattle.std.specs.List.{AllByRecursion}
 use Rattle.dirac_bits.specs.Writing.{gap, up_to_byte}
 use Rattle.dirac_bits.proofs.Whole.{whole_read}
-use Rattle.dirac_sequence.specs.Grammar.{sequence}
+use Rattle.dirac_sequence_header.specs.Grammar.{sequence}
 use Rattle.dirac_sequence.specs.Written.{sequence_bits, sequence_of, sequence_payload}
 use Rattle.dirac_sequence.proofs.Accepted.{writable}
-use Rattle.dirac_sequence.proofs.Packed.{packed, starts}
+use Rattle.dirac_bits.proofs.Packed.{packed, starts}
 use Rattle.dirac_sequence.proofs.Written.{sequence_spelled}
 use Rattle.dirac_sequence.proofs.write.write_sequence.Goals as goal
 

@@ -1,5 +1,5 @@
 use Rattle.std.proofs.Common.{◌≡◌, ◌<◌, ℕ, pos, slice_index_or}
-use Rattle.dirac_types.specs.Samples.{clip}
+use Rattle.dirac_common.specs.Samples.{clip}
 use Rattle.dirac_synthesis.proofs.clip.clip_narrow_values.Given as goal
 
 abbrev pub invariant-loop-i : goal.invariant-loop-i

@@ -1,5 +1,5 @@
 use Rattle.std.proofs.Common.{ℤ, ◌+ℤ◌, arith}
-use Rattle.dirac_types.specs.Samples.{clip}
+use Rattle.dirac_common.specs.Samples.{clip}
 use Rattle.dirac_synthesis.proofs.Maps.{mapped_both}
 use Rattle.dirac_synthesis.proofs.clip.clip_sums.Goals as goal
 

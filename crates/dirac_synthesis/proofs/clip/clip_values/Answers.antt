@@ -1,5 +1,5 @@
 use Rattle.std.proofs.Common.{arith}
-use Rattle.dirac_types.specs.Samples.{clip}
+use Rattle.dirac_common.specs.Samples.{clip}
 use Rattle.dirac_synthesis.proofs.Maps.{mapped_all}
 use Rattle.dirac_synthesis.proofs.clip.clip_values.Goals as goal
 

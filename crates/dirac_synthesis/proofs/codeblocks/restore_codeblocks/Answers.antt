@@ -1,6 +1,6 @@
 use Rattle.std.proofs.Common.{◌≡◌, ◌+◌, arith, ap, refl, ◌∙◌}
-use Rattle.dirac_types.specs.Table.{Table, row_of, table_at}
-use Rattle.dirac_types.proofs.Rows.{rows_more, rows_all}
+use Rattle.dirac_common.specs.Table.{Table, row_of, table_at}
+use Rattle.dirac_common.proofs.Rows.{rows_more, rows_all}
 use Rattle.dirac_quant.specs.Quantiser.{restored}
 use Rattle.dirac_synthesis.specs.Codeblocks.{index_in}
 use Rattle.dirac_synthesis.proofs.ByCodeblock.{by_place}

@@ -1,6 +1,6 @@
 use Rattle.std.proofs.Common.{◌≡◌}
-use Rattle.dirac_types.specs.Table.{table_at}
-use Rattle.dirac_types.proofs.Rows.{RowsFilled}
+use Rattle.dirac_common.specs.Table.{table_at}
+use Rattle.dirac_common.proofs.Rows.{RowsFilled}
 use Rattle.dirac_quant.specs.Quantiser.{restored}
 use Rattle.dirac_synthesis.specs.Codeblocks.{index_in}
 use Rattle.dirac_synthesis.proofs.codeblocks.restore_codeblocks.Given as goal

@@ -1,7 +1,7 @@
 use Rattle.std.proofs.Common.{◌+◌, pos, get_or, arith, refl, ap, ◌∙◌}
 use Rattle.std.proofs.lemmas.List.{get_or-take}
-use Rattle.dirac_types.specs.Table.{table_at}
-use Rattle.dirac_types.proofs.Rows.{rows_more, rows_all, row_at}
+use Rattle.dirac_common.specs.Table.{table_at}
+use Rattle.dirac_common.proofs.Rows.{rows_more, rows_all, row_at}
 use Rattle.dirac_synthesis.proofs.cut.cut_narrow.Goals as goal
 
 pub loop-y-preserved : goal.loop-y-preserved

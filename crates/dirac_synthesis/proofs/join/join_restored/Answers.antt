@@ -1,7 +1,7 @@
 use Rattle.std.proofs.Common.{◌+◌, ◌-◌, ◌*◌, ◌^◌, ◌<◌, unsigned_abs, arith, ap, refl, ◌∙◌}
 use Rattle.std.proofs.lemmas.List.{length-map}
-use Rattle.dirac_types.specs.Table.{Table, row_of}
-use Rattle.dirac_types.proofs.Rows.{rows_more, rows_all}
+use Rattle.dirac_common.specs.Table.{Table, row_of}
+use Rattle.dirac_common.proofs.Rows.{rows_more, rows_all}
 use Rattle.dirac_quant.specs.Quantiser.{restored}
 use Rattle.dirac_bands.specs.Interleaving.{joined_at}
 use Rattle.dirac_bands.proofs.Interleaves.{even_row, odd_row}

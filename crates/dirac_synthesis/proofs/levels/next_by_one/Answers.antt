@@ -1,6 +1,6 @@
 use Rattle.std.proofs.Common.{◌≡◌, ℕ, ◌+◌, ◌*◌, ◌^◌, ◌≤◌, IfOk, unsigned_abs, ap, sym, ◌∙◌, subst}
 use Rattle.std.specs.List.{All}
-use Rattle.dirac_types.specs.Table.{Table}
+use Rattle.dirac_common.specs.Table.{Table}
 use Rattle.dirac_synthesis.specs.Held.{held_table}
 use Rattle.dirac_synthesis.proofs.Growing.{grows_held}
 use Rattle.dirac_synthesis.proofs.levels.next_by_one.Goals as goal

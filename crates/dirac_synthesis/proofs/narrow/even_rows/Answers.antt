@@ -1,5 +1,5 @@
 use Rattle.std.proofs.Common.{◌+◌, pos, get_or, arith, refl, ap, ◌∙◌}
-use Rattle.dirac_types.proofs.Rows.{row_at, rows_more, rows_all}
+use Rattle.dirac_common.proofs.Rows.{row_at, rows_more, rows_all}
 use Rattle.dirac_synthesis.specs.Halves.{beside_at}
 use Rattle.dirac_synthesis.specs.Codeblocks.{restored_by_one}
 use Rattle.dirac_synthesis.proofs.BesideRows.{beside_row, restored_place}

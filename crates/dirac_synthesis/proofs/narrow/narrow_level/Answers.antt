@@ -1,6 +1,6 @@
 use Rattle.std.proofs.Common.{◌≡◌, ℤ, ◌+◌, ◌*◌, ◌≤◌, List, unsigned_abs, arith, ap, sym, ◌∙◌, subst}
 use Rattle.std.specs.List.{All}
-use Rattle.dirac_types.specs.Table.{Table}
+use Rattle.dirac_common.specs.Table.{Table}
 use Rattle.dirac_bands.specs.Interleaving.{joined}
 use Rattle.dirac_lift.specs.Halves.{from_halves}
 use Rattle.dirac_lift.specs.Level.{synthesised}

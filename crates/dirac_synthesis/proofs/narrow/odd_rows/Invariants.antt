@@ -1,5 +1,5 @@
 use Rattle.std.proofs.Common.{◌≡◌, ◌*◌}
-use Rattle.dirac_types.proofs.Rows.{RowsFilled}
+use Rattle.dirac_common.proofs.Rows.{RowsFilled}
 use Rattle.dirac_synthesis.specs.Halves.{beside_at}
 use Rattle.dirac_synthesis.specs.Codeblocks.{restored_by_one}
 use Rattle.dirac_synthesis.proofs.narrow.odd_rows.Given as goal

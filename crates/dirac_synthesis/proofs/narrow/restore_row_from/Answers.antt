@@ -1,5 +1,5 @@
 use Rattle.std.proofs.Common.{◌+◌, ◌*◌, ◌^◌, ◌<◌, pos, get_or, unsigned_abs, arith, ap, sym, ◌∙◌, refl}
-use Rattle.dirac_types.proofs.Rows.{row_at}
+use Rattle.dirac_common.proofs.Rows.{row_at}
 use Rattle.dirac_quant.specs.Quantiser.{scaled}
 use Rattle.dirac_lift.proofs.ZerosKept.{zeros_read}
 use Rattle.dirac_synthesis.specs.Halves.{IsRestorable}

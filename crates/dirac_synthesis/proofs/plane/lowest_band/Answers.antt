@@ -1,7 +1,7 @@
 use Rattle.std.proofs.Common.{◌≡◌, ◌+◌, ◌*◌, ◌^◌, arith, ap}
 use Rattle.std.proofs.lemmas.Nat.{mul-le}
-use Rattle.dirac_types.specs.Table.{Table}
-use Rattle.dirac_types.proofs.Bounds.{all_weaker}
+use Rattle.dirac_common.specs.Table.{Table}
+use Rattle.dirac_common.proofs.Bounds.{all_weaker}
 use Rattle.dirac_synthesis.proofs.Bounds.{all_below}
 use Rattle.dirac_synthesis.proofs.plane.lowest_band.Goals as goal
 use Rattle.dirac_synthesis.proofs.plane.lowest_band.Goals.{in-Intra, in-Inter}

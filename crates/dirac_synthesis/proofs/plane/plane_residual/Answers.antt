@@ -1,6 +1,6 @@
 use Rattle.std.proofs.Common.{◌≡◌, ℕ, ◌+◌, ◌*◌, ◌^◌, slice_get, Some, arith, ap, sym, ◌∙◌, subst}
-use Rattle.dirac_types.specs.Table.{Table}
-use Rattle.dirac_types.proofs.Bounds.{all_weaker}
+use Rattle.dirac_common.specs.Table.{Table}
+use Rattle.dirac_common.proofs.Bounds.{all_weaker}
 use Rattle.dirac_bands.specs.Geometry.{lowest_size}
 use Rattle.dirac_header.specs.Counts.{counts_among}
 use Rattle.dirac_synthesis.specs.Codeblocks.{HasIndices}

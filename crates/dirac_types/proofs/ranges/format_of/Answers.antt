@@ -1,6 +1,6 @@
 use Rattle.std.proofs.Common.{ap, sym, ◌∙◌}
 use Rattle.std.proofs.Math.ListN.{get_or-map}
-use Rattle.dirac_types.specs.BaseFormats.{base_format, base_formats}
+use Rattle.dirac_base_formats.specs.BaseFormats.{base_format, base_formats}
 use Rattle.dirac_types.specs.Settings.{defaults_of, format_of}
 use Rattle.dirac_types.proofs.ranges.format_of.Goals as goal
 

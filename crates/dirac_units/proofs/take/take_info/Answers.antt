@@ -1,5 +1,5 @@
 use Rattle.std.proofs.Common.{◌≡◌, ◌∙◌, take, sym, refl, arith, subst, IfSome, Err, Some}
-use Rattle.dirac_types.specs.declared.faults.Fault.{Fault}
+use Rattle.dirac_common.specs.declared.faults.Fault.{Fault}
 use Rattle.dirac_units.specs.Cut.{front_of}
 use Rattle.dirac_units.proofs.Told.{told_end, told_refusal}
 use Rattle.dirac_units.proofs.take.take_info.Goals as goal

@@ -1,7 +1,7 @@
 use Rattle.std.proofs.Common.{◌≡◌, ◌+ℤ◌, pos, to_z, of_z, arith, refl, ap, ◌∙◌}
 use Rattle.std.specs.Int.{w16, int_shr}
 use Rattle.std.proofs.lemmas.Int.{ints, to_z-of_z}
-use Rattle.dirac_types.specs.Samples.{clip}
+use Rattle.dirac_common.specs.Samples.{clip}
 use Rattle.dirac_upconvert.specs.HalfSamples.{between, weighted}
 use Rattle.dirac_upconvert.proofs.half_sample.half_sample.Goals as goal
 

@@ -1,7 +1,7 @@
 use Rattle.std.proofs.Common.{◌≡◌, ◌+ℤ◌, pos, to_z, of_z, arith, refl, ◌∙◌}
 use Rattle.std.specs.Int.{w16, w64}
 use Rattle.std.proofs.lemmas.Int.{ints, to_z-of_z}
-use Rattle.dirac_types.specs.Table.{clamped_at}
+use Rattle.dirac_common.specs.Table.{clamped_at}
 use Rattle.dirac_upconvert.proofs.Mixing.{sample_within}
 use Rattle.dirac_upconvert.proofs.parts.mixed_row.Goals as goal
 

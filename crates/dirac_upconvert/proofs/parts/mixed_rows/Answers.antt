@@ -2,7 +2,7 @@ use Rattle.std.proofs.Common.{◌≡◌, ◌^◌, ◌*◌, ◌≤◌, ◌+ℤ◌
 use Rattle.std.specs.Int.{w16, w64}
 use Rattle.std.proofs.lemmas.Int.{to_z-of_z}
 use Rattle.std.proofs.Math.Pow.{pow_mono}
-use Rattle.dirac_types.specs.Table.{clamped_at}
+use Rattle.dirac_common.specs.Table.{clamped_at}
 use Rattle.dirac_upconvert.specs.SubSamples.{mixed, place_at, rest_at}
 use Rattle.dirac_upconvert.proofs.Mixing.{four_products, more_within}
 use Rattle.dirac_upconvert.proofs.parts.mixed_rows.Goals as goal

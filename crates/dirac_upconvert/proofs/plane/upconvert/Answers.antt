@@ -1,6 +1,6 @@
 use Rattle.std.proofs.Common.{◌≡◌, ◌*ℤ◌, pos, arith, ap, ◌∙◌}
 use Rattle.std.proofs.lemmas.List.{take_at}
-use Rattle.dirac_types.specs.Table.{clamped_at}
+use Rattle.dirac_common.specs.Table.{clamped_at}
 use Rattle.dirac_upconvert.specs.HalfSamples.{half, half_at}
 use Rattle.dirac_upconvert.proofs.Halves.{is_up, up_is, whole_samples}
 use Rattle.dirac_upconvert.proofs.Phased.{phases_all}

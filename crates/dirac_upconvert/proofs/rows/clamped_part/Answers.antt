@@ -1,7 +1,7 @@
 use Rattle.std.proofs.Common.{◌≡◌, ◌+ℤ◌, pos, to_z, of_z, refl, ◌∙◌}
 use Rattle.std.specs.Int.{w16, w64}
 use Rattle.std.proofs.lemmas.Int.{to_z-of_z}
-use Rattle.dirac_types.specs.Table.{clamped_at}
+use Rattle.dirac_common.specs.Table.{clamped_at}
 use Rattle.dirac_upconvert.proofs.rows.clamped_part.Goals as goal
 
 pub returns : goal.returns

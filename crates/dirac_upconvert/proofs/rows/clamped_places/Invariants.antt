@@ -1,5 +1,5 @@
 use Rattle.std.proofs.Common.{◌≡◌, ℕ, pos, ◌*◌, ◌<◌, ◌+ℤ◌, slice_index_or}
-use Rattle.dirac_types.specs.Table.{clamped_at}
+use Rattle.dirac_common.specs.Table.{clamped_at}
 use Rattle.dirac_upconvert.proofs.rows.clamped_places.Given as goal
 
 abbrev pub invariant-loop-k : goal.invariant-loop-k

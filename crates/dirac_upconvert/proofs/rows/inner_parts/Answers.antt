@@ -1,7 +1,7 @@
 use Rattle.std.proofs.Common.{◌≡◌, ◌+◌, ◌+ℤ◌, length, pos, to_z, of_z, arith, refl, ap, sym, ◌∙◌}
 use Rattle.std.specs.Int.{w64}
 use Rattle.std.proofs.lemmas.Int.{ints, to_z-of_z}
-use Rattle.dirac_types.specs.Table.{clamped_to, table_at}
+use Rattle.dirac_common.specs.Table.{clamped_to, table_at}
 use Rattle.dirac_upconvert.proofs.PartRows.{parts_inside, parts_told}
 use Rattle.dirac_upconvert.proofs.Phased.{held_inside}
 use Rattle.dirac_upconvert.proofs.rows.inner_parts.Goals as goal

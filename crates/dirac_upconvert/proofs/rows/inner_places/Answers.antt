@@ -1,7 +1,7 @@
 use Rattle.std.proofs.Common.{◌≡◌, pos, arith, ap, sym, ◌∙◌}
 use Rattle.std.specs.Int.{w64}
 use Rattle.std.proofs.lemmas.Int.{ints, to_z-of_z}
-use Rattle.dirac_types.specs.Table.{clamped_to, table_at}
+use Rattle.dirac_common.specs.Table.{clamped_to, table_at}
 use Rattle.dirac_upconvert.proofs.PartRows.{places_inside}
 use Rattle.dirac_upconvert.proofs.rows.inner_places.Goals as goal
 

@@ -1,7 +1,7 @@
 use Rattle.std.proofs.Common.{◌≡◌, arith, pos, ◌+ℤ◌, subst, sym, to_z, of_z, ap, ◌∙◌}
 use Rattle.std.proofs.lemmas.Int.{ints}
 use Rattle.std.specs.Int.{int_div_euclid, w32}
-use Rattle.dirac_types.specs.Samples.{mean_of_three}
+use Rattle.dirac_common.specs.Samples.{mean_of_three}
 use Rattle.dirac_vectors.specs.Neighbours.{IsShort}
 use Rattle.dirac_vectors.proofs.Means.{mean_of_three_short, passed}
 use Rattle.dirac_vectors.proofs.neighbours.third_of.Goals as goal

@@ -6,7 +6,7 @@ use Rattle.dirac_arith.specs.Interval.{narrowed, contexts_after}
 use Rattle.dirac_arith.specs.Reading.{Reading}
 use Rattle.dirac_arith.specs.Registers.{doublings_of}
 use Rattle.dirac_arith.specs.Decoding.{reading}
-use Rattle.dirac_types.specs.declared.faults.Cause.{Cause}
+use Rattle.dirac_common.specs.declared.faults.Cause.{Cause}
 use Rattle.dirac_arith.proofs.Decidings.{decided_is, decided_shut}
 use Rattle.dirac_arith.proofs.Intervals.{doublings_is, stands_self, one_truth, lies_kept}
 use Rattle.dirac_arith.proofs.Windows.{window_from_lies}

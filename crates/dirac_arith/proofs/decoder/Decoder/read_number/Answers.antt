@@ -1,9 +1,9 @@
 use Rattle.std.proofs.Common.{◌≡◌, ◌+◌, ◌-◌, ◌^◌, ◌<◌, Bool, length, ap, subst, ◌∙◌, arith}
 use Rattle.std.proofs.Math.Nat.{pow-le-pow_right}
 use Rattle.std.proofs.lemmas.Nat.{pow-add}
-use Rattle.dirac_types.specs.Numbers.{digits_of}
-use Rattle.dirac_types.specs.Bits.{bit_value}
-use Rattle.dirac_types.proofs.Digits.{bit_value-below}
+use Rattle.dirac_common.specs.Numbers.{digits_of}
+use Rattle.dirac_common.specs.Bits.{bit_value}
+use Rattle.dirac_common.proofs.Digits.{bit_value-below}
 use Rattle.dirac_arith.specs.Front.{front}
 use Rattle.dirac_arith.specs.Reading.{Reading, Reads}
 use Rattle.dirac_arith.specs.Spelling.{spelt}

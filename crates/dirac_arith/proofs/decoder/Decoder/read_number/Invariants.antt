@@ -1,5 +1,5 @@
 use Rattle.std.proofs.Common.{◌≡◌, ◌≢◌, ◌+◌, ◌-◌, ◌*◌, ◌^◌, ◌<◌, ◌≤◌, length}
-use Rattle.dirac_types.specs.Numbers.{digits_of}
+use Rattle.dirac_common.specs.Numbers.{digits_of}
 use Rattle.dirac_arith.specs.Front.{front}
 use Rattle.dirac_arith.specs.Reading.{Reads}
 use Rattle.dirac_arith.specs.Spelling.{opening}

@@ -1,6 +1,6 @@
 use Rattle.std.proofs.Common.{◌≡◌, ℤ, sym, subst, ◌∙◌, w64, to_z, of_z, rules}
 use Rattle.std.proofs.lemmas.Int.{to_z-of_z}
-use Rattle.dirac_types.specs.Numbers.{signed_value}
+use Rattle.dirac_common.specs.Numbers.{signed_value}
 use Rattle.dirac_arith.specs.Reading.{Reads}
 use Rattle.dirac_arith.specs.Spelling.{signed_spelling}
 use Rattle.dirac_arith.proofs.Numbers.{reads_zero, reads_signed}

@@ -1,8 +1,8 @@
 use Rattle.std.proofs.Common.{◌≡◌, ℤ, Bool, Result, Ok, ap, sym, ◌∙◌, w64, to_z, of_z, rules}
 use Rattle.std.proofs.lemmas.Int.{to_z-of_z}
 use Rattle.std.proofs.lemmas.Result.{err_from_is_err_and}
-use Rattle.dirac_types.specs.Numbers.{signed_value}
-use Rattle.dirac_types.specs.declared.faults.Cause.{Cause}
+use Rattle.dirac_common.specs.Numbers.{signed_value}
+use Rattle.dirac_common.specs.declared.faults.Cause.{Cause}
 use Rattle.dirac_arith.specs.Reading.{Reading}
 use Rattle.dirac_arith.proofs.Behind.{signed_ends, signed_shut_at_number, signed_shut_at_sign}
 use Rattle.dirac_arith.proofs.decoder.Decoder.signed_behind.Goals as goal

@@ -2,7 +2,7 @@ use Rattle.std.proofs.Common.{◌≡◌, ◌+◌, ◌-◌, ◌/◌, ◌%◌, ◌
 use Rattle.std.proofs.Math.Nat.{pow-le-pow_right}
 use Rattle.std.proofs.lemmas.Bool.{cases_lt}
 use Rattle.std.proofs.lemmas.List.{length_push}
-use Rattle.dirac_types.specs.Numbers.{digits_of}
+use Rattle.dirac_common.specs.Numbers.{digits_of}
 use Rattle.dirac_arith.specs.Interval.{narrowed_by}
 use Rattle.dirac_arith.specs.Spelling.{opening}
 use Rattle.dirac_arith.proofs.Numbers.{digits_none}

@@ -1,5 +1,5 @@
 use Rattle.std.proofs.Common.{◌≡◌, ◌-◌, ◌/◌, ◌^◌, length}
-use Rattle.dirac_types.specs.Numbers.{digits_of}
+use Rattle.dirac_common.specs.Numbers.{digits_of}
 use Rattle.dirac_arith.specs.Interval.{narrowed_by}
 use Rattle.dirac_arith.specs.Spelling.{opening}
 use Rattle.dirac_arith.proofs.encoder.Encoder.number.Given as goal

@@ -1,6 +1,6 @@
 use Rattle.std.proofs.Common.{◌≡◌, ℕ, pos, ◌-◌, ◌^◌, ◌≤◌, List, ℤ, unsigned_abs, arith, subst, sym}
 use Rattle.std.specs.List.{All}
-use Rattle.dirac_types.specs.Table.{Table}
+use Rattle.dirac_common.specs.Table.{Table}
 use Rattle.dirac_coeffs.specs.Held.{IsLargest}
 use Rattle.dirac_coeffs.proofs.coefficients.Coefficients.narrow_row.Goals as goal
 

@@ -1,6 +1,6 @@
 use Rattle.std.proofs.Common.{◌≡◌, ◌+◌, ◌<◌, false, ap, sym, subst, ◌∙◌}
 use Rattle.circular_buffer.specs.Buffer.{Buffer}
-use Rattle.dirac_types.specs.declared.picture.Picture.{Picture}
+use Rattle.dirac_common.specs.declared.picture.Picture.{Picture}
 use Rattle.dirac_plan.specs.Planning.{Planning, waiting_places, with_picture}
 use Rattle.dirac_plan.specs.Waiting.{IsPlanning}
 use Rattle.dirac_plan.proofs.Queue.{put_behind}

@@ -1,6 +1,6 @@
 use Rattle.std.proofs.Common.{◌≡◌, ℕ, ◌+◌, ◌-◌, ◌<◌, Bool, true, false, remove, length, slice_get, Some, ap, ap₂, sym, subst, ◌∙◌, arith}
 use Rattle.circular_buffer.specs.Buffer.{Buffer, buffer}
-use Rattle.dirac_types.specs.declared.picture.Picture.{Picture}
+use Rattle.dirac_common.specs.declared.picture.Picture.{Picture}
 use Rattle.dirac_plan.specs.Planning.{IsLasting, Planning, Takes, are_too_few, waiting_places}
 use Rattle.dirac_plan.specs.Waiting.{IsPlanning}
 use Rattle.dirac_plan.proofs.planner.Planner.take.Goals.{then-waiting-eq0-via-then-waiting-eq0, then-waiting-eq0-via-else-waiting-eq0+then-are_too_few}

@@ -1,6 +1,6 @@
 use Rattle.std.proofs.Common.{ap, sym, subst, ◌∙◌, false}
 use Rattle.circular_buffer.specs.Buffer.{Buffer}
-use Rattle.dirac_types.specs.declared.picture.Picture.{Picture}
+use Rattle.dirac_common.specs.declared.picture.Picture.{Picture}
 use Rattle.dirac_plan.specs.Waiting.{IsPlanning}
 use Rattle.dirac_plan.proofs.Planners.{begun_is}
 use Rattle.dirac_plan.proofs.planner.Planner.try_new.Goals as goal

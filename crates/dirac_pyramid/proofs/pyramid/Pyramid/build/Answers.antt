@@ -1,5 +1,5 @@
 use Rattle.std.proofs.Common.{◌+◌, ◌≤◌, arith, subst, sym}
-use Rattle.dirac_types.specs.Table.{Table}
+use Rattle.dirac_common.specs.Table.{Table}
 use Rattle.dirac_pyramid.proofs.Levels.{level_size, level_is, levels_len}
 use Rattle.dirac_pyramid.proofs.pyramid.Pyramid.build.Goals as goal
 

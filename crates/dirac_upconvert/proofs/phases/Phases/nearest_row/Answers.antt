@@ -3,7 +3,7 @@ use Rattle.std.specs.Int.{w64}
 use Rattle.std.specs.List.{slice_range}
 use Rattle.std.proofs.lemmas.Int.{to_z-of_z}
 use Rattle.std.proofs.lemmas.Nat.{row_fits}
-use Rattle.dirac_types.specs.Table.{Table, clamped_to, table_at}
+use Rattle.dirac_common.specs.Table.{Table, clamped_to, table_at}
 use Rattle.dirac_upconvert.specs.Phases.{place_in_row, table_of_phases}
 use Rattle.dirac_upconvert.proofs.Lanes.{part_length}
 use Rattle.dirac_upconvert.proofs.Phased.{held_row}

@@ -1,0 +1,6 @@
+pub mod Answers
+pub mod Bounds
+pub mod Digits
+mod Examples
+pub mod Rows
+pub mod Shifts

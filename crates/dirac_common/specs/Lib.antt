@@ -1,0 +1,10 @@
+pub mod Bits
+pub mod Bytes
+pub mod Chain
+pub mod Codes
+pub mod Lending
+pub mod Limits
+pub mod Numbers
+pub mod Ratios
+pub mod Samples
+pub mod Table

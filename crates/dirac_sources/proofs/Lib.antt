@@ -1,0 +1,2 @@
+pub mod RawBytes
+pub mod Raws

@@ -1,0 +1,2 @@
+pub use Rattle.dirac_decode.specs.Raw
+pub mod Sources
