@@ -3,9 +3,8 @@ ghost use Rattle.dirac_types.specs.Settings.{IsAccepted};
 ghost use Rattle.dirac_encode_laws.specs.Encoding.{IsRecovered, encoding};
 ghost use Rattle.library_use.specs.Calls.{IsWhyNotCoded};
 
-use dirac_common::OpenGate;
 use dirac_encode::{Encoded, encode_stream};
-use dirac_io::{MemSink, MemSource, NullSink};
+use dirac_io::{MemSink, MemSource, NullSink, OpenGate};
 use dirac_types::{BadSetting, Settings};
 use std::alloc::Global;
 use std::thread::Threads;
