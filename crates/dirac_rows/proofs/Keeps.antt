@@ -7,7 +7,7 @@ use lib.ListN.{get_elem?}
 use Rattle.atomic_table.specs.Table.{State, Me, step, keeps, Allows, Splits, Joins, Final, Seen}
 use Rattle.atomic_table.proofs.Lists.{at_set, at_snoc, set_else}
 use Rattle.dirac_rows.specs.Weights.{total, total_below, times, past_rows}
-use Rattle.dirac_rows.specs.Rule.{spent_view, left_by_split, made_by_split, made_by_join, made_by_claim, Draws, FitsTerms, KeepsRule}
+use Rattle.dirac_rows.specs.Rule.{spent_view, left_by_split, made_by_split, made_by_join, made_by_claim, Draws, FitsTerms, KeepsRule, Looks}
 use Rattle.dirac_rows.specs.declared.view.View.{View}
 use Rattle.dirac_rows.specs.declared.view.Terms.{Terms}
 use Rattle.dirac_rows.proofs.Sums.{one_if, zero_if, one_if_le, weight_at, weight_past, total-append, total-set, term_le, terms_le, total_only, total_le, below_only, below_past, all_below}
@@ -101,3 +101,25 @@ ends t id v ws xs h had_none joined final r row =
     let my_past = total_only (λ (w : View). past_rows t.rows w.drawn) s.views id v at (λ j u d apart. ap (λ (w : View). past_rows t.rows w.drawn) (others j u d apart)) in
     let a = f.none_after_rows had_none in let b = k.each_number_once (weight_past t.rows) in let c = k.each_number_once (weight_at r) in
     dite (dec_le n t.rows) (λ le. let d = (below_past t.rows n).0 le in absurd (omega arith)) (λ gt. let d = (below_only r n).0 (omega arith) in omega arith)
+
+-- what a look tells
+pub looks : (t : Terms) (slots id : ℕ) (m : Me (Unit {0}) View) → Allows (KeepsRule t) slots id m 0 (λ n. n) (Looks (step slots 0 0 0 none) m)
+looks t slots id m s k _ at _ =
+    let n : ℕ = get_or s.words 0 0 in let length_is = k.has_one_word in
+    let word : get_or (set s.words 0 n) 0 0 ≡ n = get_or-set_same s.words 0 n 0 (omega arith) in (
+      m.0,
+      keeps,
+      tt,
+      record {
+        has_one_word = length-set s.words 0 n ∙ k.has_one_word;
+        each_number_once = λ f. let a = k.each_number_once f in let b = total-set (λ (v : View). total f v.drawn) s.views id m.0 m.0 at in
+            let d : total (λ (v : View). total f v.drawn) (set s.views id m.0) ≡ total_below f n = omega arith in d ∙ ap (total_below f) (sym word);
+        shares_sum = let a = k.shares_sum in let b = total-set (λ (v : View). v.shares + v.given_up) s.views id m.0 m.0 at in omega arith;
+        each_fits = λ j u e. ⊎_elim (λ p. subst (λ (x : View). (x ≡ spent_view) ⊎ FitsTerms t x) p.1 (k.each_fits id m.0 at)) (λ p. k.each_fits j u p.1) (at_set s.views id j m.0 u e);
+      },
+      (
+        refl,
+        λ r. let a = term_le (λ (v : View). times r v.drawn) s.views id m.0 at in let b = k.each_number_once (weight_at r) in
+            dite (dec_le n r) (λ le. let c = (below_only r n).1 le in omega arith) (λ gt. let c = (below_only r n).0 (omega arith) in omega arith),
+      ),
+    )

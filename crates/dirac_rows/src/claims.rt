@@ -3,7 +3,7 @@ ghost use Rattle.std.specs.Prelude.{All, IfOk, IfSome, IfNone};
 ghost use Rattle.dirac_rows.specs.Weights.{times};
 ghost use Rattle.dirac_rows.specs.Claims.{DrawsNumber, first_seat, less_a_share, split_off, taking_over};
 
-use crate::rule::{ClaimRule, Drawing, Joining, Splitting};
+use crate::rule::{ClaimRule, Drawing, Joining, Looking, Splitting};
 use crate::view::{Terms, View};
 use atomic_table::{Seat, Table};
 use dirac_common::NoMemory;
@@ -118,11 +118,12 @@ impl RowClaims {
         }
     }
 
-    /// The seat takes over the other's rows, and the other's shares are given up.
+    /// The seat takes over the other's rows, and the other's shares are given up. No row was kept by both.
     pub fn join(&self, seat: &mut RowSeat, other: RowSeat)
         requires own { seat.old.claims ≡ self.now }
         requires other_own { other.claims ≡ self.now }
-        ensures { seat.new ≡ taking_over seat.old other }
+        ensures taken { seat.new ≡ taking_over seat.old other }
+        ensures no_row_twice { (r : ℕ) → times r seat.new.kept ≤ 1 }
     {
         let RowSeat {
             seat: theirs,
@@ -131,6 +132,17 @@ impl RowClaims {
         self.table
             .shared
             .join_seat::<Joining>(&mut seat.seat, theirs);
+        self.keeps_each_once(seat);
+    }
+
+    /// No number is kept twice, also where seats were joined: no two of these drew the same row, whether or not the
+    /// claims come to their end.
+    pub fn keeps_each_once(&self, seat: &mut RowSeat)
+        requires { seat.old.claims ≡ self.now }
+        ensures unchanged { seat.new ≡ seat.old }
+        ensures no_row_twice { (r : ℕ) → times r seat.old.kept ≤ 1 }
+    {
+        self.table.shared.load::<Looking>(&mut seat.seat, 0);
     }
 
     /// The end, once the seat had `None` and all other seats were joined to it: it keeps each row once.

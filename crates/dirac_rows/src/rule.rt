@@ -1,4 +1,4 @@
-ghost use Rattle.dirac_rows.specs.Rule.{Draws, KeepsRule, first_view};
+ghost use Rattle.dirac_rows.specs.Rule.{Draws, KeepsRule, Looks, first_view};
 ghost use Rattle.dirac_rows.specs.Rule.{left_by_split, made_by_split, made_by_join, spent_view};
 
 use crate::view::{Terms, View};
@@ -36,4 +36,11 @@ impl Join<View> for Joining {
     ghost both = { made_by_join };
 
     ghost spent = { spent_view };
+}
+
+/// A seat looks at the word, and learns that it keeps no number twice.
+pub struct Looking;
+
+impl Play<(), View> for Looking {
+    ghost then = { Looks };
 }
