@@ -1,0 +1,357 @@
+"""Tests of build.py and of what it stands on, with a small repository and an rt that only pretends to prove."""
+import os
+import pathlib
+import shutil
+import signal
+import subprocess
+import sys
+import tempfile
+import time
+import unittest
+
+TOOLS = pathlib.Path(__file__).resolve().parent.parent
+sys.path.insert(0, str(TOOLS))
+import process_table  # noqa: E402
+import prove_kept  # noqa: E402
+import time_left  # noqa: E402
+
+# An rt that keeps a list of what it proved; a crate whose text has the word "fails" isn't proved, and one whose text has
+# "sleeps" takes a minute.
+STEPS = '''
+import os, pathlib, subprocess, sys, types
+PROVED = os.environ["PROVED"]
+
+class Crate:
+    def __init__(self, folder, crates):
+        self.folder, self.name, self.crates = str(folder), folder.name, crates
+        self.is_program = (folder / "src/main.rt").is_file()
+
+    def below(self):
+        lines = pathlib.Path("crates.txt").read_text().splitlines()
+        names = {line.partition(":")[0]: line.partition(":")[2].split() for line in lines}
+        found = []
+        for name in names[self.name]:
+            low = next((one for one in self.crates if one.name == name), None)
+            found += [one for one in [*low.below(), low] if one not in found] if low else []
+        return found
+
+    def count(self, pattern):
+        return 10
+
+    def ci(self, flags, tests):
+        text = "".join(path.read_text() for path in sorted(pathlib.Path(self.folder, "src").iterdir()))
+        with open(PROVED, "a") as log:
+            log.write(f"{self.name}\\n")
+        if "sleeps" in text:
+            subprocess.run([sys.executable, "-c", "import time; time.sleep(60)", "--crate-name", self.name])
+        if "fails" in text:
+            print("fn first: not proved", file=self.out)
+            return 1
+        out = pathlib.Path(self.folder, "out")
+        if not self.is_program:
+            (out / "rlib" / f"{self.name}.rlib").mkdir(parents=True)
+            return 0
+        other = "other" if "differs" in text else "answer"
+        for ending, said in (("", "answer"), (".by-rattle", other)):
+            made = out / f"{self.name}{ending}"
+            made.write_text(f"#!/bin/sh\\necho {said} $1\\n")
+            made.chmod(0o755)
+        return 0
+
+def handles_of(root):
+    return ()
+
+def need(crate):
+    return 1
+
+def stop(why):
+    sys.exit(2)
+
+def in_lanes(tasks):
+    given = {}
+    for key, (waits, lines, needs, call) in tasks.items():
+        assert all(one in given for one in waits)
+        given[key] = call(given, 1)
+    return given
+
+def crates_below(top):
+    crates = []
+    crates += [Crate(path, crates) for path in sorted(pathlib.Path(top, "crates").iterdir())]
+    return crates
+
+rtlib = types.SimpleNamespace(Crate=Crate, crates_below=crates_below, guarded=lambda: [])
+'''
+# An rt that has no steps: it proves all at once.
+WHOLE = '''
+import os, pathlib, sys
+if __name__ == "__main__":
+    assert sys.argv[1:] == ["ci"]
+    with open(os.environ["PROVED"], "a") as log:
+        log.write("whole\\n")
+    for path in sorted(pathlib.Path("crates").iterdir()):
+        print(f"== {path.name}\\nrt: {path.name} proved", flush=True)
+    made = pathlib.Path("crates/tool/out/tool")
+    made.parent.mkdir(parents=True)
+    made.write_text("#!/bin/sh\\necho answer\\n")
+    made.chmod(0o755)
+'''
+
+
+class Repository(unittest.TestCase):
+    """A repository of four crates, of which the program stands on two, and an rt beside it."""
+
+    def setUp(self):
+        room = tempfile.TemporaryDirectory()
+        self.addCleanup(room.cleanup)
+        self.room = pathlib.Path(room.name)
+        self.top, self.cache = self.room / "top", self.room / "cache"
+        shutil.copytree(TOOLS, self.top / "tools", ignore=shutil.ignore_patterns("tests", "front", "__pycache__"))
+        (self.top / "crates.txt").write_text("low:\nmiddle: low std_of_kit\nother: low\ntool: middle\n")
+        (self.top / "HANDLES").write_text("Handles allowed: none.\n")
+        for name in ("low", "middle", "other"):
+            self.write(name, "src/lib.rt", "code\n")
+        self.write("tool", "src/main.rt", "code\n")
+        self.write("low", "must-fail/one.edit", "edit\n")
+        self.write("low", "more-edits/one.edit", "edit\n")
+        self.make_rt(STEPS)
+
+    def write(self, name, path, text):
+        file = self.top / "crates" / name / path
+        file.parent.mkdir(parents=True, exist_ok=True)
+        file.write_text(text)
+
+    def make_rt(self, text):
+        file = self.room / "bin" / "rt"
+        file.parent.mkdir(exist_ok=True)
+        file.write_text(f"#!{sys.executable}\n{text}")
+        file.chmod(0o755)
+
+    def environment(self, path=None):
+        path = path or f"{self.room / 'bin'}:{os.environ['PATH']}"
+        return {"PATH": path, "HOME": str(self.room), "XDG_CACHE_HOME": str(self.cache), "PROVED": str(self.room / "log")}
+
+    def start(self, **how):
+        words = [sys.executable, str(self.top / "tools" / "build.py"), "tool", "word"]
+        return subprocess.Popen(words, env=self.environment(**how), stderr=subprocess.PIPE, text=True)
+
+    def build(self, **how):
+        """The status of build.py, and what it said."""
+        command = self.start(**how)
+        said = command.communicate()[1]
+        return command.returncode, said
+
+    def proved(self):
+        """The crates that rt was to prove since the last call."""
+        log = self.room / "log"
+        names = log.read_text().split() if log.exists() else []
+        log.unlink(missing_ok=True)
+        return names
+
+    def begun(self, name):
+        """How often rt has begun to prove a crate."""
+        log = self.room / "log"
+        return log.read_text().split().count(name) if log.exists() else 0
+
+
+class BuildsProgram(Repository):
+    def test_proves_only_what_the_program_stands_on(self):
+        status, said = self.build()
+        self.assertEqual(status, 0, said)
+        self.assertEqual(self.proved(), ["low", "middle", "tool"])
+        self.assertIn("3 of 3 crates proved: tool", said)
+        self.assertTrue(os.access(self.top / "crates/tool/out/tool", os.X_OK))
+        self.assertTrue((self.top / "crates/tool/out/tool.by-rattle").is_file())
+        self.assertEqual(list(self.room.glob("cache/*")), [], "the folder is removed")
+
+    def test_builds_nothing_where_nothing_changed(self):
+        self.build()
+        self.proved()
+        later = time.time() + 5
+        os.utime(self.top / "crates/tool/src/main.rt", (later - 10, later - 10))
+        self.assertEqual(self.build(), (0, ""))
+        self.assertEqual(self.proved(), [])
+
+    def test_is_as_old_as_the_sources_that_it_read(self):
+        before = time.time()
+        self.build()
+        made = (self.top / "crates/tool/out/tool").stat().st_mtime
+        self.assertTrue(before <= made <= before + 2)
+
+    def test_builds_again_after_a_change_below(self):
+        self.build()
+        self.proved()
+        self.write("low", "src/lib.rt", "other code\n")
+        self.assertEqual(self.build()[0], 0)
+        self.assertEqual(self.proved(), ["low", "middle", "tool"])
+
+    def test_a_change_of_edits_or_of_other_crates_builds_nothing(self):
+        self.build()
+        self.proved()
+        self.write("low", "must-fail/two.edit", "edit\n")
+        self.write("other", "src/lib.rt", "other code\n")
+        self.assertEqual(self.build(), (0, ""))
+        self.assertEqual(self.proved(), [])
+
+    def test_copies_no_edits(self):
+        self.write("middle", "src/lib.rt", "fails\n")
+        self.build()
+        copied = sorted(path.name for path in self.cache.glob("jevmutzal/*/crates/low/*"))
+        self.assertEqual(copied, ["out", "src"])
+        self.assertEqual(len(list(self.cache.glob("jevmutzal/*/crates/*"))), 3)
+
+    def test_another_answer_of_the_other_compiler_is_refused(self):
+        self.write("tool", "src/main.rt", "differs\n")
+        status, said = self.build()
+        self.assertEqual(status, 1)
+        self.assertIn("isn't taken", said)
+        self.assertFalse((self.top / "crates/tool/out/tool").exists())
+
+    def test_takes_a_plain_gate_where_rt_has_no_steps(self):
+        self.make_rt(WHOLE)
+        status, said = self.build()
+        self.assertEqual(status, 0, said)
+        self.assertEqual(self.proved(), ["whole"])
+        self.assertIn("a plain rt ci", said)
+        self.assertTrue((self.top / "crates/tool/out/tool").is_file())
+
+    def test_says_that_there_is_no_rt(self):
+        status, said = self.build(path=str(self.room / "nowhere"))
+        self.assertEqual(status, 1)
+        self.assertIn("no command rt", said)
+
+
+class GoesOn(Repository):
+    def test_after_a_crate_that_was_not_proved(self):
+        self.write("middle", "src/lib.rt", "fails\n")
+        status, said = self.build()
+        self.assertEqual(status, 1)
+        self.assertIn("fn first: not proved", said)
+        self.assertEqual(self.proved(), ["low", "middle"])
+        self.write("middle", "src/lib.rt", "mended\n")
+        status, said = self.build()
+        self.assertEqual(status, 0, said)
+        self.assertEqual(self.proved(), ["middle", "tool"])
+        self.assertIn("but 1 that were proved before", said)
+
+    def test_but_proves_again_what_stands_on_a_change(self):
+        self.write("tool", "src/main.rt", "fails\n")
+        self.build()
+        self.assertEqual(self.proved(), ["low", "middle", "tool"])
+        self.write("low", "src/lib.rt", "other code\n")
+        self.build()
+        self.assertEqual(self.proved(), ["low", "middle", "tool"])
+
+    def test_but_keeps_nothing_of_another_rt(self):
+        self.write("tool", "src/main.rt", "fails\n")
+        self.build()
+        self.proved()
+        self.make_rt(f"{STEPS}\n# another\n")
+        self.build()
+        self.assertEqual(self.proved(), ["low", "middle", "tool"])
+
+    def break_off(self, number):
+        """Ends build.py by a signal while it proves the middle crate; its status, what it said, and what still runs."""
+        self.write("middle", "src/lib.rt", "sleeps\n")
+        before, command = self.begun("middle"), self.start()
+        while self.begun("middle") == before and command.poll() is None:
+            time.sleep(0.05)
+        below = process_table.processes_below(command.pid)
+        command.send_signal(number)
+        said = command.communicate()[1]
+        time.sleep(0.3)
+        mine = [process_table.PROC / str(one.number) for one in below if "prove_kept.py" in " ".join(one.words)]
+        self.assertEqual(len(mine), 1)
+        # one that has ended and that nothing waited for has no words
+        return command.returncode, said, [path for path in mine if process_table.text_of(path / "cmdline")]
+
+    def test_after_an_interrupt_a_signal_to_end_and_a_kill(self):
+        for number in (signal.SIGINT, signal.SIGTERM):
+            status, said, running = self.break_off(number)
+            self.assertEqual((status, running), (128 + number, []))
+            self.assertIn("broken off with 1 of 3 crates proved", said)
+        self.assertEqual(self.break_off(signal.SIGKILL)[0::2], (-signal.SIGKILL, []))
+        self.assertEqual(self.proved(), ["low", "middle", "middle", "middle"])
+        self.write("middle", "src/lib.rt", "code\n")
+        self.assertEqual(self.build()[0], 0)
+        self.assertEqual(self.proved(), ["middle", "tool"])
+
+
+class TellsSteps(unittest.TestCase):
+    def step(self, words, folder="/clone/crates/low"):
+        return process_table.step_of(process_table.Process(1, 0, words.split(), folder, 0, 0, 0))
+
+    def test_of_rattle(self):
+        for words, step in (
+            ("/kit/bin/rattle build --crate-name low src/lib.rt --statements -o out/rlib/low.rlib", "proof"),
+            ("/kit/bin/rattle check --crate-name low src/main.rt -o /tmp/rt-proved-1/checked", "proof"),
+            ("/kit/bin/rattle build --crate-name low src/lib.rt --test -o out/low_tests.o", "tests"),
+            ("/kit/bin/rattle check --crate-name low src/lib.rt --incremental /tmp/rt-edits-1", "edits"),
+            ("/kit/bin/rattle build --crate-name low --crate-checked x --backend llvm -o out/low.o", "compiling by LLVM"),
+            ("/kit/bin/rattle build --crate-name low --crate-checked x --backend rattle -o out/low.o",
+             "compiling by Rattle's own compiler"),
+            ("/kit/bin/rattle-link --target x -o out/low out/low.o", "linking"),
+            ("sh -c exec /tmp/rt-run-a1/bin/low", "running"),
+            ("/kit/bin/rattle-test --seconds 60 /tmp/rt-run-a1/bin/low_tests", "running tests"),
+        ):
+            self.assertEqual(self.step(words), ("low", step), words)
+
+    def test_of_nothing_else(self):
+        self.assertIsNone(self.step("python3 /usr/local/bin/rt ci"))
+        self.assertIsNone(self.step(""))
+
+    def test_that_are_in_hand_here(self):
+        words = [sys.executable, "-c", "import sys; sys.stdin.read()", "--crate-name", "low"]
+        with subprocess.Popen(words, stdin=subprocess.PIPE) as command:
+            found = [one for one in process_table.processes_below(os.getpid()) if one.number == command.pid]
+            command.stdin.close()
+        self.assertEqual(found[0].parent, os.getpid())
+
+
+class GuessesWhatIsLeft(unittest.TestCase):
+    def test_one_place_takes_the_sum(self):
+        waits = {"a": [], "b": ["a"], "c": ["a"]}
+        self.assertEqual(time_left.seconds_left({"a": 3, "b": 5, "c": 7}, waits, {}, 1), 15)
+
+    def test_two_places_take_the_longest_chain(self):
+        waits = {"a": [], "b": ["a"], "c": ["a"]}
+        self.assertEqual(time_left.seconds_left({"a": 3, "b": 5, "c": 7}, waits, {}, 2), 10)
+
+    def test_what_is_in_hand_is_partly_done(self):
+        self.assertEqual(time_left.seconds_left({"a": 30}, {"a": []}, {"a": 10}, 1), 20)
+        self.assertEqual(time_left.seconds_left({"a": 30}, {"a": []}, {"a": 50}, 1), 1)
+
+    def test_nothing_left(self):
+        self.assertEqual(time_left.seconds_left({}, {}, {}, 4), 0)
+
+    def test_pace_follows_this_machine(self):
+        self.assertAlmostEqual(time_left.pace([]), time_left.FIRST_PACE)
+        self.assertAlmostEqual(time_left.pace([(100_000, 20_000)]), 0.2, delta=0.01)
+
+    def test_tests_are_left_out_of_the_lines(self):
+        with tempfile.TemporaryDirectory() as room:
+            source = pathlib.Path(room) / "src"
+            source.mkdir()
+            (source / "main.rt").write_text("mod code;\n\n#[cfg(test)]\nmod tests;\n")
+            (source / "code.rt").write_text("one\ntwo\n")
+            (source / "tests.rt").write_text("one\ntwo\nthree\n")
+            self.assertEqual(time_left.lines_of(room), 6)
+
+
+class SumsOfCrates(unittest.TestCase):
+    def test_each_file_and_each_crate_below_counts(self):
+        with tempfile.TemporaryDirectory() as room:
+            top = pathlib.Path(room)
+            (top / "crates.txt").write_text("low:\nhigh: low\n")
+            for name in ("low", "high"):
+                (top / "crates" / name / "src").mkdir(parents=True)
+                (top / "crates" / name / "src" / "lib.rt").write_text("code\n")
+            first = prove_kept.sums_of(top, ["high"], [])
+            (top / "crates/low/src/more.rt").write_text("")
+            second = prove_kept.sums_of(top, ["high"], [])
+            self.assertNotEqual(first["low"], second["low"])
+            self.assertNotEqual(first["high"], second["high"])
+            self.assertNotEqual(second, prove_kept.sums_of(top, ["high"], ["another toolchain"]))
+
+
+if __name__ == "__main__":
+    unittest.main()
