@@ -1,14 +1,16 @@
 #!/usr/bin/env python3
 """Proves the crates of a folder and builds its programs by the steps of `rt ci`, and keeps what is proved.
 
-prove_kept.py FOLDER        a folder with crates.txt, HANDLES and crates/, which nothing else works in
+prove_kept.py FOLDER [CRATE...]     a folder with crates.txt, HANDLES and crates/, which nothing else works in; of these
+                                    crates the edits of must-fail/ are tried, too
 
 `rt ci` proves everything from nothing each time, so one that is broken off leaves nothing to go on from. This loads the
 command `rt`, and calls for each crate what the gate calls for it, in the gate's own lanes: as many crates at a time as
 there are processors and as it reckons that memory has room for. A crate that is proved is kept with a sum of all that
-went into it, and isn't proved again while that sum and those below it stay. Edits and tests are left to the gate.
+went into it, and isn't proved again while that sum and those below it stay. Tests are left to the gate.
 
-It prints the lines of `rt ci`. Ends with 0 where all is proved, 1 where not, and 3 where this `rt` has no such steps.
+It prints the lines of `rt ci`. Ends with 0 where all is proved and no edit, 1 where not so, and 3 where this `rt` has no
+such steps.
 """
 import copy
 import hashlib
@@ -28,7 +30,7 @@ import crate_list
 PARTS = ("src", "specs", "proofs")
 NO_STEPS = 3
 # What is taken of rt, and of the library that it stands on.
-OF_RT = "Crate handles_of in_lanes need stop rtlib".split()
+OF_RT = "Crate edits_of handles_of in_lanes must_fail_all need stop rtlib".split()
 OF_LIBRARY = "Crate crates_below guarded".split()
 
 
@@ -102,8 +104,8 @@ def kept_crates(folder, sums):
 class Lanes:
     """The crates of the folder as tasks of the gate's lanes."""
 
-    def __init__(self, rt, folder):
-        self.rt, self.folder, self.printing = rt, folder, threading.Lock()
+    def __init__(self, rt, folder, edited):
+        self.rt, self.folder, self.edited, self.printing = rt, folder, edited, threading.Lock()
         library = rt.rtlib
         library.stop = rt.stop
         # as in rt ci: a crate's last line is held to HANDLES, and those above a library load its statements alone
@@ -149,26 +151,46 @@ class Lanes:
         self.tell(f"== {crate.name}\n{said}took {seconds} seconds\n{end}")
         return not status
 
+    def try_edits(self, crate, given):
+        """Tries the edits of a crate in turn; whether each is refused."""
+        if not given.get((crate.name, "proof"), True):
+            return False
+        good, bad = self.rt.edits_of(crate)
+        tried = self.rt.must_fail_all(crate, good, ["--jobs", "1"])
+        for _, text in tried:
+            self.tell(f"rt: {text}")
+        for path in bad:
+            self.tell(f"rt: must-fail {crate.name}/{os.path.basename(path)}: BAD EDIT: its name isn't an edit's")
+        return not bad and all(is_refused for is_refused, _ in tried)
+
     def waits(self, crate):
         return [(one.name, "proof") for one in crate.below() if one.name not in self.kept]
 
-    def task(self, crate):
-        work = lambda given, jobs: self.prove(crate, given, jobs)
-        return self.waits(crate), crate.count(rb"\n"), self.rt.need(crate), work
+    def tasks(self):
+        """What is to be done, each behind what it waits for, as the gate's lanes take it."""
+        tasks = {}
+        for crate in self.crates:
+            lines, needs, waits = crate.count(rb"\n"), self.rt.need(crate), self.waits(crate)
+            if crate.name not in self.kept:
+                prove = lambda given, jobs, one=crate: self.prove(one, given, jobs)
+                tasks[crate.name, "proof"] = waits, lines, needs, prove
+                waits = [(crate.name, "proof")]
+            if crate.name in self.edited:
+                tasks[crate.name, "edits"] = waits, lines, needs, lambda given, jobs, one=crate: self.try_edits(one, given)
+        return tasks
 
     def run(self):
         for name in self.kept:
             self.tell(f"kept: {name}")
-        left = [crate for crate in self.crates if crate.name not in self.kept]
-        given = self.rt.in_lanes({(crate.name, "proof"): self.task(crate) for crate in left})
-        failed = [name for (name, _), is_proved in given.items() if not is_proved]
-        self.tell(f"{len(self.crates) - len(failed)} proved, {len(failed)} not")
+        given = self.rt.in_lanes(self.tasks())
+        failed = [" ".join(key) for key, is_well in given.items() if not is_well]
+        self.tell(f"FAILED: {', '.join(failed)}" if failed else "ok")
         return 1 if failed else 0
 
 
 def main():
-    if len(sys.argv) != 2:
-        print("usage: prove_kept.py FOLDER", file=sys.stderr)
+    if len(sys.argv) < 2:
+        print("usage: prove_kept.py FOLDER [CRATE...]", file=sys.stderr)
         sys.exit(2)
     rt = load_rt()
     if not rt:
@@ -176,7 +198,7 @@ def main():
         sys.exit(NO_STEPS)
     folder = os.path.realpath(sys.argv[1])
     os.chdir(folder)
-    sys.exit(Lanes(rt, folder).run())
+    sys.exit(Lanes(rt, folder, sys.argv[2:]).run())
 
 
 if __name__ == "__main__":
