@@ -7,8 +7,9 @@ PROC = pathlib.Path("/proc")
 TICKS = os.sysconf("SC_CLK_TCK")
 
 # parent: the number of the process above it; words: its command line; folder: where it runs; seconds: its processor
-# time with that of the children that it waited for; age: seconds since it began; peak: the most memory held, in bytes
-Process = collections.namedtuple("Process", "number parent words folder seconds age peak")
+# time with that of the children that it waited for; age: seconds since it began; held, peak: the memory that it holds
+# now and held at most, in bytes
+Process = collections.namedtuple("Process", "number parent words folder seconds age held peak")
 
 # step: what is done for the crate, in words that stand behind "in hand:"
 Step = collections.namedtuple("Step", "crate step")
@@ -36,10 +37,10 @@ def process_at(path, now):
     if len(fields) < 20:
         return None
     seconds = sum(int(fields[at]) for at in range(11, 15)) / TICKS
-    peaks = [line.split()[1] for line in text_of(path / "status").splitlines() if line.startswith("VmHWM:")]
-    peak = 1024 * int(peaks[0]) if peaks else 0
+    status = dict(line.split(":", 1) for line in text_of(path / "status").splitlines() if ":" in line)
+    held, peak = (1024 * int(status.get(name, "0").split()[0]) for name in ("VmRSS", "VmHWM"))
     age = now - int(fields[19]) / TICKS
-    return Process(int(path.name), int(fields[1]), words, folder_of(path), seconds, age, peak)
+    return Process(int(path.name), int(fields[1]), words, folder_of(path), seconds, age, held, peak)
 
 
 def processes_below(number):
@@ -86,9 +87,20 @@ def step_of(process):
     return None
 
 
-def steps_below(number):
-    """The steps in hand below this process, the oldest first, each with its process. What a step starts is part of it."""
-    processes = processes_below(number)
+def steps_among(processes):
+    """The steps of these processes, the oldest first: each with its process, and with that and all that it started."""
     known = {one.number: step_of(one) for one in processes}
-    mine = [one for one in processes if known[one.number] and known.get(one.parent) != known[one.number]]
-    return [(known[one.number], one) for one in sorted(mine, key=lambda one: -one.age)]
+    tops = [one for one in processes if known[one.number] and known.get(one.parent) != known[one.number]]
+    found, heads = [], {one.number for one in tops}
+    for top in sorted(tops, key=lambda one: -one.age):
+        inside, grew = {top.number}, True
+        while grew:
+            more = {one.number for one in processes if one.parent in inside} - inside - heads
+            inside, grew = inside | more, bool(more)
+        found.append((known[top.number], top, [one for one in processes if one.number in inside]))
+    return found
+
+
+def steps_below(number):
+    """The steps in hand below this process, the oldest first, each with its process."""
+    return [(step, process) for step, process, _ in steps_among(processes_below(number))]

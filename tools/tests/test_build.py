@@ -132,7 +132,7 @@ class GoesOn(Builds):
         command.send_signal(number)
         said = command.communicate()[1]
         time.sleep(0.3)
-        mine = [process_table.PROC / str(one.number) for one in below if "prove_kept.py" in " ".join(one.words)]
+        mine = [process_table.PROC / str(one.number) for one in below if one.parent == command.pid]
         self.assertEqual(len(mine), 1)
         # one that has ended and that nothing waited for has no words
         return command.returncode, said, [path for path in mine if process_table.text_of(path / "cmdline")]
@@ -151,7 +151,7 @@ class GoesOn(Builds):
 
 class TellsSteps(unittest.TestCase):
     def step(self, words, folder="/clone/crates/low"):
-        return process_table.step_of(process_table.Process(1, 0, words.split(), folder, 0, 0, 0))
+        return process_table.step_of(process_table.Process(1, 0, words.split(), folder, 0, 0, 0, 0))
 
     def test_of_rattle(self):
         for words, step in (
@@ -159,8 +159,8 @@ class TellsSteps(unittest.TestCase):
             ("/kit/bin/rattle check --crate-name low src/main.rt -o /tmp/rt-proved-1/checked", "proof"),
             ("/kit/bin/rattle build --crate-name low src/lib.rt --test -o out/low_tests.o", "tests"),
             ("/kit/bin/rattle check --crate-name low src/lib.rt --incremental /tmp/rt-edits-1", "edits"),
-            ("/kit/bin/rattle build --crate-name low --crate-checked x --backend llvm -o out/low.o", "compiling by LLVM"),
-            ("/kit/bin/rattle build --crate-name low --crate-checked x --backend rattle -o out/low.o",
+            ("/kit/bin/rattle build --crate-name low --crate-checked x --backend llvm", "compiling by LLVM"),
+            ("/kit/bin/rattle build --crate-name low --crate-checked x --backend rattle",
              "compiling by Rattle's own compiler"),
             ("/kit/bin/rattle-link --target x -o out/low out/low.o", "linking"),
             ("sh -c exec /tmp/rt-run-a1/bin/low", "running"),
