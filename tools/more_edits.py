@@ -4,12 +4,12 @@
 more_edits.py CRATE...          tries the edits of these crates, or of all at the word all, as the gate tries those of
                                 must-fail/, and tells each result
 more_edits.py --list [CRATE...] names them
-more_edits.py --check           reads the edits of must-fail/ and more-edits/ of all crates, in a second, with no toolchain
+more_edits.py --check           reads the edits of must-fail/ and more-edits/ of all crates, in a second, by itself
 
 An edit is a file NAME.edit: a line `file: src/FILE`, and then pairs of lines `old: TEXT` and `new: TEXT`, each of which
 changes what the pairs before it left. The prover must refuse the crate with the edit. Wrong is one that can't be
-applied, as its file isn't there or an `old:` text doesn't stand there exactly once, and one that changes a definition or
-a proof, since that shows nothing of what the code's contracts hold.
+applied, as its file isn't there or an `old:` text doesn't stand there exactly once, and one that changes a definition
+or a proof, since that shows nothing of what the code's contracts hold.
 
 The crates and all that they stand on are proved first, in a folder below ${XDG_CACHE_HOME:-~/.cache}, as build.py does;
 broken off and begun again that goes on with the crates that weren't proved. Ends with 1 where an edit isn't refused or
@@ -26,6 +26,8 @@ import crate_list
 import proving
 
 TRIED, READ = "more-edits", ("must-fail", "more-edits")
+# An edit costs about a third of its crate's proof.
+EDITS_OF_A_PROOF = 3
 NAME = re.compile(r"[A-Za-z0-9_-][A-Za-z0-9_.-]*\.edit")
 
 # one line of an edit: which of its three kinds, and its text
@@ -116,28 +118,40 @@ class Trial(proving.Proving):
     def __init__(self, top, names):
         folder = proving.cache_folder(top, "edits")
         super().__init__(top, names, "edits", folder.with_suffix(".log"))
-        self.who, self.edited, self.refused, self.not_refused = "more_edits", names, 0, 0
+        self.who, self.refused, self.not_refused = "more_edits", 0, 0
+        self.untried = {name: len(edits_of(top, name, TRIED)) for name in names}
+        self.count = sum(self.untried.values())
+        self.waits.update((f"{name} edits", [*self.waits[name], name]) for name in names)
+
+    def costs_left(self):
+        edits = {f"{name} edits": count * self.costs[name] / EDITS_OF_A_PROOF for name, count in self.untried.items()}
+        return {**super().costs_left(), **{task: cost for task, cost in edits.items() if cost}}
+
+    def done(self):
+        return f"{self.refused + self.not_refused} of {proving.plural(self.count, 'edit')} tried, {super().done()}"
 
     def take(self, line, block):
-        if line.startswith("rt: must-fail "):
-            is_refused = ": refused, as it must be" in line
-            self.refused, self.not_refused = self.refused + is_refused, self.not_refused + (not is_refused)
-            print(line[4:].rstrip("\n"), flush=True)
-        else:
-            super().take(line, block)
+        edit = re.match(r"rt: must-fail (\w+)/", line)
+        if not edit:
+            return super().take(line, block)
+        is_refused = ": refused, as it must be" in line
+        self.refused, self.not_refused = self.refused + is_refused, self.not_refused + (not is_refused)
+        self.untried[edit[1]] -= 1
+        return print(line[4:].rstrip("\n"), flush=True)
 
     def run_all(self):
         """Tries all edits; whether each is refused."""
         self.folder.mkdir(parents=True, exist_ok=True)
         self.prepare()
-        for name in self.edited:
+        for name in self.untried:
             folder = self.folder / "crates" / name
             shutil.copytree(self.top / "crates" / name / TRIED, folder / "must-fail")
-        count = sum(len(edits_of(self.top, name, TRIED)) for name in self.edited)
-        self.tell(f"{proving.plural(count, 'edit')} to try, over {proving.plural(len(self.names), 'crate')} to prove")
-        status = self.prove(self.edited)
-        print(f"{self.refused} refused, {self.not_refused} not, {count - self.refused - self.not_refused} not tried")
-        is_well = not status and self.refused == count
+        edits, crates = proving.plural(self.count, "edit"), proving.plural(len(self.names), "crate")
+        self.tell(f"{edits} to try, over {crates} to prove")
+        status = self.prove(self.untried)
+        untried = self.count - self.refused - self.not_refused
+        print(f"{self.refused} refused, {self.not_refused} not, {untried} not tried")
+        is_well = not status and self.refused == self.count
         if is_well:
             self.log.unlink()
         else:

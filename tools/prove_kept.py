@@ -9,8 +9,8 @@ command `rt`, and calls for each crate what the gate calls for it, in the gate's
 there are processors and as it reckons that memory has room for. A crate that is proved is kept with a sum of all that
 went into it, and isn't proved again while that sum and those below it stay. Tests are left to the gate.
 
-It prints the lines of `rt ci`. Ends with 0 where all is proved and no edit, 1 where not so, and 3 where this `rt` has no
-such steps.
+It prints the lines of `rt ci`. Ends with 0 where all crates are proved and no edit is, 1 where not so, and 3 where this
+`rt` has no such steps.
 """
 import copy
 import hashlib
@@ -176,7 +176,8 @@ class Lanes:
                 tasks[crate.name, "proof"] = waits, lines, needs, prove
                 waits = [(crate.name, "proof")]
             if crate.name in self.edited:
-                tasks[crate.name, "edits"] = waits, lines, needs, lambda given, jobs, one=crate: self.try_edits(one, given)
+                edits = lambda given, jobs, one=crate: self.try_edits(one, given)
+                tasks[crate.name, "edits"] = waits, lines, needs, edits
         return tasks
 
     def run(self):

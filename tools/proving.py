@@ -84,26 +84,32 @@ class Proving:
         """The steps in hand and for how many seconds, the longest first."""
         return [(step, process.age) for step, process in process_table.steps_below(self.command.pid)]
 
+    def costs_left(self):
+        """What isn't done, with what it costs by its lines."""
+        return {name: self.costs[name] for name in self.names if name not in self.proved}
+
+    def done(self):
+        return f"{len(self.proved)} of {plural(len(self.names), 'crate')} proved"
+
     def guess(self, steps):
         """How long it takes on from here, in words."""
         begun = {}
         for step, age in steps:
-            begun[step.crate] = max(age, begun.get(step.crate, 0))
+            task = f"{step.crate} {step.step}" if step.step == "edits" else step.crate
+            begun[task] = max(age, begun.get(task, 0))
         self.places = max(self.places, len(begun))
-        pace = time_left.pace(self.took)
+        costs, pace = self.costs_left(), time_left.pace(self.took)
         # what takes longer than by the pace of the others says of the pace, too
-        long = [(self.costs[name], age) for name, age in begun.items() if age > pace * self.costs[name]]
+        long = [(costs[task], age) for task, age in begun.items() if task in costs and age > pace * costs[task]]
         pace = time_left.pace(self.took + long)
-        left = {name: pace * self.costs[name] for name in self.names if name not in self.proved}
+        left = {task: pace * cost for task, cost in costs.items()}
         return time_left.in_words(time_left.seconds_left(left, self.waits, begun, self.places))
 
     def tell_progress(self):
         steps = self.in_hand()
         hand = ", ".join(f"{step.crate} ({step.step}) {clock(age)}" for step, age in steps)
-        done = f"{len(self.proved)} of {plural(len(self.names), 'crate')} proved"
-        if len(self.proved) == len(self.names):
-            return self.tell(f"{done}; {hand or 'the programs and tests are run'}")
-        self.tell(f"{done}; in hand: {hand or 'the sources are read'}; left by a guess: {self.guess(steps)}")
+        left = f"; left by a guess: {self.guess(steps)}" if self.costs_left() else ""
+        self.tell(f"{self.done()}; in hand: {hand or 'what rt reads and runs itself'}{left}")
 
     def take(self, line, block):
         """Takes a line that the command wrote; block holds the lines since the one that names a crate."""
@@ -117,7 +123,7 @@ class Proving:
             seconds = [int(one.split()[1]) for one in block if one.startswith("took ")]
             self.took += [(self.costs[name], one) for one in seconds]
             self.proved.append(name)
-            self.tell(f"{len(self.proved)} of {plural(len(self.names), 'crate')} proved: {name}")
+            self.tell(f"{self.done()}: {name}")
         if end.startswith("NOT PROVED"):
             self.failures += block[-20:]
 
@@ -170,8 +176,7 @@ class Proving:
         """Ends what runs below, at a signal. What was proved is kept."""
         if self.command:
             self.command.kill()
-        done = f"{len(self.proved)} of {plural(len(self.names), 'crate')} proved"
-        self.tell(f"broken off with {done}; begun again it goes on")
+        self.tell(f"broken off with {self.done()}; begun again it goes on")
         os._exit(128 + number)
 
     def tail(self):

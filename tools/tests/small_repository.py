@@ -10,8 +10,8 @@ import unittest
 TOOLS = pathlib.Path(__file__).resolve().parent.parent
 sys.path.insert(0, str(TOOLS))
 
-# An rt that keeps a list of what it proved; a crate whose text has the word "fails" isn't proved, and one whose text has
-# "sleeps" takes a minute.
+# An rt that keeps a list of what it proved. A crate whose text has the word "fails" isn't proved, one with "sleeps"
+# takes a minute, and of one with "differs" the two compilers' programs do.
 STEPS = '''
 import os, pathlib, subprocess, sys, types
 PROVED = os.environ["PROVED"]
@@ -131,7 +131,8 @@ class Repository(unittest.TestCase):
 
     def environment(self, path=None):
         path = path or f"{self.room / 'bin'}:{os.environ['PATH']}"
-        return {"PATH": path, "HOME": str(self.room), "XDG_CACHE_HOME": str(self.cache), "PROVED": str(self.room / "log")}
+        log = str(self.room / "log")
+        return {"PATH": path, "HOME": str(self.room), "XDG_CACHE_HOME": str(self.cache), "PROVED": log}
 
     def start(self, *words, **how):
         """A tool of the repository, begun on these words."""

@@ -8,7 +8,12 @@ import small_repository  # noqa: F401 (the tools' folder)
 import crate_list
 import floors
 
-CRATES = "# a line for each crate\nlow:\nodd: arrayvec # of the toolchain\nmiddle backend=rattle: low odd\nhigh: middle low\n"
+CRATES = """# a line for each crate
+low:
+odd: arrayvec # of the toolchain
+middle backend=rattle: low odd
+high: middle low
+"""
 DOCUMENT = f"""# Architecture
 
 {floors.HEAD}| 2 | `high` | The top. |
