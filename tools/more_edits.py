@@ -152,10 +152,11 @@ class Trial(proving.Proving):
         untried = self.count - self.refused - self.not_refused
         print(f"{self.refused} refused, {self.not_refused} not, {untried} not tried")
         is_well = not status and self.refused == self.count
+        if untried:
+            print("".join(self.failures or self.tail()), file=sys.stderr)
         if is_well:
             self.log.unlink()
         else:
-            print("".join(self.failures or self.tail()), file=sys.stderr)
             self.tell(f"not all are refused; the whole log is {self.log}")
         self.remove_folder()
         return is_well

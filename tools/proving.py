@@ -176,7 +176,9 @@ class Proving:
         """Ends what runs below, at a signal. What was proved is kept."""
         if self.command:
             self.command.kill()
-        self.tell(f"broken off with {self.done()}; begun again it goes on")
+        # the terminal may be gone
+        with contextlib.suppress(OSError):
+            self.tell(f"broken off with {self.done()}; begun again it goes on")
         os._exit(128 + number)
 
     def tail(self):

@@ -6,7 +6,9 @@ import re
 LOADING = 200
 # Seconds of the clock for a line, until crates were proved on this machine; it weighs like so many lines of them.
 FIRST_PACE = 0.06
-FIRST_WEIGHT = 2000
+FIRST_WEIGHT = 1000
+# What takes longer than by the guess is taken to need so much of its time once more.
+OVERDUE = 0.25
 
 
 def lines_of(folder):
@@ -40,7 +42,7 @@ def seconds_left(left, waits, begun, places):
             behind[name] = left[name] + max(map(chain, above), default=0)
         return behind[name]
 
-    now, ends = 0.0, {name: max(left[name] - spent, 1.0) for name, spent in begun.items() if name in left}
+    now, ends = 0.0, {name: max(left[name] - spent, OVERDUE * spent) for name, spent in begun.items() if name in left}
     open_ones = sorted((name for name in left if name not in ends), key=lambda name: -chain(name))
     unfinished = set(left)
     while unfinished:

@@ -103,17 +103,19 @@ if __name__ == "__main__":
 class Repository(unittest.TestCase):
     """A repository of four crates, of which the program stands on two, and an rt beside it."""
 
+    PROGRAM = "tool"
+
     def setUp(self):
         room = tempfile.TemporaryDirectory()
         self.addCleanup(room.cleanup)
         self.room = pathlib.Path(room.name)
         self.top, self.cache = self.room / "top", self.room / "cache"
         shutil.copytree(TOOLS, self.top / "tools", ignore=shutil.ignore_patterns("tests", "front", "__pycache__"))
-        (self.top / "crates.txt").write_text("low:\nmiddle: low std_of_kit\nother: low\ntool: middle\n")
+        (self.top / "crates.txt").write_text(f"low:\nmiddle: low of_the_kit\nother: low\n{self.PROGRAM}: middle\n")
         (self.top / "HANDLES").write_text("Handles allowed: none.\n")
         for name in ("low", "middle", "other"):
             self.write(name, "src/lib.rt", "code\n")
-        self.write("tool", "src/main.rt", "code\n")
+        self.write(self.PROGRAM, "src/main.rt", "code\n")
         self.write("low", "must-fail/one.edit", "edit\n")
         self.write("low", "more-edits/one.edit", "edit\n")
         self.make_rt(STEPS)

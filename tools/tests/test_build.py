@@ -1,6 +1,8 @@
 """Tests of build.py and of what it stands on."""
+import fcntl
 import os
 import pathlib
+import shutil
 import signal
 import subprocess
 import sys
@@ -8,11 +10,14 @@ import tempfile
 import time
 import unittest
 
-from small_repository import STEPS, WHOLE, Repository
+from small_repository import STEPS, TOOLS, WHOLE, Repository
 
 import process_table
 import prove_kept
 import time_left
+
+
+PLAIN_PATH = "/usr/bin:/bin"
 
 
 class Builds(Repository):
@@ -149,6 +154,64 @@ class GoesOn(Builds):
         self.assertEqual(self.proved(), ["middle", "tool"])
 
 
+class Waits(Builds):
+    def test_for_another_call_in_the_clone(self):
+        with open(self.top / "crates.txt", "rb") as file:
+            fcntl.flock(file, fcntl.LOCK_EX)
+            command = self.start_build()
+            self.assertIn("another call is at work", command.stderr.readline())
+            self.assertEqual(self.proved(), [])
+        self.assertIn("tool is built", command.communicate()[1])
+
+
+class Runs(Builds):
+    """The script run, which builds dirac_tool."""
+
+    PROGRAM = "dirac_tool"
+
+    def setUp(self):
+        super().setUp()
+        shutil.copy(TOOLS.parent / "run", self.top)
+
+    def run_it(self, **how):
+        how = {"env": self.environment(**how), "stdin": subprocess.DEVNULL, "capture_output": True, "text": True}
+        done = subprocess.run([str(self.top / "run"), "list"], **how)
+        return done.returncode, done.stdout, done.stderr
+
+    def age(self, seconds):
+        """Makes all sources so old."""
+        then = time.time() - seconds
+        for path in [self.top / "crates.txt", *self.top.glob("crates/*/src/*")]:
+            os.utime(path, (then, then))
+
+    def test_builds_and_runs_and_then_only_runs(self):
+        self.age(10)
+        status, wrote, said = self.run_it()
+        self.assertEqual((status, wrote), (0, "answer list\n"), said)
+        self.assertIn("dirac_tool is built", said)
+        self.assertEqual(self.run_it(), (0, "answer list\n", ""))
+        self.assertEqual(self.proved(), ["low", "middle", "dirac_tool"])
+
+    def test_builds_again_where_a_source_is_newer(self):
+        self.run_it()
+        self.proved()
+        self.write("middle", "src/lib.rt", "other code\n")
+        self.assertIn("dirac_tool is built", self.run_it()[2])
+        self.assertEqual(self.proved(), ["low", "middle", "dirac_tool"])
+
+    def test_runs_nothing_where_it_could_not_be_built(self):
+        self.write("middle", "src/lib.rt", "fails\n")
+        status, wrote, said = self.run_it()
+        self.assertEqual((status, wrote), (1, ""))
+        self.assertIn("fn first: not proved", said)
+
+    @unittest.skipIf(shutil.which("rt", path=PLAIN_PATH), "rt is where everything is")
+    def test_says_that_there_is_no_rt(self):
+        status, wrote, said = self.run_it(path=PLAIN_PATH)
+        self.assertEqual((status, wrote), (1, ""))
+        self.assertIn("no command rt", said)
+
+
 class TellsSteps(unittest.TestCase):
     def step(self, words, folder="/clone/crates/low"):
         return process_table.step_of(process_table.Process(1, 0, words.split(), folder, 0, 0, 0, 0))
@@ -191,7 +254,7 @@ class GuessesWhatIsLeft(unittest.TestCase):
 
     def test_what_is_in_hand_is_partly_done(self):
         self.assertEqual(time_left.seconds_left({"a": 30}, {"a": []}, {"a": 10}, 1), 20)
-        self.assertEqual(time_left.seconds_left({"a": 30}, {"a": []}, {"a": 50}, 1), 1)
+        self.assertEqual(time_left.seconds_left({"a": 30}, {"a": []}, {"a": 50}, 1), 12.5)
 
     def test_nothing_left(self):
         self.assertEqual(time_left.seconds_left({}, {}, {}, 4), 0)
