@@ -41,11 +41,11 @@ class Measure:
         self.proved_at, self.edits = {}, collections.Counter()
         self.begin, self.held_at_once = time.monotonic(), 0
 
-    def look(self, processes, now):
-        """Takes in all processes below the command, at this time."""
+    def look(self, processes):
+        """Takes in all processes below the command, as they are now."""
         self.held_at_once = max(self.held_at_once, sum(one.held for one in processes))
         for step, top, parts in process_table.steps_among(processes):
-            key = top.number, round(now - top.age), step
+            key = top.number, top.began, step
             seconds, peak = sum(one.seconds for one in parts), sum(one.held for one in parts)
             before = self.steps.get(key, (0, 0))
             self.steps[key] = max(before[0], seconds), max(before[1], peak, top.peak)
@@ -85,7 +85,7 @@ class Measure:
 
 def look_until(measure, number, has_ended):
     while not has_ended.wait(PERIOD):
-        measure.look(process_table.processes_below(number), time.monotonic())
+        measure.look(process_table.processes_below(number))
 
 
 def pass_on(command, measure):

@@ -7,9 +7,9 @@ PROC = pathlib.Path("/proc")
 TICKS = os.sysconf("SC_CLK_TCK")
 
 # parent: the number of the process above it; words: its command line; folder: where it runs; seconds: its processor
-# time with that of the children that it waited for; age: seconds since it began; held, peak: the memory that it holds
-# now and held at most, in bytes
-Process = collections.namedtuple("Process", "number parent words folder seconds age held peak")
+# time with that of the children that it waited for; began: when, in ticks since the system did; age: seconds since then;
+# held, peak: the memory that it holds now and held at most, in bytes
+Process = collections.namedtuple("Process", "number parent words folder seconds began age held peak")
 
 # step: what is done for the crate, in words that stand behind "in hand:"
 Step = collections.namedtuple("Step", "crate step")
@@ -39,8 +39,9 @@ def process_at(path, now):
     seconds = sum(int(fields[at]) for at in range(11, 15)) / TICKS
     status = dict(line.split(":", 1) for line in text_of(path / "status").splitlines() if ":" in line)
     held, peak = (1024 * int(status.get(name, "0").split()[0]) for name in ("VmRSS", "VmHWM"))
-    age = now - int(fields[19]) / TICKS
-    return Process(int(path.name), int(fields[1]), words, folder_of(path), seconds, age, held, peak)
+    began = int(fields[19])
+    age = now - began / TICKS
+    return Process(int(path.name), int(fields[1]), words, folder_of(path), seconds, began, age, held, peak)
 
 
 def processes_below(number):

@@ -214,7 +214,7 @@ class Runs(Builds):
 
 class TellsSteps(unittest.TestCase):
     def step(self, words, folder="/clone/crates/low"):
-        return process_table.step_of(process_table.Process(1, 0, words.split(), folder, 0, 0, 0, 0))
+        return process_table.step_of(process_table.Process(1, 0, words.split(), folder, 0, 0, 0, 0, 0))
 
     def test_of_rattle(self):
         for words, step in (

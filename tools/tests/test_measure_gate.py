@@ -42,7 +42,7 @@ class Measures(unittest.TestCase):
         self.assertEqual(cells[1], "`low`")
         self.assertIn(int(cells[2]), (1, 2), "seconds of its proof")
         self.assertEqual(cells[6], "1", "edits")
-        self.assertRegex(cells[8], r"^0:0\d$")
+        self.assertRegex(cells[8], r"^0:\d\d$")
 
     def test_a_command_that_a_signal_ends(self):
         with tempfile.TemporaryDirectory() as room:
@@ -56,9 +56,9 @@ class Looks(unittest.TestCase):
         proof = "/kit/bin/rattle build --crate-name low --statements -o out/rlib/low.rlib".split()
         measure = measure_gate.Measure()
         # a copy of the step's process is at work; later it has ended, and the step has waited for it
-        measure.look([Process(7, 1, proof, "", 10, 20, 100, 150), Process(8, 7, proof, "", 5, 5, 40, 40),
-                      Process(9, 8, ["clang"], "", 1, 1, 30, 30)], 20)
-        measure.look([Process(7, 1, proof, "", 17, 22, 60, 150)], 22)
+        measure.look([Process(7, 1, proof, "", 10, 1000, 20, 100, 150), Process(8, 7, proof, "", 5, 2500, 5, 40, 40),
+                      Process(9, 8, ["clang"], "", 1, 2900, 1, 30, 30)])
+        measure.look([Process(7, 1, proof, "", 17, 1000, 21.6, 60, 150)])
         self.assertEqual(measure.seconds_of("low", "Proof"), 17)
         self.assertEqual(measure.peak_of("low"), 170)
         self.assertEqual(measure.held_at_once, 170)
@@ -66,14 +66,16 @@ class Looks(unittest.TestCase):
     def test_keeps_crates_and_steps_apart(self):
         words = "/kit/bin/rattle check --crate-name {} src/lib.rt".format
         measure = measure_gate.Measure()
-        measure.look([Process(7, 1, words("low").split(), "", 3, 4, 0, 0),
-                      Process(8, 1, words("high").split(), "", 5, 6, 0, 0),
-                      Process(9, 1, [*words("low").split(), "-o", "x"], "", 7, 8, 0, 0)], 100)
-        self.assertEqual(measure.seconds_of("low", "Edits"), 3)
+        measure.look([Process(7, 1, words("low").split(), "", 3, 100, 4, 0, 0),
+                      Process(8, 1, words("high").split(), "", 5, 100, 6, 0, 0),
+                      Process(9, 1, [*words("low").split(), "-o", "x"], "", 7, 100, 8, 0, 0)])
+        # the number comes again for another process
+        measure.look([Process(7, 1, words("low").split(), "", 1, 900, 1, 0, 0)])
+        self.assertEqual(measure.seconds_of("low", "Edits"), 4)
         self.assertEqual(measure.seconds_of("high", "Edits"), 5)
         self.assertEqual(measure.seconds_of("low", "Proof"), 7)
         lines = measure.table(60, 30).splitlines()
-        self.assertTrue(lines[2].startswith("| `low` | 7 | | 3 | |"), lines[2])
+        self.assertTrue(lines[2].startswith("| `low` | 7 | | 4 | |"), lines[2])
         self.assertIn("By the clock: 1.0 minutes", lines[-1])
 
 
