@@ -47,11 +47,11 @@ def load_rt():
     return module if has_all and all(hasattr(module.rtlib, name) for name in OF_LIBRARY) else None
 
 
-def toolchain_sum():
-    """A sum that another rt changes: of the command itself, of what lies beside it, and of the kit's name."""
-    path = pathlib.Path(os.path.realpath(shutil.which("rt") or ""))
-    found = hashlib.sha256()
-    for file in [path, path.with_name("rtlib.py"), path.parent.parent / "KIT-ID", path.parent.parent / "WHAT"]:
+def sum_around(folder):
+    """A sum of what all crates are proved with: the command rt, what lies beside it, the kit's name, and HANDLES."""
+    path, found = pathlib.Path(os.path.realpath(shutil.which("rt") or "")), hashlib.sha256()
+    kit, handles = path.parent.parent, pathlib.Path(folder) / "HANDLES"
+    for file in [path, path.with_name("rtlib.py"), kit / "KIT-ID", kit / "WHAT", handles]:
         found.update(file.read_bytes() if file.is_file() else b"none")
     return found.hexdigest()
 
@@ -91,9 +91,14 @@ def made_by(folder, name):
     return crate / "out" / name if is_program else crate / "out" / "rlib" / f"{name}.rlib"
 
 
-def kept_crates(folder, sums):
+def sums_to_keep(folder):
+    """The sum of each crate of the folder with which it is kept."""
+    return sums_of(folder, crate_list.read_crates(folder), [sum_around(folder)])
+
+
+def kept_crates(folder):
     """The crates that an earlier run proved, of which nothing changed since, nor of any below."""
-    crates, found = crate_list.read_crates(folder), []
+    crates, sums, found = crate_list.read_crates(folder), sums_to_keep(folder), []
     for name in sums:
         mark, is_over_kept = mark_of(folder, name), all(one in found for one in crate_list.own_libraries(crates, name))
         if is_over_kept and mark.is_file() and mark.read_text() == sums[name] and made_by(folder, name).exists():
@@ -117,8 +122,7 @@ class Lanes:
         # its first call sets a handler for a signal, which only the main thread may
         library.guarded()
         self.crates = sorted(library.crates_below(folder), key=lambda one: len(one.below()))
-        self.sums = sums_of(folder, [one.name for one in self.crates], [toolchain_sum(), rt.Crate.allowed])
-        self.kept = kept_crates(folder, self.sums)
+        self.sums, self.kept = sums_to_keep(folder), kept_crates(folder)
 
     def tell(self, text):
         with self.printing:

@@ -157,7 +157,7 @@ class Proving:
         """Makes the folder, with the crates as they stand now; how many of them were proved before."""
         copy_sources(self.top, self.folder, self.names)
         self.costs = {name: time_left.cost_of(self.folder / "crates" / name) for name in self.names}
-        return sum(prove_kept.mark_of(self.folder, name).is_file() for name in self.names)
+        return len(prove_kept.kept_crates(self.folder))
 
     def prove(self, edited=()):
         """Proves all crates in the folder, builds what is a program, and tries the edits of some; the status."""

@@ -116,7 +116,7 @@ class GoesOn(Builds):
         self.build()
         self.assertEqual(self.proved(), ["low", "middle", "tool"])
         self.write("low", "src/lib.rt", "other code\n")
-        self.build()
+        self.assertNotIn("proved before", self.build()[1])
         self.assertEqual(self.proved(), ["low", "middle", "tool"])
 
     def test_but_keeps_nothing_of_another_rt(self):
@@ -124,6 +124,9 @@ class GoesOn(Builds):
         self.build()
         self.proved()
         self.make_rt(f"{STEPS}\n# another\n")
+        self.build()
+        self.assertEqual(self.proved(), ["low", "middle", "tool"])
+        (self.top / "HANDLES").write_text("Handles allowed: Wait.\n")
         self.build()
         self.assertEqual(self.proved(), ["low", "middle", "tool"])
 
