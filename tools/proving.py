@@ -148,6 +148,7 @@ class Proving:
                     self.tell_progress()
                     continue
                 if line is None:
+                    self.command.stdout.close()
                     return self.command.wait()
                 log.write(line)
                 log.flush()

@@ -1,5 +1,7 @@
 """Tests of build.py and of what it stands on."""
+import contextlib
 import fcntl
+import io
 import os
 import pathlib
 import shutil
@@ -9,11 +11,13 @@ import sys
 import tempfile
 import time
 import unittest
+import unittest.mock
 
 from small_repository import STEPS, TOOLS, WHOLE, Repository
 
 import process_table
 import prove_kept
+import proving
 import time_left
 
 
@@ -155,6 +159,25 @@ class GoesOn(Builds):
         self.write("middle", "src/lib.rt", "code\n")
         self.assertEqual(self.build()[0], 0)
         self.assertEqual(self.proved(), ["middle", "tool"])
+
+
+class TellsProgress(Repository):
+    def test_at_least_once_in_each_period(self):
+        rattle = self.room / "bin" / "rattle"
+        rattle.symlink_to(sys.executable)
+        words = f"{rattle} -c 'import time; time.sleep(2)' --crate-name low & wait; echo; echo rt: low proved"
+        work, said = proving.Proving(self.top, ["tool"], "tool", self.room / "build.log"), io.StringIO()
+        with unittest.mock.patch.dict(os.environ, self.environment()), contextlib.redirect_stderr(said):
+            work.folder = self.room / "cache" / "work"
+            work.prepare()
+            with unittest.mock.patch.object(proving, "PERIOD", 0.5):
+                self.assertEqual(work.run(["sh", "-c", words], "w"), 0)
+        lines = said.getvalue().splitlines()
+        self.assertIn("1 of 3 crates proved: low", lines.pop())
+        self.assertGreaterEqual(len(lines), 2)
+        for line in lines:
+            self.assertRegex(line, r"0 of 3 crates proved; in hand: low \(.+\) 0:0\d; left by a guess: ")
+        self.assertEqual((self.room / "build.log").read_text(), "\nrt: low proved\n")
 
 
 class Waits(Builds):
