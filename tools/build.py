@@ -73,7 +73,7 @@ class Build(proving.Proving):
             return self.mark(begun)
         kept = self.prepare()
         count = proving.plural(len(self.names), "crate")
-        again = f", but {kept} that were proved before" if kept else ""
+        again = f"; proved before and kept: {kept}" if kept else ""
         self.tell(f"{self.program} is to be built: {count} to prove, itself and all that it stands on{again}")
         if self.prove():
             print("".join(self.failures or self.tail()), file=sys.stderr)

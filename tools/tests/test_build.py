@@ -113,7 +113,7 @@ class GoesOn(Builds):
         status, said = self.build()
         self.assertEqual(status, 0, said)
         self.assertEqual(self.proved(), ["middle", "tool"])
-        self.assertIn("but 1 that were proved before", said)
+        self.assertIn("proved before and kept: 1 (", said)
 
     def test_but_proves_again_what_stands_on_a_change(self):
         self.write("tool", "src/main.rt", "fails\n")
