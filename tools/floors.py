@@ -44,7 +44,7 @@ def first_sentence(top, name):
         lines = path.read_text(encoding="utf-8").splitlines() if path.is_file() else []
         comment = " ".join(line[3:].strip() for line in lines if line.startswith("//!"))
         if comment:
-            return re.match(r".*?[.:](?= |$)|.*", comment)[0].rstrip(":.") + "."
+            return re.match(r".*?\.(?= |$)|.*", comment)[0]
     return ""
 
 

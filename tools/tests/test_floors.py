@@ -65,7 +65,7 @@ class Floors(unittest.TestCase):
 
     def test_a_crate_that_the_document_lacks(self):
         self.change("| 1 | `middle` | Between. |\n", "")
-        self.assertIn("+| 1 | `middle` | What lies between. |", floors.differences(self.top))
+        self.assertIn("+| 1 | `middle` | What lies between: a crate. |", floors.differences(self.top))
 
     def test_a_crate_that_is_gone(self):
         (self.top / "crates.txt").write_text(CRATES.replace("high: middle low\n", ""))
