@@ -245,15 +245,15 @@ class TellsSteps(unittest.TestCase):
     def test_of_rattle(self):
         for words, step in (
             ("/kit/bin/rattle build --crate-name low src/lib.rt --statements -o out/rlib/low.rlib", "proof"),
-            ("/kit/bin/rattle check --crate-name low src/main.rt -o /tmp/rt-proved-1/checked", "proof"),
+            ("/kit/bin/rattle check --crate-name low src/main.rt -o /room/rt-proved-1/checked", "proof"),
             ("/kit/bin/rattle build --crate-name low src/lib.rt --test -o out/low_tests.o", "tests"),
-            ("/kit/bin/rattle check --crate-name low src/lib.rt --incremental /tmp/rt-edits-1", "edits"),
+            ("/kit/bin/rattle check --crate-name low src/lib.rt --incremental /room/rt-edits-1", "edits"),
             ("/kit/bin/rattle build --crate-name low --crate-checked x --backend llvm", "compiling by LLVM"),
             ("/kit/bin/rattle build --crate-name low --crate-checked x --backend rattle",
              "compiling by Rattle's own compiler"),
             ("/kit/bin/rattle-link --target x -o out/low out/low.o", "linking"),
-            ("sh -c exec /tmp/rt-run-a1/bin/low", "running"),
-            ("/kit/bin/rattle-test --seconds 60 /tmp/rt-run-a1/bin/low_tests", "running tests"),
+            ("sh -c exec /room/rt-run-a1/bin/low", "running"),
+            ("/kit/bin/rattle-test --seconds 60 /room/rt-run-a1/bin/low_tests", "running tests"),
         ):
             self.assertEqual(self.step(words), ("low", step), words)
 
