@@ -7,8 +7,8 @@ PROC = pathlib.Path("/proc")
 TICKS = os.sysconf("SC_CLK_TCK")
 
 # parent: the number of the process above it; words: its command line; folder: where it runs; seconds: its processor
-# time with that of the children that it waited for; began: when, in ticks since the system did; age: seconds since then;
-# held, peak: the memory that it holds now and held at most, in bytes
+# time with that of the children that it waited for; began: when, in ticks since the system did; age: seconds since it
+# began; held, peak: the memory that it holds now and held at most, in bytes
 Process = collections.namedtuple("Process", "number parent words folder seconds began age held peak")
 
 # step: what is done for the crate, in words that stand behind "in hand:"
