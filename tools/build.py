@@ -1,22 +1,27 @@
 #!/usr/bin/env python3
-"""Proves and builds a program of this repository, several crates at a time, and tells how far it is.
+"""Proves and builds a program of this repository by the gate's steps, over the crates that it stands on and no others.
 
 build.py PROGRAM [WORD...]      PROGRAM is a crate of crates.txt, such as dirac_tool; the words are what it is tried on,
                                 and it must end with 0 on them
 
-On a fresh clone all crates are proved first, as many at a time as there are processors and as the memory that is free
-has room for (GIB_EACH each), at least one; RUN_JOBS=N in the environment says how many instead. Then the program is
-built over what was proved. Later only what changed is proved again. Writes a line for each crate that is done to
-standard error; where one fails, the end of the log, and ends with 1.
+The crates are copied, without must-fail edits, into a folder below ${XDG_CACHE_HOME:-~/.cache}, proved there as `rt ci`
+proves them (prove_kept.py; with an rt that it can't take apart by a plain `rt ci`), and the program is copied back to
+crates/PROGRAM/out: PROGRAM as LLVM builds it, which is the faster one, and PROGRAM.by-rattle. Then the folder is
+removed. Broken off at any place and begun again it goes on with the crates that weren't proved.
+
+As many crates are proved at a time as there are processors and as rt reckons that memory has room for; RT_JOBS=N in the
+environment says how many instead. Writes to standard error, a line at least each half minute. The whole log is
+crates/PROGRAM/out/build.log. Ends with 1 where a crate isn't proved.
 """
 import os
-import pathlib
+import shutil
 import subprocess
 import sys
 import time
 
-TOP = pathlib.Path(__file__).resolve().parent.parent
-GIB_EACH = 3
+import crate_list
+import prove_kept
+import proving
 
 
 def fail(text):
@@ -24,87 +29,74 @@ def fail(text):
     sys.exit(1)
 
 
-def read_crates():
-    """The names of crates.txt."""
-    lines = [line.partition("#")[0].partition(":")[0] for line in (TOP / "crates.txt").read_text().splitlines()]
-    return [line.split()[0] for line in lines if line.strip()]
+class Build(proving.Proving):
+    def __init__(self, top, program, words):
+        self.program, self.words, self.out = program, words, top / "crates" / program / "out"
+        super().__init__(top, [program], program, self.out / "build.log")
 
+    def sum(self):
+        """A sum of all that the program is made of."""
+        return prove_kept.sums_of(self.top, [self.program], [])[self.program]
 
-def free_gib():
-    try:
-        lines = pathlib.Path("/proc/meminfo").read_text().splitlines()
-        sizes = dict(line.split(":") for line in lines)
-        return int(sizes["MemAvailable"].split()[0]) / 2**20
-    except (OSError, KeyError, ValueError):
-        return GIB_EACH
+    def is_current(self, program_sum):
+        """Whether the program that is there was built of just these sources."""
+        made = self.out / f"{self.program}.made"
+        return (self.out / self.program).is_file() and made.is_file() and made.read_text() == program_sum
 
+    def answer(self, program):
+        """The status and the output of a program on the words that it is tried on."""
+        done = subprocess.run([program, *self.words], stdin=subprocess.DEVNULL, capture_output=True, cwd=self.folder)
+        return done.returncode, done.stdout, done.stderr
 
-def places():
-    if os.environ.get("RUN_JOBS", "").isdigit():
-        return max(1, int(os.environ["RUN_JOBS"]))
-    processors = len(os.sched_getaffinity(0)) if hasattr(os, "sched_getaffinity") else os.cpu_count() or 1
-    return max(1, min(processors, int(free_gib() / GIB_EACH)))
+    def take_program(self, begun, program_sum):
+        """Puts the program where `run` looks, once it ended with 0 and the other compiler's answered alike."""
+        made = self.folder / "crates" / self.program / "out"
+        names = [name for name in (self.program, f"{self.program}.by-rattle") if (made / name).is_file()]
+        answers = [self.answer(made / name) for name in names]
+        if not answers or answers[0][0] != 0 or answers[-1] != answers[0]:
+            fail(f"the program isn't taken: tried on {' '.join(self.words)}, it answered {answers}")
+        # the other one first, so that the program is there only once all else is
+        for name in reversed(names):
+            shutil.copy(made / name, self.out / f"{name}.part")
+            os.replace(self.out / f"{name}.part", self.out / name)
+        (self.out / f"{self.program}.made").write_text(program_sum)
+        self.mark(begun)
 
-
-class Build:
-    def __init__(self, program, words, crates):
-        self.program, self.words, self.crates = program, words, crates
-        self.folder = TOP / "crates" / program
-        self.log = self.folder / "out" / "build.log"
-        self.begin = time.monotonic()
-
-    def tell(self, text):
-        minutes, seconds = divmod(int(time.monotonic() - self.begin), 60)
-        print(f"run: {text} ({minutes}:{seconds:02})", file=sys.stderr, flush=True)
-
-    def is_fresh(self):
-        """Whether no crate was proved in this clone."""
-        return not any((TOP / "crates" / name / "out").exists() for name in self.crates)
-
-    def run(self, words, folder):
-        """The status of a command, whose lines go into the log; tells of each crate that it names as done."""
-        done = 0
-        with open(self.log, "a", encoding="utf-8") as log:
-            command = subprocess.Popen(words, cwd=folder, stdin=subprocess.DEVNULL, stdout=subprocess.PIPE,
-                                       stderr=subprocess.STDOUT, text=True, errors="replace")
-            for line in command.stdout:
-                log.write(line)
-                name = line[3:].strip() if line.startswith("== ") else None
-                if name in self.crates:
-                    done += 1
-                    self.tell(f"{done} of {len(self.crates)} crates are proved: {name}")
-            return command.wait()
-
-    def prove_all(self):
-        """Proves all crates, several at a time; whether all could be."""
-        count = places()
-        self.tell(f"reading and proving {len(self.crates)} crates, {count} at a time: minutes, the first for reading")
-        self.log.parent.mkdir(parents=True, exist_ok=True)
-        return self.run(["rt", "all", "check", "--jobs", str(count)], TOP) == 0
+    def mark(self, begun):
+        """Says of the program that it is as new as the sources were that were read at this time."""
+        os.utime(self.out / self.program, (begun, begun))
 
     def build(self):
-        """Builds the program over what was proved, and tries it; whether it could be."""
-        self.log.parent.mkdir(parents=True, exist_ok=True)
-        self.tell(f"building {self.program}; what changed is proved first")
-        return self.run(["rt", "run", "--jobs", "1", "--", *self.words], self.folder) == 0
-
-    def tail(self):
-        return "".join(self.log.read_text(errors="replace").splitlines(keepends=True)[-20:])
+        """Proves and builds the program where what is there isn't current."""
+        begun, program_sum = time.time(), self.sum()
+        if self.is_current(program_sum):
+            return self.mark(begun)
+        kept = self.prepare()
+        count = proving.plural(len(self.names), "crate")
+        again = f"; proved before and kept: {kept}" if kept else ""
+        self.tell(f"{self.program} is to be built: {count} to prove, itself and all that it stands on{again}")
+        if self.prove():
+            print("".join(self.failures or self.tail()), file=sys.stderr)
+            fail(f"not built; the whole log is {self.log}")
+        self.take_program(begun, program_sum)
+        self.remove_folder()
+        return self.tell(f"{self.program} is built")
 
 
 def main():
     if len(sys.argv) < 2:
         fail("usage: build.py PROGRAM [WORD...]")
-    crates = read_crates()
-    if sys.argv[1] not in crates:
+    if sys.argv[1] not in crate_list.read_crates():
         fail(f"no crate {sys.argv[1]} in crates.txt")
-    build = Build(sys.argv[1], sys.argv[2:], crates)
-    try:
-        if build.is_fresh() and not build.prove_all() or not build.build():
-            print(build.tail(), file=sys.stderr)
-            fail(f"not built; the whole log is {build.log}")
-    except FileNotFoundError:
+    if not shutil.which("rt"):
         fail("no command rt: the toolchain isn't there")
+    build = Build(crate_list.TOP, sys.argv[1], sys.argv[2:])
+    build.out.mkdir(parents=True, exist_ok=True)
+    with build.alone():
+        try:
+            build.build()
+        except OSError as error:
+            fail(f"{error}; the crates are proved in {build.folder}, and XDG_CACHE_HOME names another place")
 
 
 if __name__ == "__main__":
