@@ -45,21 +45,20 @@ def kind_of_sink(words):
     return PngSink if words.png else sink_for(words.o)
 
 
-def pass_on(words, video, pictures, progress, watcher):
-    """Hands the pictures to a sink; how many there were."""
-    sink = kind_of_sink(words)(words.o, video)
-    count = 0
+def pass_on(sink, pictures, most=None, watcher=None):
+    """Hands the pictures to a sink, at most so many; how many there were. What came before a fault is kept."""
+    progress, count = Progress(most), 0
     try:
         for picture in pictures:
-            if words.frames is not None and count >= words.frames:
+            if most is not None and count >= most:
                 break
             sink.take(picture)
             count += 1
-            progress.show(count, watcher.bytes)
+            if watcher is not None:
+                progress.show(count, watcher.bytes)
         sink.keep()
     except Refusal:
-        if count:
-            sink.keep()
+        sink.keep()
         raise
     finally:
         progress.clear()
@@ -77,7 +76,8 @@ def run(words):
     video, pictures = of_one_kind(decoding.pictures(), words.fields)
     count = 0
     if video is not None:
-        count = pass_on(words, video, pictures, Progress(words.frames), decoding.watcher)
+        sink = kind_of_sink(words)(words.o, video)
+        count = pass_on(sink, pictures, words.frames, decoding.watcher)
     if words.frames is not None and count >= words.frames:
         decoding.pipe.stop()
         return 0

@@ -62,7 +62,10 @@ BASE_FORMATS = list(_base_formats())
 
 
 class Video(NamedTuple):
-    """What is known of pictures beside their samples; `rate` is frames a second, None where nobody says it."""
+    """What is known of pictures beside their samples; `rate` is frames a second.
+
+    Rate, aspect and signal range are None where nobody says them.
+    """
 
     width: int
     height: int

@@ -2,12 +2,13 @@
 import argparse
 import sys
 
-from . import decode, encode, info, repair
+from . import compare, decode, edit, encode, info, play, repair
 from .refusal import Refusal
 
-COMMANDS = [info, encode, decode, repair]
+COMMANDS = [info, encode, decode, play, repair, edit, compare]
 EPILOG = """examples:
   dirac info examples/moving.drc
+  dirac play examples/moving.drc
   dirac decode examples/moving.drc -o moving.y4m
   dirac encode clip.mp4 -o clip.drc
 

@@ -23,8 +23,8 @@ class Report:
     def __init__(self):
         self.lines, self.counts = [], {}
 
-    def leave_out(self, place, what, why):
-        self.lines.append(f"byte {place}: {what} left out: {why}")
+    def leave_out(self, index, place, what, why):
+        self.lines.append(f"unit {index} at byte {place}: {what} left out: {why}")
 
     def count(self, what):
         self.counts[what] = self.counts.get(what, 0) + 1
@@ -56,18 +56,22 @@ class Mending:
     def __init__(self, header, refused=(), is_old=False):
         self.header, self.refused, self.is_old = header, dict(refused), is_old
         self.video = None if header is None else read_header(header).pictures()
-        self.units, self.report = [], Report()
+        self.units, self.report, self.index = [], Report(), -1
         self.is_open, self.references = False, References()
+
+    def leave_out(self, unit, what, why):
+        self.report.leave_out(self.index, unit.place, what, why)
 
     def put(self, code, payload=b"", source=None):
         self.units.append(Unit(code, payload, source))
 
     def take(self, unit):
+        self.index += 1
         if isinstance(unit, Lost):
-            self.report.leave_out(unit.place, f"{unit.length} bytes", unit.why)
+            self.leave_out(unit, f"{unit.length} bytes", unit.why)
             return
         if unit.place in self.refused:
-            self.report.leave_out(unit.place, kind_text(unit.code), self.refused[unit.place])
+            self.leave_out(unit, kind_text(unit.code), self.refused[unit.place])
             return
         if unit.filled:
             self.report.count("next offsets filled in")
@@ -78,10 +82,10 @@ class Mending:
         elif unit.code in PICTURES:
             self.take_picture(unit)
         elif unit.code not in TAKEN:
-            self.report.leave_out(unit.place, kind_text(unit.code), "not of the profile that this codec reads")
+            self.leave_out(unit, kind_text(unit.code), "not of the profile that this codec reads")
         elif unit.code in AUXILIARY_DATA and old_schroedinger.is_old(unit.payload):
             self.is_old = True
-            self.report.leave_out(unit.place, "auxiliary data", "names a Schroedinger whose way of spelling is mended")
+            self.leave_out(unit, "auxiliary data", "names a Schroedinger whose way of spelling is mended")
         else:
             self.put(unit.code, unit.payload, unit.place)
 
@@ -93,7 +97,7 @@ class Mending:
         try:
             header = read_header(unit.payload)
         except decoder.Fault as fault:
-            self.report.leave_out(unit.place, "sequence header", f"{fault.cause}: its fields can't be taken")
+            self.leave_out(unit, "sequence header", f"{fault.cause}: its fields can't be taken")
             return
         if self.is_open and unit.payload != self.header:
             self.close()
@@ -106,12 +110,12 @@ class Mending:
         try:
             picture = read_picture(unit.code, unit.payload)
         except decoder.Fault as fault:
-            self.report.leave_out(unit.place, "picture", f"{fault.cause}: it has no whole header")
+            self.leave_out(unit, "picture", f"{fault.cause}: it has no whole header")
             return
         what = f"picture {picture.number}"
         missing = [number for number in picture.references() if number not in self.references.listed]
         if missing:
-            self.report.leave_out(unit.place, what, f"it refers to picture {missing[0]}, which isn't there")
+            self.leave_out(unit, what, f"it refers to picture {missing[0]}, which isn't there")
             return
         if self.is_old:
             picture = self.renewed(picture, unit)
@@ -129,7 +133,7 @@ class Mending:
         try:
             new = old_schroedinger.renewed(picture, self.video)
         except decoder.Fault as fault:
-            self.report.leave_out(unit.place, f"picture {picture.number}", f"{fault.cause}, by the old rule too")
+            self.leave_out(unit, f"picture {picture.number}", f"{fault.cause}, by the old rule too")
             return None
         if new is None:
             return picture

@@ -19,8 +19,8 @@ def _checksum_table():
     for value in range(256):
         rest = value << 24
         for _ in range(8):
-            rest = (rest << 1) ^ (0x04C11DB7 if rest >> 31 else 0)
-        table.append(rest & 0xFFFFFFFF)
+            rest = (rest << 1 & 0xFFFFFFFF) ^ (0x04C11DB7 if rest >> 31 else 0)
+        table.append(rest)
     return table
 
 

@@ -59,11 +59,13 @@ def read_pictures(source, length):
 
 
 def spell_header(video):
-    """The first line; a rate that nobody said is 25."""
+    """The first line; a rate that nobody says is 25."""
     rate = video.rate or Fraction(25)
     scan = {TOP_FIRST: "t", BOTTOM_FIRST: "b"}.get(video.scan, "p")
     line = f"YUV4MPEG2 W{video.width} H{video.height} F{rate.numerator}:{rate.denominator} I{scan}"
-    line += f" A{video.aspect.numerator}:{video.aspect.denominator} C{CHROMA_FORMATS[video.chroma].y4m}"
+    if video.aspect is not None:
+        line += f" A{video.aspect.numerator}:{video.aspect.denominator}"
+    line += f" C{CHROMA_FORMATS[video.chroma].y4m}"
     if video.signal in (FULL_RANGE, LIMITED_RANGE):
         line += f" XCOLORRANGE={'FULL' if video.signal == FULL_RANGE else 'LIMITED'}"
     return f"{line}\n".encode()
