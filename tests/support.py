@@ -10,17 +10,21 @@ import subprocess
 import sys
 import tempfile
 import unittest
+from unittest import mock
 
 TOP = pathlib.Path(__file__).resolve().parent.parent
 for folder in ("tools", "conformance", "examples", "bench/reference"):
     if str(TOP / folder) not in sys.path:
         sys.path.append(str(TOP / folder))
 
+from front import program
 from front.main import main
 from front.plain import decoder, encoder
 
 PLAIN_TOOL = TOP / "tests" / "plain_tool.py"
 LONGEST_RUN = 120
+# the proved program, where it is named or built; all but a few tests run the plain one in its place
+PROVED = os.environ.get("DIRAC_TOOL", str(program.PLACE))
 os.environ["DIRAC_TOOL"] = str(PLAIN_TOOL)
 QUICK = {"depth": 2, "precision": 0, "range": 0, "pyramid": 0, "bias": 0}
 
@@ -32,16 +36,31 @@ def has(command):
 class Done:
     """What a run left: its status, its bytes, and its lines on standard error."""
 
-    def __init__(self, done):
-        self.status, self.out, self.err = done.returncode, done.stdout, done.stderr.decode()
+    def __init__(self, status, out, err):
+        self.status, self.out, self.err = status, out, err
 
 
 def run(words, data=b"", folder=None, **environment):
-    """Runs a command of words; paths in them stand for files of the repository."""
+    """Runs a command of words in a process of its own."""
     environment = {**os.environ, **environment}
     words = [str(word) for word in words]
     done = subprocess.run(words, input=data, capture_output=True, cwd=folder, env=environment, timeout=LONGEST_RUN)
-    return Done(done)
+    return Done(done.returncode, done.stdout, done.stderr.decode())
+
+
+def run_here(words, folder, **environment):
+    """Runs the front program in this process, where neither standard input nor bytes on standard output are asked."""
+    out, err, before = io.StringIO(), io.StringIO(), os.getcwd()
+    os.chdir(folder)
+    try:
+        with mock.patch.dict(os.environ, environment), contextlib.redirect_stdout(out), contextlib.redirect_stderr(err):
+            try:
+                status = main([str(word) for word in words])
+            except SystemExit as end:
+                status = end.code
+    finally:
+        os.chdir(before)
+    return Done(status, out.getvalue().encode(), err.getvalue())
 
 
 def dirac(*words, data=b"", folder=None, **environment):
@@ -121,15 +140,10 @@ class InFolder(unittest.TestCase):
     def read(self, name):
         return (self.folder / name).read_bytes()
 
-    def dirac(self, *words, data=b"", **environment):
-        return dirac(*words, data=data, folder=self.folder, **environment)
-
-    def here(self, *words):
-        """Status and text of a run in this process, without standard input or output."""
-        text = io.StringIO()
-        with contextlib.redirect_stderr(text):
-            status = main([str(self.folder / word) if "." in word else word for word in words])
-        return status, text.getvalue()
+    def dirac(self, *words, data=None, **environment):
+        if data is None and "-" not in words:
+            return run_here(words, self.folder, **environment)
+        return dirac(*words, data=data or b"", folder=self.folder, **environment)
 
     def names(self):
         return sorted(path.name for path in self.folder.iterdir())

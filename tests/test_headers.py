@@ -115,8 +115,16 @@ class Y4m(unittest.TestCase):
 class Formats(unittest.TestCase):
     def test_nearest_rates(self):
         self.assertEqual(formats.nearest_rates(Fraction(15)), [Fraction(15000, 1001), Fraction(24000, 1001)])
+        self.assertEqual(formats.nearest_rates(Fraction("23.976")), [Fraction(24000, 1001), Fraction(15000, 1001)])
         self.assertEqual(formats.nearest_rates(Fraction(120)), [60])
         self.assertEqual(formats.nearest_rates(Fraction(1)), [Fraction(25, 2)])
+
+    def test_rates_that_a_container_rounded(self):
+        for rate, table in (("23.976", Fraction(24000, 1001)), ("29.97", Fraction(30000, 1001)), ("24", 24)):
+            self.assertEqual(formats.rounded_rate(Fraction(rate)), table)
+        for rate in ("14.99", "24.01", "10"):
+            self.assertEqual(formats.rounded_rate(Fraction(rate)), Fraction(rate))
+        self.assertIsNone(formats.rounded_rate(None))
 
     def test_words(self):
         self.assertEqual(formats.read_rate("30000:1001"), Fraction(30000, 1001))

@@ -24,9 +24,9 @@ class Damage(InFolder):
         self.pictures = shown(self.stream)
 
     def repaired(self, data, *words):
-        status, err = self.here("repair", self.write("in.drc", data), "-o", "out.drc", *words)
-        self.assertEqual(status, 0, err)
-        return self.read("out.drc"), err
+        done = self.dirac("repair", self.write("in.drc", data), "-o", "out.drc", *words)
+        self.assertEqual(done.status, 0, done.err)
+        return self.read("out.drc"), done.err
 
     def assert_shows(self, data, numbers, *said, words=()):
         out, err = self.repaired(data, *words)
@@ -67,11 +67,11 @@ class Damage(InFolder):
     def test_the_only_header_comes_from_another_stream(self):
         pieces = [(unit.code, unit.payload) for unit in units_of(self.stream) if unit.code != 0]
         name = self.write("in.drc", stream_of(pieces))
-        status, err = self.here("repair", name, "-o", "out.drc")
-        self.assertEqual((status, self.names()), (1, ["in.drc"]))
-        self.assertIn("--header", err)
+        done = self.dirac("repair", name, "-o", "out.drc")
+        self.assertEqual((done.status, self.names()), (1, ["in.drc"]))
+        self.assertIn("--header", done.err)
         other = self.write("other.drc", self.stream)
-        self.assertEqual(self.here("repair", name, "-o", "out.drc", "--header", other)[0], 0)
+        self.assertEqual(self.dirac("repair", name, "-o", "out.drc", "--header", other).status, 0)
         self.assertEqual(shown(self.read("out.drc")), self.pictures)
 
     def test_out_of_ogg_without_its_first_header(self):
@@ -154,9 +154,9 @@ class Damage(InFolder):
 
     def test_nothing_there(self):
         for data in (b"", b"no stream at all, but long enough to look at"):
-            status, err = self.here("repair", self.write("in.drc", data), "-o", "out.drc")
-            self.assertEqual((status, self.names()), (1, ["in.drc"]))
-            self.assertIn("no Dirac stream", err)
+            done = self.dirac("repair", self.write("in.drc", data), "-o", "out.drc")
+            self.assertEqual((done.status, self.names()), (1, ["in.drc"]))
+            self.assertIn("no Dirac stream", done.err)
 
     def test_faults_of_conformance_streams_decode_afterwards(self):
         for path in sorted((support.TOP / "conformance" / "streams").glob("fault_*.drc"))[::6]:
@@ -209,9 +209,9 @@ def stream_with(kind, counts, name=None):
 
 class OldSchroedinger(InFolder):
     def repaired(self, stream, *words):
-        status, err = self.here("repair", self.write("old.drc", stream), "-o", "new.drc", *words)
-        self.assertEqual(status, 0, err)
-        return self.read("new.drc"), err
+        done = self.dirac("repair", self.write("old.drc", stream), "-o", "new.drc", *words)
+        self.assertEqual(done.status, 0, done.err)
+        return self.read("new.drc"), done.err
 
     def test_names(self):
         for name, is_old in (("1.0.0", 1), ("1.0.7", 1), ("1.0.8", 0), ("1.0.10", 0), ("1.0.70", 0), ("2.0.1", 0)):
@@ -270,9 +270,9 @@ def zero_flags(stream):
 
 class ForPlayers(InFolder):
     def respelt(self, stream):
-        status, err = self.here("repair", "--for-players", self.write("in.drc", stream), "-o", "out.drc")
-        self.assertEqual(status, 0, err)
-        return self.read("out.drc"), err
+        done = self.dirac("repair", "--for-players", self.write("in.drc", stream), "-o", "out.drc")
+        self.assertEqual(done.status, 0, done.err)
+        return self.read("out.drc"), done.err
 
     def test_zero_residuals(self):
         for stream in (black(3), conformance("zero_residuals"), conformance("shapes_of_two_420")):

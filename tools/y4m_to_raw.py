@@ -15,7 +15,7 @@ import sys
 sys.dont_write_bytecode = True
 
 from front import y4m
-from front.formats import FULL_RANGE, RATES, check_size, nearest_rates, rate_text, read_rate
+from front.formats import FULL_RANGE, RATES, check_size, nearest_rates, rate_text, read_rate, rounded_rate
 from front.refusal import Refusal
 
 
@@ -48,8 +48,7 @@ def main():
     source = sys.stdin.buffer
     video = y4m.read_header(source)
     check_size(video.width, video.height, video.chroma)
-    if rates:
-        video = video._replace(rate=read_rate(rates[0]))
+    video = video._replace(rate=read_rate(rates[0]) if rates else rounded_rate(video.rate))
     words = words_of(video)
     if others:
         print(words)

@@ -5,7 +5,7 @@ from fractions import Fraction
 
 from . import y4m
 from .decoding import Decoding, of_one_kind
-from .formats import CHROMA_FORMATS, Video, check_size, read_chroma, read_rate, read_size
+from .formats import CHROMA_FORMATS, Video, check_size, read_chroma, read_rate, read_size, rounded_rate
 from .refusal import Refusal
 from .sources import Source, Stream, read_through_ffmpeg, wanted
 
@@ -114,7 +114,6 @@ def open_clip(path, words):
 
 
 def with_rate(clip, rate):
-    """The clip, at this rate where one is given."""
-    if rate is not None:
-        clip.video = clip.video._replace(rate=read_rate(rate))
+    """The clip, at this rate where one is given; else at its own, which a container may have rounded."""
+    clip.video = clip.video._replace(rate=rounded_rate(clip.video.rate) if rate is None else read_rate(rate))
     return clip

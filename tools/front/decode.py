@@ -33,7 +33,7 @@ def add_to(commands):
     parser.add_argument("--frames", metavar="N", type=int, help="only so many pictures from the beginning on")
     parser.add_argument("--md5", action="store_true", help="write a sum for each picture, in place of a clip")
     parser.add_argument("--png", action="store_true", help="write each picture as a PNG file of its own")
-    parser.add_argument("--fields", action="store_true", help="leave fields as they are coded: pictures of half the rows")
+    parser.add_argument("--fields", action="store_true", help="leave fields apart: pictures of half the rows")
     parser.set_defaults(run=run)
 
 

@@ -4,7 +4,7 @@ import io
 import re
 
 from .info import Survey
-from .outputs import Output, check_apart
+from .outputs import Output, check_apart, check_stream_name
 from .processes import pieces
 from .program import refusal, start
 from .refusal import Refusal
@@ -76,6 +76,7 @@ def run_program(words, fed, name, path):
 
 
 def run_cut(words):
+    check_stream_name(words.o)
     check_apart(words.o, [words.stream])
     stream = open_stream(words.stream)
     data = stream.read()
@@ -87,6 +88,7 @@ def run_cut(words):
 
 
 def run_join(words):
+    check_stream_name(words.o)
     check_apart(words.o, words.streams)
     if words.streams.count("-") > 1:
         raise Refusal("join: standard input can be one of the streams, not two", 2)

@@ -6,8 +6,9 @@ import threading
 
 from . import psnr
 from .clips import open_clip, with_rate
-from .formats import BOTTOM_FIRST, FULL_RANGE, LIMITED_RANGE, PROGRESSIVE, RATES, TOP_FIRST, nearest_rates, rate_text
-from .outputs import Output, check_apart
+from .formats import BASE_FORMATS, BOTTOM_FIRST, FULL_RANGE, LIMITED_RANGE, PROGRESSIVE, RATES, TOP_FIRST
+from .formats import nearest_rates, rate_text
+from .outputs import Output, check_apart, check_stream_name
 from .plain import decoder, encoder
 from .program import refusal, start
 from .progress import Progress, size_text, time_text
@@ -98,9 +99,17 @@ def settings_of(video, words):
     settings.update(rate=index or 3, signal=1 if video.signal == FULL_RANGE else 2, fields=int(words.fields))
     settings["workers"] = min(MOST_WORKERS, os.cpu_count() or 1)
     settings.update({name: getattr(words, name) for name in PASSED if getattr(words, name) is not None})
+    check_order(video, settings["base"])
     command = "encode" if words.budget is None else "rate"
     given = [f"--{name}={value}" for name, value in settings.items()]
     return [command, *given] + ([] if words.budget is None else [f"--budget={words.budget}"])
+
+
+def check_order(video, base):
+    """Refuses a base whose first field isn't the clip's."""
+    order = TOP_FIRST if 0 <= base < len(BASE_FORMATS) and BASE_FORMATS[base].is_top_first else BOTTOM_FIRST
+    if video.scan not in (PROGRESSIVE, order):
+        raise Refusal(f"base {base} says {order}, and the clip {video.scan}: leave --base away", 2)
 
 
 def header_for(header, video):
@@ -141,9 +150,9 @@ class Compared:
         return psnr.line(self.measure.all()) if self.measure.count else "no picture"
 
 
-def fields_of(pictures, video):
+def fields_of(pictures, video, is_top_first):
     """The two fields of each frame, the first one first."""
-    order = (1, 0) if video.scan == BOTTOM_FIRST else (0, 1)
+    order = (0, 1) if is_top_first else (1, 0)
     for picture in pictures:
         for parity in order:
             field = bytearray()
@@ -159,7 +168,8 @@ def fed_pictures(clip, words, compared):
     if words.frames is not None:
         pictures = (picture for _, picture in zip(range(words.frames), pictures))
     if words.fields:
-        pictures = fields_of(pictures, clip.video)
+        base = BASES[clip.video.scan] if words.base is None else words.base
+        pictures = fields_of(pictures, clip.video, BASE_FORMATS[base].is_top_first)
     for picture in pictures:
         if compared is not None:
             compared.waiting.append(picture)
@@ -186,6 +196,7 @@ def write_stream(pipe, video, output, progress):
 
 
 def run(words):
+    check_stream_name(words.o)
     check_apart(words.o, [words.clip])
     clip = with_rate(open_clip(words.clip, words), words.rate)
     if words.signal:

@@ -28,6 +28,9 @@ RATES = [None] + [
 ]
 ASPECTS = [None] + [Fraction(*pair) for pair in [(1, 1), (10, 11), (12, 11), (40, 33), (16, 11), (4, 3)]]
 
+# two rates that differ by less than this part are the same, rounded
+ROUNDING = 10000
+
 FULL_RANGE, LIMITED_RANGE = decoder.SIGNAL_RANGES[1], decoder.SIGNAL_RANGES[2]
 
 # how the rows of a frame were taken: all at once, or as two fields, the top or the bottom one first
@@ -114,7 +117,14 @@ def nearest_rates(rate):
     """The rate of the table below and the one above, where there are such."""
     below = [known for known in RATES[1:] if known < rate]
     above = [known for known in RATES[1:] if known > rate]
-    return ([max(below)] if below else []) + ([min(above)] if above else [])
+    found = ([max(below)] if below else []) + ([min(above)] if above else [])
+    return sorted(found, key=lambda known: abs(known - rate))
+
+
+def rounded_rate(rate):
+    """The rate of the table that a container's rounding made this of, such as 24000/1001 of 23.976; else the rate."""
+    nearest = nearest_rates(rate)[0] if rate is not None and rate not in RATES else None
+    return nearest if nearest is not None and abs(nearest - rate) < rate / ROUNDING else rate
 
 
 def read_rate(text):

@@ -5,6 +5,8 @@ import sys
 
 from .refusal import Refusal
 
+CONTAINER_ENDINGS = (".mkv", ".webm", ".mp4", ".mov", ".avi", ".ts", ".ogg", ".ogv", ".nut", ".y4m")
+
 
 def check_apart(target, sources):
     """Refuses to write over what is read."""
@@ -12,6 +14,15 @@ def check_apart(target, sources):
         if path != "-" and target != "-" and os.path.exists(path) and os.path.exists(target):
             if os.path.samefile(path, target):
                 raise Refusal(f"{target} is the file that is read: give -o another name")
+
+
+def check_stream_name(path):
+    """Refuses a name that promises a container."""
+    if path.lower().endswith(CONTAINER_ENDINGS):
+        raise Refusal(
+            f"{path}: what is written is a stream, a .drc file; `mkvmerge -o X.mkv X.drc` puts it into a container,"
+            " and docs/FORMAT.md has other ways under Interoperation", 2
+        )
 
 
 class Output:
@@ -59,6 +70,10 @@ class Output:
 
     def __exit__(self, *_):
         if self.path != "-":
-            self.file.close()
+            try:
+                self.file.close()
+            except OSError:
+                # told by `write` or `keep`; what isn't kept is taken away
+                pass
         if self.part:
             os.unlink(self.part)

@@ -4,7 +4,7 @@ import io
 import re
 
 from .mend import first_header, for_players, mend
-from .outputs import Output, check_apart
+from .outputs import Output, check_apart, check_stream_name
 from .processes import Pipe, pieces
 from .program import FAULT, place
 from .refusal import Refusal
@@ -109,6 +109,7 @@ def tell_report(report, units, is_same, is_whole):
 
 
 def run(words):
+    check_stream_name(words.o)
     check_apart(words.o, [words.stream])
     data = open_stream(words.stream).read()
     found = list(Search(data).units())
