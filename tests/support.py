@@ -83,7 +83,9 @@ def raw_pictures(count, width=16, height=16, chroma=2, seed=1):
     for number in range(count):
         for plane, (columns, rows) in enumerate(sizes):
             for y in range(rows):
-                out += bytes((5 * (x + number) + 3 * y + 40 * plane + source.randrange(4)) % 256 for x in range(columns))
+                out += bytes(
+                    (5 * (x + number) + 3 * y + 40 * plane + source.randrange(4)) % 256 for x in range(columns)
+                )
     return bytes(out)
 
 

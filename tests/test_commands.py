@@ -88,7 +88,11 @@ class Info(InFolder):
         self.assertEqual(first.seconds(), first.pictures() / 2 / first.header.rate)
 
     def test_faults_of_the_row_of_units(self):
-        for name, cause in (("fault_bad_prefix", "BadPrefix"), ("fault_preset", "Preset"), ("fault_missing_end", "MissingEnd")):
+        for name, cause in (
+            ("fault_bad_prefix", "BadPrefix"),
+            ("fault_preset", "Preset"),
+            ("fault_missing_end", "MissingEnd"),
+        ):
             done = self.dirac("info", "-", data=conformance(name))
             self.assertEqual(done.status, 4)
             self.assertIn(cause, done.out.decode())
@@ -144,7 +148,9 @@ class Encode(InFolder):
             self.assertEqual(self.encode("--gop", "2", *words)[0], 0)
             plain = self.expected(raw, base=base, chroma=2, gop=2)
             found, other = support.units_of(self.read("out.drc")), support.units_of(plain)
-            self.assertEqual([unit.payload for unit in found if unit.code], [unit.payload for unit in other if unit.code])
+            self.assertEqual(
+                [unit.payload for unit in found if unit.code], [unit.payload for unit in other if unit.code]
+            )
             self.assertEqual([unit.code for unit in found], [unit.code for unit in other])
             headers = {unit.payload for unit in found if unit.code == 0}
             self.assertEqual(len(headers), 1)
@@ -262,7 +268,11 @@ class Decode(InFolder):
         self.assertEqual(self.read("out.yuv"), b"".join(expected))
 
     def test_no_stream_at_all(self):
-        for data, status, text in ((b"no stream at all", 4, "BadPrefix"), (b"", 4, "MissingEnd"), (b"YUV4MPEG2 ", 1, "y4m")):
+        for data, status, text in (
+            (b"no stream at all", 4, "BadPrefix"),
+            (b"", 4, "MissingEnd"),
+            (b"YUV4MPEG2 ", 1, "y4m"),
+        ):
             done = self.dirac("decode", "-", "-o", "out.y4m", data=data)
             self.assertEqual((done.status, text in done.err, self.names()), (status, True, []), done.err)
 
@@ -274,7 +284,11 @@ class Decode(InFolder):
     def test_all_conformance_streams_that_keep_their_size(self):
         for name in ("fields_in_groups", "fields_444", "inter_422", "other_units_and_repeated_headers"):
             done = self.dirac("decode", "-", "--fields", "--md5", data=conformance(name))
-            row = next(row for row in (TOP / "conformance" / "expected.tsv").read_text().splitlines() if row.startswith(f"{name}\t"))
+            row = next(
+                row
+                for row in (TOP / "conformance" / "expected.tsv").read_text().splitlines()
+                if row.startswith(f"{name}\t")
+            )
             self.assertEqual(done.out.split()[-1].decode(), row.split("\t")[3], name)
 
     def test_weaving(self):

@@ -150,8 +150,10 @@ class Formats(unittest.TestCase):
                 self.assertEqual((f"{plain.width}x{plain.height}", plain.signal), (size, int(signal)))
                 self.assertEqual(formats.CHROMA_FORMATS[plain.chroma].name, chroma)
                 self.assertEqual((own.is_interlaced, own.aspect), (sampling == "interlaced", int(aspect)))
-            self.assertEqual([formats.BASE_FORMATS[int(base)].rate for base in bases.split(", ")],
-                             [int(index) for index in rate.split(", ")])
+            self.assertEqual(
+                [formats.BASE_FORMATS[int(base)].rate for base in bases.split(", ")],
+                [int(index) for index in rate.split(", ")],
+            )
             own = formats.BASE_FORMATS[int(bases.split(", ")[0])].clean
             wanted = f"{own[0]}x{own[1]}, left {own[2]}, top {own[3]}" if own[2] else "full"
             self.assertEqual(clean, wanted)

@@ -208,7 +208,12 @@ class Conformance(unittest.TestCase):
 
 class Reference(unittest.TestCase):
     def test_what_is_encoded_is_what_is_decoded(self):
-        for values in ({}, {"wavelet": 3, "chroma": 0}, {"fields": 1, "chroma": 1, "between": 1}, {"codeblocks": 3, "finer": 9}):
+        for values in (
+            {},
+            {"wavelet": 3, "chroma": 0},
+            {"fields": 1, "chroma": 1, "between": 1},
+            {"codeblocks": 3, "finer": 9},
+        ):
             settings = encoder.default_settings(0) | support.QUICK | {"width": 16, "height": 16, "gop": 4} | values
             height = settings["height"] // (2 if settings["fields"] else 1)
             raw = raw_pictures(5, 16, height, settings["chroma"])

@@ -70,8 +70,10 @@ def wrong_times(times, duration):
 def wrong_container(name):
     """What ffprobe finds wrong with a container of pictures alone, or None."""
     words = ["ffprobe", "-v", "error", "-select_streams", "v:0", "-of", "csv=p=0"]
-    told = [subprocess.run([*words, "-show_entries", entries, name], cwd=TOP, capture_output=True, text=True).stdout
-            for entries in ("packet=pts_time", "format=duration")]
+    told = [
+        subprocess.run([*words, "-show_entries", entries, name], cwd=TOP, capture_output=True, text=True).stdout
+        for entries in ("packet=pts_time", "format=duration")
+    ]
     times = [float(time) for time in re.findall(r"[0-9.]+", told[0])]
     return wrong_times(times, float(told[1]))
 

@@ -1,4 +1,4 @@
-"""Runs of the program on a stream, and the pictures that come out: fields woven to frames, and what is known of them."""
+"""Runs of the program on a stream, and the pictures that come out, fields woven to frames."""
 import itertools
 
 from .formats import BASE_FORMATS, BOTTOM_FIRST, PROGRESSIVE, TOP_FIRST
@@ -85,7 +85,7 @@ def video_of(header, has_fields_apart):
 
 
 def of_one_kind(pictures, has_fields_apart=False):
-    """The pictures' video, and the pictures, as long as size, chroma format and rate stay; at another kind a refusal."""
+    """What is known of the pictures, and the pictures; a refusal where size, chroma format or rate change."""
     pictures = iter(pictures if has_fields_apart else frames_of(pictures))
     first = next(pictures, None)
     if first is None:

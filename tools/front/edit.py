@@ -26,7 +26,9 @@ Sequences with equal headers become one; others stand behind one another, as the
 def add_to(commands):
     form = argparse.RawDescriptionHelpFormatter
     text = "take a part out of a stream, from one point to another, without recoding"
-    cut = commands.add_parser("cut", help=text, description="Cuts a stream at its points.", epilog=CUT, formatter_class=form)
+    cut = commands.add_parser(
+        "cut", help=text, description="Cuts a stream at its points.", epilog=CUT, formatter_class=form
+    )
     cut.add_argument("stream", metavar="X.drc", help="a stream or a container with one; - is standard input")
     cut.add_argument("-o", metavar="Y.drc", required=True, help="the part to write; - is standard output")
     cut.add_argument("--from", dest="begin", metavar="P", help="a point, or a time as 3.5s; the beginning if not given")
@@ -55,7 +57,9 @@ def point_of(text, data, name):
         return int(text)
     if not re.fullmatch(r"[0-9]+(\.[0-9]+)?s", text):
         raise Refusal(f"cut: {name} takes a point as 2, or a time as 3.5s, not {text}", 2)
-    found = [number for number, time in enumerate(times_of(Survey(io.BytesIO(data)))) if time <= float(text[:-1]) + 1e-9]
+    found = [
+        number for number, time in enumerate(times_of(Survey(io.BytesIO(data)))) if time <= float(text[:-1]) + 1e-9
+    ]
     if not found:
         raise Refusal("cut: the stream has no point; `dirac info` tells more")
     tell(f"{name} {text} is point {found[-1]}")

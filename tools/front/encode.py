@@ -56,10 +56,14 @@ def add_to(commands):
     parser.add_argument("--own-rate", action="store_true", help="write a rate that the table doesn't have")
     parser.add_argument("--signal", choices=SIGNALS, help="the range of the samples, in place of the clip's")
     parser.add_argument("--chroma", metavar="F", help="4:2:0, 4:2:2 or 4:4:4; another one than the clip's wants ffmpeg")
-    parser.add_argument("--filter", metavar="F", help="filters of ffmpeg, such as scale=640:360, fps=25 or crop=640:480")
+    parser.add_argument(
+        "--filter", metavar="F", help="filters of ffmpeg, such as scale=640:360, fps=25 or crop=640:480"
+    )
     parser.add_argument("--raw", metavar="WxH", help="the clip is raw pictures of this size")
     parser.add_argument("--fields", action="store_true", help="code the two fields of each frame as pictures")
-    parser.add_argument("--budget", metavar="N", type=int, help="most bytes of a picture's unit; the index rises to fit")
+    parser.add_argument(
+        "--budget", metavar="N", type=int, help="most bytes of a picture's unit; the index rises to fit"
+    )
     settings = parser.add_argument_group("settings of the program (docs/ENCODER.md)")
     for name in PASSED:
         settings.add_argument(f"--{name.replace('_', '-')}", metavar="N", type=int, help=help_of(name))

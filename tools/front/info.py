@@ -45,7 +45,13 @@ class Told:
     """What is known of a sequence."""
 
     def __init__(self, header):
-        self.header, self.counts, self.points, self.bytes, self.is_ended = header, dict.fromkeys(PICTURES, 0), [], 0, False
+        self.header, self.counts, self.points, self.bytes, self.is_ended = (
+            header,
+            dict.fromkeys(PICTURES, 0),
+            [],
+            0,
+            False,
+        )
 
     def pictures(self):
         return sum(self.counts.values())

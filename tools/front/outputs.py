@@ -21,7 +21,8 @@ def check_stream_name(path):
     if path.lower().endswith(CONTAINER_ENDINGS):
         raise Refusal(
             f"{path}: what is written is a stream, a .drc file; `mkvmerge -o X.mkv X.drc` puts it into a container,"
-            " and docs/FORMAT.md has other ways under Interoperation", 2
+            " and docs/FORMAT.md has other ways under Interoperation",
+            2,
         )
 
 

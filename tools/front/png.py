@@ -12,7 +12,7 @@ def clip(value):
 
 
 def _tables(signal):
-    """What each byte of Y, and of U and V, adds to red, green and blue, by BT.601; the range of 8 bits is full or so."""
+    """What each byte of Y, and of U and V, stands for, from 0 to 255 and from -127.5 to 127.5."""
     luma_offset, luma_excursion, chroma_offset, chroma_excursion = signal or FULL_RANGE
     lights = [(byte - luma_offset) * 255 / luma_excursion for byte in range(256)]
     colours = [(byte - chroma_offset) * 255 / chroma_excursion for byte in range(256)]

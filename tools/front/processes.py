@@ -22,9 +22,7 @@ class Pipe:
     def __init__(self, words, fed=None, passed=()):
         self.errors = tempfile.TemporaryFile()
         stdin = subprocess.DEVNULL if fed is None else subprocess.PIPE
-        self.process = subprocess.Popen(
-            words, stdin=stdin, stdout=subprocess.PIPE, stderr=self.errors, pass_fds=passed
-        )
+        self.process = subprocess.Popen(words, stdin=stdin, stdout=subprocess.PIPE, stderr=self.errors, pass_fds=passed)
         self.output, self.problem, self.thread = self.process.stdout, None, None
         self.read, self.read1, self.readline = self.output.read, self.output.read1, self.output.readline
         if fed is not None:

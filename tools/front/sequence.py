@@ -114,9 +114,7 @@ def spell_header(header):
     aspect = (header.aspect.numerator, header.aspect.denominator)
     _write_indexed(writer, header.aspect, ASPECTS[rest.aspect], ASPECTS, aspect)
     _write_numbers(writer, header.clean != rest.clean, header.clean)
-    _write_indexed(
-        writer, header.signal, decoder.SIGNAL_RANGES[size.signal], decoder.SIGNAL_RANGES, header.signal
-    )
+    _write_indexed(writer, header.signal, decoder.SIGNAL_RANGES[size.signal], decoder.SIGNAL_RANGES, header.signal)
     writer.flag(header.colour is not None)
     if isinstance(header.colour, tuple):
         writer.unsigned(0)

@@ -128,7 +128,9 @@ class _Checked(io.RawIOBase):
 def read_through_ffmpeg(source, words):
     """A file of what ffmpeg writes with these words behind its input."""
     given, fed = ffmpeg_input(source)
-    pipe = Pipe([wanted("ffmpeg", f"{source.name} is opened through ffmpeg, and that"), "-v", "error", *given, *words], fed)
+    pipe = Pipe(
+        [wanted("ffmpeg", f"{source.name} is opened through ffmpeg, and that"), "-v", "error", *given, *words], fed
+    )
     return io.BufferedReader(_Checked(pipe, source.name), 1 << 16)
 
 
@@ -150,7 +152,9 @@ class Stream:
             self.size = None
             first = self.file.read(len(units.PREFIX))
             if first != units.PREFIX:
-                raise Refusal(f"{source.name} is a container without a Dirac stream; `dirac encode` makes one of a clip")
+                raise Refusal(
+                    f"{source.name} is a container without a Dirac stream; `dirac encode` makes one of a clip"
+                )
             self.file = io.BufferedReader(_Joined(first, self.file), 1 << 16)
         self.read, self.read1 = self.file.read, self.file.read1
 
