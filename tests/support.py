@@ -10,6 +10,7 @@ import subprocess
 import sys
 import tempfile
 import unittest
+import warnings
 from unittest import mock
 
 TOP = pathlib.Path(__file__).resolve().parent.parent
@@ -25,7 +26,11 @@ PLAIN_TOOL = TOP / "tests" / "plain_tool.py"
 LONGEST_RUN = 120
 # the proved program, where it is named or built; all but a few tests run the plain one in its place
 PROVED = os.environ.get("DIRAC_TOOL", str(program.PLACE))
-os.environ["DIRAC_TOOL"] = str(PLAIN_TOOL)
+_FOLDER = tempfile.TemporaryDirectory()
+_LAUNCHER = pathlib.Path(_FOLDER.name) / "dirac_tool"
+_LAUNCHER.write_text(f"#!/bin/sh\nexec '{sys.executable}' '{PLAIN_TOOL}' \"$@\"\n")
+_LAUNCHER.chmod(0o755)
+os.environ["DIRAC_TOOL"] = str(_LAUNCHER)
 QUICK = {"depth": 2, "precision": 0, "range": 0, "pyramid": 0, "bias": 0}
 
 
@@ -52,6 +57,8 @@ def run_here(words, folder, **environment):
     """Runs the front program in this process, where neither standard input nor bytes on standard output are asked."""
     out, err, before = io.StringIO(), io.StringIO(), os.getcwd()
     os.chdir(folder)
+    # what a process leaves open is closed with it; here that would be told among the lines of the run
+    warnings.simplefilter("ignore", ResourceWarning)
     try:
         with mock.patch.dict(os.environ, environment), contextlib.redirect_stdout(out), contextlib.redirect_stderr(err):
             try:

@@ -181,6 +181,27 @@ class Encode(InFolder):
         self.assertIn("base 7 says bottom field first", err)
         self.assertEqual(self.encode("--base", "11")[0], 0)
 
+    def test_words_that_do_not_go_together(self):
+        self.write("in.y4m", y4m(raw_pictures(1)))
+        self.write("in.drc", encoded(1))
+        self.write("in.yuv", raw_pictures(1))
+        rows = [
+            ("in.y4m", ["--raw", "16x16"], "--raw is for raw pictures"),
+            ("in.drc", ["--chroma", "4:4:4"], "make y4m of it first"),
+            ("in.drc", ["--filter", "hflip"], "make y4m of it first"),
+            ("in.yuv", ["--raw", "16x16", "--rate", "25", "--filter", "hflip"], "make y4m of it first"),
+        ]
+        for name, words, text in rows:
+            done = self.dirac("encode", name, "-o", "out.drc", *words)
+            self.assertEqual((done.status, text in done.err), (2, True), done.err)
+
+    def test_a_clip_that_breaks_off_keeps_its_whole_pictures(self):
+        raw = raw_pictures(3)
+        self.write("in.y4m", y4m(raw)[:-1])
+        status, err = self.encode()
+        self.assertEqual((status, self.read("out.drc")), (1, self.expected(raw[:768])))
+        self.assertIn("picture 2 of the y4m stream has 383 of 384 bytes; out.drc has the 2 pictures before", err)
+
     def test_a_wrong_setting_is_named(self):
         self.write("in.y4m", y4m(raw_pictures(1)))
         status, err = self.encode("--index", "100")
@@ -277,9 +298,13 @@ class Decode(InFolder):
             self.assertEqual((done.status, text in done.err, self.names()), (status, True, []), done.err)
 
     def test_another_size_on_the_way(self):
-        done = self.dirac("decode", "-", "-o", "out.yuv", data=conformance("sequences_of_different_kinds"))
+        done = self.dirac("decode", "-", "-o", "out.y4m", data=conformance("sequences_of_different_kinds"))
         self.assertEqual(done.status, 1)
         self.assertIn("the pictures change from number", done.err)
+        done = self.dirac("decode", "-", "--md5", data=conformance("sequences_of_different_kinds"))
+        self.assertEqual(
+            (done.status, done.out.count(b"\n")), (0, len(shown(conformance("sequences_of_different_kinds"))) + 1)
+        )
 
     def test_all_conformance_streams_that_keep_their_size(self):
         for name in ("fields_in_groups", "fields_444", "inter_422", "other_units_and_repeated_headers"):

@@ -51,7 +51,9 @@ def _picture_count(path):
     words = ["-v", "error", "-select_streams", "v:0", "-of", "json", "-show_entries"]
     words += ["stream=nb_frames,avg_frame_rate,duration:format=duration", f"file:{path}"]
     try:
-        done = subprocess.run([wanted("ffprobe", path), *words], capture_output=True, stdin=subprocess.DEVNULL)
+        done = subprocess.run(
+            [wanted("ffprobe", "to count pictures"), *words], capture_output=True, stdin=subprocess.DEVNULL
+        )
         told = json.loads(done.stdout)
         stream = told["streams"][0]
         if stream.get("nb_frames", "").isdigit():
@@ -63,15 +65,14 @@ def _picture_count(path):
 
 
 def _filters(words):
-    chroma = getattr(words, "chroma", None)
-    formats = [CHROMA_FORMATS[read_chroma(chroma)]] if chroma else CHROMA_FORMATS
-    given = [words.filter] if getattr(words, "filter", None) else []
+    formats = [CHROMA_FORMATS[read_chroma(words.chroma)]] if words.chroma else CHROMA_FORMATS
+    given = [words.filter] if words.filter else []
     return ",".join([*given, "format=" + "|".join(format_.ffmpeg for format_ in formats)])
 
 
 def _ffmpeg_clip(source, words):
     given = ["-map", "0:v:0", "-vf", _filters(words), "-f", "yuv4mpegpipe", "-"]
-    count = None if source.path == "-" or getattr(words, "filter", None) else _picture_count(source.path)
+    count = None if source.path == "-" or words.filter else _picture_count(source.path)
     return _y4m_clip(source.name, read_through_ffmpeg(source, given), count=count)
 
 
@@ -91,25 +92,32 @@ def _decoded_clip(stream):
     return Clip(stream.name, video, checked())
 
 
-def check_plain(words, what):
-    """Refuses words that only ffmpeg follows, for a clip that it isn't asked to open."""
-    if getattr(words, "raw", None):
-        raise Refusal(f"--raw is for raw pictures, and this is {what}", 2)
+def _check_unchanged(word, what):
+    """Refuses a word that ffmpeg would follow, for a clip that it isn't asked to open."""
+    if word is not None:
+        raise Refusal(f"--filter and --chroma are for ffmpeg, which doesn't open {what}: make y4m of it first", 2)
 
 
-def open_clip(path, words):
-    """The clip in a file. `words` may say `raw`, `chroma`, `rate` and `filter`."""
+def open_clip(path, words, is_raw=True):
+    """The clip in a file. `words` may say `raw`, `chroma` and `filter`.
+
+    With `is_raw` what is said to be raw is taken so, and y4m and streams are refused then; else what is no clip of
+    another kind is raw.
+    """
     source = Source(path)
     if not source.first:
         raise Refusal(f"{source.name} is empty")
-    is_changed = bool(getattr(words, "filter", None) or getattr(words, "chroma", None))
+    is_changed = is_raw and (words.filter is not None or words.chroma is not None)
+    if words.raw is not None and is_raw and (source.is_y4m() or source.is_dirac()):
+        raise Refusal(f"--raw is for raw pictures, and {source.name} is {'y4m' if source.is_y4m() else 'a stream'}", 2)
     if source.is_y4m():
-        check_plain(words, "y4m")
         return _ffmpeg_clip(source, words) if is_changed else _y4m_clip(source.name, source, source.size)
-    if getattr(words, "raw", None):
-        return _raw_clip(source, words)
-    if source.is_dirac() or source.is_ogg():
+    if source.is_dirac() or source.is_ogg_of_dirac():
+        _check_unchanged(words.filter or words.chroma if is_raw else None, "a Dirac stream")
         return _decoded_clip(Stream(source))
+    if words.raw is not None and (is_raw or not (source.is_container() or source.is_ogg())):
+        _check_unchanged(words.filter, "raw pictures")
+        return _raw_clip(source, words)
     return _ffmpeg_clip(source, words)
 
 

@@ -31,7 +31,7 @@ def add_to(commands):
     parser.add_argument("--raw", metavar="WxH", help="files that are no clip of another kind are raw pictures so large")
     parser.add_argument("--chroma", metavar="F", help="the chroma format of raw pictures: 4:2:0, 4:2:2 or 4:4:4")
     parser.add_argument("--plot", metavar="X.png", help="draw it too, where matplotlib is there")
-    parser.set_defaults(run=run)
+    parser.set_defaults(run=run, filter=None)
 
 
 def plotting():
@@ -64,21 +64,9 @@ def check_alike(one, other):
         raise Refusal(f"compare: {one.name} is {texts[0]}, and {other.name} is {texts[1]}")
 
 
-class RawWords:
-    """What is said of raw pictures; nothing is asked of ffmpeg."""
-
-    def __init__(self, words, is_raw):
-        self.raw, self.chroma, self.filter = (words.raw, words.chroma, None) if is_raw else (None, None, None)
-
-
-def clip_of(path, words):
-    is_raw = words.raw is not None and not path.endswith((".drc", ".y4m", ".ogg", ".ogv", ".mkv"))
-    return open_clip(path, RawWords(words, is_raw))
-
-
 def run(words):
     plot = plotting() if words.plot else None
-    one, other = clip_of(words.one, words), clip_of(words.other, words)
+    one, other = open_clip(words.one, words, False), open_clip(words.other, words, False)
     check_alike(one, other)
     measure, rows, ends = psnr.Measure(one.video), [], [0, 0]
     for pictures in itertools.zip_longest(one.pictures, other.pictures):

@@ -67,17 +67,16 @@ def pass_on(sink, pictures, most=None, watcher=None):
 
 
 def run(words):
-    kind_of_sink(words)
+    kind = kind_of_sink(words)
     if words.frames is not None and words.frames < 0:
         raise Refusal("--frames takes a number from 0 on", 2)
     if words.o is not None:
         check_apart(words.o, [words.stream])
     decoding = Decoding(open_stream(words.stream))
-    video, pictures = of_one_kind(decoding.pictures(), words.fields)
+    video, pictures = of_one_kind(decoding.pictures(), words.fields, kind.takes_any)
     count = 0
     if video is not None:
-        sink = kind_of_sink(words)(words.o, video)
-        count = pass_on(sink, pictures, words.frames, decoding.watcher)
+        count = pass_on(kind(words.o, video), pictures, words.frames, decoding.watcher)
     if words.frames is not None and count >= words.frames:
         decoding.pipe.stop()
         return 0

@@ -5,7 +5,7 @@ from .formats import BASE_FORMATS, BOTTOM_FIRST, PROGRESSIVE, TOP_FIRST
 from .processes import pieces
 from .program import refusal, start
 from .refusal import Refusal
-from .units import Watcher
+from .units import LONGEST_HEADER, Watcher
 
 
 class Decoding:
@@ -20,13 +20,13 @@ class Decoding:
             self.watcher.feed(piece)
             yield piece
 
-    def _sequence_of(self, number):
-        """The sequence of a picture, which was fed and so seen; None behind the last one."""
+    def _header_of(self, number):
+        """The header of a picture's sequence, which was fed and so seen."""
         for sequence in self.watcher.sequences:
             if number < sequence.pictures:
-                return sequence
+                return sequence.header
             number -= sequence.pictures
-        return None
+        raise Refusal(f"{self.name}: a sequence header is longer than {LONGEST_HEADER} bytes")
 
     def pictures(self):
         """Raw pictures and their headers in turn; ends as the program does, and `finish` says how."""
@@ -34,7 +34,7 @@ class Decoding:
             first = self.pipe.read(1)
             if not first:
                 return
-            header = self._sequence_of(number).header
+            header = self._header_of(number)
             rest = self.pipe.read(header.pictures().picture_length() - 1)
             yield first + rest, header
 
@@ -84,8 +84,11 @@ def video_of(header, has_fields_apart):
     return video
 
 
-def of_one_kind(pictures, has_fields_apart=False):
-    """What is known of the pictures, and the pictures; a refusal where size, chroma format or rate change."""
+def of_one_kind(pictures, has_fields_apart=False, takes_any=False):
+    """What is known of the first picture, and all pictures.
+
+    Where `takes_any` isn't set, a refusal comes in the place of a picture of another size, rate, range or aspect.
+    """
     pictures = iter(pictures if has_fields_apart else frames_of(pictures))
     first = next(pictures, None)
     if first is None:
@@ -95,10 +98,10 @@ def of_one_kind(pictures, has_fields_apart=False):
     def same():
         for number, (picture, header) in enumerate(itertools.chain([first], pictures)):
             new = video_of(header, has_fields_apart)
-            if new != video:
+            if new != video and not takes_any:
                 raise Refusal(
-                    f"the pictures change from number {number} on, to {new.width} by {new.height}: `dirac cut --from`"
-                    " a point of that part makes a stream of it"
+                    f"the pictures change from number {number} on (size, rate, range or pixel aspect), to {new.width} by"
+                    f" {new.height}: `dirac cut --from` a point of that part makes a stream of it"
                 )
             yield picture
 

@@ -219,7 +219,13 @@ def run(words):
             pipe = start([*given, compared.word()], fed, (compared.writing,))
             compared.start()
         count = write_stream(pipe, video, output, progress)
-        problem = refusal(clip.name, *pipe.finish())
+        try:
+            problem = refusal(clip.name, *pipe.finish())
+        except Refusal as broken_off:
+            if count:
+                output.keep()
+                broken_off.text += f"; {words.o} has the {count} pictures before"
+            raise
         if problem is not None:
             raise problem
         output.keep()

@@ -1,6 +1,7 @@
 """The proved program: where it is, and its answers in a reader's words."""
 import os
 import re
+import shutil
 
 from .plain import TOP
 from .processes import Pipe
@@ -39,8 +40,8 @@ ANSWERS = [
 def place():
     """The path of the program, built."""
     named = os.environ.get(VARIABLE)
-    path = named or str(PLACE)
-    if not os.access(path, os.X_OK) or os.path.isdir(path):
+    path = shutil.which(named or str(PLACE))
+    if path is None:
         if named:
             raise Refusal(f"{VARIABLE}={named} names no program that can be run")
         raise Refusal(

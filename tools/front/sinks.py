@@ -10,6 +10,9 @@ from .sources import wanted
 
 
 class RawSink:
+    # whether the pictures may change their size on the way
+    takes_any = True
+
     def __init__(self, path, _):
         self.output = Output(path)
 
@@ -24,6 +27,8 @@ class RawSink:
 
 
 class Y4mSink(RawSink):
+    takes_any = False
+
     def __init__(self, path, video):
         super().__init__(path, video)
         self.output.write(y4m.spell_header(video))
@@ -34,6 +39,8 @@ class Y4mSink(RawSink):
 
 class SumSink:
     """A line a picture, as tools/md5_of_pictures.py writes them."""
+
+    takes_any = True
 
     def __init__(self, _, __):
         self.count, self.whole = 0, hashlib.md5()
@@ -51,7 +58,9 @@ class SumSink:
 
 
 class PngSink:
-    """A file a picture, with its number in front of the ending."""
+    """A file a picture, with its number in front of the ending; the colours are those of BT.601."""
+
+    takes_any = False
 
     def __init__(self, path, video):
         self.path, self.video, self.count = pathlib.Path(path), video, 0
@@ -72,6 +81,8 @@ class PngSink:
 
 class CommandSink:
     """A program that is fed y4m."""
+
+    takes_any = False
 
     def __init__(self, name, command, video):
         self.name = name
@@ -111,7 +122,7 @@ class FfmpegSink(CommandSink):
     """Any clip that ffmpeg makes of y4m; by its name's ending it knows which."""
 
     def __init__(self, path, video):
-        command = wanted("ffmpeg", f"{path}: an ending other than .y4m, .yuv and .png")
+        command = wanted("ffmpeg", f"to write {path}")
         words = ["-v", "error", "-y", "-f", "yuv4mpegpipe", "-i", "-", f"file:{path}"]
         super().__init__(f"{path}: ffmpeg", [command, *words], video)
 

@@ -9,7 +9,7 @@ from . import ogg, units, y4m
 from .processes import Pipe, pieces
 from .refusal import Refusal
 
-LOOKED_AT = 12
+LOOKED_AT = 4096
 # how files of containers that may hold Dirac begin, and from which byte on
 CONTAINERS = [(b"\x1a\x45\xdf\xa3", 0), (b"RIFF", 0), (b"ftyp", 4), (b"moov", 4), (b"mdat", 4), (b"wide", 4)]
 CONTAINERS += [(b"\x47\x40", 0), (b"\x30\x26\xb2\x75\x8e\x66\xcf\x11", 0), (b"nut/multimed", 0)]
@@ -64,6 +64,10 @@ class Source:
     def is_ogg(self):
         return self.begins(ogg.CAPTURE)
 
+    def is_ogg_of_dirac(self):
+        """Whether one of the first pages begins a Dirac stream."""
+        return self.is_ogg() and units.PREFIX in self.first
+
     def is_container(self):
         return any(self.begins(words, place) for words, place in CONTAINERS)
 
@@ -73,10 +77,10 @@ def tell(line):
 
 
 def wanted(command, why):
-    """The path of a command that may be missing."""
+    """The path of a command that may be missing; `why` begins the sentence that says so."""
     path = shutil.which(command)
     if path is None:
-        raise Refusal(f"{why} wants {command}, which isn't there: install it (Debian: apt-get install ffmpeg)")
+        raise Refusal(f"{why}, {command} is wanted, and it isn't there: install it (Debian: apt-get install ffmpeg)")
     return path
 
 
@@ -128,9 +132,7 @@ class _Checked(io.RawIOBase):
 def read_through_ffmpeg(source, words):
     """A file of what ffmpeg writes with these words behind its input."""
     given, fed = ffmpeg_input(source)
-    pipe = Pipe(
-        [wanted("ffmpeg", f"{source.name} is opened through ffmpeg, and that"), "-v", "error", *given, *words], fed
-    )
+    pipe = Pipe([wanted("ffmpeg", f"to open {source.name}"), "-v", "error", *given, *words], fed)
     return io.BufferedReader(_Checked(pipe, source.name), 1 << 16)
 
 
