@@ -1,4 +1,5 @@
 """What the tests share: where things are, runs of programs, and small streams made by scripts."""
+import atexit
 import contextlib
 import functools
 import io
@@ -27,6 +28,7 @@ LONGEST_RUN = 120
 # the proved program, where it is named or built; all but a few tests run the plain one in its place
 PROVED = os.environ.get("DIRAC_TOOL", str(program.PLACE))
 _FOLDER = tempfile.TemporaryDirectory()
+atexit.register(_FOLDER.cleanup)
 _LAUNCHER = pathlib.Path(_FOLDER.name) / "dirac_tool"
 _LAUNCHER.write_text(f"#!/bin/sh\nexec '{sys.executable}' '{PLAIN_TOOL}' \"$@\"\n")
 _LAUNCHER.chmod(0o755)

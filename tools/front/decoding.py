@@ -99,9 +99,10 @@ def of_one_kind(pictures, has_fields_apart=False, takes_any=False):
         for number, (picture, header) in enumerate(itertools.chain([first], pictures)):
             new = video_of(header, has_fields_apart)
             if new != video and not takes_any:
+                size = f"{new.width} by {new.height}"
                 raise Refusal(
-                    f"the pictures change from number {number} on (size, rate, range or pixel aspect), to {new.width} by"
-                    f" {new.height}: `dirac cut --from` a point of that part makes a stream of it"
+                    f"the pictures change from number {number} on (size, rate, range or pixel aspect), to {size}:"
+                    " `dirac cut --from` a point of that part makes a stream of it"
                 )
             yield picture
 
