@@ -61,6 +61,9 @@ class Words(InFolder):
         done = self.dirac("decode", MOVING, "-o", "x.y4m", DIRAC_TOOL="missing")
         self.assertEqual((done.status, self.names()), (1, []))
         self.assertIn("DIRAC_TOOL=missing", done.err)
+        self.write("in.drc", encoded(2))
+        done = self.dirac("decode", "in.drc", "-o", "x.yuv", "--plain", DIRAC_TOOL="missing")
+        self.assertEqual((done.status, self.read("x.yuv")), (0, b"".join(shown(encoded(2)))))
 
 
 class Info(InFolder):

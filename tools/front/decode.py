@@ -1,7 +1,7 @@
 """`dirac decode`: pictures of a stream as y4m, raw, PNG or sums, or through ffmpeg as any other clip."""
 import argparse
 
-from .decoding import Decoding, of_one_kind
+from .decoding import PLAIN_HELP, Decoding, of_one_kind
 from .outputs import check_apart
 from .progress import Progress
 from .refusal import Refusal
@@ -34,6 +34,7 @@ def add_to(commands):
     parser.add_argument("--md5", action="store_true", help="write a sum for each picture, in place of a clip")
     parser.add_argument("--png", action="store_true", help="write each picture as a PNG file of its own")
     parser.add_argument("--fields", action="store_true", help="leave fields apart: pictures of half the rows")
+    parser.add_argument("--plain", action="store_true", help=PLAIN_HELP)
     parser.set_defaults(run=run)
 
 
@@ -72,7 +73,7 @@ def run(words):
         raise Refusal("--frames takes a number from 0 on", 2)
     if words.o is not None:
         check_apart(words.o, [words.stream])
-    decoding = Decoding(open_stream(words.stream))
+    decoding = Decoding(open_stream(words.stream), words.plain)
     video, pictures = of_one_kind(decoding.pictures(), words.fields, kind.takes_any)
     count = 0
     if video is not None:

@@ -3,17 +3,19 @@ import itertools
 
 from .formats import BASE_FORMATS, BOTTOM_FIRST, PROGRESSIVE, TOP_FIRST
 from .processes import pieces
-from .program import refusal, start
+from .program import refusal, start_decoder
 from .refusal import Refusal
 from .units import LONGEST_HEADER, Watcher
+
+PLAIN_HELP = "decode by the plain decoder in Python, which needs no build: a second or so for a picture of 176 by 144"
 
 
 class Decoding:
     """A run of the program on a stream, and the pictures that come out, each with the sequence that it belongs to."""
 
-    def __init__(self, stream):
+    def __init__(self, stream, is_plain=False):
         self.name, self.watcher = stream.name, Watcher()
-        self.pipe = start(["decode"], self._watched(stream))
+        self.pipe = start_decoder(self._watched(stream), is_plain)
 
     def _watched(self, stream):
         for piece in pieces(stream):

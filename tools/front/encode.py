@@ -43,6 +43,7 @@ MOST_WORKERS = 64
 def add_to(commands):
     parser = commands.add_parser(
         "encode",
+        usage="dirac encode CLIP -o X.drc [--psnr] [--rate R] [--index N] ...",
         help="make a stream of a clip: y4m, raw pictures, or anything that ffmpeg opens",
         description="Makes a Dirac stream of a clip.",
         epilog=EPILOG,

@@ -3,7 +3,7 @@ import argparse
 import shutil
 
 from .decode import pass_on
-from .decoding import Decoding, of_one_kind
+from .decoding import PLAIN_HELP, Decoding, of_one_kind
 from .refusal import Refusal
 from .sinks import CommandSink
 from .sources import open_stream
@@ -28,6 +28,7 @@ def add_to(commands):
     )
     parser.add_argument("stream", metavar="X.drc", help="a stream or a container with one; - is standard input")
     parser.add_argument("--player", choices=PLAYERS, help="the player, where there are both")
+    parser.add_argument("--plain", action="store_true", help=PLAIN_HELP)
     parser.set_defaults(run=run)
 
 
@@ -43,7 +44,7 @@ def command_for(player, name):
 
 def run(words):
     command = command_for(words.player, words.stream)
-    decoding = Decoding(open_stream(words.stream))
+    decoding = Decoding(open_stream(words.stream), words.plain)
     video, pictures = of_one_kind(decoding.pictures())
     try:
         if video is not None:

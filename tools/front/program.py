@@ -2,12 +2,14 @@
 import os
 import re
 import shutil
+import sys
 
 from .plain import TOP
 from .processes import Pipe
 from .refusal import Refusal
 
 PLACE = TOP / "crates" / "dirac_tool" / "out" / "dirac_tool"
+PLAIN = TOP / "bench" / "reference" / "decode.py"
 VARIABLE = "DIRAC_TOOL"
 FAULT = 4
 
@@ -46,13 +48,18 @@ def place():
             raise Refusal(f"{VARIABLE}={named} names no program that can be run")
         raise Refusal(
             "the proved program isn't built yet: `./run list < examples/moving.drc` builds it, or the variable"
-            f" {VARIABLE} names it; `python3 examples/look.py` shows pictures without it"
+            f" {VARIABLE} names it; with --plain decode and play do without it, slowly"
         )
     return path
 
 
 def start(words, fed, passed=()):
     return Pipe([place(), *words], fed, passed)
+
+
+def start_decoder(fed, is_plain):
+    """The proved decoder, or the plain one of bench/reference, which answers the same and needs no build."""
+    return Pipe([sys.executable, str(PLAIN)], fed) if is_plain else start(["decode"], fed)
 
 
 def explained(line):
