@@ -164,8 +164,8 @@ class Encode(InFolder):
 
     def test_refused_clips(self):
         rows = [
-            (y4m(b"", b"W16 H16 F15:1"), "nearest: --rate 15000/1001 or --rate 24000/1001"),
-            (y4m(b"", b"W16 H16"), "say it, as --rate 25"),
+            (y4m(b"", b"W16 H16 F15:1"), "nearest: --rate=15000/1001 or --rate=24000/1001"),
+            (y4m(b"", b"W16 H16"), "say it, as --rate=25"),
             (y4m(b"", b"W15 H16 F25:1"), "crop=14:16"),
             (y4m(b"", b"W16 H16 F25:1 C420p10"), "420p10"),
             (y4m(raw_pictures(1))[:-1], "picture 0 of the y4m stream has 383 of 384 bytes"),

@@ -15,22 +15,13 @@ import sys
 sys.dont_write_bytecode = True
 
 from front import y4m
-from front.formats import FULL_RANGE, RATES, check_size, nearest_rates, rate_text, read_rate, rounded_rate
+from front.formats import FULL_RANGE, check_size, rate_index, read_rate, rounded_rate
 from front.refusal import Refusal
 
 
 def fail(text, status=1):
     print(f"y4m_to_raw.py: {text}", file=sys.stderr)
     sys.exit(status)
-
-
-def rate_index(rate):
-    if rate in RATES[1:]:
-        return RATES.index(rate)
-    if rate is None:
-        raise Refusal("the clip doesn't say its rate: say it, as --rate=25")
-    nearest = " or ".join(f"--rate={known}" for known in nearest_rates(rate))
-    raise Refusal(f"{rate_text(rate)} pictures a second is no rate of the standard's table; nearest: {nearest}")
 
 
 def words_of(video):

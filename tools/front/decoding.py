@@ -37,8 +37,11 @@ class Decoding:
             if not first:
                 return
             header = self._header_of(number)
-            rest = self.pipe.read(header.pictures().picture_length() - 1)
-            yield first + rest, header
+            length = header.pictures().picture_length()
+            picture = first + self.pipe.read(length - 1)
+            if len(picture) < length:
+                return
+            yield picture, header
 
     def finish(self):
         """What the program says in the end, as a refusal, or None."""

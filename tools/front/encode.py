@@ -7,7 +7,7 @@ import threading
 from . import psnr
 from .clips import open_clip, with_rate
 from .formats import BASE_FORMATS, BOTTOM_FIRST, FULL_RANGE, LIMITED_RANGE, PROGRESSIVE, RATES, TOP_FIRST
-from .formats import nearest_rates, rate_text
+from .formats import rate_index
 from .outputs import Output, check_apart, check_stream_name
 from .plain import decoder, encoder
 from .program import refusal, start
@@ -38,6 +38,9 @@ PASSED += ["references", "gop", "between", "range", "pyramid", "bias", "workers"
 BASES = {PROGRESSIVE: 0, TOP_FIRST: 8, BOTTOM_FIRST: 7}
 SIGNALS = {"full": FULL_RANGE, "limited": LIMITED_RANGE}
 MOST_WORKERS = 64
+# what the program is told where the rate is written afterwards
+RATE_IN_BETWEEN = 3
+OTHER_WAYS = " (the same pictures, at that speed), or --filter fps=25, or --own-rate, which writes it as two numbers"
 
 
 def add_to(commands):
@@ -80,28 +83,26 @@ def help_of(name):
 # Settings
 
 
-def rate_index(video, has_own_rate):
-    """The index of the clip's rate, 0 where it is to stand as two numbers."""
-    if video.rate is None:
-        raise Refusal("the clip doesn't say its rate: say it, as --rate 25", 2)
-    if video.rate in RATES:
-        return RATES.index(video.rate)
-    if has_own_rate:
-        return 0
-    nearest = " or ".join(f"--rate {str(rate)}" for rate in nearest_rates(video.rate))
-    raise Refusal(
-        f"{rate_text(video.rate)} pictures a second is no rate of the standard's table; nearest: {nearest} (the same"
-        " pictures, at that speed); or --filter fps=25, or --own-rate, which writes it as two numbers"
-    )
+def index_of_rate(video, has_own_rate):
+    """The index of the clip's rate, None where it is to stand as two numbers."""
+    if has_own_rate and video.rate is not None and video.rate not in RATES:
+        return None
+    return rate_index(video.rate, OTHER_WAYS)
+
+
+def is_top_first(base):
+    return 0 <= base < len(BASE_FORMATS) and BASE_FORMATS[base].is_top_first
 
 
 def settings_of(video, words):
     """The words of the program for a clip."""
-    index = rate_index(video, words.own_rate)
+    index = index_of_rate(video, words.own_rate)
     if video.signal not in SIGNALS.values():
         raise Refusal("the clip's range is neither full nor limited: say --signal")
     settings = {"base": BASES[video.scan], "chroma": video.chroma, "width": video.width, "height": video.height}
-    settings.update(rate=index or 3, signal=1 if video.signal == FULL_RANGE else 2, fields=int(words.fields))
+    settings.update(
+        rate=index or RATE_IN_BETWEEN, signal=1 if video.signal == FULL_RANGE else 2, fields=int(words.fields)
+    )
     settings["workers"] = min(MOST_WORKERS, os.cpu_count() or 1)
     settings.update({name: getattr(words, name) for name in PASSED if getattr(words, name) is not None})
     check_order(video, settings["base"])
@@ -112,7 +113,7 @@ def settings_of(video, words):
 
 def check_order(video, base):
     """Refuses a base whose first field isn't the clip's."""
-    order = TOP_FIRST if 0 <= base < len(BASE_FORMATS) and BASE_FORMATS[base].is_top_first else BOTTOM_FIRST
+    order = TOP_FIRST if is_top_first(base) else BOTTOM_FIRST
     if video.scan not in (PROGRESSIVE, order):
         raise Refusal(f"base {base} says {order}, and the clip {video.scan}: leave --base away", 2)
 
@@ -155,9 +156,9 @@ class Compared:
         return psnr.line(self.measure.all()) if self.measure.count else "no picture"
 
 
-def fields_of(pictures, video, is_top_first):
+def fields_of(pictures, video, has_top_first):
     """The two fields of each frame, the first one first."""
-    order = (0, 1) if is_top_first else (1, 0)
+    order = (0, 1) if has_top_first else (1, 0)
     for picture in pictures:
         for parity in order:
             field = bytearray()
@@ -174,7 +175,7 @@ def fed_pictures(clip, words, compared):
         pictures = (picture for _, picture in zip(range(words.frames), pictures))
     if words.fields:
         base = BASES[clip.video.scan] if words.base is None else words.base
-        pictures = fields_of(pictures, clip.video, BASE_FORMATS[base].is_top_first)
+        pictures = fields_of(pictures, clip.video, is_top_first(base))
     for picture in pictures:
         if compared is not None:
             compared.waiting.append(picture)

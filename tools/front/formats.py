@@ -121,6 +121,18 @@ def nearest_rates(rate):
     return sorted(found, key=lambda known: abs(known - rate))
 
 
+def rate_index(rate, other_ways=""):
+    """The index of a rate in the table; a refusal that names the nearest ones, and other ways, where it has none."""
+    if rate is None:
+        raise Refusal("the clip doesn't say its rate: say it, as --rate=25")
+    if rate in RATES[1:]:
+        return RATES.index(rate)
+    nearest = " or ".join(f"--rate={known}" for known in nearest_rates(rate))
+    raise Refusal(
+        f"{rate_text(rate)} pictures a second is no rate of the standard's table; nearest: {nearest}{other_ways}"
+    )
+
+
 def rounded_rate(rate):
     """The rate of the table that a container's rounding made this of, such as 24000/1001 of 23.976; else the rate."""
     nearest = nearest_rates(rate)[0] if rate is not None and rate not in RATES else None
