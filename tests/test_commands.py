@@ -2,6 +2,8 @@
 import io
 import json
 import os
+import subprocess
+import sys
 import unittest
 from fractions import Fraction
 
@@ -436,6 +438,10 @@ class Parts(unittest.TestCase):
         done = support.dirac("decode", "-", "-o", "/dev/full", data=encoded(1))
         self.assertEqual((done.status, done.err.count("\n")), (1, 1))
         self.assertIn("No space left", done.err)
+        with open("/dev/full", "wb") as full:
+            words = [sys.executable, TOP / "dirac", "info", MOVING]
+            done = subprocess.run([str(word) for word in words], stdout=full, stderr=subprocess.PIPE)
+        self.assertEqual((done.returncode, done.stderr), (1, b"dirac: No space left on device\n"))
 
     def test_rewriting_by_the_same_values_changes_no_byte(self):
         stream = encoded(5, gop=2)

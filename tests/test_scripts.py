@@ -170,7 +170,7 @@ class Conformance(unittest.TestCase):
         plain = [sys.executable, TOP / "bench" / "reference" / "decode.py"]
         done = script("conformance/check.py", "--only=fault_s", *plain)
         self.assertEqual((done.status, done.out.decode()), (0, "6 of 6 streams agree\n"))
-        done = script("conformance/check.py", "--only=fault_siz", "true")
+        done = script("conformance/check.py", "--only=fault_siz", sys.executable, "-c", "")
         self.assertEqual((done.status, done.out.count(b"DIFFERS")), (1, 3))
         self.assertEqual(script("conformance/check.py", "no-such-command").status, 1)
 

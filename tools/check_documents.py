@@ -6,11 +6,11 @@ check_documents.py [DOCUMENT...]        README.md, docs/*.md and the README.md o
 
 Run it with the program built and ffmpeg there; the files that the commands write at the top of the repository are
 ignored by git. In a block of lines those that begin with `$ ` are commands, and what follows one is what it writes to
-both outputs, in any order. In a block without such a line, those that begin with python3, ./run or bench/ are commands,
-of which only the status is looked at, and 1 is fine with `--pictures`, where another decoder may differ. Commands with
-ffplay or `play` are left out, for want of a screen. A clip that a document takes for granted is made by ffmpeg. Of a
-container that a command writes the times are looked at by ffprobe: its packets come one after another, evenly, and it
-lasts as long. Ends with 1 where a command differs.
+both outputs, in any order. In a block without such a line, those that begin with python3, ./run, ./dirac or bench/ are
+commands, of which only the status is looked at, and 1 is fine with `--pictures`, where another decoder may differ.
+Commands with ffplay or `play` are left out, for want of a screen. A clip that a document takes for granted is made by
+ffmpeg. Of a container that a command writes the times are looked at by ffprobe: its packets come one after another,
+evenly, and it lasts as long. Ends with 1 where a command differs.
 """
 import pathlib
 import re
@@ -33,7 +33,7 @@ def commands(block):
     """Each command, and the lines that it is to write, or None where the block doesn't say."""
     lines = block.splitlines()
     if not any(line.startswith("$ ") for line in lines):
-        return [(line, None) for line in lines if re.match(r"python3 |\./run |bench/", line)]
+        return [(line, None) for line in lines if re.match(r"python3 |\./run |\./dirac |bench/", line)]
     found = []
     for line in lines:
         if line.startswith("$ "):

@@ -1,5 +1,6 @@
 """The words of the front program."""
 import argparse
+import os
 import sys
 
 from . import compare, decode, edit, encode, info, play, repair
@@ -41,6 +42,13 @@ def parser():
     return top
 
 
+def leave_output():
+    """Points standard output nowhere, so that what it still holds isn't told as an error at the end."""
+    nowhere = os.open(os.devnull, os.O_WRONLY)
+    os.dup2(nowhere, 1)
+    os.close(nowhere)
+
+
 def main(arguments):
     """The status."""
     top = parser()
@@ -50,13 +58,18 @@ def main(arguments):
         return 2
     try:
         status = words.run(words)
-        sys.stdout.flush()
+        if sys.stdout is not None:
+            sys.stdout.flush()
         return status
     except Refusal as problem:
         print(f"dirac: {problem.text}", file=sys.stderr)
         return problem.status
     except BrokenPipeError:
-        sys.stderr.close()
+        leave_output()
+        return 1
+    except OSError as problem:
+        print(f"dirac: {problem.strerror or problem}", file=sys.stderr)
+        leave_output()
         return 1
     except KeyboardInterrupt:
         print("dirac: interrupted", file=sys.stderr)
