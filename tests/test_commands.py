@@ -93,14 +93,12 @@ class Info(InFolder):
         self.assertEqual(first.seconds(), first.pictures() / 2 / first.header.rate)
 
     def test_faults_of_the_row_of_units(self):
-        for name, cause in (
-            ("fault_bad_prefix", "BadPrefix"),
-            ("fault_preset", "Preset"),
-            ("fault_missing_end", "MissingEnd"),
-        ):
-            done = self.dirac("info", "-", data=conformance(name))
+        for name in ("bad_prefix", "preset", "missing_end", "sequence_changed", "no_sequence", "truncated_payload"):
+            stream = conformance(f"fault_{name}")
+            fault = decoder.decode(stream).fault
+            done = self.dirac("info", "-", data=stream)
             self.assertEqual(done.status, 4)
-            self.assertIn(cause, done.out.decode())
+            self.assertIn(f"fault in unit {fault.unit} at byte {fault.place}: {fault.cause}", done.out.decode())
 
 
 class Encode(InFolder):

@@ -44,14 +44,10 @@ class Point:
 class Told:
     """What is known of a sequence."""
 
-    def __init__(self, header):
-        self.header, self.counts, self.points, self.bytes, self.is_ended = (
-            header,
-            dict.fromkeys(PICTURES, 0),
-            [],
-            0,
-            False,
-        )
+    def __init__(self, payload):
+        self.payload, self.header = payload, read_header(payload)
+        self.counts, self.points = dict.fromkeys(PICTURES, 0), []
+        self.bytes, self.is_ended = 0, False
 
     def pictures(self):
         return sum(self.counts.values())
@@ -76,9 +72,12 @@ class Survey:
         length = decoder.PARSE_INFO_LENGTH + len(unit.payload)
         self.bytes += length
         told = self.sequences[-1] if self.sequences and not self.sequences[-1].is_ended else None
-        if unit.code == SEQUENCE_HEADER and told is None:
+        if unit.code == SEQUENCE_HEADER and told is not None:
+            if unit.payload != told.payload:
+                raise decoder.StreamFault(unit.index, unit.place, "SequenceChanged")
+        elif unit.code == SEQUENCE_HEADER:
             try:
-                told = Told(read_header(unit.payload))
+                told = Told(unit.payload)
             except decoder.Fault as fault:
                 place = unit.place + decoder.PARSE_INFO_LENGTH + fault.place
                 raise decoder.StreamFault(unit.index, place, fault.cause) from None

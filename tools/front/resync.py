@@ -89,18 +89,14 @@ class Search:
         """Found and Lost in turn."""
         place, is_told = 0, False
         while place < len(self.data):
-            if len(self.data) - place < LENGTH or not (is_told or self.begins(place)):
-                end = self.following(place)
-                yield Lost(place, end - place, "no unit begins there")
-                place, is_told = end, False
-                continue
-            found = self.end_of(place)
+            is_unit = len(self.data) - place >= LENGTH and (is_told or self.begins(place))
+            found = self.end_of(place) if is_unit else None
             if found is None:
                 end = self.following(place)
-                yield Lost(place, end - place, self.why_lost(place))
-                place, is_told = end, False
-                continue
-            end, is_said = found
-            yield Found(place, self.data[place + 4], self.data[place + LENGTH : end], not is_said)
-            is_told = self.begins(end, end - place)
+                yield Lost(place, end - place, self.why_lost(place) if is_unit else "no unit begins there")
+                is_told = False
+            else:
+                end, is_said = found
+                yield Found(place, self.data[place + 4], self.data[place + LENGTH : end], not is_said)
+                is_told = self.begins(end, end - place)
             place = end
