@@ -294,7 +294,7 @@ class Decode(InFolder):
     def test_no_stream_at_all(self):
         for data, status, text in (
             (b"no stream at all", 4, "BadPrefix"),
-            (b"", 4, "MissingEnd"),
+            (b"", 1, "is empty"),
             (b"YUV4MPEG2 ", 1, "y4m"),
         ):
             done = self.dirac("decode", "-", "-o", "out.y4m", data=data)

@@ -164,6 +164,8 @@ class Stream:
 def open_stream(path):
     """The Dirac stream of a file; what is no container is taken as it is, but y4m and other clips are refused."""
     source = Source(path)
+    if not source.first:
+        raise Refusal(f"{source.name} is empty: no Dirac stream")
     if source.is_y4m():
         raise Refusal(f"{source.name} is y4m, not a Dirac stream; `dirac encode` makes one of it")
     return Stream(source)
