@@ -159,7 +159,7 @@ class Damage(InFolder):
             self.assertIn("no Dirac stream", done.err)
 
     def test_faults_of_conformance_streams_decode_afterwards(self):
-        for path in sorted((support.TOP / "conformance" / "streams").glob("fault_*.drc"))[::6]:
+        for path in sorted((support.TOP / "conformance" / "streams").glob("fault_*.drc"))[::10]:
             out, _ = self.repaired(path.read_bytes(), "--decode")
             self.assertIsNone(decoder.decode(out).fault, path.name)
 
