@@ -6,18 +6,23 @@ check_documents.py [DOCUMENT...]        README.md, docs/*.md and the README.md o
 
 Run it with the program built and ffmpeg there; the files that the commands write at the top of the repository are
 ignored by git. In a block of lines those that begin with `$ ` are commands, and what follows one is what it writes to
-both outputs, in any order. In a block without such a line, those that begin with python3, ./run or bench/ are commands,
-of which only the status is looked at, and 1 is fine with `--pictures`, where another decoder may differ. Commands with
-ffplay are left out, for want of a screen. A clip that a document takes for granted is made by ffmpeg. Ends with 1 where
-a command differs.
+both outputs, in any order. In a block without such a line, those that begin with python3, ./run, ./dirac or bench/ are
+commands, of which only the status is looked at, and 1 is fine with `--pictures`, where another decoder may differ.
+Commands with ffplay or `play` are left out, for want of a screen. A clip that a document takes for granted is made by
+ffmpeg. Of a container that a command writes the times are looked at by ffprobe: its packets come one after another,
+evenly, and it lasts as long. Ends with 1 where a command differs.
 """
 import pathlib
 import re
+import shutil
 import subprocess
 import sys
 
 TOP = pathlib.Path(__file__).resolve().parent.parent
 CLIP = TOP / "clip.mp4"
+CONTAINER = re.compile(r"(?:^|[\s>])(\w+\.(?:mkv|mp4|avi|mov))(?=$|\s)")
+# the most that a container rounds a time by, in seconds, and how many pictures its duration may be off
+ROUNDED, SPARE = 0.002, 1.5
 
 
 def blocks(text):
@@ -28,7 +33,7 @@ def commands(block):
     """Each command, and the lines that it is to write, or None where the block doesn't say."""
     lines = block.splitlines()
     if not any(line.startswith("$ ") for line in lines):
-        return [(line, None) for line in lines if re.match(r"python3 |\./run |bench/", line)]
+        return [(line, None) for line in lines if re.match(r"python3 |\./run |\./dirac |bench/", line)]
     found = []
     for line in lines:
         if line.startswith("$ "):
@@ -40,13 +45,50 @@ def commands(block):
     return found
 
 
+def written_container(command):
+    """The container that a command writes: the last word, or what stands behind -o; None where there is none."""
+    words = command.split()
+    named = [words[n + 1] for n, word in enumerate(words[:-1]) if word in ("-o", ">")] or words[-1:]
+    return next((name for name in named if CONTAINER.fullmatch(name)), None)
+
+
+def wrong_times(times, duration):
+    """What is wrong with the times of a container's packets, or None."""
+    if len(times) < 2:
+        return None
+    times = sorted(times)
+    step = (times[-1] - times[0]) / (len(times) - 1)
+    if step <= ROUNDED:
+        return f"{len(times)} packets have one time"
+    if any(abs(later - time - step) > ROUNDED for time, later in zip(times, times[1:])):
+        return f"the times of the packets aren't {step:.3f} s apart"
+    if abs(duration - len(times) * step) > SPARE * step:
+        return f"its pictures last {len(times) * step:.3f} s, and it says {duration:.3f} s"
+    return None
+
+
+def wrong_container(name):
+    """What ffprobe finds wrong with a container of pictures alone, or None."""
+    words = ["ffprobe", "-v", "error", "-select_streams", "v:0", "-of", "csv=p=0"]
+    told = [
+        subprocess.run([*words, "-show_entries", entries, name], cwd=TOP, capture_output=True, text=True).stdout
+        for entries in ("packet=pts_time", "format=duration")
+    ]
+    times = [float(time) for time in re.findall(r"[0-9.]+", told[0])]
+    return wrong_times(times, float(told[1]))
+
+
 def difference(command, expected):
     """What differs, or None."""
-    for name in re.findall(r"\S+\.mkv|\S+\.mp4", command):
-        if command.endswith(name):
-            (TOP / name).unlink(missing_ok=True)
+    container = written_container(command)
+    if container:
+        (TOP / container).unlink(missing_ok=True)
     done = subprocess.run(["bash", "-c", command], cwd=TOP, stdin=subprocess.DEVNULL, capture_output=True)
     lines = (done.stdout + done.stderr).decode(errors="replace").splitlines()
+    if container and (TOP / container).exists() and shutil.which("ffprobe"):
+        wrong = wrong_container(container)
+        if wrong:
+            return f"{container}: {wrong}"
     if expected is None:
         is_good = done.returncode == 0 or (done.returncode == 1 and "--pictures" in command)
         return None if is_good else f"status {done.returncode}"
@@ -63,7 +105,7 @@ def main():
     count, differing = 0, 0
     for path in paths:
         for command, expected in [one for block in blocks(path.read_text()) for one in commands(block)]:
-            if "ffplay" in command:
+            if "ffplay" in command or "dirac play" in command:
                 continue
             count += 1
             found = difference(command, expected)

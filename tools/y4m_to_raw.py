@@ -1,75 +1,62 @@
 #!/usr/bin/env python3
-"""Takes the raw pictures out of a y4m stream, for `./run encode`.
+"""Takes the raw pictures out of a y4m stream, for `./run encode`. (`./dirac encode` does it by itself.)
 
-y4m_to_raw.py [--words] < CLIP.y4m > PICTURES.yuv
+y4m_to_raw.py [--words] [--rate=R] < CLIP.y4m > PICTURES.yuv
 
-Takes 8-bit 4:2:0, 4:2:2 and 4:4:4. Writes the words that `encode` needs for them to standard error; with --words only
-these are written, to standard output, and no picture:
+Takes 8-bit 4:2:0, 4:2:2 and 4:4:4. Writes the words that `encode` needs for them to standard error, and what it has no
+word for; with --words the words alone are written, to standard output, and no picture. A clip that doesn't say its
+range has the limited one (--signal=2). A rate that isn't in the standard's table is refused, and so is a clip without
+one; --rate=R says another, as 25 or 30000/1001.
 
 ffmpeg -v error -i CLIP -f yuv4mpegpipe - | python3 tools/y4m_to_raw.py | ./run encode --width=720 --height=576 > X.drc
 """
 import sys
 
-CHROMA_FORMATS = {"444": (0, 1, 1), "422": (1, 2, 1), "420": (2, 2, 2), "420jpeg": (2, 2, 2), "420mpeg2": (2, 2, 2)}
-CHROMA_FORMATS["420paldv"] = (2, 2, 2)
-# frame rates by index, from 1 on
-RATES = [(24000, 1001), (24, 1), (25, 1), (30000, 1001), (30, 1)]
-RATES += [(50, 1), (60000, 1001), (60, 1), (15000, 1001), (25, 2)]
-LONGEST_LINE = 1000
+sys.dont_write_bytecode = True
+
+from front import y4m
+from front.formats import FULL_RANGE, check_size, rate_index, read_rate, rounded_rate
+from front.refusal import Refusal
 
 
-def fail(text):
+def fail(text, status=1):
     print(f"y4m_to_raw.py: {text}", file=sys.stderr)
-    sys.exit(1)
+    sys.exit(status)
 
 
-def read_header(source):
-    """Width, height, chroma format, and the words for `encode`."""
-    line = source.readline(LONGEST_LINE)
-    if not line.startswith(b"YUV4MPEG2 ") or not line.endswith(b"\n"):
-        fail("not a y4m stream: it doesn't begin with YUV4MPEG2")
-    tags = {word[:1]: word[1:] for word in line.decode("ascii", "replace").split()[1:]}
-    format_name = tags.get("C", "420")
-    if format_name not in CHROMA_FORMATS:
-        fail(f"chroma format {format_name}: only 8-bit 420, 422 and 444 are taken")
-    chroma, across, down = CHROMA_FORMATS[format_name]
-    try:
-        width, height = int(tags["W"]), int(tags["H"])
-        rate = tuple(map(int, tags.get("F", "25:1").split(":")))
-    except (KeyError, ValueError):
-        fail("the y4m header has no width and height")
-    if width < 1 or height < 1 or width % across or height % down:
-        fail(f"{width} by {height} is no multiple of the chroma ratio")
-    words = f"--width={width} --height={height} --chroma={chroma}"
-    for index, known in enumerate(RATES, 1):
-        if len(rate) == 2 and rate[0] * known[1] == rate[1] * known[0]:
-            words += f" --rate={index}"
-    return width * height + 2 * (width // across) * (height // down), words
+def words_of(video):
+    """The words of `encode`."""
+    signal = 1 if video.signal == FULL_RANGE else 2
+    words = f"--width={video.width} --height={video.height} --chroma={video.chroma}"
+    return f"{words} --rate={rate_index(video.rate)} --signal={signal}"
 
 
 def main():
-    if sys.argv[1:] not in ([], ["--words"]):
-        fail("usage: y4m_to_raw.py [--words] < CLIP.y4m")
+    rates = [word[7:] for word in sys.argv[1:] if word.startswith("--rate=")]
+    others = [word for word in sys.argv[1:] if not word.startswith("--rate=")]
+    if others not in ([], ["--words"]) or len(rates) > 1:
+        fail("usage: y4m_to_raw.py [--words] [--rate=R] < CLIP.y4m", 2)
     source = sys.stdin.buffer
-    length, words = read_header(source)
-    if sys.argv[1:]:
+    video = y4m.read_header(source)
+    check_size(video.width, video.height, video.chroma)
+    video = video._replace(rate=read_rate(rates[0]) if rates else rounded_rate(video.rate))
+    words = words_of(video)
+    if others:
         print(words)
         return
     print(words, file=sys.stderr)
-    count = 0
-    while line := source.readline(LONGEST_LINE):
-        if not line.startswith(b"FRAME") or not line.endswith(b"\n"):
-            fail(f"no FRAME where picture {count} begins")
-        picture = source.read(length)
-        if len(picture) < length:
-            fail(f"picture {count} has {len(picture)} of {length} bytes")
+    if video.aspect != 1:
+        aspect = f"{video.aspect.numerator}:{video.aspect.denominator}"
+        print(f"y4m_to_raw.py: no word of encode says the pixel aspect {aspect}; ./dirac encode does", file=sys.stderr)
+    for picture in y4m.read_pictures(source, video.picture_length()):
         sys.stdout.buffer.write(picture)
-        count += 1
 
 
 if __name__ == "__main__":
     try:
         main()
+    except Refusal as problem:
+        fail(problem.text)
     except BrokenPipeError:
         sys.stderr.close()
         sys.exit(1)

@@ -1,0 +1,61 @@
+"""`dirac play`: shows a stream in a window."""
+import argparse
+import shutil
+
+from .decode import pass_on
+from .decoding import PLAIN_HELP, Decoding, of_one_kind
+from .refusal import Refusal
+from .sinks import CommandSink
+from .sources import open_stream
+
+EPILOG = """examples:
+  dirac play moving.drc
+  dirac play moving.mkv --player mpv
+
+The proved program decodes, and ffplay or mpv, whichever is there, shows what comes out, at the stream's rate, in its
+range and pixel aspect. Fields are woven to frames.
+"""
+PLAYERS = {"ffplay": ["-v", "error", "-autoexit", "-f", "yuv4mpegpipe", "-window_title"], "mpv": ["--really-quiet"]}
+
+
+def add_to(commands):
+    parser = commands.add_parser(
+        "play",
+        help="show a stream in a window, by ffplay or mpv",
+        description="Decodes a Dirac stream and shows it in a window.",
+        epilog=EPILOG,
+        formatter_class=argparse.RawDescriptionHelpFormatter,
+    )
+    parser.add_argument("stream", metavar="X.drc", help="a stream or a container with one; - is standard input")
+    parser.add_argument("--player", choices=PLAYERS, help="the player, where there are both")
+    parser.add_argument("--plain", action="store_true", help=PLAIN_HELP)
+    parser.set_defaults(run=run)
+
+
+def command_for(player, name):
+    """The player's words; it reads y4m from standard input."""
+    found = [each for each in ([player] if player else PLAYERS) if shutil.which(each)]
+    if not found:
+        wanted = player or "ffplay or mpv"
+        raise Refusal(f"play wants {wanted}, which isn't there; `dirac decode X.drc -o X.y4m` makes what others play")
+    title = [name] if found[0] == "ffplay" else [f"--title={name}"]
+    return [found[0], *PLAYERS[found[0]], *title, "-"]
+
+
+def run(words):
+    command = command_for(words.player, words.stream)
+    decoding = Decoding(open_stream(words.stream), words.plain)
+    video, pictures = of_one_kind(decoding.pictures())
+    try:
+        if video is not None:
+            pass_on(CommandSink(command[0], command, video), pictures)
+    except BrokenPipeError:
+        # the window was closed
+        decoding.pipe.stop()
+        return 0
+    problem = decoding.finish()
+    if problem is not None:
+        raise problem
+    if video is None:
+        raise Refusal(f"{decoding.name}: the stream has no picture")
+    return 0
