@@ -33,10 +33,19 @@ def places_of(numbers):
     return places
 
 
+def whole_units(data):
+    """The units of a stream, which may want its end unit."""
+    try:
+        yield from decoder.read_units(data)
+    except decoder.StreamFault as fault:
+        if fault.cause != "MissingEnd":
+            fail(f"fault unit={fault.unit} at={fault.place} cause={fault.cause}")
+
+
 def shown(data):
     """For each picture of the stream, how many are shown before it."""
     places, numbers = [], []
-    for unit in decoder.read_units(data):
+    for unit in whole_units(data):
         if unit.code in decoder.REFERENCE_COUNTS:
             if len(unit.payload) < 4:
                 fail(f"unit {unit.index} is too short for a picture")
@@ -44,7 +53,7 @@ def shown(data):
         elif unit.code == decoder.END_OF_SEQUENCE and numbers:
             places += [len(places) + place for place in places_of(numbers)]
             numbers = []
-    return places + [len(places) + place for place in places_of(numbers)] if numbers else places
+    return places + [len(places) + place for place in places_of(numbers)]
 
 
 def main():
@@ -52,10 +61,7 @@ def main():
         fail("usage: times_of_pictures.py RATE < CLIP.drc > TIMES")
     numerator, _, denominator = sys.argv[1].partition(":")
     milliseconds = 1000 * int(denominator or 1) / int(numerator)
-    try:
-        places = shown(sys.stdin.buffer.read())
-    except decoder.StreamFault as fault:
-        fail(f"fault unit={fault.unit} at={fault.place} cause={fault.cause}")
+    places = shown(sys.stdin.buffer.read())
     print("# timestamp format v4")
     for place in places:
         print(f"{place * milliseconds:.6f}")
