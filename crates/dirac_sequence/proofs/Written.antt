@@ -1,6 +1,7 @@
 -- The bits of a sequence header spell the sequence of its settings.
 use Rattle.std.proofs.Common.{◌≡◌, ℕ, ◌+◌, ◌*◌, ◌≤◌, ◌==◌, ◌%◌, ◌/◌, ◌&&◌, not, if◌then◌else◌, Bool, true, false, List, [], ◌∷◌, ◌++◌, length, refl, sym, ap, ap₂, subst, ◌∙◌, arith, inl, inr, append_assoc, append-nil}
 use Rattle.std.proofs.lemmas.Bool.{and_parts, and_from, eq-eqb, eqb-true, cases_eq, ne_eqb}
+use Rattle.dirac_base_formats.specs.declared.base_formats.TheConstants.{LAST_BASE}
 use Rattle.dirac_common.specs.Ratios.{ratio_across, ratio_down}
 use Rattle.dirac_common.specs.declared.faults.Cause.TheVariants.{Preset, Size, ChromaFormat, RateIndex, SignalRange as SignalIndex, Depth8}
 use Rattle.dirac_common.specs.declared.formats.Chroma.{Chroma}
@@ -103,8 +104,8 @@ base_spelled t k w =
     let base = uint t.base in
     let k4 = k + length two + length two + length profile + length level in
     let made : ℕ → Syntax Sequence = λ n. done (record (preset n) { major = 2; minor = 2; profile = t.profile; level = t.level }) in
-    let last : Spells (field Preset (between 0 16) >>= made) (begun t) k4 base =
-    spells_last (field Preset (between 0 16)) made t.base (begun t) k4 base (field_spelled Preset (between 0 16) t.base k4 (omega (arith, w.base)) (between_is 0 16 t.base (omega arith) w.base)) (refl, refl) in
+    let last : Spells (field Preset (between 0 LAST_BASE) >>= made) (begun t) k4 base =
+    spells_last (field Preset (between 0 LAST_BASE)) made t.base (begun t) k4 base (field_spelled Preset (between 0 LAST_BASE) t.base k4 (omega (arith, w.base)) (between_is 0 LAST_BASE t.base (omega arith) w.base)) (refl, refl) in
     let parts : base_bits t ≡ two ++ (two ++ (profile ++ (level ++ base))) = simp append_assoc in
     (2, two ++ (profile ++ (level ++ base)), omega arith, parts, (2, profile ++ (level ++ base), omega arith, refl, (t.profile, level ++ base, omega (arith, w.profile), refl, (t.level, base, omega (arith, w.level), refl, last))))
 

@@ -1,6 +1,7 @@
 -- The sequence header that the encoder writes for its settings.
 use Rattle.std.specs.Prelude.{◌≡◌, ℕ, ◌≤◌, ◌*◌, ◌%◌, ◌==◌, ◌&&◌, not, if◌then◌else◌, Bool, true, false, List, [], ◌∷◌}
 use Rattle.std.specs.Prelude.{◌++◌}
+use Rattle.dirac_base_formats.specs.declared.base_formats.TheConstants.{LAST_BASE}
 use Rattle.dirac_common.specs.declared.formats.Chroma.{Chroma}
 use Rattle.dirac_common.specs.declared.formats.Chroma.TheVariants.{C444, C422, C420}
 use Rattle.dirac_types.specs.declared.settings.Settings.{Settings}
@@ -15,7 +16,7 @@ use Rattle.dirac_sequence_header.specs.Tables.{preset, rate_of, range_of}
 
 -- settings that a header can have
 pub record IsWritable (t : Settings) : Type 0 where
-  pub base : t.base ≤ 16
+  pub base : t.base ≤ LAST_BASE
   pub chroma : t.chroma ≤ 2
   pub size : IsSize t.width t.height
   pub whole_across : t.width % ratio_across (chroma_of t.chroma) ≡ 0

@@ -1,6 +1,7 @@
 -- The sequence header, field after field: sequence header, Dirac specification, section 10.
 use Rattle.std.specs.Prelude.{ℕ, ◌+◌, ◌-◌, ◌*◌, ◌%◌, ◌^◌, false, true, ◌==◌, nat_le, nat_lt, ◌&&◌, if◌then◌else◌, Bool}
 use Rattle.std.specs.Prelude.{List, Result}
+use Rattle.dirac_base_formats.specs.declared.base_formats.TheConstants.{LAST_BASE}
 use Rattle.dirac_common.specs.declared.limits.TheConstants.{LARGEST_HEIGHT, LARGEST_WIDTH}
 use Rattle.dirac_common.specs.declared.faults.Cause.TheVariants.{Version, Preset, Size, ChromaFormat, Sampling}
 use Rattle.dirac_common.specs.declared.faults.Cause.TheVariants.{RateIndex, AspectIndex, SignalRange as SignalIndex}
@@ -23,7 +24,7 @@ base_format = do
   minor ← uint
   profile ← uint
   level ← uint
-  base ← field Preset (between 0 16)
+  base ← field Preset (between 0 LAST_BASE)
   done (record (preset base) { major = major; minor = minor; profile = profile; level = level })
 
 -- the frame size in luma samples

@@ -1,6 +1,7 @@
 -- The tables of the sequence header: base video formats, frame rates, pixel aspects, signal ranges.
 use Rattle.std.specs.Prelude.{ℕ, ◌-◌, false, nat_le, if◌then◌else◌, List, [], ◌∷◌, slice_index_or}
 use Rattle.dirac_base_formats.specs.BaseFormats.{base_format}
+use Rattle.dirac_base_formats.specs.declared.base_formats.TheConstants.{LAST_BASE}
 use Rattle.dirac_base_formats.specs.declared.base_formats.BaseFormat.{BaseFormat}
 use Rattle.dirac_sequence_header.specs.declared.sequence.Sequence.{Sequence}
 use Rattle.dirac_sequence_header.specs.declared.sequence.SignalRange.{SignalRange}
@@ -58,4 +59,4 @@ preset_of base f = record {
 
 -- the sequence of the base video format of this number; beyond the last stands that of number 0
 unfoldable pub preset : ℕ → Sequence
-preset base = preset_of (if nat_le base 16 then base else 0) (base_format base)
+preset base = preset_of (if nat_le base LAST_BASE then base else 0) (base_format base)

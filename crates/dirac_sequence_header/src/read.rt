@@ -12,6 +12,7 @@ use crate::details::{read_colours, read_samples};
 use crate::frames::read_frames;
 use crate::sequence::Sequence;
 use crate::tables::preset;
+use dirac_base_formats::LAST_BASE;
 use dirac_bits::BitReader;
 use dirac_common::{Cause, Refusal, ratio_down};
 
@@ -90,7 +91,7 @@ fn read_base_format(r: &mut BitReader<'_>) -> Result<Sequence, Refusal>
     let minor = r.uint()?;
     let profile = r.uint()?;
     let level = r.uint()?;
-    let base = r.field(Cause::Preset, 0, 16)?;
+    let base = r.field(Cause::Preset, 0, LAST_BASE as u64)?;
     Ok(Sequence {
         major,
         minor,

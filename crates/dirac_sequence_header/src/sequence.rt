@@ -11,7 +11,7 @@ pub struct Sequence {
     pub minor: u64,
     pub profile: u64,
     pub level: u64,
-    /// The number of the base video format, from 0 to 16.
+    /// The number of the base video format, at most `LAST_BASE`.
     pub base: u8,
     /// Luma samples across.
     pub width: u32,
