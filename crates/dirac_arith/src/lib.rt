@@ -23,3 +23,4 @@ pub use laws::{
     block_carries_more, block_carries_one_number, block_carries_one_truth, reading_composes,
     reading_is_carrying, truths_are_bits, written_block_carries,
 };
+pub use registers::{Decided, Registers};
