@@ -1,6 +1,7 @@
 pub mod Behind
 pub mod Bytes
 pub mod Carrieds
+pub mod CodedValues
 pub mod Decidings
 pub mod Decisions
 pub mod Doublings
