@@ -170,19 +170,23 @@ is_led block common r reads = subst IsLed (sym reads.moved) (led_by block common
 pub reads_of : (r s : Reading) (ds : List Decision) → s ≡ after_all r ds → Lies r.block (narrowed_by r.at ds) → Reads r ds s
 reads_of r s ds moved lies = record { moved = moved; lies = λ some. lies }
 
+-- where a decision stands, and that the front lies there
+pub decided_after : (context : ℕ) (truth : Bool) (old new : Reading) → front old.block 16 ≢ 0xFFFF → Lies old.block old.at → decided context old ≡ Ok (truth, new)
+    → (new ≡ after old (context, truth)) × Lies old.block (narrowed old.at (context, truth))
+decided_after context truth old new some lies e =
+    let t = truth_of context old in
+    let one = one_answer (decided context old) (truth, new) (t, after old (context, t)) e (decided_open context old some) in
+    let P : Bool → Type 0 = λ u. (new ≡ after old (context, u)) × Lies old.block (narrowed old.at (context, u)) in
+    subst P (sym (ap (λ x. x.0) one)) (ap (λ x. x.1) one, some_truth old.block old.at context lies)
+
 pub decision_is_read : DecisionIsRead
 decision_is_read block common old new context truth some reads =
     let led = is_led block common old reads in
     let same : front old.block 16 ≢ 0xFFFF = subst (λ (r : Reading). front r.block 16 ≢ 0xFFFF) (sym reads.moved) some in
-    let d : Decision = (context, truth) in
-    let t = truth_of context old in (
+    let d : Decision = (context, truth) in (
       λ e.
-          let one = one_answer (decided context old) (truth, new) (t, after old (context, t)) e (decided_open context old same) in
-          let told : truth ≡ t = ap (λ x. x.0) one in
-          let moved : new ≡ after old (context, t) = ap (λ x. x.1) one in
-          let P : Bool → Type 0 = λ u. let d : Decision = (context, u) in Reads old (d ∷ []) new in
-          let f : Decision = (context, t) in
-          subst P (sym told) (reads_of old new (f ∷ []) moved (some_truth old.block old.at context (led.lies same))),
+          let after = decided_after context truth old new same (led.lies same) e in
+          reads_of old new (d ∷ []) after.0 after.1,
       λ r. decided_is context truth old same (r.lies (omega arith)) ∙ ap (λ (s : Reading). let x : Result (Bool × Reading) Cause = Ok (truth, s) in x) (sym r.moved),
     )
 
@@ -392,6 +396,26 @@ signed_shuts r follow bits sign = (
       ],
   signed_is_shut follow bits sign r,
 )
+
+-- a signed number stays in its block
+sign_block : (sign : ℕ) (x : Result (ℕ × Reading) Cause) (block : List ℕ) (v : ℤ × Reading) → front block 16 ≢ 0xFFFF
+    → ((n : ℕ × Reading) → x ≡ Ok n → n.1.block ≡ block) → (x >>= sign_read sign) ≡ Ok v → v.1.block ≡ block
+unfolding sign_read
+sign_block sign (Err c) block v some same e = absurd (no_answer (Err c) v c e refl)
+sign_block sign (Ok n) block v some same e =
+    let here = same n refl in
+    elim (cases_eq n.0 0) [
+      | inl none ↦ let f = rw (eq-eqb n.0 0 none) at e in ap (λ (y : ℤ × Reading). y.1.block) (one_answer _ v _ refl (sym f)) ∙ here
+      | inr more ↦
+          let f = rw (ne_eqb n.0 0 more, decided_open sign n.1 (λ ones. some (ap (λ b. front b 16) (sym here) ∙ ones))) at e in
+          ap (λ (y : ℤ × Reading). y.1.block) (one_answer _ v _ refl (sym f)) ∙ here
+    ]
+
+pub signed_block : (follow : List ℕ) (bits sign : ℕ) (r : Reading) (v : ℤ × Reading) → front r.block 16 ≢ 0xFFFF
+    → signed_read follow bits sign r ≡ Ok v → v.1.block ≡ r.block
+unfolding signed_read number_read
+signed_block follow bits sign r v some e =
+    sign_block sign (number_from_digit follow bits 0 38 1 r) r.block v some (λ n is. digits_block follow bits 0 38 1 r n some is) e
 
 pub ones_read_to_nothing : OnesReadToNothing
 ones_read_to_nothing r follow context bits sign = (decision_shut r context, number_shuts r follow bits, signed_shuts r follow bits sign)

@@ -1,14 +1,17 @@
 -- What one decision makes of a decoder.
-use Rattle.std.proofs.Common.{◌≡◌, ℕ, ◌+◌, ◌*◌, ◌^◌, ◌<◌, ◌≤◌, Bool, List, length, get_or, set, slice_set, inl, inr, sym, ap, ◌∙◌, arith, subst, get_or-set_same, get_or-set_other}
-use Rattle.std.proofs.lemmas.Bool.{cases_lt, cases_eq}
+use Rattle.std.proofs.Common.{◌≡◌, ℕ, ◌+◌, ◌*◌, ◌/◌, ◌^◌, ◌<◌, ◌≤◌, Bool, false, Result, Ok, List, length, get_or, set, slice_index, slice_set, inl, inr, sym, ap, ◌∙◌, arith, subst, get_or-set_same, get_or-set_other}
+use Rattle.std.proofs.lemmas.Bool.{both_ways, cases_lt, cases_eq}
 use Rattle.std.proofs.lemmas.List.{get_or_past}
 use Rattle.dirac_arith.specs.declared.decoder.Decoder.TheInside.{Inside}
 use Rattle.dirac_arith.specs.declared.registers.Registers.{Registers}
-use Rattle.dirac_arith.specs.Interval.{Interval, doublings_for, split_at, narrowed, contexts_after}
+use Rattle.dirac_arith.specs.Interval.{Interval, adapted, doublings_for, split_at, narrowed, contexts_after}
 use Rattle.dirac_arith.specs.Carried.{Lies}
+use Rattle.dirac_arith.specs.Deciding.{decided}
 use Rattle.dirac_arith.specs.Reading.{Reading}
-use Rattle.dirac_arith.specs.Registers.{Stands, low_of, doublings_of, part_of, lift_of, AreProbabilities}
-use Rattle.dirac_arith.specs.Decoding.{reading}
+use Rattle.dirac_arith.specs.Registers.{Stands, Runs, Settles, low_of, doublings_of, part_of, lift_of, AreProbabilities}
+use Rattle.dirac_arith.specs.Decoding.{IsSound, reading}
+use Rattle.dirac_common.specs.declared.faults.Cause.{Cause}
+use Rattle.dirac_arith.proofs.Decidings.{decided_is}
 use Rattle.dirac_arith.proofs.Intervals.{low_is, doublings_is, stands_self, narrowed_is}
 use Rattle.dirac_arith.proofs.Windows.{lies_from_window}
 
@@ -59,3 +62,86 @@ lies_moved a context truth r contexts stands range after inside =
     let here = lies_from_window a.block.now r new.at (stands_self a.block.now r _ _ stands) inside in
     let P : Reading → Type 0 = λ x. Lies x.block x.at in
     subst P (moves a context truth r contexts stands range after) here
+
+-- the registers of a decoder whose block has decisions
+pub runs_of : (a : Inside) → IsSound a → a.refused ≡ false → Runs a.block.now a.registers
+runs_of a sound open' =
+    record {
+      some = (sound.inside open').0;
+      stands = sound.stands;
+      wide = sound.wide;
+      narrow = sound.narrow;
+      some_ahead = sound.some_ahead;
+      most_ahead = sound.most_ahead;
+      inside = (sound.inside open').1;
+    }
+
+-- a decoder with other registers of its block, and with other probabilities
+pub sound_with : (a : Inside) (r : Registers) (contexts : List ℕ) → a.refused ≡ false → Runs a.block.now r → AreProbabilities contexts
+    → IsSound (record { block = a.block; registers = r; contexts = contexts; refused = a.refused })
+sound_with a r contexts open' runs all =
+    record {
+      stands = runs.stands;
+      wide = runs.wide;
+      narrow = runs.narrow;
+      some_ahead = runs.some_ahead;
+      most_ahead = runs.most_ahead;
+      refused = λ e. absurd (both_ways a.refused open' e);
+      inside = λ _. (runs.some, runs.inside);
+      probabilities = all;
+    }
+
+-- what a decision leaves
+pub record Taken (a : Inside) (context : ℕ) (truth : Bool) (r : Registers) (contexts : List ℕ) : Type 0 where
+  pub runs : Runs a.block.now r
+  pub moved : reading (record { block = a.block; registers = r; contexts = contexts; refused = a.refused })
+      ≡ record { block = a.block.now; at = narrowed (reading a).at (context, truth) }
+  pub lies : Lies a.block.now (narrowed (reading a).at (context, truth))
+  pub read : decided context (reading a) ≡ Ok (truth, reading (record { block = a.block; registers = r; contexts = contexts; refused = a.refused }))
+  pub few_doublings : doublings_of r ≤ doublings_of a.registers + 9
+
+-- a decision that settles the registers, which are filled behind it
+pub taken : (a : Inside) (context : ℕ) (truth : Bool) (mid r : Registers) (probability : ℕ)
+    → Runs a.block.now a.registers
+    → Settles a.registers (split_at (reading a).at context) truth mid
+    → ((low k : ℕ) → Stands a.block.now mid low k → Stands a.block.now r low k) → r.range ≡ mid.range → 9 ≤ r.ahead → r.ahead ≤ 48
+    → ((range : ℕ) → mid.window < range * 2 ^ mid.ahead → r.window < range * 2 ^ r.ahead)
+    → probability ≡ adapted (slice_index a.contexts context) truth
+    → Taken a context truth r (slice_set a.contexts context probability)
+taken a context truth mid r probability runs settled filled range some_ahead most_ahead inside adapted_is =
+    let there = settled.stands a.block.now _ _ runs.stands in
+    let stands = filled _ _ there in
+    let below : r.window < r.range * 2 ^ r.ahead = rw range (inside _ settled.inside) in
+    let contexts = slice_set a.contexts context probability in
+    let after : contexts ≡ contexts_after (reading a).at context truth = ap (λ p. slice_set a.contexts context p) adapted_is in
+    let before = runs.stands.bits in
+    let is = doublings_is a.block.now r _ _ stands in
+    let moved = moves a context truth r contexts stands (range ∙ settled.range) after in
+    let lies = lies_moved a context truth r contexts stands (range ∙ settled.range) after below in
+    record {
+      runs = record {
+        some = runs.some;
+        stands = stands_self a.block.now r _ _ stands;
+        wide = omega (arith, settled.wide);
+        narrow = omega (arith, settled.narrow);
+        some_ahead = some_ahead;
+        most_ahead = most_ahead;
+        inside = below;
+      };
+      moved = moved;
+      lies = lies;
+      read = decided_is context truth (reading a) runs.some lies ∙ ap (λ (x : Reading). let y : Result (Bool × Reading) Cause = Ok (truth, x) in y) (sym moved);
+      few_doublings = omega (arith, is, before, there.bits, settled.few_doublings, settled.next);
+    }
+
+-- the same from registers that a loop keeps, told by a truth that is known
+pub taken_from : (a : Inside) (old : Registers) (context : ℕ) (told truth : Bool) (mid r : Registers) (probability : ℕ)
+    → told ≡ truth → Runs a.block.now old
+    → Settles old (old.range * slice_index a.contexts context / 2 ^ 16) told mid
+    → ((low k : ℕ) → Stands a.block.now mid low k → Stands a.block.now r low k) → r.range ≡ mid.range → 9 ≤ r.ahead → r.ahead ≤ 48
+    → ((range : ℕ) → mid.window < range * 2 ^ mid.ahead → r.window < range * 2 ^ r.ahead)
+    → probability ≡ adapted (slice_index a.contexts context) truth
+    → Taken (record { block = a.block; registers = old; contexts = a.contexts; refused = a.refused }) context truth r (slice_set a.contexts context probability)
+taken_from a old context told truth mid r probability is runs settled filled range some_ahead most_ahead inside adapted_is =
+    taken (record { block = a.block; registers = old; contexts = a.contexts; refused = a.refused }) context truth mid r probability runs
+    (subst (λ t. Settles old (old.range * slice_index a.contexts context / 2 ^ 16) t mid) is settled) filled range some_ahead most_ahead inside adapted_is

@@ -1,7 +1,7 @@
 pub mod Behind
 pub mod Bytes
 pub mod Carrieds
-pub mod Decided
+pub mod CodedValues
 pub mod Decidings
 pub mod Decisions
 pub mod Doublings
@@ -12,6 +12,7 @@ pub mod InContexts
 pub mod Intervals
 pub mod Led
 pub mod Numbers
+pub mod Settling
 pub mod Spellings
 pub mod Steps
 pub mod Tails

@@ -1,6 +1,7 @@
 -- How a decoder is seen, and what its registers keep.
 use Rattle.std.specs.Prelude.{◌≡◌, ◌≢◌, ◌*◌, ◌^◌, ◌<◌, ◌≤◌, true, false}
 use Rattle.dirac_arith.specs.declared.decoder.Decoder.TheInside.{Inside}
+use Rattle.dirac_arith.specs.declared.registers.Registers.{Registers}
 use Rattle.dirac_arith.specs.Front.{front}
 use Rattle.dirac_arith.specs.Reading.{Reading}
 use Rattle.dirac_arith.specs.Registers.{Stands, low_of, doublings_of, AreProbabilities}
@@ -15,6 +16,19 @@ reading a =
         range = a.registers.range;
         doublings = doublings_of a.registers;
         contexts = a.contexts;
+      };
+    }
+
+-- a reading that stands at these registers in place of its own
+abbrev pub reading_at : Reading → Registers → Reading
+reading_at r registers =
+    record {
+      block = r.block;
+      at = record {
+        low = low_of r.block registers;
+        range = registers.range;
+        doublings = doublings_of registers;
+        contexts = r.at.contexts;
       };
     }
 

@@ -1,4 +1,6 @@
 pub mod Carried
+pub mod Coded
+pub mod CodedLaws
 pub mod Deciding
 pub mod Decoding
 pub mod Encoding

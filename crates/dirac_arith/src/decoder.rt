@@ -3,16 +3,18 @@ ghost use Rattle.std.specs.Prelude.{◌≡◌, ◌≢◌, ◌↔◌, ◌+◌, �
 ghost use Rattle.std.specs.Prelude.{false};
 ghost use Rattle.std.specs.Prelude.{List, length, slice_index, IfOk, IfErr, OnErr, Ok, Err};
 ghost use Rattle.dirac_arith.specs.Carried.{Lies};
+ghost use Rattle.dirac_arith.specs.Decoding.{reading_at};
 ghost use Rattle.dirac_arith.specs.Deciding.{Gives, decided, number_read, signed_read};
 ghost use Rattle.dirac_arith.specs.Front.{front};
 ghost use Rattle.dirac_arith.specs.Interval.{narrowed, narrowed_by, whole};
 ghost use Rattle.dirac_arith.specs.Reading.{Reading, Reads};
+ghost use Rattle.dirac_arith.specs.Registers.{Runs, doublings_of};
 ghost use Rattle.dirac_arith.specs.Spelling.{AreContexts, follow_at, signed_spelling, spelling, spelt};
 
 use crate::contexts::CONTEXTS;
 use crate::follow::follow_context;
 use crate::probabilities::adapt;
-use crate::registers::{Registers, begin, decide, fill, is_past};
+use crate::registers::{Decided, Registers, begin, decide, fill, foresee, is_past};
 use dirac_common::{Cause, MOST_DIGITS, with_sign};
 use std::marker::Model;
 
@@ -90,6 +92,91 @@ impl<'a> Decoder<'a> {
         Ok(decided.truth)
     }
 
+    /// The same of a decision that goes mostly one way, as follow decisions do: each way has sums of its own, so that
+    /// what comes next need not wait for the code.
+    #[inline(always)]
+    pub fn foreseen(&mut self, ctx: u8) -> Result<bool, Cause>
+        requires context { ctx < CONTEXTS }
+        requires no_overflow { self.old.at.doublings < 2 ^ 62 }
+        ensures read { Gives result self.new (decided ctx self.old) }
+        ensures narrows { IfOk result (λ truth. self.new ≡ record {
+          block = self.old.block;
+          at = narrowed self.old.at (ctx, truth);
+        }) }
+        ensures lies_inside { IfOk result (λ truth. Lies self.old.block (narrowed self.old.at (ctx, truth))) }
+        ensures no_other_truth { (truth : Bool) → Lies self.old.block (narrowed self.old.at (ctx, truth)) → result
+            ≡ Ok truth }
+        ensures few_doublings { self.new.at.doublings ≤ self.old.at.doublings + 9 }
+        ensures refused { (result ≡ Err Cause.CodeWord) ↔ (front self.old.block 16 ≡ 0xFFFF) }
+        ensures no_other_cause { OnErr result (result ≡ Err Cause.CodeWord) }
+        ensures unchanged { OnErr result (self.new ≡ self.old) }
+    {
+        if self.refused {
+            return Err(Cause::CodeWord);
+        }
+        let registers = self.registers;
+        let decided = self.foreseen_from(registers, ctx);
+        self.registers = decided.registers;
+        Ok(decided.truth)
+    }
+
+    /// Whether the block has no decision.
+    #[inline(always)]
+    pub fn is_refused(&self) -> bool
+        ensures refused { result ≡ true → front self.now.block 16 ≡ 0xFFFF }
+        ensures not_refused { result ≡ false → front self.now.block 16 ≢ 0xFFFF }
+    {
+        self.refused
+    }
+
+    /// Where it stands, for a loop that keeps this by value.
+    #[inline(always)]
+    pub fn registers(&self) -> Registers
+        requires not_refused { front self.now.block 16 ≢ 0xFFFF }
+        ensures stands { reading_at self.now result ≡ self.now }
+        ensures runs { Runs self.now.block result }
+    {
+        self.registers
+    }
+
+    /// Stands at these registers.
+    #[inline(always)]
+    pub fn resume(&mut self, registers: Registers)
+        requires runs { Runs self.old.block registers }
+        ensures { self.new ≡ reading_at self.old registers }
+    {
+        self.registers = registers;
+    }
+
+    /// The decision that `foreseen` takes, but from these registers, and the ones behind it; its own stay.
+    #[inline(always)]
+    pub fn foreseen_from(&mut self, registers: Registers, ctx: u8) -> Decided
+        requires context { ctx < CONTEXTS }
+        requires runs { Runs self.old.block registers }
+        requires no_overflow { doublings_of registers < 2 ^ 62 }
+        ensures read { decided ctx (reading_at self.old registers)
+            ≡ Ok (result.truth, reading_at self.new result.registers) }
+        ensures runs { Runs self.new.block result.registers }
+        ensures few_doublings { doublings_of result.registers ≤ doublings_of registers + 9 }
+    {
+        let at = ctx as usize;
+        let probability = self.contexts[at];
+        let decided = foresee(registers, probability);
+        if decided.truth {
+            self.contexts[at] = adapt(probability, true);
+            Decided {
+                truth: true,
+                registers: fill(self.block, decided.registers),
+            }
+        } else {
+            self.contexts[at] = adapt(probability, false);
+            Decided {
+                truth: false,
+                registers: fill(self.block, decided.registers),
+            }
+        }
+    }
+
     /// A number, whose follow decisions stand in these contexts, the last one repeated, and its digits in the context
     /// `bits`. One of more than 38 digits behind its leading one is refused `NumberTooLong`; the decisions up to there
     /// were taken.
@@ -138,14 +225,14 @@ impl<'a> Decoder<'a> {
     {
         let mut value: u64 = 1;
         'digits: for i in 0..MOST_DIGITS {
-            let last = self.decision(follow_context(follow, i))?;
+            let last = self.foreseen(follow_context(follow, i))?;
             if last {
                 return Ok(value - 1);
             }
             let digit = self.decision(bits)?;
             value = value * 2 + u64::from(digit);
         }
-        let end = self.decision(follow_context(follow, MOST_DIGITS))?;
+        let end = self.foreseen(follow_context(follow, MOST_DIGITS))?;
         if end {
             return Ok(value - 1);
         }
@@ -240,14 +327,14 @@ impl<'a> Decoder<'a> {
         let first = self.decision(bits)?;
         let mut value: u64 = 2 + u64::from(first);
         'digits: for i in 1..MOST_DIGITS {
-            let last = self.decision(follow_context(follow, i))?;
+            let last = self.foreseen(follow_context(follow, i))?;
             if last {
                 return Ok(value - 1);
             }
             let digit = self.decision(bits)?;
             value = value * 2 + u64::from(digit);
         }
-        let end = self.decision(follow_context(follow, MOST_DIGITS))?;
+        let end = self.foreseen(follow_context(follow, MOST_DIGITS))?;
         if end {
             return Ok(value - 1);
         }

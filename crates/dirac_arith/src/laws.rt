@@ -4,6 +4,7 @@ ghost use Rattle.dirac_arith.specs.Laws.{CarriesOneSigned, TruthsAreBits, Signed
 ghost use Rattle.dirac_arith.specs.Laws.{CarriesSomeTruth, CarriesSomeNumber, CarriesSomeSigned, DecisionIsRead};
 ghost use Rattle.dirac_arith.specs.Laws.{NumberIsRead, LongNumberIsRefused, SignedIsRead, LongSignedIsRefused};
 ghost use Rattle.dirac_arith.specs.Laws.{OnesReadToNothing};
+ghost use Rattle.dirac_arith.specs.CodedLaws.{SpelledIsRead, OneIsSpelled, BrokenIsRefused, OnesAreRefused, ThenIsRead};
 
 /// Of two lists of decisions that first differ in one truth at the same context a block carries at most one.
 pub fn block_carries_one_truth()
@@ -49,4 +50,13 @@ pub fn reading_is_carrying()
     ensures signed { SignedIsRead }
     ensures long_signed { LongSignedIsRefused }
     ensures ones { OnesReadToNothing }
+{}
+
+/// A coded value is read exactly where the block carries decisions that spell it, and refused where it breaks off.
+pub fn coded_values_are_read<T>()
+    ensures spelled_is_read { SpelledIsRead T }
+    ensures one_is_spelled { OneIsSpelled T }
+    ensures broken_is_refused { BrokenIsRefused T }
+    ensures ones_are_refused { OnesAreRefused T }
+    ensures then_is_read { ThenIsRead T }
 {}

@@ -20,6 +20,7 @@ pub use contexts::{
 pub use decoder::Decoder;
 pub use encoder::Encoder;
 pub use laws::{
-    block_carries_more, block_carries_one_number, block_carries_one_truth, reading_composes,
-    reading_is_carrying, truths_are_bits, written_block_carries,
+    block_carries_more, block_carries_one_number, block_carries_one_truth, coded_values_are_read,
+    reading_composes, reading_is_carrying, truths_are_bits, written_block_carries,
 };
+pub use registers::{Decided, Registers};

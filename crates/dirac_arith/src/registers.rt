@@ -1,7 +1,7 @@
 //! The registers of arithmetic decoding: the code less low, with some bits read ahead.
 ghost use Rattle.std.specs.Prelude.{◌≡◌, ◌+◌, ◌-◌, ◌*◌, ◌/◌, ◌^◌, ◌<◌, ◌≤◌, ℕ, List, slice_index_or, true, false};
 ghost use Rattle.dirac_arith.specs.Interval.{doublings_for};
-ghost use Rattle.dirac_arith.specs.Registers.{Stands, part_of, lift_of};
+ghost use Rattle.dirac_arith.specs.Registers.{Settles, Stands, with_part};
 
 /// What a decoder keeps of its place in a block.
 #[derive(Clone, Copy)]
@@ -139,6 +139,42 @@ pub fn doublings(range: u32) -> u32
     14 + most / 32768 - (31 - most.leading_zeros())
 }
 
+/// The registers with this window and range, as often doubled as the range needs.
+#[inline(always)]
+fn doubled(registers: Registers, window: u64, range: u32) -> Registers
+    requires above_32 { 32 < range }
+    requires narrow { range ≤ 0xFFFF }
+    requires ahead { 9 ≤ registers.ahead }
+    ensures { result ≡ with_part registers window range }
+{
+    let count = doublings(range);
+    Registers {
+        window,
+        range: range << count,
+        ahead: registers.ahead - count,
+        next: registers.next,
+    }
+}
+
+/// The same where the range seldom needs a doubling: the usual way has no sum.
+#[inline(always)]
+fn seldom_doubled(registers: Registers, window: u64, range: u32) -> Registers
+    requires above_32 { 32 < range }
+    requires narrow { range ≤ 0xFFFF }
+    requires ahead { 9 ≤ registers.ahead }
+    ensures { result ≡ with_part registers window range }
+{
+    if range > 0x4000 {
+        return Registers {
+            window,
+            range,
+            ahead: registers.ahead,
+            next: registers.next,
+        };
+    }
+    doubled(registers, window, range)
+}
+
 /// A number less another one where it isn't below that, else the number itself. It has no branch.
 #[inline(always)]
 fn less_where_not_below(number: u64, other: u64) -> u64
@@ -158,19 +194,7 @@ pub fn decide(registers: Registers, probability: u16) -> Decided
     requires some_ahead { 9 ≤ registers.ahead }
     requires most_ahead { registers.ahead ≤ 48 }
     requires inside { registers.window < registers.range * 2 ^ registers.ahead }
-    ensures stands { (block : List ℕ) (low k : ℕ) → Stands block registers low k →
-        let split = registers.range * probability / 2 ^ 16 in
-        let part = part_of registers.range split result.truth in
-        Stands block result.registers ((low + lift_of split result.truth) * 2 ^ doublings_for part)
-        (k + doublings_for part) }
-    ensures range { let part = part_of registers.range (registers.range * probability / 2 ^ 16) result.truth in
-        result.registers.range ≡ part * 2 ^ doublings_for part }
-    ensures wide { 0x4000 < result.registers.range }
-    ensures narrow { result.registers.range ≤ 0xFFFF }
-    ensures next { result.registers.next ≡ registers.next }
-    ensures few_doublings { registers.ahead ≤ result.registers.ahead + 9 }
-    ensures no_more_ahead { result.registers.ahead ≤ registers.ahead }
-    ensures inside { result.registers.window < result.registers.range * 2 ^ result.registers.ahead }
+    ensures { Settles registers (registers.range * probability / 2 ^ 16) result.truth result.registers }
 {
     let split = registers.range * u32::from(probability) / 65536;
     let whole = u64::from(split);
@@ -182,14 +206,38 @@ pub fn decide(registers: Registers, probability: u16) -> Decided
     } else {
         split
     };
-    let count = doublings(range);
     Decided {
         truth,
-        registers: Registers {
-            window,
-            range: range << count,
-            ahead: registers.ahead - count,
-            next: registers.next,
-        },
+        registers: doubled(registers, window, range),
+    }
+}
+
+/// The same by ways that have sums of their own: behind the one that is foreseen the next decision need not wait for
+/// the code.
+#[inline(always)]
+pub fn foresee(registers: Registers, probability: u16) -> Decided
+    requires wide { 0x4000 < registers.range }
+    requires narrow { registers.range ≤ 0xFFFF }
+    requires some_probability { 254 ≤ probability }
+    requires most_probability { probability ≤ 65281 }
+    requires some_ahead { 9 ≤ registers.ahead }
+    requires most_ahead { registers.ahead ≤ 48 }
+    requires inside { registers.window < registers.range * 2 ^ registers.ahead }
+    ensures { Settles registers (registers.range * probability / 2 ^ 16) result.truth result.registers }
+{
+    let split = registers.range * u32::from(probability) / 65536;
+    let whole = u64::from(split);
+    let bound = whole << registers.ahead;
+    if registers.window >= bound {
+        let window = registers.window - bound;
+        Decided {
+            truth: true,
+            registers: seldom_doubled(registers, window, registers.range - split),
+        }
+    } else {
+        Decided {
+            truth: false,
+            registers: doubled(registers, registers.window, split),
+        }
     }
 }

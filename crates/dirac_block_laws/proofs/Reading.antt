@@ -2,6 +2,7 @@
 use Rattle.std.proofs.Common.{◌≡◌, ℕ, List, [], ◌∷◌, length, Result, Ok, Err, refl, ap, ◌∙◌}
 use Rattle.dirac_common.specs.declared.faults.Cause.{Cause}
 use Rattle.dirac_common.specs.declared.faults.Refusal.{Refusal}
+use Rattle.dirac_arith.specs.Coded as coded
 use Rattle.dirac_arith.specs.Deciding.{begin}
 use Rattle.dirac_arith.specs.Reading.{Reading}
 use Rattle.dirac_common.specs.Chain.{◌>>=◌ as ◌>>◌}
@@ -9,8 +10,7 @@ use Rattle.dirac_bits.specs.Cursor.{Cursor, place, aligned}
 use Rattle.dirac_bits.specs.Fields.{flag_at, uint_at, sint_at, literal_at, block_at}
 use Rattle.dirac_bits.specs.Syntax.{Syntax, done, flag_then, uint_then, sint_then, literal_then, block_then, align_then, here_then, refuse, read, ◌>>=◌}
 use Rattle.dirac_blocks.specs.Carried.{ReadsTo}
-use Rattle.dirac_blocks.specs.Grammar.{Progress, Step, listed, table_from}
-use Rattle.dirac_blocks.specs.Reached.{progress}
+use Rattle.dirac_blocks.specs.Grammar.{Step, listed, table_from}
 use Rattle.dirac_blocks.specs.Tables.{BlockTable}
 use Rattle.dirac_block_laws.specs.Standing.{one_block, some_blocks}
 
@@ -82,11 +82,11 @@ read_then (here_then g) f c e d y x h k = read_then (g (place c)) f c e d y x h 
 read_then (refuse at cause) f c e d y x h k = absurd (apart (record { at = at; cause = cause }) (y, e) h)
 
 -- a table that a block read to
-from_table : (at : ℕ) (r : Result Progress Cause) (c d : Cursor) (u : BlockTable) → read (table_from at r) c ≡ Ok (u, d)
-    → (behind : Reading) × (r ≡ Ok (progress u behind)) × (c ≡ d)
+from_table : (at : ℕ) (r : Result (BlockTable × Reading) Cause) (c d : Cursor) (u : BlockTable) → read (table_from at r) c ≡ Ok (u, d)
+    → (behind : Reading) × (r ≡ Ok (u, behind)) × (c ≡ d)
 from_table at (Ok x) c d u h =
-    let e = answer_same (x.table, c) (u, d) h in
-    (x.reading, ap (λ (p : BlockTable × Cursor). Ok (progress p.0 x.reading)) e, ap (λ (p : BlockTable × Cursor). p.1) e)
+    let e = answer_same (x.0, c) (u, d) h in
+    (x.1, ap (λ (p : BlockTable × Cursor). Ok (p.0, x.1)) e, ap (λ (p : BlockTable × Cursor). p.1) e)
 from_table at (Err cause) c d u h = absurd (apart (record { at = at; cause = cause }) (u, d) h)
 
 -- a list is read from the block that stands there
@@ -95,11 +95,11 @@ pub list_read : (step : Step) (t u : BlockTable) (c d : Cursor) → read (listed
 unfolding listed
 list_read step t u c d h =
     let table : ℕ × Cursor → List ℕ × Cursor → Result (BlockTable × Cursor) Refusal =
-    λ n bytes. read (table_from (place (aligned n.1)) (step (progress t (begin bytes.0)))) bytes.1 in
+    λ n bytes. read (table_from (place (aligned n.1)) (coded.read (step t) (begin bytes.0))) bytes.1 in
     let bytes_only : List ℕ × Cursor → Result (List ℕ × Cursor) Refusal = λ bytes. Ok (bytes.0, bytes.1) in
     let p = peel (uint_at c) (λ n. block_at n.0 (aligned n.1) >> table n) (u, d) h in
     let q = peel (block_at p.0.0 (aligned p.0.1)) (table p.0) (u, d) p.2 in
-    let r = from_table (place (aligned p.0.1)) (step (progress t (begin q.0.0))) q.0.1 d u q.2 in (
+    let r = from_table (place (aligned p.0.1)) (coded.read (step t) (begin q.0.0)) q.0.1 d u q.2 in (
       q.0.0,
       ap (λ n. n >> (λ n. block_at n.0 (aligned n.1) >> bytes_only)) p.1 ∙ ap (λ b. b >> bytes_only) q.1 ∙ ap (λ (e : Cursor). Ok (q.0.0, e)) r.2,
       (r.0, r.1),
@@ -111,13 +111,13 @@ pub read_list : (step : Step) (t u : BlockTable) (block : List ℕ) (c d : Curso
 unfolding listed
 read_list step t u block c d h reads =
     let table : ℕ × Cursor → List ℕ × Cursor → Result (BlockTable × Cursor) Refusal =
-    λ n bytes. read (table_from (place (aligned n.1)) (step (progress t (begin bytes.0)))) bytes.1 in
+    λ n bytes. read (table_from (place (aligned n.1)) (coded.read (step t) (begin bytes.0))) bytes.1 in
     let bytes_only : List ℕ × Cursor → Result (List ℕ × Cursor) Refusal = λ bytes. Ok (bytes.0, bytes.1) in
     let p = peel (uint_at c) (λ n. block_at n.0 (aligned n.1) >> bytes_only) (block, d) h in
     let q = peel (block_at p.0.0 (aligned p.0.1)) bytes_only (block, d) p.2 in
     let e = answer_same q.0 (block, d) q.2 in
     ap (λ n. n >> (λ n. block_at n.0 (aligned n.1) >> table n)) p.1 ∙ ap (λ b. b >> table p.0) q.1 ∙ ap (λ b. table p.0 b) e
-    ∙ ap (λ (r : Result Progress Cause). read (table_from (place (aligned p.0.1)) r) d) reads.1
+    ∙ ap (λ (r : Result (BlockTable × Reading) Cause). read (table_from (place (aligned p.0.1)) r) d) reads.1
 
 -- one block more, before
 pub one_more : (block : List ℕ) (blocks : List (List ℕ)) (c e d : Cursor) → read one_block c ≡ Ok (block, e) → read (some_blocks (length blocks)) e ≡ Ok (blocks, d)

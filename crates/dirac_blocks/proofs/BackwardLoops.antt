@@ -2,20 +2,22 @@
 use Rattle.std.proofs.Common.{◌≡◌, ℕ, zero, suc, ◌+◌, ◌*◌, ◌^◌, ◌<◌, ◌≤◌, inl, inr, List, [], ◌++◌, Result, Ok, refl, sym, ap, ◌∙◌, arith, subst}
 use Rattle.std.proofs.lemmas.Bool.{cases_lt}
 use Rattle.dirac_common.specs.declared.faults.Cause.{Cause}
+use Rattle.dirac_arith.specs.Coded.{done, read, repeated}
 use Rattle.dirac_arith.specs.Deciding.{begin}
 use Rattle.dirac_arith.specs.Interval.{Decision}
 use Rattle.dirac_arith.specs.Reading.{Reading, Reads}
 use Rattle.dirac_arith.proofs.Carrieds.{IsLed}
+use Rattle.dirac_arith.proofs.CodedValues.{then_is_read}
 use Rattle.dirac_arith.proofs.Led.{led_begin, led_more, reads_nothing, reads_carried}
 use Rattle.dirac_arith.proofs.Spellings.{reads_more}
 use Rattle.dirac_blocks.specs.declared.block.Block.{Block}
 use Rattle.dirac_blocks.specs.declared.parts.ListKind.{ListKind}
 use Rattle.dirac_blocks.specs.Carried.{with_part}
 use Rattle.dirac_blocks.specs.Decisions.{unit_row, unit_rows, superblock_part, superblock_row, superblock_rows, unit_decisions}
-use Rattle.dirac_blocks.specs.Grammar.{Progress, Step, repeated, with_unit, unit_read, unit_step, unit_row_step, unit_rows_step, superblock_step}
+use Rattle.dirac_blocks.specs.Grammar.{Step, with_unit, unit_coded, unit_step, unit_row_step, unit_rows_step, superblock_step}
 use Rattle.dirac_blocks.specs.Laws.{ReadIsCarried}
 use Rattle.dirac_blocks.specs.Parts.{part_at}
-use Rattle.dirac_blocks.specs.Reached.{SameShape, IsUnit, progress}
+use Rattle.dirac_blocks.specs.Reached.{SameShape, IsUnit}
 use Rattle.dirac_blocks.specs.Tables.{BlockTable, IsBlockTable, block_at, split_at, unit_size}
 use Rattle.dirac_blocks.proofs.Backwards.{passed, moved_to, unit_came}
 use Rattle.dirac_blocks.proofs.Filled.{square}
@@ -37,7 +39,7 @@ pub record Came (part : ListKind) (m : BlockTable) (r : Reading) (t : BlockTable
 -- no step
 nothing_came : (part : ListKind) (m t : BlockTable) (r s : Reading) (left right top bottom : ℕ) (decisions : BlockTable → List Decision) → IsBlockTable m → IsLed r
     → ((x y : ℕ) → left ≤ x → x < right → top ≤ y → y < bottom → ⊥)
-    → ((u : BlockTable) → decisions u ≡ []) → (let p : Result Progress Cause = Ok (progress m r) in p ≡ Ok (progress t s))
+    → ((u : BlockTable) → decisions u ≡ []) → (let p : Result (BlockTable × Reading) Cause = Ok (m, r) in p ≡ Ok (t, s))
     → Came part m r t s left right top bottom decisions
 nothing_came part m t r s left right top bottom decisions inv led empty none e =
     let here : Came part m r m r left right top bottom decisions = record {
@@ -110,7 +112,7 @@ below_came {part = part} {m = m} {q = q} {t = t} {r = r} {p = p} {s = s} {middle
 
 -- a unit
 unit_step_came : (part : ListKind) (m t : BlockTable) (size i j : ℕ) (r s : Reading) → IsBlockTable m → IsUnit m size i j → IsLed r
-    → unit_step part size i j (progress m r) ≡ Ok (progress t s)
+    → read (unit_step part size i j m) r ≡ Ok (t, s)
     → Came part m r t s i (i + size) j (j + size) (λ u. part_at part u i j)
 unfolding unit_step
 unit_step_came part m t size i j r s inv unit led e =
@@ -118,7 +120,8 @@ unit_step_came part m t size i j r s inv unit led e =
     let some = placed.some in
     let columns = placed.columns in
     let rows = placed.row in
-    let q = passed (unit_read part m i j r) (λ b. let x : Result Progress Cause = Ok (record { table = with_unit m size i j b.0; reading = b.1 }) in x) (progress t s) e in
+    let q = passed (read (unit_coded part m i j) r) (λ b. let x : Result (BlockTable × Reading) Cause = Ok (with_unit m size i j b.0, b.1) in x) (t, s)
+    (sym (then_is_read (unit_coded part m i j) (λ c. done (with_unit m size i j c)) r) ∙ e) in
     let b = q.value.0 in
     let mid = q.value.1 in
     let came = unit_came part m i j b r mid inv led q.first in
@@ -144,7 +147,7 @@ unit_step_came part m t size i j r s inv unit led e =
 -- n units of a row
 pub row_came : (part : ListKind) (m t : BlockTable) (size i j n : ℕ) (r s : Reading) → IsBlockTable m → ((k : ℕ) → k < n → IsUnit m size (i + k * size) j) → IsLed r
     → i + n * size ≤ 4 * m.across
-    → unit_row_step part size i j n (progress m r) ≡ Ok (progress t s)
+    → read (unit_row_step part size i j n m) r ≡ Ok (t, s)
     → Came part m r t s i (i + n * size) j (j + size) (λ u. unit_row (part_at part u) size i j n)
 unfolding unit_row repeated
 row_came part m t size i j zero r s inv units led fits e =
@@ -152,16 +155,16 @@ row_came part m t size i j zero r s inv units led fits e =
 row_came part m t size i j (suc n) r s inv units led fits e =
     let step = λ (k : ℕ). unit_step part size (i + k * size) j in
     let end : suc n * size ≡ n * size + size = omega arith in
-    let q = passed (repeated step n (progress m r)) (step n) (progress t s) e in
-    let g = row_came part m q.value.table size i j n r q.value.reading inv (λ k l. units k (omega arith)) led (omega arith) q.first in
-    let h = unit_step_came part q.value.table t size (i + n * size) j q.value.reading s g.lawful (unit_same m q.value.table size (i + n * size) j g.shape (units n (omega arith))) g.led q.next in
-    let width : 4 * q.value.table.across ≡ 4 * m.across = ap (λ (k : ℕ). 4 * k) g.shape.across in
+    let q = passed (read (repeated step n m) r) (λ x. read (step n x.0) x.1) (t, s) (sym (then_is_read (repeated step n m) (step n) r) ∙ e) in
+    let g = row_came part m q.value.0 size i j n r q.value.1 inv (λ k l. units k (omega arith)) led (omega arith) q.first in
+    let h = unit_step_came part q.value.0 t size (i + n * size) j q.value.1 s g.lawful (unit_same m q.value.0 size (i + n * size) j g.shape (units n (omega arith))) g.led q.next in
+    let width : 4 * q.value.0.across ≡ 4 * m.across = ap (λ (k : ℕ). 4 * k) g.shape.across in
     beside_came (i + suc n * size) (omega arith) (omega arith) (omega arith) (omega arith) (λ u k. refl) g h
 
 -- n rows of units
 pub rows_came : (part : ListKind) (m t : BlockTable) (size across i j n : ℕ) (r s : Reading) → IsBlockTable m
     → ((k l : ℕ) → k < across → l < n → IsUnit m size (i + k * size) (j + l * size)) → IsLed r → i + across * size ≤ 4 * m.across
-    → unit_rows_step part size across i j n (progress m r) ≡ Ok (progress t s)
+    → read (unit_rows_step part size across i j n m) r ≡ Ok (t, s)
     → Came part m r t s i (i + across * size) j (j + n * size) (λ u. unit_rows (part_at part u) size across i j n)
 unfolding unit_rows repeated
 rows_came part m t size across i j zero r s inv units led fits e =
@@ -169,16 +172,16 @@ rows_came part m t size across i j zero r s inv units led fits e =
 rows_came part m t size across i j (suc n) r s inv units led fits e =
     let step : ℕ → Step = λ k. unit_row_step part size i (j + k * size) across in
     let end : suc n * size ≡ n * size + size = omega arith in
-    let q = passed (repeated step n (progress m r)) (step n) (progress t s) e in
-    let g = rows_came part m q.value.table size across i j n r q.value.reading inv (λ k l p o. units k l p (omega arith)) led fits q.first in
-    let width : 4 * q.value.table.across ≡ 4 * m.across = ap (λ (k : ℕ). 4 * k) g.shape.across in
-    let h = row_came part q.value.table t size i (j + n * size) across q.value.reading s g.lawful
-    (λ k l. unit_same m q.value.table size (i + k * size) (j + n * size) g.shape (units k n l (omega arith))) g.led (omega arith) q.next in
+    let q = passed (read (repeated step n m) r) (λ x. read (step n x.0) x.1) (t, s) (sym (then_is_read (repeated step n m) (step n) r) ∙ e) in
+    let g = rows_came part m q.value.0 size across i j n r q.value.1 inv (λ k l p o. units k l p (omega arith)) led fits q.first in
+    let width : 4 * q.value.0.across ≡ 4 * m.across = ap (λ (k : ℕ). 4 * k) g.shape.across in
+    let h = row_came part q.value.0 t size i (j + n * size) across q.value.1 s g.lawful
+    (λ k l. unit_same m q.value.0 size (i + k * size) (j + n * size) g.shape (units k n l (omega arith))) g.led (omega arith) q.next in
     below_came (j + suc n * size) (omega arith) (omega arith) fits (omega arith) (λ u k. refl) g h
 
 -- a superblock
 pub superblock_came : (part : ListKind) (m t : BlockTable) (sx sy : ℕ) (r s : Reading) → IsBlockTable m → sx < m.across → sy < m.down → IsLed r
-    → superblock_step part sy sx (progress m r) ≡ Ok (progress t s)
+    → read (superblock_step part sy sx m) r ≡ Ok (t, s)
     → Came part m r t s (4 * sx) (4 * sx + 4) (4 * sy) (4 * sy + 4) (λ u. superblock_part (part_at part u) m sx sy)
 unfolding superblock_step
 superblock_came part m t sx sy r s inv hx hy led e =
@@ -196,34 +199,34 @@ superblock_shape part m u v sx sy s =
 
 -- n superblocks of a row
 pub superblocks_came : (part : ListKind) (m t : BlockTable) (sy n : ℕ) (r s : Reading) → IsBlockTable m → n ≤ m.across → sy < m.down → IsLed r
-    → repeated (superblock_step part sy) n (progress m r) ≡ Ok (progress t s)
+    → read (repeated (superblock_step part sy) n m) r ≡ Ok (t, s)
     → Came part m r t s 0 (4 * n) (4 * sy) (4 * sy + 4) (λ u. superblock_row (part_at part u) u sy n)
 unfolding superblock_row repeated
 superblocks_came part m t sy zero r s inv few hy led e =
     nothing_came part m t r s 0 (4 * 0) (4 * sy) (4 * sy + 4) (λ u. superblock_row (part_at part u) u sy 0) inv led (λ x y a b c d. omega arith) (λ u. refl) e
 superblocks_came part m t sy (suc n) r s inv few hy led e =
-    let q = passed (repeated (superblock_step part sy) n (progress m r)) (superblock_step part sy n) (progress t s) e in
-    let g = superblocks_came part m q.value.table sy n r q.value.reading inv (omega arith) hy led q.first in
+    let q = passed (read (repeated (superblock_step part sy) n m) r) (λ x. read (superblock_step part sy n x.0) x.1) (t, s) (sym (then_is_read (repeated (superblock_step part sy) n m) (superblock_step part sy n) r) ∙ e) in
+    let g = superblocks_came part m q.value.0 sy n r q.value.1 inv (omega arith) hy led q.first in
     let across = g.shape.across in
     let down = g.shape.down in
-    let h = superblock_came part q.value.table t n sy q.value.reading s g.lawful (omega arith) (omega arith) g.led q.next in
+    let h = superblock_came part q.value.0 t n sy q.value.1 s g.lawful (omega arith) (omega arith) g.led q.next in
     beside_came (4 * suc n) (omega arith) (omega arith) (omega arith) (omega arith)
-    (λ u k. ap (λ (ds : List Decision). superblock_row (part_at part u) u sy n ++ ds) (sym (superblock_shape part q.value.table u u n sy (shape_join q.value.table t u h.shape k)))) g h
+    (λ u k. ap (λ (ds : List Decision). superblock_row (part_at part u) u sy n ++ ds) (sym (superblock_shape part q.value.0 u u n sy (shape_join q.value.0 t u h.shape k)))) g h
 
 -- n rows of superblocks
 pub superblock_rows_came : (part : ListKind) (m t : BlockTable) (across n : ℕ) (r s : Reading) → IsBlockTable m → across ≡ m.across → n ≤ m.down → IsLed r
-    → repeated (λ sy. repeated (superblock_step part sy) across) n (progress m r) ≡ Ok (progress t s)
+    → read (repeated (λ sy. repeated (superblock_step part sy) across) n m) r ≡ Ok (t, s)
     → Came part m r t s 0 (4 * across) 0 (4 * n) (λ u. superblock_rows (part_at part u) u n)
 unfolding superblock_rows repeated
 superblock_rows_came part m t across zero r s inv all few led e =
     nothing_came part m t r s 0 (4 * across) 0 (4 * 0) (λ u. superblock_rows (part_at part u) u 0) inv led (λ x y a b c d. omega arith) (λ u. refl) e
 superblock_rows_came part m t across (suc n) r s inv all few led e =
     let step : ℕ → Step = λ sy. repeated (superblock_step part sy) across in
-    let q = passed (repeated step n (progress m r)) (step n) (progress t s) e in
-    let g = superblock_rows_came part m q.value.table across n r q.value.reading inv all (omega arith) led q.first in
+    let q = passed (read (repeated step n m) r) (λ x. read (step n x.0) x.1) (t, s) (sym (then_is_read (repeated step n m) (step n) r) ∙ e) in
+    let g = superblock_rows_came part m q.value.0 across n r q.value.1 inv all (omega arith) led q.first in
     let wide = g.shape.across in
     let high = g.shape.down in
-    let h = superblocks_came part q.value.table t n across q.value.reading s g.lawful (omega arith) (omega arith) g.led q.next in
+    let h = superblocks_came part q.value.0 t n across q.value.1 s g.lawful (omega arith) (omega arith) g.led q.next in
     below_came (4 * suc n) (omega arith) (omega arith) (omega arith) (omega arith)
     (λ u k.
     let all' : u.across ≡ across = omega (arith, k.across, h.shape.across) in

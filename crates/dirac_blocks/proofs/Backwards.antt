@@ -5,11 +5,13 @@ use Rattle.std.proofs.lemmas.Bool.{cases_Bool, cases_eq, eq-eqb, ne_eqb, and_par
 use Rattle.std.proofs.lemmas.Int.{ints}
 use Rattle.dirac_common.specs.declared.faults.Cause.{Cause}
 use Rattle.dirac_common.specs.Chain.{◌>>=◌}
+use Rattle.dirac_arith.specs.Coded.{Coded, done, decide, read, and_then}
 use Rattle.dirac_arith.specs.Deciding.{decided, signed_read}
 use Rattle.dirac_arith.specs.Interval.{Decision}
 use Rattle.dirac_arith.specs.Reading.{Reading, Reads}
 use Rattle.dirac_arith.specs.Spelling.{signed_spelling}
 use Rattle.dirac_arith.proofs.Carrieds.{IsLed}
+use Rattle.dirac_arith.proofs.CodedValues.{then_is_read}
 use Rattle.dirac_arith.proofs.Led.{reads_nothing, led_more, decision_leads, signed_leads}
 use Rattle.dirac_arith.proofs.Spellings.{reads_more}
 use Rattle.dirac_vectors.specs.Neighbours.{IsShort}
@@ -19,13 +21,11 @@ use Rattle.dirac_blocks.specs.declared.parts.ListKind.{ListKind}
 use Rattle.dirac_blocks.specs.declared.parts.ListKind.TheVariants as parts
 use Rattle.dirac_blocks.specs.Carried.{with_part}
 use Rattle.dirac_blocks.specs.Decisions.{counted, differ, predicted, ref1_at, ref2_at}
-use Rattle.dirac_blocks.specs.Grammar.{Progress, block_using, mode_read, second_use_read, is_short, value_from, read_into, unit_read}
+use Rattle.dirac_blocks.specs.Grammar.{block_using, mode_coded, second_use, is_short, value_from, coded_into, unit_coded}
 use Rattle.dirac_blocks.specs.Parts.{part_at}
-use Rattle.dirac_blocks.specs.Reached.{progress}
-use Rattle.dirac_blocks.specs.Refused.{ByDifference}
 use Rattle.dirac_blocks.specs.Tables.{BlockTable, IsBlock, IsBlockTable, block_at}
 use Rattle.dirac_blocks.proofs.Nearby.{Near, ref1_near, ref2_near, block_lawful, using_lawful}
-use Rattle.dirac_blocks.proofs.Valued.{Tells, told_read, telling, has_same, across_tells, down_tells, dc_tells}
+use Rattle.dirac_blocks.proofs.Valued.{ByDifference, Tells, told_coded, telling, has_same, across_tells, down_tells, dc_tells}
 use Rattle.dirac_blocks.proofs.Forwards.{differ_twice, second_part}
 
 -- steps that led to an answer
@@ -50,10 +50,9 @@ same_answer x y e = ap (or_else x) e
     or_else d (Err e) = d
 
 -- what holds of where steps led
-pub moved_to : (P : BlockTable → Reading → Type 0) {a b : BlockTable} {r s : Reading} → (let x : Result Progress Cause = Ok (progress a r) in x ≡ Ok (progress b s)) → P a r → P b s
+pub moved_to : (P : BlockTable → Reading → Type 0) {a b : BlockTable} {r s : Reading} → (let x : Result (BlockTable × Reading) Cause = Ok (a, r) in x ≡ Ok (b, s)) → P a r → P b s
 moved_to P {a = a} {b = b} {r = r} {s = s} e here =
-    let one = same_answer (progress a r) (progress b s) e in
-    subst (λ (x : Progress). P x.table x.reading) one here
+    subst (λ (x : BlockTable × Reading). P x.0 x.1) (same_answer (a, r) (b, s) e) here
 
 pub short_from : (v : ℤ) → is_short v ≡ true → IsShort v
 short_from v e = record { least = low v e; most = high v e }
@@ -75,10 +74,10 @@ pub record ValueCame (t : ByDifference) (v : ℤ) (r s : Reading) : Type 0 where
   pub short : IsShort v
   pub reads : Reads r (signed_spelling t.follow t.bits t.sign (v -ℤ t.prediction)) s
 
-value_came : (t : ByDifference) (v : ℤ) (r s : Reading) → IsLed r → told_read t r ≡ Ok (v, s) → ValueCame t v r s
+value_came : (t : ByDifference) (v : ℤ) (r s : Reading) → IsLed r → read (told_coded t) r ≡ Ok (v, s) → ValueCame t v r s
 value_came t v r s led e =
     let p = t.prediction in
-    let q = passed (signed_read t.follow t.bits t.sign r) (value_from t.range p) (v, s) e in
+    let q = passed (signed_read t.follow t.bits t.sign r) (λ z. read (value_from t.range p z.0) z.1) (v, s) e in
     let n = q.value.0 in
     let mid = q.value.1 in
     let led_to = signed_leads r mid t.follow t.bits t.sign n led q.first in
@@ -108,9 +107,9 @@ pub record IntoCame (has : Bool) (refs : ℕ) (bm b : Block) (put : Block → �
   pub reads : Reads r (telling t (counted has value)) s
 
 into_came : (has : Bool) (refs : ℕ) (bm b : Block) (put : Block → ℤ → Block) (w : ℤ) (t : ByDifference) (r s : Reading) → IsBlock refs bm → put bm w ≡ bm
-    → ((v : ℤ) → has ≡ true → IsShort v → IsBlock refs (put bm v)) → IsLed r → read_into has bm put (told_read t) r ≡ Ok (b, s) → IntoCame has refs bm b put t r s
+    → ((v : ℤ) → has ≡ true → IsShort v → IsBlock refs (put bm v)) → IsLed r → read (coded_into has bm put (told_coded t)) r ≡ Ok (b, s) → IntoCame has refs bm b put t r s
 into_came true refs bm b put w t r s old own lawful led e =
-    let q = passed (told_read t r) (λ v. let x : Result (Block × Reading) Cause = Ok (put bm v.0, v.1) in x) (b, s) e in
+    let q = passed (read (told_coded t) r) (λ v. let x : Result (Block × Reading) Cause = Ok (put bm v.0, v.1) in x) (b, s) (sym (then_is_read (told_coded t) (λ v. done (put bm v)) r) ∙ e) in
     let v = q.value.0 in
     let one = same_answer (put bm v, q.value.1) (b, s) q.next in
     let came = value_came t v r q.value.1 led q.first in
@@ -140,11 +139,12 @@ record SecondCame (m : BlockTable) (i j : ℕ) (b : Bool) (r s : Reading) : Type
   single : m.refs ≡ 1 → b ≡ false
   reads : (u : BlockTable) → u.refs ≡ m.refs → Near m u i j → (block_at u i j).ref2 ≡ b → Reads r (second_part u i j) s
 
-second_came : (m : BlockTable) (i j : ℕ) (b : Bool) (r s : Reading) → IsLed r → second_use_read m i j r ≡ Ok (b, s) → SecondCame m i j b r s
+second_came : (m : BlockTable) (i j : ℕ) (b : Bool) (r s : Reading) → IsLed r → read (second_use m i j) r ≡ Ok (b, s) → SecondCame m i j b r s
 second_came m i j b r s led e =
     let p = predicted mode_of (ref2_at m) i j in
     let k : Bool × Reading → Result (Bool × Reading) Cause = λ bit. Ok (differ bit.0 p, bit.1) in
-    let P : Bool → Type 0 = λ t. (if t then (decided 26 r >>= k) else Ok (false, r)) ≡ Ok (b, s) in
+    let c : Bool → Coded Bool = λ bit. done (differ bit p) in
+    let P : Bool → Type 0 = λ t. read (if t then decide 26 c else done false) r ≡ Ok (b, s) in
     let Q : BlockTable → Bool → Bool → Type 0 = λ u t g. let d : Decision = (26, g) in Reads r (if t then d ∷ [] else []) s in
     elim (cases_eq m.refs 2) [
       | inl two ↦
@@ -170,14 +170,14 @@ second_came m i j b r s led e =
     ]
 
 -- the bits of a unit
-modes_came : (m : BlockTable) (i j : ℕ) (b : Block) (r s : Reading) → IsLed r → mode_read m i j r ≡ Ok (b, s) → UnitCame parts.Modes m i j b r s
+modes_came : (m : BlockTable) (i j : ℕ) (b : Block) (r s : Reading) → IsLed r → read (mode_coded m i j) r ≡ Ok (b, s) → UnitCame parts.Modes m i j b r s
 modes_came m i j b r s led e =
     let p = predicted mode_of (ref1_at m) i j in
-    let k : Bool × Reading → Bool × Reading → Result (Block × Reading) Cause = λ first second. Ok (block_using (differ first.0 p) second.0, second.1) in
-    let q = passed (decided 25 r) (λ first. second_use_read m i j first.1 >>= k first) (b, s) e in
+    let k : Bool → Bool → Coded Block = λ first second. done (block_using (differ first p) second) in
+    let q = passed (decided 25 r) (λ first. read (and_then (second_use m i j) (k first.0)) first.1) (b, s) e in
     let f = q.value.0 in
     let mid = q.value.1 in
-    let t = passed (second_use_read m i j mid) (k q.value) (b, s) q.next in
+    let t = passed (read (second_use m i j) mid) (λ x. read (k f x.0) x.1) (b, s) (sym (then_is_read (second_use m i j) (k f) mid) ∙ q.next) in
     let end = same_answer (block_using (differ f p) t.value.0, t.value.1) (b, s) t.next in
     let d : Decision = (25, f) in
     let first : Reads r (d ∷ []) mid = decision_leads r mid 25 f led q.first in
@@ -195,11 +195,11 @@ modes_came m i j b r s led e =
     }
 
 -- a value of a unit
-told_came : (part : ListKind) (k : Tells part) (m : BlockTable) (i j : ℕ) (b : Block) (r s : Reading) → IsBlockTable m → IsLed r → unit_read part m i j r ≡ Ok (b, s) → UnitCame part m i j b r s
+told_came : (part : ListKind) (k : Tells part) (m : BlockTable) (i j : ℕ) (b : Block) (r s : Reading) → IsBlockTable m → IsLed r → read (unit_coded part m i j) r ≡ Ok (b, s) → UnitCame part m i j b r s
 told_came part k m i j b r s inv led e =
     let bm = block_at m i j in
     let old = block_lawful m i j inv in
-    let c = into_came (k.has bm) m.refs bm b k.put (k.value bm) (k.told m i j) r s old (k.is.own bm) (λ v has short. k.is.lawful m.refs bm v old has short) led (sym (k.read m i j r) ∙ e) in
+    let c = into_came (k.has bm) m.refs bm b k.put (k.value bm) (k.told m i j) r s old (k.is.own bm) (λ v has short. k.is.lawful m.refs bm v old has short) led (ap (λ (c : Coded Block). read c r) (sym (k.coded m i j)) ∙ e) in
     let value : k.value b ≡ c.value = ap k.value c.is ∙ k.is.value_put bm c.value in
     let is : with_part part bm b ≡ b = k.is.with_is bm b ∙ ap (λ (v : ℤ). k.put bm v) value ∙ sym c.is in
     record {
@@ -211,7 +211,7 @@ told_came part k m i j b r s inv led e =
     }
 
 -- what is read of a unit is carried
-pub unit_came : (part : ListKind) (m : BlockTable) (i j : ℕ) (b : Block) (r s : Reading) → IsBlockTable m → IsLed r → unit_read part m i j r ≡ Ok (b, s) → UnitCame part m i j b r s
+pub unit_came : (part : ListKind) (m : BlockTable) (i j : ℕ) (b : Block) (r s : Reading) → IsBlockTable m → IsLed r → read (unit_coded part m i j) r ≡ Ok (b, s) → UnitCame part m i j b r s
 unit_came parts.Modes m i j b r s inv led e = modes_came m i j b r s led e
 unit_came (parts.Across k) m i j b r s inv led e = told_came (parts.Across k) (across_tells k) m i j b r s inv led e
 unit_came (parts.Down k) m i j b r s inv led e = told_came (parts.Down k) (down_tells k) m i j b r s inv led e

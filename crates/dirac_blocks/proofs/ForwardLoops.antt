@@ -1,18 +1,20 @@
 -- Lists of a table, unit by unit and superblock by superblock.
 use Rattle.std.proofs.Common.{◌≡◌, ℕ, zero, suc, ◌+◌, ◌*◌, ◌^◌, ◌<◌, ◌≤◌, inl, inr, Ok, refl, sym, ap, ◌∙◌, arith, subst}
 use Rattle.std.proofs.lemmas.Nat.{mul-le}
+use Rattle.dirac_arith.specs.Coded.{done, read, repeated}
 use Rattle.dirac_arith.specs.Deciding.{begin, after_all}
 use Rattle.dirac_arith.specs.Reading.{Reading, Reads}
 use Rattle.dirac_arith.proofs.Carrieds.{IsLed}
+use Rattle.dirac_arith.proofs.CodedValues.{then_is_read}
 use Rattle.dirac_arith.proofs.Led.{led_begin, led_more, reads_parted, carried_reads}
 use Rattle.dirac_blocks.specs.declared.block.Block.{Block}
 use Rattle.dirac_blocks.specs.declared.parts.ListKind.{ListKind}
 use Rattle.dirac_blocks.specs.Carried.{with_part}
 use Rattle.dirac_blocks.specs.Decisions.{unit_row, unit_rows, superblock_part, superblock_row, superblock_rows, unit_decisions}
-use Rattle.dirac_blocks.specs.Grammar.{Step, repeated, with_unit, unit_step, unit_row_step, unit_rows_step, superblock_step, units_step}
+use Rattle.dirac_blocks.specs.Grammar.{Step, with_unit, unit_coded, unit_step, unit_row_step, unit_rows_step, superblock_step, units_step}
 use Rattle.dirac_blocks.specs.Laws.{CarriedIsRead}
 use Rattle.dirac_blocks.specs.Parts.{part_at}
-use Rattle.dirac_blocks.specs.Reached.{SameShape, IsUnit, progress}
+use Rattle.dirac_blocks.specs.Reached.{SameShape, IsUnit}
 use Rattle.dirac_blocks.specs.Tables.{BlockTable, IsBlock, IsBlockTable, block_at, split_at, unit_size}
 use Rattle.dirac_blocks.proofs.Filled.{square, filled_or_same, one_table}
 use Rattle.dirac_blocks.proofs.Fills.{filled_inside, unit_lawful, split_few, unit_placed}
@@ -58,12 +60,12 @@ unit_goes part u m size i j r s inv toward unit before over led reads =
       near = near_within m u i j before over;
       is = toward.rest i j (omega arith) (omega arith);
     } in
-    let read = unit_forward part m u i j r s meets led reads in
+    let found = unit_forward part m u i j r s meets led reads in
     let new = with_unit m size i j b in
     let place = λ (x y : ℕ) (l : x < 4 * u.across). filled_or_same m size i j b toward.lawful here x y (omega arith) in
     record {
       table = new;
-      is = rw read refl;
+      is = then_is_read (unit_coded part m i j) (λ c. done (with_unit m size i j c)) r ∙ rw found refl;
       toward = record {
         lawful = unit_lawful m size i j b toward.lawful here lawful;
         shape = record { across = toward.shape.across; down = toward.shape.down; refs = toward.shape.refs; splits = toward.shape.splits };
@@ -147,7 +149,7 @@ superblock_goes part u m sx sy r s inv toward hx hy before over led reads =
     (omega arith) (size_some t two) (omega arith) within above led reads in
     record {
       table = g.table;
-      is = subst (λ (n : ℕ). unit_rows_step part (unit_size n) (2 ^ n) (4 * sx) (4 * sy) (2 ^ n) (progress m r) ≡ Ok (progress g.table s)) (sym split) g.is;
+      is = subst (λ (n : ℕ). read (unit_rows_step part (unit_size n) (2 ^ n) (4 * sx) (4 * sy) (2 ^ n) m) r ≡ Ok (g.table, s)) (sym split) g.is;
       toward = g.toward;
       inside = λ x y a c d e. g.inside x y a (omega arith) d (omega arith);
       keeps = g.keeps;
@@ -202,6 +204,6 @@ carried_is_read part former t block inv h =
     let g = superblock_rows_go part t former t.down (begin block) s h.lawful toward (omega arith) (led_begin block)
     (carried_reads block (unit_decisions t (part_at part t)) h.carried) in
     let one : g.table ≡ t = one_table g.table t g.toward.lawful h.lawful g.toward.shape (λ x y p q. g.inside x y (omega arith) p (omega arith) q) in
-    let at_across : repeated (λ sy. repeated (superblock_step part sy) former.across) former.down (progress former (begin block)) ≡ Ok (progress g.table s) =
-    repeated_sizes (superblock_step part) (progress former (begin block)) rest.shape.across rest.shape.down g.is in
-    (s, subst (λ (x : BlockTable). units_step part (progress former (begin block)) ≡ Ok (progress x s)) one at_across)
+    let at_across : read (repeated (λ sy. repeated (superblock_step part sy) former.across) former.down former) (begin block) ≡ Ok (g.table, s) =
+    repeated_sizes (superblock_step part) former (begin block) rest.shape.across rest.shape.down g.is in
+    (s, subst (λ (x : BlockTable). read (units_step part former) (begin block) ≡ Ok (x, s)) one at_across)

@@ -4,10 +4,12 @@ use Rattle.std.specs.Prelude.{◌==◌, if◌then◌else◌}
 use Rattle.std.proofs.lemmas.Bool.{cases_eq, eq-eqb, ne_eqb}
 use Rattle.std.proofs.lemmas.Int.{ints}
 use Rattle.dirac_common.specs.declared.faults.Cause.{Cause}
+use Rattle.dirac_arith.specs.Coded.{Coded, done, read}
 use Rattle.dirac_arith.specs.Interval.{Decision}
 use Rattle.dirac_arith.specs.Reading.{Reading, Reads}
 use Rattle.dirac_arith.specs.Spelling.{signed_spelling}
 use Rattle.dirac_arith.proofs.Carrieds.{IsLed}
+use Rattle.dirac_arith.proofs.CodedValues.{then_is_read}
 use Rattle.dirac_arith.proofs.Led.{led_more, reads_parted, decision_led, signed_led}
 use Rattle.dirac_vectors.specs.Neighbours.{IsShort}
 use Rattle.dirac_vectors.specs.Predictions.{mode_of}
@@ -16,13 +18,12 @@ use Rattle.dirac_blocks.specs.declared.parts.ListKind.{ListKind}
 use Rattle.dirac_blocks.specs.declared.parts.ListKind.TheVariants as parts
 use Rattle.dirac_blocks.specs.Carried.{with_part}
 use Rattle.dirac_blocks.specs.Decisions.{counted, differ, predicted, ref1_at, ref2_at, mode_part}
-use Rattle.dirac_blocks.specs.Grammar.{block_using, mode_read, second_use_read, is_short, read_into, unit_read}
+use Rattle.dirac_blocks.specs.Grammar.{block_using, mode_coded, second_use, is_short, coded_into, unit_coded}
 use Rattle.dirac_blocks.specs.Parts.{part_at}
 use Rattle.dirac_blocks.specs.Tables.{BlockTable, IsBlock, IsBlockTable, block_at}
 use Rattle.dirac_blocks.proofs.Nearby.{Near, ref1_near, ref2_near, block_lawful}
-use Rattle.dirac_blocks.specs.Refused.{ByDifference}
 use Rattle.dirac_blocks.proofs.UnitValues.{value_found}
-use Rattle.dirac_blocks.proofs.Valued.{Tells, told_read, telling, has_same, put_none, across_tells, down_tells, dc_tells}
+use Rattle.dirac_blocks.proofs.Valued.{ByDifference, Tells, told_coded, telling, has_same, put_none, across_tells, down_tells, dc_tells}
 
 -- a value of 16 bits passes
 pub is_short_from : (v : ℤ) → IsShort v → is_short v ≡ true
@@ -43,18 +44,19 @@ differ_twice false false = refl
 
 -- a value whose difference is carried is read
 value_forward : (t : ByDifference) (v : ℤ) (r s : Reading) → IsLed r → IsShort t.prediction → IsShort v → Reads r (signed_spelling t.follow t.bits t.sign (v -ℤ t.prediction)) s
-    → told_read t r ≡ Ok (v, s)
+    → read (told_coded t) r ≡ Ok (v, s)
 value_forward t v r s led short_p short_v reads =
     let p = t.prediction in
-    let read = signed_led r s t.follow t.bits t.sign (v -ℤ p) led (short_difference v p short_v short_p) reads in
+    let found = signed_led r s t.follow t.bits t.sign (v -ℤ p) led (short_difference v p short_v short_p) reads in
     let fits : is_short ((v -ℤ p) +ℤ p) ≡ true = subst (λ (w : ℤ). is_short w ≡ true) (back v p) (is_short_from v short_v) in
-    value_found t.range t.follow t.bits t.sign p (v -ℤ p) v r s read (back v p) fits
+    value_found t.range t.follow t.bits t.sign p (v -ℤ p) v r s found (back v p) fits
 
 -- a value that a unit has is read, and nothing is where it has none
 into_forward : (has : Bool) (bm bu : Block) (put : Block → ℤ → Block) (v : ℤ) (t : ByDifference) (r s : Reading) → IsLed r → IsShort t.prediction → IsShort v
-    → put bm v ≡ bu → (has ≡ false → bm ≡ bu) → Reads r (telling t (counted has v)) s → read_into has bm put (told_read t) r ≡ Ok (bu, s)
+    → put bm v ≡ bu → (has ≡ false → bm ≡ bu) → Reads r (telling t (counted has v)) s → read (coded_into has bm put (told_coded t)) r ≡ Ok (bu, s)
 into_forward true bm bu put v t r s led short_p short_v is none reads =
-    rw (value_forward t v r s led short_p short_v reads) (ap (λ (b : Block). let x : Result (Block × Reading) Cause = Ok (b, s) in x) is)
+    then_is_read (told_coded t) (λ w. done (put bm w)) r
+    ∙ rw (value_forward t v r s led short_p short_v reads) (ap (λ (b : Block). let x : Result (Block × Reading) Cause = Ok (b, s) in x) is)
 into_forward false bm bu put v t r s led short_p short_v is none reads =
     ap₂ (λ (b : Block) (q : Reading). let x : Result (Block × Reading) Cause = Ok (b, q) in x) (none refl) (sym reads.moved)
 
@@ -63,7 +65,7 @@ abbrev pub second_part : BlockTable → ℕ → ℕ → List Decision
 second_part u i j = if u.refs == 2 then (26, differ (block_at u i j).ref2 (predicted mode_of (ref2_at u) i j)) ∷ [] else []
 
 second_forward : (m u : BlockTable) (i j : ℕ) (r s : Reading) → IsBlockTable u → m.refs ≡ u.refs → Near m u i j → IsLed r → Reads r (second_part u i j) s
-    → second_use_read m i j r ≡ Ok ((block_at u i j).ref2, s)
+    → read (second_use m i j) r ≡ Ok ((block_at u i j).ref2, s)
 second_forward m u i j r s inv same near led reads =
     let b = (block_at u i j).ref2 in
     let p = predicted mode_of (ref2_at u) i j in
@@ -81,15 +83,18 @@ second_forward m u i j r s inv same near led reads =
     ]
 
 modes_forward : (m u : BlockTable) (i j : ℕ) (r s : Reading) → IsBlockTable u → m.refs ≡ u.refs → Near m u i j → IsLed r → Reads r (mode_part u i j) s
-    → mode_read m i j r ≡ Ok (block_using (block_at u i j).ref1 (block_at u i j).ref2, s)
+    → read (mode_coded m i j) r ≡ Ok (block_using (block_at u i j).ref1 (block_at u i j).ref2, s)
 modes_forward m u i j r s inv same near led reads =
     let a = (block_at u i j).ref1 in
     let p = predicted mode_of (ref1_at u) i j in
     let d : Decision = (25, differ a p) in
     let bit : differ (differ a p) (predicted mode_of (ref1_at m) i j) ≡ a = ap (differ (differ a p)) (ref1_near m u i j near) ∙ differ_twice a p in
     let parted = reads_parted r s (d ∷ []) (second_part u i j) led reads in
-    rw (decision_led r parted.mid 25 (differ a p) led parted.first, second_forward m u i j parted.mid s inv same near (led_more r parted.mid (d ∷ []) led parted.first) parted.then)
-    (ap (λ (t : Bool). let x : Result (Block × Reading) Cause = Ok (block_using t (block_at u i j).ref2, s) in x) bit)
+    let told : Bool → Bool → Coded Block = λ first second. done (block_using (differ first (predicted mode_of (ref1_at m) i j)) second) in
+    rw (decision_led r parted.mid 25 (differ a p) led parted.first)
+    (then_is_read (second_use m i j) (told (differ a p)) parted.mid
+    ∙ rw (second_forward m u i j parted.mid s inv same near (led_more r parted.mid (d ∷ []) led parted.first) parted.then)
+    (ap (λ (t : Bool). let x : Result (Block × Reading) Cause = Ok (block_using t (block_at u i j).ref2, s) in x) bit))
 
 -- what is known of a place: both blocks, the second being the first with this part of it
 pub record Meets (part : ListKind) (m u : BlockTable) (i j : ℕ) : Type 0 where
@@ -101,7 +106,7 @@ pub record Meets (part : ListKind) (m u : BlockTable) (i j : ℕ) : Type 0 where
 
 -- a value
 told_forward : (part : ListKind) (k : Tells part) (m u : BlockTable) (i j : ℕ) (r s : Reading) → Meets part m u i j → IsLed r → Reads r (part_at part u i j) s
-    → unit_read part m i j r ≡ Ok (block_at u i j, s)
+    → read (unit_coded part m i j) r ≡ Ok (block_at u i j, s)
 told_forward part k m u i j r s meets led reads =
     let bm = block_at m i j in
     let bu = block_at u i j in
@@ -111,12 +116,12 @@ told_forward part k m u i j r s meets led reads =
     let none : k.has bm ≡ false → bm ≡ bu = λ no. put_none part k u.refs bm bu old new has no ∙ meets.is in
     let told : Reads r (telling (k.told u i j) (counted (k.has bm) (k.value bu))) s =
     subst (λ (ds : List Decision). Reads r ds s) (k.carried u i j ∙ ap (λ (b : Bool). telling (k.told u i j) (counted b (k.value bu))) (sym has)) reads in
-    k.read m i j r ∙ ap (λ (t : ByDifference). read_into (k.has bm) bm k.put (told_read t) r) (k.near m u i j meets.near)
+    ap (λ (c : Coded Block). read c r) (k.coded m i j ∙ ap (λ (t : ByDifference). coded_into (k.has bm) bm k.put (told_coded t)) (k.near m u i j meets.near))
     ∙ into_forward (k.has bm) bm bu k.put (k.value bu) (k.told u i j) r s led (k.short u i j meets.lawful) (k.is.short u.refs bu new) (sym (k.is.with_is bm bu) ∙ meets.is) none told
 
 -- what a block carries of a unit is read
 pub unit_forward : (part : ListKind) (m u : BlockTable) (i j : ℕ) (r s : Reading) → Meets part m u i j → IsLed r → Reads r (part_at part u i j) s
-    → unit_read part m i j r ≡ Ok (block_at u i j, s)
+    → read (unit_coded part m i j) r ≡ Ok (block_at u i j, s)
 unit_forward parts.Modes m u i j r s k led reads =
     modes_forward m u i j r s k.lawful k.refs k.near led reads ∙ ap (λ (b : Block). let x : Result (Block × Reading) Cause = Ok (b, s) in x) k.is
 unit_forward (parts.Across k) m u i j r s meets led reads = told_forward (parts.Across k) (across_tells k) m u i j r s meets led reads

@@ -2,10 +2,10 @@
 use Rattle.std.proofs.Common.{◌≡◌, ℕ, ◌<◌, ◌≤◌, inl, inr, [], Result, Ok, sym, ap, ◌∙◌, arith}
 use Rattle.std.proofs.lemmas.Bool.{cases_lt}
 use Rattle.dirac_common.specs.declared.faults.Cause.{Cause}
-use Rattle.dirac_common.specs.Chain.{◌>>=◌}
+use Rattle.dirac_arith.specs.Coded.{read, and_then}
 use Rattle.dirac_arith.specs.Reading.{Reading, Reads}
-use Rattle.dirac_blocks.specs.Grammar.{Progress, Step}
-use Rattle.dirac_blocks.specs.Reached.{progress}
+use Rattle.dirac_arith.proofs.CodedValues.{then_is_read}
+use Rattle.dirac_blocks.specs.Grammar.{Step}
 use Rattle.dirac_blocks.specs.Tables.{BlockTable}
 
 -- the same at all places left of column `right` and above row `bottom`
@@ -15,32 +15,32 @@ pub record Same {A : Type 0} (at : BlockTable → ℕ → ℕ → A) (t u : Bloc
 -- a step leads toward the finished table, and fills a rectangle
 pub record Goes {A : Type 0} (Toward : BlockTable → Type 0) (at : BlockTable → ℕ → ℕ → A) (width : ℕ) (u : BlockTable) (step : Step) (m : BlockTable) (r s : Reading) (left right top bottom : ℕ) : Type 0 where
   pub table : BlockTable
-  pub is : step (progress m r) ≡ Ok (progress table s)
+  pub is : read (step m) r ≡ Ok (table, s)
   pub toward : Toward table
   pub inside : (x y : ℕ) → left ≤ x → x < right → top ≤ y → y < bottom → at table x y ≡ at u x y
   pub keeps : (x y : ℕ) → x < width → at m x y ≡ at u x y → at table x y ≡ at u x y
 
 -- no step
 pub nothing_goes : {A : Type 0} {Toward : BlockTable → Type 0} {at : BlockTable → ℕ → ℕ → A} {width : ℕ} {u : BlockTable} {step : Step} {m : BlockTable} {r s : Reading} {left right top bottom : ℕ}
-    → step (progress m r) ≡ Ok (progress m r) → Toward m → Reads r [] s → ((x y : ℕ) → left ≤ x → x < right → top ≤ y → y < bottom → ⊥)
+    → read (step m) r ≡ Ok (m, r) → Toward m → Reads r [] s → ((x y : ℕ) → left ≤ x → x < right → top ≤ y → y < bottom → ⊥)
     → Goes Toward at width u step m r s left right top bottom
 nothing_goes {m = m} is toward reads none =
     record {
       table = m;
-      is = is ∙ ap (λ (q : Reading). let x : Result Progress Cause = Ok (progress m q) in x) (sym reads.moved);
+      is = is ∙ ap (λ (q : Reading). let x : Result (BlockTable × Reading) Cause = Ok (m, q) in x) (sym reads.moved);
       toward = toward;
       inside = λ x y a b c d. absurd (none x y a b c d);
       keeps = λ x y p agree. agree;
     }
 
 -- two steps, whose rectangles lie beside one another
-pub beside_goes : {A : Type 0} {Toward : BlockTable → Type 0} {at : BlockTable → ℕ → ℕ → A} {width : ℕ} {u : BlockTable} {first then' : Step} {m : BlockTable} {r q s : Reading} {left middle end top bottom : ℕ} (right : ℕ)
-    → middle ≤ width → end ≡ right → (g : Goes Toward at width u first m r q left middle top bottom) → Goes Toward at width u then' g.table q s middle end top bottom
-    → Goes Toward at width u (λ x. first x >>= then') m r s left right top bottom
-beside_goes {middle = middle} right fits is g h =
+pub beside_goes : {A : Type 0} {Toward : BlockTable → Type 0} {at : BlockTable → ℕ → ℕ → A} {width : ℕ} {u : BlockTable} {first next : Step} {m : BlockTable} {r q s : Reading} {left middle end top bottom : ℕ} (right : ℕ)
+    → middle ≤ width → end ≡ right → (g : Goes Toward at width u first m r q left middle top bottom) → Goes Toward at width u next g.table q s middle end top bottom
+    → Goes Toward at width u (λ t. and_then (first t) next) m r s left right top bottom
+beside_goes {first = first} {next = next} {m = m} {r = r} {middle = middle} right fits is g h =
     record {
       table = h.table;
-      is = rw g.is h.is;
+      is = then_is_read (first m) next r ∙ rw g.is h.is;
       toward = h.toward;
       inside = λ x y a b c d.
           elim (cases_lt x middle) [
@@ -51,13 +51,13 @@ beside_goes {middle = middle} right fits is g h =
     }
 
 -- and below one another
-pub below_goes : {A : Type 0} {Toward : BlockTable → Type 0} {at : BlockTable → ℕ → ℕ → A} {width : ℕ} {u : BlockTable} {first then' : Step} {m : BlockTable} {r q s : Reading} {left right top middle end : ℕ} (bottom : ℕ)
-    → right ≤ width → end ≡ bottom → (g : Goes Toward at width u first m r q left right top middle) → Goes Toward at width u then' g.table q s left right middle end
-    → Goes Toward at width u (λ x. first x >>= then') m r s left right top bottom
-below_goes {middle = middle} bottom fits is g h =
+pub below_goes : {A : Type 0} {Toward : BlockTable → Type 0} {at : BlockTable → ℕ → ℕ → A} {width : ℕ} {u : BlockTable} {first next : Step} {m : BlockTable} {r q s : Reading} {left right top middle end : ℕ} (bottom : ℕ)
+    → right ≤ width → end ≡ bottom → (g : Goes Toward at width u first m r q left right top middle) → Goes Toward at width u next g.table q s left right middle end
+    → Goes Toward at width u (λ t. and_then (first t) next) m r s left right top bottom
+below_goes {first = first} {next = next} {m = m} {r = r} {middle = middle} bottom fits is g h =
     record {
       table = h.table;
-      is = rw g.is h.is;
+      is = then_is_read (first m) next r ∙ rw g.is h.is;
       toward = h.toward;
       inside = λ x y a b c d.
           elim (cases_lt y middle) [

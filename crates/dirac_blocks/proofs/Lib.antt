@@ -1,9 +1,6 @@
 mod Appended
 mod BackwardLoops
 mod Backwards
-mod BreakLoops
-mod Breaks
-mod BrokenForwards
 mod Examples
 pub mod Filled
 mod Fills
@@ -18,11 +15,9 @@ mod Ones
 mod Putting
 mod Repeating
 mod SplitBackwards
-mod SplitBreaks
 mod SplitForwards
 mod UnitValues
 pub mod Spelled
-mod SplitsRefused
 pub mod Stages
 mod Units
 mod Valued

@@ -1,44 +1,17 @@
--- Steps that are read one after another.
-use Rattle.std.proofs.Common.{◌≡◌, ℕ, zero, suc, ◌+◌, ◌*◌, ◌^◌, ◌<◌, ◌≤◌, inl, inr, Result, Ok, Err, refl, sym, ap, ◌∙◌, arith, subst, List, slice_index_or}
-use Rattle.std.proofs.lemmas.Bool.{cases_eq}
+-- Steps of a table, its sizes and its units.
+use Rattle.std.proofs.Common.{◌≡◌, ℕ, ◌+◌, ◌*◌, ◌^◌, ◌<◌, ◌≤◌, Result, refl, sym, ap, ◌∙◌, arith, subst, List, slice_index_or}
 use Rattle.std.proofs.lemmas.Nat.{mul-le}
-use native.Mathlib.Numerals.{unary_clauses}
 use Rattle.dirac_common.specs.declared.faults.Cause.{Cause}
-use Rattle.dirac_common.specs.Chain.{◌>>=◌}
-use Rattle.dirac_blocks.specs.Grammar.{Progress, Step, repeated}
+use Rattle.dirac_arith.specs.Coded.{read, repeated}
+use Rattle.dirac_arith.specs.Reading.{Reading}
+use Rattle.dirac_blocks.specs.Grammar.{Step}
 use Rattle.dirac_blocks.specs.Reached.{IsUnit, SameBlocks, SameShape}
 use Rattle.dirac_blocks.specs.Tables.{BlockTable, split_at, unit_size}
 
-pub repeated_none : (step : ℕ → Step) (x : Progress) → repeated step 0 x ≡ Ok x
-unfolding repeated
-repeated_none step x = refl
-
-pub repeated_more : (step : ℕ → Step) (n : ℕ) (x : Progress) → repeated step (n + 1) x ≡ (repeated step n x >>= step n)
-unfolding repeated
-repeated_more step n x = simp unary_clauses refl
-
--- one step more
-pub repeated_next : (step : ℕ → Step) (n : ℕ) (x y : Progress) (z : Result Progress Cause) → repeated step n x ≡ Ok y → step n y ≡ z → repeated step (n + 1) x ≡ z
-repeated_next step n x y z before here = repeated_more step n x ∙ ap (λ (r : Result Progress Cause). r >>= step n) before ∙ here
-
--- a step that is refused ends them all
-pub repeated_stops : (step : ℕ → Step) (n m : ℕ) (x y : Progress) (e : Cause) → n < m → repeated step n x ≡ Ok y → step n y ≡ Err e → repeated step m x ≡ Err e
-unfolding repeated
-repeated_stops step n zero x y e less before here = absurd (omega arith)
-repeated_stops step n (suc m) x y e less before here =
-    elim (cases_eq n m) [
-      | inl same ↦
-          let before' : repeated step m x ≡ Ok y = subst (λ (k : ℕ). repeated step k x ≡ Ok y) same before in
-          let here' : step m y ≡ Err e = subst (λ (k : ℕ). step k y ≡ Err e) same here in
-          ap (λ (r : Result Progress Cause). r >>= step m) before' ∙ here'
-      | inr other ↦
-          ap (λ (r : Result Progress Cause). r >>= step m) (repeated_stops step n m x y e (omega arith) before here)
-    ]
-
 -- steps by rows and columns, where sizes are the same
-pub repeated_sizes : (step : ℕ → ℕ → Step) {a b c d : ℕ} (x : Progress) {y : Result Progress Cause} → a ≡ b → c ≡ d
-    → repeated (λ j. repeated (step j) a) c x ≡ y → repeated (λ j. repeated (step j) b) d x ≡ y
-repeated_sizes step x p q is = rw (← p, ← q) is
+pub repeated_sizes : (step : ℕ → ℕ → Step) {a b c d : ℕ} (t : BlockTable) (r : Reading) {y : Result (BlockTable × Reading) Cause} → a ≡ b → c ≡ d
+    → read (repeated (λ j. repeated (step j) a) c t) r ≡ y → read (repeated (λ j. repeated (step j) b) d t) r ≡ y
+repeated_sizes step t r p q is = rw (← p, ← q) is
 
 pub shape_refl : (t : BlockTable) → SameShape t t
 shape_refl t = record { across = refl; down = refl; refs = refl; splits = refl }

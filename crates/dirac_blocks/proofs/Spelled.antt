@@ -27,9 +27,10 @@ use Rattle.dirac_blocks.specs.declared.parts.Reference.{Reference}
 use Rattle.dirac_blocks.specs.declared.parts.Reference.TheVariants as references
 use Rattle.dirac_blocks.specs.Carried.{ReadsTo}
 use Rattle.dirac_blocks.specs.Decisions.{left_of, above_of, corner_of, predicted_split, least_numbers, split_rows, unit_decisions, second_lists, block_decisions}
-use Rattle.dirac_blocks.specs.Grammar.{Progress, Step, empty_table, listed, table_from, splits_step, units_step, vectors_listed, second_listed, dcs_listed, values_listed, lists_of, blocks}
+use Rattle.dirac_blocks.specs.Grammar.{Step, empty_table, listed, table_from, splits_step, units_step, vectors_listed, second_listed, dcs_listed, values_listed, lists_of, blocks}
 use Rattle.dirac_blocks.specs.Parts.{part_at}
-use Rattle.dirac_blocks.specs.Reached.{progress}
+use Rattle.dirac_arith.specs.Coded as coded
+use Rattle.dirac_arith.specs.Reading.{Reading}
 use Rattle.dirac_blocks.specs.Tables.{BlockTable, IsBlock, IsBlockTable, IsSize, split_at, grey, no_vector}
 use Rattle.dirac_blocks.specs.Written.{with_block, with_lists, AreShort}
 use Rattle.dirac_blocks.proofs.Appended.{lists_append}
@@ -52,8 +53,8 @@ list_spelled step t u ds old read short =
     let k1 = length old + length first in
     let k2 = k1 + length (gap before) in
     let k3 = k2 + length (bits_of block) in
-    let last : Spells (table_from (k2 / 8) (step (progress t (begin block)))) u k3 [] =
-    subst (λ (r : Result Progress Cause). Spells (table_from (k2 / 8) r) u k3 []) (sym read.1) (refl, refl) in
+    let last : Spells (table_from (k2 / 8) (coded.read (step t) (begin block))) u k3 [] =
+    subst (λ (r : Result (BlockTable × Reading) Cause). Spells (table_from (k2 / 8) r) u k3 []) (sym read.1) (refl, refl) in
     record {
       bits = first ++ (gap before ++ bits_of block);
       is = four_parts old first (gap before) (bits_of block);

@@ -3,17 +3,19 @@ use Rattle.std.proofs.Common.{◌≡◌, ℕ, zero, suc, ◌+◌, ◌-◌, ◌%�
 use Rattle.std.specs.Prelude.{if◌then◌else◌, ◌==◌}
 use Rattle.std.proofs.lemmas.Bool.{cases_eq, eq-eqb, ne_eqb}
 use Rattle.dirac_common.specs.declared.faults.Cause.{Cause}
+use Rattle.dirac_arith.specs.Coded.{read, repeated}
 use Rattle.dirac_arith.specs.Deciding.{begin, number_read}
 use Rattle.dirac_arith.specs.Interval.{Decision}
 use Rattle.dirac_arith.specs.Reading.{Reading, Reads}
 use Rattle.dirac_arith.specs.Spelling.{spelling}
 use Rattle.dirac_arith.proofs.Carrieds.{IsLed}
+use Rattle.dirac_arith.proofs.CodedValues.{then_is_read}
 use Rattle.dirac_arith.proofs.Led.{led_begin, led_more, reads_nothing, reads_carried, number_leads}
 use Rattle.dirac_arith.proofs.Spellings.{reads_more}
 use Rattle.dirac_blocks.specs.Decisions.{Numbers, predicted_split, split_row, split_rows}
-use Rattle.dirac_blocks.specs.Grammar.{Progress, Step, repeated, with_split, split_step}
+use Rattle.dirac_blocks.specs.Grammar.{Step, with_split, split_step}
 use Rattle.dirac_blocks.specs.Laws.{ReadSplitsAreCarried}
-use Rattle.dirac_blocks.specs.Reached.{AllGrey, SameBlocks, progress}
+use Rattle.dirac_blocks.specs.Reached.{AllGrey, SameBlocks}
 use Rattle.dirac_blocks.specs.Tables.{BlockTable, IsBlockTable, split_at}
 use Rattle.dirac_blocks.proofs.Backwards.{passed, moved_to}
 use Rattle.dirac_blocks.proofs.Fills.{split_lawful}
@@ -68,7 +70,7 @@ pub record RowCame (m : BlockTable) (r : Reading) (t : BlockTable) (s : Reading)
   pub reads : Reads r (split_row (λ y. numbers) sy n) s
 
 pub row_came : (m t : BlockTable) (sy n : ℕ) (r s : Reading) → IsBlockTable m → AllGrey m.blocks → n ≤ m.across → sy < m.down → IsLed r
-    → repeated (split_step sy) n (progress m r) ≡ Ok (progress t s) → RowCame m r t s sy n
+    → read (repeated (split_step sy) n m) r ≡ Ok (t, s) → RowCame m r t s sy n
 unfolding split_row repeated split_step
 row_came m t sy zero r s inv grey few hy led e =
     let here : RowCame m r m r sy 0 = record {
@@ -83,18 +85,18 @@ row_came m t sy zero r s inv grey few hy led e =
     } in
     moved_to (λ (x : BlockTable) (y : Reading). RowCame m r x y sy 0) e here
 row_came m t sy (suc n) r s inv grey few hy led e =
-    let q = passed (repeated (split_step sy) n (progress m r)) (split_step sy n) (progress t s) e in
-    let mid = q.value.table in
-    let g = row_came m mid sy n r q.value.reading inv grey (omega arith) hy led q.first in
+    let q = passed (read (repeated (split_step sy) n m) r) (λ x. read (split_step sy n x.0) x.1) (t, s) (sym (then_is_read (repeated (split_step sy) n m) (split_step sy n) r) ∙ e) in
+    let mid = q.value.0 in
+    let g = row_came m mid sy n r q.value.1 inv grey (omega arith) hy led q.first in
     let across = g.rest.across in
     let down = g.rest.down in
     let grey' : AllGrey mid.blocks = subst AllGrey (sym g.rest.blocks) grey in
-    let last = passed (number_read (22 ∷ 23 ∷ []) 24 q.value.reading)
-    (λ number. let x : Result Progress Cause = Ok (record { table = with_split mid n sy ((number.0 + predicted_split mid n sy) % 3); reading = number.1 }) in x) (progress t s) q.next in
+    let last = passed (number_read (22 ∷ 23 ∷ []) 24 q.value.1)
+    (λ number. let x : Result (BlockTable × Reading) Cause = Ok (with_split mid n sy ((number.0 + predicted_split mid n sy) % 3), number.1) in x) (t, s) q.next in
     let number = last.value.0 in
     let v = (number + predicted_split mid n sy) % 3 in
     let new = with_split mid n sy v in
-    let leads = number_leads q.value.reading last.value.1 (22 ∷ 23 ∷ []) 24 number g.led last.first in
+    let leads = number_leads q.value.1 last.value.1 (22 ∷ 23 ∷ []) 24 number g.led last.first in
     let numbers = with_value g.numbers n number in
     let row = split_row (λ y. numbers) sy n in
     let same_row : split_row (λ y. g.numbers) sy n ≡ row = split_row_same (λ y. g.numbers) (λ y. numbers) sy sy n (λ k l. sym (value_there g.numbers n number k l)) in
@@ -106,7 +108,7 @@ row_came m t sy (suc n) r s inv grey few hy led e =
       lawful = split_lawful mid n sy v g.lawful grey' (omega arith);
       rest = blocks_join m mid new g.rest (record { across = refl; down = refl; refs = refl; blocks = refl });
       outside = λ x y p o. beside x y p (never sy n x y o) ∙ g.outside x y p (wider sy n x y o);
-      led = led_more q.value.reading last.value.1 (spelling (22 ∷ 23 ∷ []) 24 number) g.led leads.1;
+      led = led_more q.value.1 last.value.1 (spelling (22 ∷ 23 ∷ []) 24 number) g.led leads.1;
       numbers = numbers;
       small = λ k l. value_holds (λ j w. w < 2 ^ 39 - 1) g.numbers n number k (omega arith) leads.0 (λ p. g.small k p);
       are = λ u w k l.
@@ -116,7 +118,7 @@ row_came m t sy (suc n) r s inv grey few hy led e =
           (ap (λ (b : ℕ). (number + b) % 3) (sym (split_near mid u n sy before over)) ∙ sym told ∙ w.each n sy (omega arith) (omega arith)) (λ p. g.are u before k p);
       reads = subst (λ (ds : List Decision). Reads r ds last.value.1)
           (ap₂ (λ (a b : List Decision). a ++ b) same_row same_last)
-          (reads_more r q.value.reading last.value.1 (split_row (λ y. g.numbers) sy n) (spelling (22 ∷ 23 ∷ []) 24 number) g.reads leads.1);
+          (reads_more r q.value.1 last.value.1 (split_row (λ y. g.numbers) sy n) (spelling (22 ∷ 23 ∷ []) 24 number) g.reads leads.1);
     } in
     moved_to (λ (x : BlockTable) (y : Reading). RowCame m r x y sy (suc n)) last.next here
   where
@@ -140,7 +142,7 @@ pub record RowsCame (m : BlockTable) (r : Reading) (t : BlockTable) (s : Reading
   pub reads : Reads r (split_rows m.across numbers n) s
 
 pub rows_came : (m t : BlockTable) (n : ℕ) (r s : Reading) → IsBlockTable m → AllGrey m.blocks → n ≤ m.down → IsLed r
-    → repeated (λ sy. repeated (split_step sy) m.across) n (progress m r) ≡ Ok (progress t s) → RowsCame m r t s n
+    → read (repeated (λ sy. repeated (split_step sy) m.across) n m) r ≡ Ok (t, s) → RowsCame m r t s n
 unfolding split_rows repeated
 rows_came m t zero r s inv grey few led e =
     let here : RowsCame m r m r 0 = record {
@@ -155,13 +157,13 @@ rows_came m t zero r s inv grey few led e =
     moved_to (λ (x : BlockTable) (y : Reading). RowsCame m r x y 0) e here
 rows_came m t (suc n) r s inv grey few led e =
     let step : ℕ → Step = λ sy. repeated (split_step sy) m.across in
-    let q = passed (repeated step n (progress m r)) (step n) (progress t s) e in
-    let mid = q.value.table in
-    let g = rows_came m mid n r q.value.reading inv grey (omega arith) led q.first in
+    let q = passed (read (repeated step n m) r) (λ x. read (step n x.0) x.1) (t, s) (sym (then_is_read (repeated step n m) (step n) r) ∙ e) in
+    let mid = q.value.0 in
+    let g = rows_came m mid n r q.value.1 inv grey (omega arith) led q.first in
     let grey' : AllGrey mid.blocks = subst AllGrey (sym g.rest.blocks) grey in
     let wide = g.rest.across in
     let high = g.rest.down in
-    let h = row_came mid t n m.across q.value.reading s g.lawful grey' (omega arith) (omega arith) g.led q.next in
+    let h = row_came mid t n m.across q.value.1 s g.lawful grey' (omega arith) (omega arith) g.led q.next in
     let numbers = with_value g.numbers n h.numbers in
     let same_rows : split_rows m.across g.numbers n ≡ split_rows m.across numbers n =
     split_rows_same m.across g.numbers numbers n (λ y x p l. ap (λ (f : ℕ → ℕ). f x) (sym (value_there g.numbers n h.numbers y p))) in
@@ -178,7 +180,7 @@ rows_came m t (suc n) r s inv grey few led e =
           (h.are u (record { each = λ a b c d. w.each a b c (omega arith) }) x p)
           (λ q. g.are u (record { each = λ a b c d. sym (h.outside a b (omega arith) (inr (inl d))) ∙ w.each a b c (omega arith) }) x y p q);
       reads = subst (λ (ds : List Decision). Reads r ds s) (ap₂ (λ (a b : List Decision). a ++ b) same_rows same_last)
-          (reads_more r q.value.reading s (split_rows m.across g.numbers n) (split_row (λ y. h.numbers) n m.across) g.reads h.reads);
+          (reads_more r q.value.1 s (split_rows m.across g.numbers n) (split_row (λ y. h.numbers) n m.across) g.reads h.reads);
     }
 
 pub read_splits_are_carried : ReadSplitsAreCarried

@@ -4,6 +4,7 @@ use Rattle.std.proofs.lemmas.Bool.{cases_eq}
 use Rattle.std.proofs.lemmas.List.{get_or-set_same, get_or-set_other}
 use Rattle.std.proofs.lemmas.Nat.{mul-add-lt, same_from_place}
 use Rattle.dirac_common.specs.declared.faults.Cause.{Cause}
+use Rattle.dirac_arith.specs.Coded.{read, repeated}
 use Rattle.dirac_arith.specs.Deciding.{begin, after_all}
 use Rattle.dirac_arith.specs.Reading.{Reading, Reads}
 use Rattle.dirac_arith.specs.Spelling.{spelling}
@@ -11,9 +12,9 @@ use Rattle.dirac_arith.proofs.Carrieds.{IsLed}
 use Rattle.dirac_arith.proofs.Led.{led_begin, led_more, reads_parted, carried_reads, number_led}
 use Rattle.dirac_vectors.specs.Predictions.{split_of}
 use Rattle.dirac_blocks.specs.Decisions.{Numbers, AreSplitNumbers, predicted_split, split_row, split_rows}
-use Rattle.dirac_blocks.specs.Grammar.{Progress, Step, repeated, with_split, split_step, splits_step}
+use Rattle.dirac_blocks.specs.Grammar.{Step, with_split, split_step, splits_step}
 use Rattle.dirac_blocks.specs.Laws.{CarriedSplitsAreRead}
-use Rattle.dirac_blocks.specs.Reached.{SameBlocks, progress}
+use Rattle.dirac_blocks.specs.Reached.{SameBlocks}
 use Rattle.dirac_blocks.specs.Tables.{BlockTable, IsBlockTable, split_at}
 use Rattle.dirac_blocks.proofs.Filled.{same_places, same_table}
 use Rattle.dirac_blocks.proofs.Going.{Same, Goes, nothing_goes, beside_goes, below_goes, kept, grown, none_left, none_above}
@@ -59,7 +60,7 @@ unfolding split_step
 split_goes u m sx sy n r s toward hx hy sum fits before over led reads =
     let v = split_at u sx sy in
     let across = toward.rest.across in
-    let read = number_led r s (22 ∷ 23 ∷ []) 24 n led fits reads in
+    let found = number_led r s (22 ∷ 23 ∷ []) 24 n led fits reads in
     let told : (n + predicted_split m sx sy) % 3 ≡ v = ap (λ (p : ℕ). (n + p) % 3) (split_near m u sx sy before over) ∙ sum in
     let place : sy * u.across + sx < u.down * u.across = let h = mul-add-lt sy u.across sx u.down hy hx in omega arith in
     let same : sy * m.across + sx ≡ sy * u.across + sx = ap (λ (w : ℕ). sy * w + sx) across in
@@ -67,7 +68,7 @@ split_goes u m sx sy n r s toward hx hy sum fits before over led reads =
     let len : length (with_split m sx sy v).splits ≡ u.down * u.across = length-set m.splits (sy * m.across + sx) v ∙ toward.len in
     record {
       table = with_split m sx sy v;
-      is = rw read (ap (λ (w : ℕ). let x : Result Progress Cause = Ok (progress (with_split m sx sy w) s) in x) told);
+      is = rw found (ap (λ (w : ℕ). let x : Result (BlockTable × Reading) Cause = Ok (with_split m sx sy w, s) in x) told);
       toward = record { rest = record { across = toward.rest.across; down = toward.rest.down; refs = toward.rest.refs; blocks = toward.rest.blocks }; len = len };
       inside = λ x y a c d e.
           let ex : x ≡ sx = omega arith in
@@ -138,6 +139,6 @@ carried_splits_are_read former t block inv h =
     let g = split_rows_go t former h.numbers t.down (begin block) s toward (record { are = h.are; small = h.small }) (omega arith) (led_begin block)
     (carried_reads block (split_rows t.across h.numbers t.down) h.carried) in
     let one : g.table ≡ t = one_split_table g.table t h.lawful g.toward (λ x y p q. g.inside x y (omega arith) p (omega arith) q) in
-    let at_across : repeated (λ sy. repeated (split_step sy) former.across) former.down (progress former (begin block)) ≡ Ok (progress g.table s) =
-    repeated_sizes split_step (progress former (begin block)) rest.across rest.down g.is in
-    (s, subst (λ (x : BlockTable). splits_step (progress former (begin block)) ≡ Ok (progress x s)) one at_across)
+    let at_across : read (repeated (λ sy. repeated (split_step sy) former.across) former.down former) (begin block) ≡ Ok (g.table, s) =
+    repeated_sizes split_step former (begin block) rest.across rest.down g.is in
+    (s, subst (λ (x : BlockTable). read (splits_step former) (begin block) ≡ Ok (x, s)) one at_across)

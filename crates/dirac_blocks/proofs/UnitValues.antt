@@ -1,8 +1,11 @@
 -- What is read of a unit.
-use Rattle.std.proofs.Common.{arith, ◌≡◌, ℕ, ℤ, ◌+ℤ◌, Bool, true, false, ◌||◌, not, List, Result, Ok, Err, refl, sym, ap}
+use Rattle.std.proofs.Common.{arith, ◌≡◌, ℕ, ℤ, ◌+ℤ◌, Bool, true, false, ◌||◌, not, List, Result, Ok, Err, refl, sym, ap, ◌∙◌, subst}
+use Rattle.std.specs.Prelude.{if◌then◌else◌}
 use Rattle.std.proofs.lemmas.Bool.{both_ways}
 use Rattle.dirac_common.specs.declared.faults.Cause.{Cause}
+use Rattle.dirac_arith.specs.Coded.{Coded, done, refuse, read}
 use Rattle.dirac_arith.specs.Deciding.{signed_read}
+use Rattle.dirac_arith.proofs.CodedValues.{then_is_read}
 use Rattle.dirac_arith.specs.Reading.{Reading}
 use Rattle.dirac_vectors.specs.Neighbours.{IsShort}
 use Rattle.dirac_blocks.specs.declared.block.Block.{Block}
@@ -10,26 +13,34 @@ use Rattle.dirac_common.specs.declared.formats.Component.{Component}
 use Rattle.dirac_common.specs.declared.formats.Component.TheVariants as components
 use Rattle.dirac_blocks.specs.declared.parts.Reference.{Reference}
 use Rattle.dirac_blocks.specs.declared.parts.Reference.TheVariants as references
-use Rattle.dirac_blocks.specs.Grammar.{is_dc, is_short, read_into, uses, value_read, with_across, with_dc, with_down}
+use Rattle.dirac_blocks.specs.Grammar.{is_dc, is_short, coded_into, uses, value_coded, with_across, with_dc, with_down}
 use Rattle.dirac_blocks.specs.Tables.{IsBlock}
 
 -- a value that has 16 bits is found
 pub value_found : (cause : Cause) (follow : List ℕ) (bits sign : ℕ) (prediction number v : ℤ) (old new : Reading)
     → signed_read follow bits sign old ≡ Ok (number, new) → v ≡ number +ℤ prediction → is_short (number +ℤ prediction) ≡ true
-    → value_read cause follow bits sign prediction old ≡ Ok (v, new)
-value_found cause follow bits sign prediction number v old new read is short =
-    rw (read, short) (ap (λ (w : ℤ). let x : Result (ℤ × Reading) Cause = Ok (w, new) in x) (sym is))
+    → read (value_coded cause follow bits sign prediction) old ≡ Ok (v, new)
+value_found cause follow bits sign prediction number v old new here is short =
+    let P : Bool → Type 0 = λ b. read (if b then done (number +ℤ prediction) else refuse cause) new ≡ Ok (v, new) in
+    rw here (subst P (sym short) (ap (λ (w : ℤ). let x : Result (ℤ × Reading) Cause = Ok (w, new) in x) (sym is)))
 
 pub value_refused : (cause : Cause) (follow : List ℕ) (bits sign : ℕ) (prediction number : ℤ) (old new : Reading)
     → signed_read follow bits sign old ≡ Ok (number, new) → is_short (number +ℤ prediction) ≡ false
-    → value_read cause follow bits sign prediction old ≡ Err cause
-value_refused cause follow bits sign prediction number old new read long = rw (read, long) refl
+    → read (value_coded cause follow bits sign prediction) old ≡ Err cause
+value_refused cause follow bits sign prediction number old new here long =
+    let P : Bool → Type 0 = λ b. read (if b then done (number +ℤ prediction) else refuse cause) new ≡ Err cause in
+    rw here (subst P (sym long) refl)
 
 -- a block's value is read where the block has it
-pub into_found : (has : Bool) (b : Block) (put : Block → ℤ → Block) (value : Reading → Result (ℤ × Reading) Cause) (old new : Reading) (v : ℤ)
-    → has ≡ true → value old ≡ Ok (v, new) → read_into has b put value old ≡ Ok (put b v, new)
-into_found true b put value old new v is read = rw read refl
-into_found false b put value old new v is read = absurd (both_ways false refl is)
+pub into_found : (has : Bool) (b : Block) (put : Block → ℤ → Block) (value : Coded ℤ) (old new : Reading) (v : ℤ)
+    → has ≡ true → read value old ≡ Ok (v, new) → read (coded_into has b put value) old ≡ Ok (put b v, new)
+into_found true b put value old new v is found = then_is_read value (λ w. done (put b w)) old ∙ rw found refl
+into_found false b put value old new v is found = absurd (both_ways false refl is)
+
+pub into_refused : (has : Bool) (b : Block) (put : Block → ℤ → Block) (value : Coded ℤ) (old : Reading) (e : Cause)
+    → has ≡ true → read value old ≡ Err e → read (coded_into has b put value) old ≡ Err e
+into_refused true b put value old e is shut = then_is_read value (λ w. done (put b w)) old ∙ rw shut refl
+into_refused false b put value old e is shut = absurd (both_ways false refl is)
 
 pub across_lawful : (refs : ℕ) (k : Reference) (b : Block) (v : ℤ) → IsBlock refs b → uses k b ≡ true → IsShort v → IsBlock refs (with_across k b v)
 across_lawful refs references.First b v h is short = grind arith

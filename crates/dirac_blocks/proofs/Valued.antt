@@ -1,11 +1,13 @@
 -- Lists that tell a value of each unit: components of vectors and DC values are told alike.
-use Rattle.std.proofs.Common.{arith, ◌≡◌, ℕ, ℤ, pos, Bool, true, false, List, Option, Some, None, Result, refl, sym, ap, ◌∙◌}
-use Rattle.std.specs.Prelude.{option_map, if◌then◌else◌}
+use Rattle.std.proofs.Common.{arith, ◌≡◌, ℕ, ℤ, pos, Bool, true, false, List, Option, refl, sym, ap, ◌∙◌}
+use Rattle.std.specs.Prelude.{option_map}
 use Rattle.std.proofs.lemmas.Bool.{not-false}
 use Rattle.dirac_common.specs.declared.faults.Cause.{Cause}
 use Rattle.dirac_common.specs.declared.formats.Vector.{Vector}
+use Rattle.dirac_common.specs.declared.faults.Cause.TheVariants.{VectorRange, DcRange}
+use Rattle.dirac_arith.specs.Coded.{Coded}
 use Rattle.dirac_arith.specs.Interval.{Decision}
-use Rattle.dirac_arith.specs.Reading.{Reading}
+use Rattle.dirac_arith.specs.declared.contexts.TheConstants.{DC_DIGITS, DC_FOLLOW, DC_SIGN, VECTOR_DIGITS, VECTOR_FOLLOW, VECTOR_SIGN}
 use Rattle.dirac_vectors.specs.Neighbours.{IsShort}
 use Rattle.dirac_vectors.specs.Predictions.{vector_of, dc_of}
 use Rattle.dirac_blocks.specs.declared.block.Block.{Block}
@@ -17,15 +19,31 @@ use Rattle.dirac_blocks.specs.declared.parts.Reference.{Reference}
 use Rattle.dirac_blocks.specs.declared.parts.Reference.TheVariants as references
 use Rattle.dirac_blocks.specs.Carried.{with_part}
 use Rattle.dirac_blocks.specs.Decisions.{counted, less_prediction, predicted}
-use Rattle.dirac_blocks.specs.Grammar.{value_read, read_into, unit_read, uses, is_dc, with_across, with_down, with_dc}
+use Rattle.dirac_blocks.specs.Grammar.{value_coded, coded_into, unit_coded, uses, is_dc, with_across, with_down, with_dc}
 use Rattle.dirac_blocks.specs.Parts.{vector_at, dc_at, part_at}
-use Rattle.dirac_blocks.specs.Refused.{ByDifference, component_told, dc_told, value_told}
 use Rattle.dirac_blocks.specs.Tables.{BlockTable, IsBlock, IsBlockTable, block_at}
 use Rattle.dirac_blocks.proofs.Nearby.{Near, vector_near, dc_near, vector_short, dc_short}
 
--- a value that is told is read
-abbrev pub told_read : ByDifference → Reading → Result (ℤ × Reading) Cause
-told_read v r = value_read v.range v.follow v.bits v.sign v.prediction r
+-- a value that is told by its difference: the contexts of that, the prediction, and the cause where the sum hasn't 16
+-- bits
+pub record ByDifference : Type 0 where
+  pub follow : List ℕ
+  pub bits : ℕ
+  pub sign : ℕ
+  pub prediction : ℤ
+  pub range : Cause
+
+-- a component of a vector
+abbrev pub component_told : ℤ → ByDifference
+component_told p = record { follow = VECTOR_FOLLOW; bits = VECTOR_DIGITS; sign = VECTOR_SIGN; prediction = p; range = VectorRange }
+
+-- a DC value
+abbrev pub dc_told : ℤ → ByDifference
+dc_told p = record { follow = DC_FOLLOW; bits = DC_DIGITS; sign = DC_SIGN; prediction = p; range = DcRange }
+
+-- the value that is told so
+abbrev pub told_coded : ByDifference → Coded ℤ
+told_coded v = value_coded v.range v.follow v.bits v.sign v.prediction
 
 -- the decisions that tell a value, where there is one
 abbrev pub telling : ByDifference → Option ℤ → List Decision
@@ -49,9 +67,8 @@ pub record Tells (part : ListKind) : Type 0 where
   pub put : Block → ℤ → Block
   pub told : BlockTable → ℕ → ℕ → ByDifference
   pub is : IsValue part has value put
-  pub read : (m : BlockTable) (i j : ℕ) (r : Reading) → unit_read part m i j r ≡ read_into (has (block_at m i j)) (block_at m i j) put (told_read (told m i j)) r
+  pub coded : (m : BlockTable) (i j : ℕ) → unit_coded part m i j ≡ coded_into (has (block_at m i j)) (block_at m i j) put (told_coded (told m i j))
   pub carried : (u : BlockTable) (i j : ℕ) → part_at part u i j ≡ telling (told u i j) (counted (has (block_at u i j)) (value (block_at u i j)))
-  pub where_told : (m : BlockTable) (i j : ℕ) → value_told part m i j ≡ (if has (block_at m i j) then Some (told m i j) else None)
   pub near : (m u : BlockTable) (i j : ℕ) → Near m u i j → told m i j ≡ told u i j
   pub short : (u : BlockTable) (i j : ℕ) → IsBlockTable u → IsShort (told u i j).prediction
 
@@ -111,9 +128,8 @@ across_tells k =
       put = with_across k;
       told = told;
       is = across_value k;
-      read = λ m i j r. refl;
+      coded = λ m i j. refl;
       carried = λ u i j. ap (telling (told u i j)) (component_at k (λ v. v.x) u i j);
-      where_told = λ m i j. refl;
       near = λ m u i j n. ap (λ (v : Vector). component_told v.x) (vector_near k m u i j n);
       short = λ u i j inv. (vector_short k u i j inv).x;
     }
@@ -127,9 +143,8 @@ down_tells k =
       put = with_down k;
       told = told;
       is = down_value k;
-      read = λ m i j r. refl;
+      coded = λ m i j. refl;
       carried = λ u i j. ap (telling (told u i j)) (component_at k (λ v. v.y) u i j);
-      where_told = λ m i j. refl;
       near = λ m u i j n. ap (λ (v : Vector). component_told v.y) (vector_near k m u i j n);
       short = λ u i j inv. (vector_short k u i j inv).y;
     }
@@ -143,9 +158,8 @@ dc_tells c =
       put = with_dc c;
       told = told;
       is = dc_value c;
-      read = λ m i j r. refl;
+      coded = λ m i j. refl;
       carried = λ u i j. ap (telling (told u i j)) (dc_is_at c u i j);
-      where_told = λ m i j. refl;
       near = λ m u i j n. ap (λ (p : ℤ). dc_told p) (dc_near c m u i j n);
       short = λ u i j inv. dc_short c u i j inv;
     }

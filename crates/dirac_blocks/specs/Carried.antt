@@ -2,6 +2,7 @@
 use Rattle.std.specs.Prelude.{◌≡◌, ℕ, ◌-◌, ◌*◌, ◌^◌, ◌<◌, List, Ok, Err}
 use Rattle.dirac_common.specs.declared.faults.Cause.{Cause}
 use Rattle.dirac_arith.specs.Carried.{Carries}
+use Rattle.dirac_arith.specs.Coded.{read}
 use Rattle.dirac_arith.specs.Deciding.{begin}
 use Rattle.dirac_arith.specs.Reading.{Reading}
 use Rattle.dirac_blocks.specs.declared.block.Block.{Block}
@@ -12,7 +13,7 @@ use Rattle.dirac_blocks.specs.declared.parts.Reference.TheVariants as references
 use Rattle.dirac_blocks.specs.Decisions.{Numbers, AreSplitNumbers, split_rows, unit_decisions}
 use Rattle.dirac_blocks.specs.Grammar.{Step, block_using, with_across, with_down, with_dc}
 use Rattle.dirac_blocks.specs.Parts.{part_at}
-use Rattle.dirac_blocks.specs.Reached.{SameBlocks, SameShape, progress}
+use Rattle.dirac_blocks.specs.Reached.{SameBlocks, SameShape}
 use Rattle.dirac_blocks.specs.Tables.{BlockTable, IsBlockTable, block_at}
 
 -- the first block, with what a list tells of the second
@@ -49,8 +50,8 @@ pub record CarriesSplits (former : BlockTable) (block : List ℕ) (t : BlockTabl
 
 -- a block is read to this table by these steps
 abbrev pub ReadsTo : Step → BlockTable → List ℕ → BlockTable → Type 0
-ReadsTo step former block t = (behind : Reading) × (step (progress former (begin block)) ≡ Ok (progress t behind))
+ReadsTo step former block t = (behind : Reading) × (read (step former) (begin block) ≡ Ok (t, behind))
 
 -- these steps are refused
 abbrev pub IsRefused : Step → BlockTable → List ℕ → Cause → Type 0
-IsRefused step former block cause = step (progress former (begin block)) ≡ Err cause
+IsRefused step former block cause = read (step former) (begin block) ≡ Err cause

@@ -8,8 +8,9 @@ use Rattle.dirac_arith.specs.declared.contexts.TheConstants.{SPLIT_DIGITS, SPLIT
 use Rattle.dirac_arith.specs.declared.contexts.TheConstants.{VECTOR_SIGN}
 use Rattle.dirac_common.specs.declared.faults.Cause.{Cause}
 use Rattle.dirac_common.specs.declared.faults.Cause.TheVariants.{VectorRange, DcRange}
-use Rattle.dirac_common.specs.Chain.{◌>>=◌ as ◌>>◌}
-use Rattle.dirac_arith.specs.Deciding.{begin, decided, number_read, signed_read}
+use Rattle.dirac_arith.specs.Coded.{Coded, decide, number, signed, and_then, repeated}
+use Rattle.dirac_arith.specs.Coded as coded
+use Rattle.dirac_arith.specs.Deciding.{begin}
 use Rattle.dirac_arith.specs.Reading.{Reading}
 use Rattle.dirac_bits.specs.Syntax.{Syntax, done, refuse, block_then, uint, align, here, ◌>>=◌}
 use Rattle.dirac_vectors.specs.Predictions.{mode_of, vector_of, dc_of}
@@ -35,19 +36,9 @@ empty_table across down refs =
       blocks = replicate (4 * down * (4 * across)) grey;
     }
 
--- the table so far, and the reading of a list's block
-pub record Progress : Type 0 where
-  pub table : BlockTable
-  pub reading : Reading
-
--- what is read next: it goes on from one table and reading to another, or is refused
+-- what is read next: it leads from one table to another, or is refused
 abbrev pub Step : Type 0
-Step = Progress → Result Progress Cause
-
--- the first n of these steps, one after another
-unfoldable pub repeated : (ℕ → Step) → ℕ → Step
-repeated step zero x = Ok x
-repeated step (suc n) x = repeated step n x >> step n
+Step = BlockTable → Coded BlockTable
 
 -- the table with the split of superblock sx of row sy
 abbrev pub with_split : BlockTable → ℕ → ℕ → ℕ → BlockTable
@@ -55,16 +46,12 @@ with_split t sx sy split = record t { splits = slice_set t.splits (sy * t.across
 
 -- the split of superblock sx of row sy: the sum modulo 3 of a number and the prediction
 unfoldable pub split_step : ℕ → ℕ → Step
-split_step sy sx x =
-    number_read SPLIT_FOLLOW SPLIT_DIGITS x.reading
-    >> λ number. Ok (record {
-      table = with_split x.table sx sy ((number.0 + predicted_split x.table sx sy) % 3);
-      reading = number.1;
-    })
+split_step sy sx t =
+    number SPLIT_FOLLOW SPLIT_DIGITS (λ n. coded.done (with_split t sx sy ((n + predicted_split t sx sy) % 3)))
 
 -- the splits of all superblocks
 abbrev pub splits_step : Step
-splits_step x = repeated (λ sy. repeated (split_step sy) x.table.across) x.table.down x
+splits_step t = repeated (λ sy. repeated (split_step sy) t.across) t.down t
 
 -- n blocks from this place on are b
 unfoldable pub row_filled : List Block → ℕ → Block → ℕ → List Block
@@ -86,34 +73,33 @@ abbrev pub block_using : Bool → Bool → Block
 block_using first second = record grey { ref1 = first; ref2 = second }
 
 -- whether a unit uses reference 2, where there is one
-abbrev pub second_use_read : BlockTable → ℕ → ℕ → Reading → Result (Bool × Reading) Cause
-second_use_read t i j r =
-    if t.refs == 2 then (decided REFERENCE_2 r >> λ bit. Ok (differ bit.0 (predicted mode_of (ref2_at t) i j), bit.1))
-    else Ok (false, r)
+abbrev pub second_use : BlockTable → ℕ → ℕ → Coded Bool
+second_use t i j =
+    if t.refs == 2 then decide REFERENCE_2 (λ bit. coded.done (differ bit (predicted mode_of (ref2_at t) i j)))
+    else coded.done false
 
 -- which references a unit uses, each bit against its prediction
-abbrev pub mode_read : BlockTable → ℕ → ℕ → Reading → Result (Block × Reading) Cause
-mode_read t i j r =
-    decided REFERENCE_1 r
-    >> λ first. second_use_read t i j first.1
-    >> λ second. Ok (block_using (differ first.0 (predicted mode_of (ref1_at t) i j)) second.0, second.1)
+abbrev pub mode_coded : BlockTable → ℕ → ℕ → Coded Block
+mode_coded t i j =
+    decide REFERENCE_1 (λ first. and_then (second_use t i j)
+    (λ second. coded.done (block_using (differ first (predicted mode_of (ref1_at t) i j)) second)))
 
 -- whether a value has 16 bits
 abbrev pub is_short : ℤ → Bool
 is_short v = int_le (negsuc 32767) v && int_le v (pos 32767)
 
 -- a value that was predicted, from the number that it differs by; refused where it hasn't 16 bits
-abbrev pub value_from : Cause → ℤ → ℤ × Reading → Result (ℤ × Reading) Cause
-value_from cause prediction number =
-    if is_short (number.0 +ℤ prediction) then Ok (number.0 +ℤ prediction, number.1) else Err cause
+abbrev pub value_from : Cause → ℤ → ℤ → Coded ℤ
+value_from cause prediction n =
+    if is_short (n +ℤ prediction) then coded.done (n +ℤ prediction) else coded.refuse cause
 
 -- a value that is predicted
-abbrev pub value_read : Cause → List ℕ → ℕ → ℕ → ℤ → Reading → Result (ℤ × Reading) Cause
-value_read cause follow bits sign prediction r = signed_read follow bits sign r >> value_from cause prediction
+abbrev pub value_coded : Cause → List ℕ → ℕ → ℕ → ℤ → Coded ℤ
+value_coded cause follow bits sign prediction = signed follow bits sign (value_from cause prediction)
 
 -- a component of a vector that is predicted
-abbrev pub component_read : ℤ → Reading → Result (ℤ × Reading) Cause
-component_read prediction r = value_read VectorRange VECTOR_FOLLOW VECTOR_DIGITS VECTOR_SIGN prediction r
+abbrev pub component_coded : ℤ → Coded ℤ
+component_coded prediction = value_coded VectorRange VECTOR_FOLLOW VECTOR_DIGITS VECTOR_SIGN prediction
 
 -- whether a block uses a reference
 abbrev pub uses : Reference → Block → Bool
@@ -140,51 +126,48 @@ with_dc components.Y b v = record b { dc_y = v }
 with_dc components.U b v = record b { dc_u = v }
 with_dc components.V b v = record b { dc_v = v }
 
--- a block with a value that is read, where it has it
-abbrev pub read_into : Bool → Block → (Block → ℤ → Block) → (Reading → Result (ℤ × Reading) Cause) → Reading
-    → Result (Block × Reading) Cause
-read_into true b put value r = value r >> λ v. Ok (put b v.0, v.1)
-read_into false b put value r = Ok (b, r)
+-- a block with a value that is coded, where it has it
+abbrev pub coded_into : Bool → Block → (Block → ℤ → Block) → Coded ℤ → Coded Block
+coded_into true b put value = and_then value (λ v. coded.done (put b v))
+coded_into false b put value = coded.done b
 
 -- the block of a unit, with what this list tells of it; block i of row j is its first
-abbrev pub unit_read : ListKind → BlockTable → ℕ → ℕ → Reading → Result (Block × Reading) Cause
-unit_read parts.Modes t i j r = mode_read t i j r
-unit_read (parts.Across k) t i j r =
-    read_into (uses k (block_at t i j)) (block_at t i j) (with_across k)
-    (component_read (predicted vector_of (vector_at k t) i j).x) r
-unit_read (parts.Down k) t i j r =
-    read_into (uses k (block_at t i j)) (block_at t i j) (with_down k)
-    (component_read (predicted vector_of (vector_at k t) i j).y) r
-unit_read (parts.Dc c) t i j r =
-    read_into (is_dc (block_at t i j)) (block_at t i j) (with_dc c)
-    (value_read DcRange DC_FOLLOW DC_DIGITS DC_SIGN (predicted dc_of (dc_at c t) i j)) r
+abbrev pub unit_coded : ListKind → BlockTable → ℕ → ℕ → Coded Block
+unit_coded parts.Modes t i j = mode_coded t i j
+unit_coded (parts.Across k) t i j =
+    coded_into (uses k (block_at t i j)) (block_at t i j) (with_across k)
+    (component_coded (predicted vector_of (vector_at k t) i j).x)
+unit_coded (parts.Down k) t i j =
+    coded_into (uses k (block_at t i j)) (block_at t i j) (with_down k)
+    (component_coded (predicted vector_of (vector_at k t) i j).y)
+unit_coded (parts.Dc c) t i j =
+    coded_into (is_dc (block_at t i j)) (block_at t i j) (with_dc c)
+    (value_coded DcRange DC_FOLLOW DC_DIGITS DC_SIGN (predicted dc_of (dc_at c t) i j))
 
 -- a unit
 unfoldable pub unit_step : ListKind → ℕ → ℕ → ℕ → Step
-unit_step part size i j x =
-    unit_read part x.table i j x.reading
-    >> λ b. Ok (record { table = with_unit x.table size i j b.0; reading = b.1 })
+unit_step part size i j t = and_then (unit_coded part t i j) (λ b. coded.done (with_unit t size i j b))
 
 -- n units of a row, from block i of row j on
 abbrev pub unit_row_step : ListKind → ℕ → ℕ → ℕ → ℕ → Step
-unit_row_step part size i j n x = repeated (λ u. unit_step part size (i + u * size) j) n x
+unit_row_step part size i j n t = repeated (λ u. unit_step part size (i + u * size) j) n t
 
 -- n rows of that many units each
 abbrev pub unit_rows_step : ListKind → ℕ → ℕ → ℕ → ℕ → ℕ → Step
-unit_rows_step part size across i j n x = repeated (λ v. unit_row_step part size i (j + v * size) across) n x
+unit_rows_step part size across i j n t = repeated (λ v. unit_row_step part size i (j + v * size) across) n t
 
 -- superblock sx of row sy
 unfoldable pub superblock_step : ListKind → ℕ → ℕ → Step
-superblock_step part sy sx x =
-    let s = split_at x.table sx sy in unit_rows_step part (unit_size s) (2 ^ s) (4 * sx) (4 * sy) (2 ^ s) x
+superblock_step part sy sx t =
+    let s = split_at t sx sy in unit_rows_step part (unit_size s) (2 ^ s) (4 * sx) (4 * sy) (2 ^ s) t
 
 -- all superblocks
 abbrev pub units_step : ListKind → Step
-units_step part x = repeated (λ sy. repeated (superblock_step part sy) x.table.across) x.table.down x
+units_step part t = repeated (λ sy. repeated (superblock_step part sy) t.across) t.down t
 
 -- the table that a block reads to, or the refusal of the block
-abbrev pub table_from : ℕ → Result Progress Cause → Syntax BlockTable
-table_from at (Ok x) = done x.table
+abbrev pub table_from : ℕ → Result (BlockTable × Reading) Cause → Syntax BlockTable
+table_from at (Ok x) = done x.0
 table_from at (Err cause) = refuse at cause
 
 -- a list, read over this table
@@ -193,7 +176,7 @@ listed step t = do
   len ← uint
   gap ← align
   at ← here
-  block_then len (λ block. table_from at (step (record { table = t; reading = begin block })))
+  block_then len (λ block. table_from at (coded.read (step t) (begin block)))
 
 -- both components of the vectors of a reference
 unfoldable pub vectors_listed : Reference → BlockTable → Syntax BlockTable

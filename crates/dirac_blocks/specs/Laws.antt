@@ -1,15 +1,17 @@
 -- The laws of this crate.
-use Rattle.std.specs.Prelude.{◌≡◌, ◌≢◌, ◌⊎◌, ℕ, List, []}
+use Rattle.std.specs.Prelude.{◌≡◌, ◌≢◌, ◌⊎◌, ◌↔◌, ℕ, List, []}
 use Rattle.dirac_common.specs.declared.faults.Cause.{Cause}
-use Rattle.dirac_common.specs.declared.faults.Cause.TheVariants.{CodeWord, NumberTooLong}
+use Rattle.dirac_common.specs.declared.faults.Cause.TheVariants.{CodeWord}
+use Rattle.dirac_arith.specs.Carried.{Carries}
+use Rattle.dirac_arith.specs.Coded.{Breaks}
 use Rattle.dirac_arith.specs.Front.{front}
+use Rattle.dirac_arith.specs.Interval.{Decision}
 use Rattle.dirac_blocks.specs.declared.parts.ListKind.{ListKind}
 use Rattle.dirac_blocks.specs.Carried.{CarriesPart, CarriesSplits, ReadsTo, IsRefused}
 use Rattle.dirac_blocks.specs.Decisions.{unit_decisions}
-use Rattle.dirac_blocks.specs.Grammar.{splits_step, units_step}
+use Rattle.dirac_blocks.specs.Grammar.{Step, splits_step, units_step}
 use Rattle.dirac_blocks.specs.Parts.{part_at}
 use Rattle.dirac_blocks.specs.Reached.{AllGrey}
-use Rattle.dirac_blocks.specs.Refused.{CarriesBreak, CarriesSplitBreak}
 use Rattle.dirac_blocks.specs.Tables.{BlockTable, IsBlockTable}
 
 -- what a list tells of each unit is read from the block that carries it
@@ -45,22 +47,12 @@ ReadSplitsAreCarried =
     ReadsTo splits_step former block t →
     CarriesSplits former block t
 
--- a list is refused, but for a block that begins with sixteen ones, as the block breaks off
+-- a list is refused, but for a block that begins with sixteen ones, exactly where the block breaks off
 abbrev pub RefusedIsBroken : Type 0
 RefusedIsBroken =
-    (part : ListKind) (former : BlockTable) (block : List ℕ) (cause : Cause) →
-    IsBlockTable former →
+    (step : Step) (former : BlockTable) (block : List ℕ) (cause : Cause) →
     front block 16 ≢ 65535 →
-    IsRefused (units_step part) former block cause →
-    CarriesBreak part former block cause
-
--- and where a block breaks off its list is refused
-abbrev pub BrokenIsRefused : Type 0
-BrokenIsRefused =
-    (part : ListKind) (former : BlockTable) (block : List ℕ) (cause : Cause) →
-    IsBlockTable former →
-    CarriesBreak part former block cause →
-    IsRefused (units_step part) former block cause
+    IsRefused step former block cause ↔ ((ds : List Decision) × Breaks (step former) cause ds × Carries block ds)
 
 -- a block that begins with sixteen ones is refused for them exactly where its list needs a decision
 abbrev pub OnesAreRefused : Type 0
@@ -76,19 +68,3 @@ abbrev pub OnesRefuseSplits : Type 0
 OnesRefuseSplits =
     (former : BlockTable) (block : List ℕ) → IsBlockTable former → front block 16 ≡ 65535
     → IsRefused splits_step former block CodeWord
-
--- splits are refused, but for ones, as one of their numbers is too long
-abbrev pub RefusedSplitsAreBroken : Type 0
-RefusedSplitsAreBroken =
-    (former : BlockTable) (block : List ℕ) (cause : Cause) →
-    IsBlockTable former →
-    AllGrey former.blocks →
-    front block 16 ≢ 65535 →
-    IsRefused splits_step former block cause →
-    (cause ≡ NumberTooLong) × CarriesSplitBreak former block
-
--- and where a number is too long the splits are refused
-abbrev pub BrokenSplitsAreRefused : Type 0
-BrokenSplitsAreRefused =
-    (former : BlockTable) (block : List ℕ) → IsBlockTable former → CarriesSplitBreak former block
-    → IsRefused splits_step former block NumberTooLong

@@ -5,6 +5,5 @@ pub mod Laws
 pub mod Parts
 pub mod Puts
 pub mod Reached
-pub mod Refused
 pub mod Tables
 pub mod Written

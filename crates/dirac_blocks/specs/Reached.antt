@@ -5,16 +5,12 @@ use Rattle.dirac_common.specs.declared.faults.Refusal.{Refusal}
 use Rattle.dirac_arith.specs.Reading.{Reading}
 use Rattle.dirac_bits.specs.Cursor.{Cursor}
 use Rattle.dirac_blocks.specs.declared.block.Block.{Block}
-use Rattle.dirac_blocks.specs.Grammar.{Progress}
 use Rattle.dirac_blocks.specs.Tables.{BlockTable, grey, split_at, unit_size}
 
--- a table and a reading
-abbrev pub progress : BlockTable → Reading → Progress
-progress t r = record { table = t; reading = r }
-
 -- the answer is this step, from which the table and the reading come; nothing is said of them after a refusal
-abbrev pub Moves : {A : Type 0} → Result A Cause → BlockTable → Reading → Result Progress Cause → Type 0
-Moves (Ok x) table reading step = step ≡ Ok (progress table reading)
+abbrev pub Moves : {A : Type 0} → Result A Cause → BlockTable → Reading → Result (BlockTable × Reading) Cause
+    → Type 0
+Moves (Ok x) table reading step = step ≡ Ok (table, reading)
 Moves (Err cause) table reading step = step ≡ Err cause
 
 -- the answer is what is read, from which the table and the reader's place come

@@ -1,6 +1,7 @@
 ghost use Rattle.std.specs.Prelude.{◌≡◌, ◌+◌, ◌*◌, ◌^◌, ◌<◌, ◌≤◌};
-ghost use Rattle.dirac_blocks.specs.Grammar.{repeated, split_step, splits_step};
-ghost use Rattle.dirac_blocks.specs.Reached.{AllGrey, Moves, SameBlocks, progress};
+ghost use Rattle.dirac_arith.specs.Coded.{read, repeated};
+ghost use Rattle.dirac_blocks.specs.Grammar.{split_step, splits_step};
+ghost use Rattle.dirac_blocks.specs.Reached.{AllGrey, Moves, SameBlocks};
 
 use crate::neighbours::predict_split_at;
 use crate::table::BlockData;
@@ -19,7 +20,7 @@ fn read_split(
     requires row { sy < table.old.down }
     requires grey { AllGrey table.old.blocks }
     requires no_overflow { decoder.old.at.doublings < 2 ^ 61 }
-    ensures value { Moves result table.new decoder.new (split_step sy sx (progress table.old decoder.old)) }
+    ensures value { Moves result table.new decoder.new (read (split_step sy sx table.old) decoder.old) }
     ensures blocks { SameBlocks table.old table.new }
     ensures few_doublings { decoder.new.at.doublings ≤ decoder.old.at.doublings + 693 }
 {
@@ -47,7 +48,7 @@ fn read_split_row(
     requires grey { AllGrey table.old.blocks }
     requires no_overflow { decoder.old.at.doublings < 2 ^ 60 }
     ensures value { Moves result table.new decoder.new
-        (repeated (split_step sy) count (progress table.old decoder.old)) }
+        (read (repeated (split_step sy) count table.old) decoder.old) }
     ensures blocks { SameBlocks table.old table.new }
     ensures few_doublings { decoder.new.at.doublings ≤ decoder.old.at.doublings + 693 * count }
 {
@@ -70,8 +71,8 @@ fn read_split_rows(
     requires most_down { table.old.down ≤ MOST_SUPERBLOCKS }
     requires grey { AllGrey table.old.blocks }
     requires at_the_start { decoder.old.at.doublings ≡ 0 }
-    ensures value { Moves result table.new decoder.new (repeated (λ sy. repeated (split_step sy) across) count
-        (progress table.old decoder.old)) }
+    ensures value { Moves result table.new decoder.new (read (repeated (λ sy. repeated (split_step sy) across) count
+        table.old) decoder.old) }
     ensures blocks { SameBlocks table.old table.new }
 {
     'rows: for n in 0..count {
@@ -84,7 +85,7 @@ fn read_split_rows(
 pub fn read_splits(decoder: &mut Decoder<'_>, table: &mut BlockData) -> Result<(), Cause>
     requires grey { AllGrey table.old.blocks }
     requires at_the_start { decoder.old.at.doublings ≡ 0 }
-    ensures value { Moves result table.new decoder.new (splits_step (progress table.old decoder.old)) }
+    ensures value { Moves result table.new decoder.new (read (splits_step table.old) decoder.old) }
     ensures blocks { SameBlocks table.old table.new }
 {
     let across = table.across();

@@ -2,8 +2,9 @@ ghost use Rattle.std.specs.Prelude.{◌≡◌, ℤ, ◌+◌, ◌*◌, ◌<◌, �
 ghost use Rattle.dirac_arith.specs.Deciding.{Gives};
 ghost use Rattle.dirac_arith.specs.Spelling.{AreContexts};
 ghost use Rattle.dirac_vectors.specs.Neighbours.{IsShort};
-ghost use Rattle.dirac_blocks.specs.Grammar.{block_using, component_read, is_dc, is_short, mode_read, second_use_read};
-ghost use Rattle.dirac_blocks.specs.Grammar.{unit_read, uses, value_read, with_across, with_dc, with_down};
+ghost use Rattle.dirac_arith.specs.Coded.{read};
+ghost use Rattle.dirac_blocks.specs.Grammar.{block_using, component_coded, is_dc, is_short, mode_coded, second_use};
+ghost use Rattle.dirac_blocks.specs.Grammar.{unit_coded, uses, value_coded, with_across, with_dc, with_down};
 ghost use Rattle.dirac_blocks.specs.Tables.{IsBlock};
 
 use crate::block::Block;
@@ -40,7 +41,7 @@ fn read_value(
     requires sign { sign < CONTEXTS }
     requires prediction { IsShort prediction }
     requires no_overflow { decoder.old.at.doublings < 2 ^ 61 }
-    ensures value { Gives result decoder.new (value_read cause follow.now bits sign prediction decoder.old) }
+    ensures value { Gives result decoder.new (read (value_coded cause follow.now bits sign prediction) decoder.old) }
     ensures short { IfOk result IsShort }
     ensures few_doublings { decoder.new.at.doublings ≤ decoder.old.at.doublings + 702 }
 {
@@ -61,7 +62,7 @@ fn read_value(
 fn read_component(decoder: &mut Decoder<'_>, prediction: i32) -> Result<i32, Cause>
     requires prediction { IsShort prediction }
     requires no_overflow { decoder.old.at.doublings < 2 ^ 61 }
-    ensures value { Gives result decoder.new (component_read prediction decoder.old) }
+    ensures value { Gives result decoder.new (read (component_coded prediction) decoder.old) }
     ensures short { IfOk result IsShort }
     ensures few_doublings { decoder.new.at.doublings ≤ decoder.old.at.doublings + 702 }
 {
@@ -85,7 +86,7 @@ fn read_second_use(
     requires column { i < 4 * table.now.across }
     requires row { j < 4 * table.now.down }
     requires no_overflow { decoder.old.at.doublings < 2 ^ 61 }
-    ensures value { Gives result decoder.new (second_use_read table.now i j decoder.old) }
+    ensures value { Gives result decoder.new (read (second_use table.now i j) decoder.old) }
     ensures single { table.now.refs ≡ 1 → IfOk result (λ second. second ≡ false) }
     ensures few_doublings { decoder.new.at.doublings ≤ decoder.old.at.doublings + 9 }
 {
@@ -122,7 +123,7 @@ fn read_mode(decoder: &mut Decoder<'_>, table: &BlockData, i: u32, j: u32) -> Re
     requires column { i < 4 * table.now.across }
     requires row { j < 4 * table.now.down }
     requires no_overflow { decoder.old.at.doublings < 2 ^ 60 }
-    ensures value { Gives result decoder.new (mode_read table.now i j decoder.old) }
+    ensures value { Gives result decoder.new (read (mode_coded table.now i j) decoder.old) }
     ensures block { IfOk result (IsBlock table.now.refs) }
     ensures few_doublings { decoder.new.at.doublings ≤ decoder.old.at.doublings + 18 }
 {
@@ -194,7 +195,8 @@ fn read_across(
     requires column { i < 4 * table.now.across }
     requires row { j < 4 * table.now.down }
     requires no_overflow { decoder.old.at.doublings < 2 ^ 61 }
-    ensures value { Gives result decoder.new (unit_read (ListKind.Across reference) table.now i j decoder.old) }
+    ensures value { Gives result decoder.new (read (unit_coded (ListKind.Across reference) table.now i j)
+        decoder.old) }
     ensures block { IfOk result (IsBlock table.now.refs) }
     ensures few_doublings { decoder.new.at.doublings ≤ decoder.old.at.doublings + 702 }
 {
@@ -220,7 +222,8 @@ fn read_down(
     requires column { i < 4 * table.now.across }
     requires row { j < 4 * table.now.down }
     requires no_overflow { decoder.old.at.doublings < 2 ^ 61 }
-    ensures value { Gives result decoder.new (unit_read (ListKind.Down reference) table.now i j decoder.old) }
+    ensures value { Gives result decoder.new (read (unit_coded (ListKind.Down reference) table.now i j)
+        decoder.old) }
     ensures block { IfOk result (IsBlock table.now.refs) }
     ensures few_doublings { decoder.new.at.doublings ≤ decoder.old.at.doublings + 702 }
 {
@@ -246,7 +249,8 @@ fn read_dc(
     requires column { i < 4 * table.now.across }
     requires row { j < 4 * table.now.down }
     requires no_overflow { decoder.old.at.doublings < 2 ^ 61 }
-    ensures value { Gives result decoder.new (unit_read (ListKind.Dc component) table.now i j decoder.old) }
+    ensures value { Gives result decoder.new (read (unit_coded (ListKind.Dc component) table.now i j)
+        decoder.old) }
     ensures block { IfOk result (IsBlock table.now.refs) }
     ensures few_doublings { decoder.new.at.doublings ≤ decoder.old.at.doublings + 702 }
 {
@@ -279,7 +283,7 @@ pub fn read_unit_block(
     requires column { i < 4 * table.now.across }
     requires row { j < 4 * table.now.down }
     requires no_overflow { decoder.old.at.doublings < 2 ^ 60 }
-    ensures value { Gives result decoder.new (unit_read part table.now i j decoder.old) }
+    ensures value { Gives result decoder.new (read (unit_coded part table.now i j) decoder.old) }
     ensures block { IfOk result (IsBlock table.now.refs) }
     ensures few_doublings { decoder.new.at.doublings ≤ decoder.old.at.doublings + 702 }
 {

@@ -1,7 +1,8 @@
 ghost use Rattle.std.specs.Prelude.{◌≡◌, ℕ, ◌+◌, ◌*◌, ◌^◌, ◌<◌, ◌≤◌};
-ghost use Rattle.dirac_blocks.specs.Grammar.{repeated, superblock_step, unit_row_step, unit_rows_step, unit_step};
+ghost use Rattle.dirac_arith.specs.Coded.{read, repeated};
+ghost use Rattle.dirac_blocks.specs.Grammar.{superblock_step, unit_row_step, unit_rows_step, unit_step};
 ghost use Rattle.dirac_blocks.specs.Grammar.{units_step};
-ghost use Rattle.dirac_blocks.specs.Reached.{IsUnit, Moves, SameShape, progress};
+ghost use Rattle.dirac_blocks.specs.Reached.{IsUnit, Moves, SameShape};
 
 use crate::parts::ListKind;
 use crate::superblock::{unit_blocks, units_across};
@@ -24,7 +25,7 @@ fn read_unit(
     requires column { i < 4 * table.old.across }
     requires row { j < 4 * table.old.down }
     requires no_overflow { decoder.old.at.doublings < 2 ^ 60 }
-    ensures value { Moves result table.new decoder.new (unit_step part size i j (progress table.old decoder.old)) }
+    ensures value { Moves result table.new decoder.new (read (unit_step part size i j table.old) decoder.old) }
     ensures shape { SameShape table.old table.new }
     ensures few_doublings { decoder.new.at.doublings ≤ decoder.old.at.doublings + 702 }
 {
@@ -54,8 +55,8 @@ fn read_unit_row(
     requires at_most_1024 { table.old.across ≤ MOST_SUPERBLOCKS }
     requires no_overflow { decoder.old.at.doublings < 2 ^ 59 }
     requires at_most_4 { count ≤ 4 }
-    ensures value { Moves result table.new decoder.new (unit_row_step part size i j count
-        (progress table.old decoder.old)) }
+    ensures value { Moves result table.new decoder.new (read (unit_row_step part size i j count table.old)
+        decoder.old) }
     ensures shape { SameShape table.old table.new }
     ensures few_doublings { decoder.new.at.doublings ≤ decoder.old.at.doublings + 702 * count }
 {
@@ -83,8 +84,8 @@ fn read_unit_rows(
     requires most_down { table.old.down ≤ MOST_SUPERBLOCKS }
     requires no_overflow { decoder.old.at.doublings < 2 ^ 58 }
     requires at_most_4 { across ≤ 4 }
-    ensures value { Moves result table.new decoder.new (unit_rows_step part size across i j across
-        (progress table.old decoder.old)) }
+    ensures value { Moves result table.new decoder.new (read (unit_rows_step part size across i j across table.old)
+        decoder.old) }
     ensures shape { SameShape table.old table.new }
     ensures few_doublings { decoder.new.at.doublings ≤ decoder.old.at.doublings + 2808 * across }
 {
@@ -108,7 +109,7 @@ fn read_superblock(
     requires most_across { table.old.across ≤ MOST_SUPERBLOCKS }
     requires most_down { table.old.down ≤ MOST_SUPERBLOCKS }
     requires no_overflow { decoder.old.at.doublings < 2 ^ 57 }
-    ensures value { Moves result table.new decoder.new (superblock_step part sy sx (progress table.old decoder.old)) }
+    ensures value { Moves result table.new decoder.new (read (superblock_step part sy sx table.old) decoder.old) }
     ensures shape { SameShape table.old table.new }
     ensures few_doublings { decoder.new.at.doublings ≤ decoder.old.at.doublings + 11232 }
 {
@@ -131,8 +132,8 @@ fn read_superblock_row(
     requires most_across { table.old.across ≤ MOST_SUPERBLOCKS }
     requires most_down { table.old.down ≤ MOST_SUPERBLOCKS }
     requires no_overflow { decoder.old.at.doublings < 2 ^ 56 }
-    ensures value { Moves result table.new decoder.new (repeated (superblock_step part sy) count
-        (progress table.old decoder.old)) }
+    ensures value { Moves result table.new decoder.new (read (repeated (superblock_step part sy) count table.old)
+        decoder.old) }
     ensures shape { SameShape table.old table.new }
     ensures few_doublings { decoder.new.at.doublings ≤ decoder.old.at.doublings + 11232 * count }
 {
@@ -155,8 +156,8 @@ fn read_superblock_rows(
     requires most_across { table.old.across ≤ MOST_SUPERBLOCKS }
     requires most_down { table.old.down ≤ MOST_SUPERBLOCKS }
     requires at_the_start { decoder.old.at.doublings ≡ 0 }
-    ensures value { Moves result table.new decoder.new (repeated (λ sy. repeated (superblock_step part sy) across) count
-        (progress table.old decoder.old)) }
+    ensures value { Moves result table.new decoder.new (read (repeated (λ sy. repeated (superblock_step part sy) across)
+        count table.old) decoder.old) }
     ensures shape { SameShape table.old table.new }
 {
     'rows: for n in 0..count {
@@ -172,7 +173,7 @@ pub fn read_units(
     part: ListKind,
 ) -> Result<(), Cause>
     requires at_the_start { decoder.old.at.doublings ≡ 0 }
-    ensures value { Moves result table.new decoder.new (units_step part (progress table.old decoder.old)) }
+    ensures value { Moves result table.new decoder.new (read (units_step part table.old) decoder.old) }
     ensures shape { SameShape table.old table.new }
 {
     let across = table.across();

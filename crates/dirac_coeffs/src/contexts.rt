@@ -110,6 +110,16 @@ pub fn first_context(parent_is_zero: bool, neighbours_are_zero: bool) -> u8
     2 * u8::from(!parent_is_zero) + u8::from(!neighbours_are_zero)
 }
 
+/// The same among these neighbours.
+#[inline(always)]
+pub fn first_among(left: i64, above: i64, corner: i64, parent: i64) -> u8
+    ensures value { result ≡ follow_at (follow_of (is_zero parent) (is_zero left && (is_zero above && is_zero corner)))
+        0 }
+    ensures context { result < CONTEXTS }
+{
+    first_context(is_zero_value(parent), are_zeros(left, above, corner))
+}
+
 /// The follow contexts of a coefficient's magnitude, by the first of them, which is below 4.
 #[inline(always)]
 pub fn follow_from(first: u8) -> &'static [u8; 6]

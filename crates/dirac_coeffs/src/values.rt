@@ -1,6 +1,9 @@
-ghost use Rattle.std.specs.Prelude.{◌≡◌, ◌+◌, ◌*◌, ◌^◌, ◌<◌, ◌≤◌, Bool, false, length, slice_set, IfOk, Ok};
+ghost use Rattle.std.specs.Prelude.{◌≡◌, ◌+◌, ◌*◌, ◌^◌, ◌<◌, ◌≤◌, Bool, false, length, slice_set, IfOk, IfErr, OnErr};
+ghost use Rattle.std.specs.Prelude.{Ok, Err};
 ghost use Rattle.dirac_arith.specs.Deciding.{Gives, decided, signed_read};
+ghost use Rattle.dirac_arith.specs.Decoding.{reading_at};
 ghost use Rattle.dirac_arith.specs.Reading.{Reading};
+ghost use Rattle.dirac_arith.specs.Registers.{Runs, doublings_of};
 ghost use Rattle.dirac_arith.specs.Spelling.{follow_at};
 ghost use Rattle.dirac_coeffs.specs.Answers.{Moves};
 ghost use Rattle.dirac_coeffs.specs.BandRead.{progress, value_step, row_step, rows_step};
@@ -12,8 +15,15 @@ ghost use Rattle.dirac_coeffs.specs.Decisions.{frame_of};
 use crate::contexts;
 use crate::layout::BandLayout;
 use crate::spans::Span;
-use dirac_arith::{COEFFICIENT_DIGITS, Decoder};
+use dirac_arith::{COEFFICIENT_DIGITS, Decoder, Registers};
 use dirac_common::{Band, Cause, LARGEST_TABLE_SIDE};
+
+/// Where a coefficient stands in its band.
+#[derive(Clone, Copy)]
+struct Spot {
+    column: usize,
+    row: usize,
+}
 
 /// The values beside a coefficient by which its contexts are chosen, 0 outside the band.
 #[derive(Clone, Copy)]
@@ -44,73 +54,104 @@ fn read_further(
     decoder.signed_behind(follow, COEFFICIENT_DIGITS, sign)
 }
 
-/// Reads a value among these neighbours.
+/// A value, and where the decoder stands behind it.
+#[derive(Clone, Copy)]
+struct ValueRead {
+    value: i64,
+    registers: Registers,
+}
+
+/// Reads a value among these neighbours, from these registers on.
 #[inline(always)]
 fn read_value(
     decoder: &mut Decoder<'_>,
+    registers: Registers,
     band: Band,
     neighbours: Neighbours,
     parent: i64,
-) -> Result<i64, Cause>
-    requires no_overflow { decoder.old.at.doublings < 2 ^ 61 }
-    ensures read { Gives result decoder.new (signed_read
+) -> Result<ValueRead, Cause>
+    requires runs { Runs decoder.old.block registers }
+    requires no_overflow { doublings_of registers < 2 ^ 61 }
+    ensures read { IfOk result (λ v. signed_read
         (follow_among neighbours.left neighbours.above neighbours.corner parent) bits_context
-        (sign_of (sign_neighbour band neighbours.left neighbours.above)) decoder.old) }
-    ensures few_doublings { decoder.new.at.doublings ≤ decoder.old.at.doublings + 702 }
+        (sign_of (sign_neighbour band neighbours.left neighbours.above)) (reading_at decoder.old registers)
+        ≡ Ok (v.value, reading_at decoder.new v.registers)) }
+    ensures runs { IfOk result (λ v. Runs decoder.new.block v.registers) }
+    ensures few_doublings { IfOk result (λ v. doublings_of v.registers ≤ doublings_of registers + 702) }
+    ensures refused { IfErr result (λ cause. signed_read
+        (follow_among neighbours.left neighbours.above neighbours.corner parent) bits_context
+        (sign_of (sign_neighbour band neighbours.left neighbours.above)) (reading_at decoder.old registers)
+        ≡ Err cause) }
+    ensures few_then { OnErr result (decoder.new.at.doublings ≤ doublings_of registers + 702) }
 {
     let Neighbours {
         left,
         above,
         corner,
     } = neighbours;
-    let parent_is_zero = contexts::is_zero_value(parent);
-    let neighbours_are_zero = contexts::are_zeros(left, above, corner);
-    let first = contexts::first_context(parent_is_zero, neighbours_are_zero);
-    match decoder.decision(first) {
-        Ok(true) => Ok(0),
-        Ok(false) => read_further(decoder, band, first, left, above),
+    let first = contexts::first_among(left, above, corner, parent);
+    let decided = decoder.foreseen_from(registers, first);
+    if decided.truth {
+        return Ok(ValueRead {
+            value: 0,
+            registers: decided.registers,
+        });
+    }
+    decoder.resume(decided.registers);
+    match read_further(decoder, band, first, left, above) {
+        Ok(value) => Ok(ValueRead {
+            value,
+            registers: decoder.registers(),
+        }),
         Err(cause) => Err(cause),
     }
 }
 
-/// Reads the value in column `x` of row `y` among these neighbours of it.
+/// Reads the value in column `x` of row `y` among these neighbours of it, from these registers on.
 #[tactic(auto, unfolding(crate::specs::BandRead::value_step))]
 #[inline(always)]
 fn read_at(
     decoder: &mut Decoder<'_>,
+    registers: Registers,
     values: &mut [i64],
     layout: BandLayout,
     parent: &[i64],
-    x: usize,
-    y: usize,
+    at: Spot,
     neighbours: Neighbours,
-) -> Result<i64, Cause>
-    requires column { x < layout.width }
+) -> Result<ValueRead, Cause>
+    requires runs { Runs decoder.old.block registers }
+    requires column { at.column < layout.width }
     requires width { layout.width ≤ LARGEST_TABLE_SIDE }
-    requires row { y < LARGEST_TABLE_SIDE }
-    requires inside { (y + 1) * layout.width ≤ length values.old }
-    requires left { neighbours.left ≡ left_of layout.width values.old x y }
-    requires above { neighbours.above ≡ above_of layout.width values.old x y }
-    requires corner { neighbours.corner ≡ corner_of layout.width values.old x y }
-    requires no_overflow { decoder.old.at.doublings < 2 ^ 61 }
-    ensures value { Moves result (progress values.new decoder.new) (value_step (frame_of layout parent.now) x y
-        (progress values.old decoder.old)) }
-    ensures written { IfOk result (λ v. values.new ≡ slice_set values.old (y * layout.width + x) v) }
+    requires row { at.row < LARGEST_TABLE_SIDE }
+    requires inside { (at.row + 1) * layout.width ≤ length values.old }
+    requires left { neighbours.left ≡ left_of layout.width values.old at.column at.row }
+    requires above { neighbours.above ≡ above_of layout.width values.old at.column at.row }
+    requires corner { neighbours.corner ≡ corner_of layout.width values.old at.column at.row }
+    requires no_overflow { doublings_of registers < 2 ^ 61 }
+    ensures value { IfOk result (λ v. value_step (frame_of layout parent.now) at.column at.row
+        (progress values.old (reading_at decoder.old registers))
+        ≡ Ok (progress values.new (reading_at decoder.new v.registers))) }
+    ensures runs { IfOk result (λ v. Runs decoder.new.block v.registers) }
+    ensures few_doublings { IfOk result (λ v. doublings_of v.registers ≤ doublings_of registers + 702) }
+    ensures written { IfOk result (λ v. values.new ≡ slice_set values.old (at.row * layout.width + at.column) v.value) }
     ensures len { length values.new ≡ length values.old }
-    ensures few_doublings { decoder.new.at.doublings ≤ decoder.old.at.doublings + 702 }
+    ensures refused { IfErr result (λ cause. value_step (frame_of layout parent.now) at.column at.row
+        (progress values.old (reading_at decoder.old registers)) ≡ Err cause) }
+    ensures few_then { OnErr result (decoder.new.at.doublings ≤ doublings_of registers + 702) }
 {
     let width = layout.width as usize;
-    let parent = contexts::parent_value(parent, width, x, y);
-    match read_value(decoder, layout.band, neighbours, parent) {
-        Ok(value) => {
-            values[y * width + x] = value;
-            Ok(value)
+    let parent = contexts::parent_value(parent, width, at.column, at.row);
+    match read_value(decoder, registers, layout.band, neighbours, parent) {
+        Ok(read) => {
+            values[at.row * width + at.column] = read.value;
+            Ok(read)
         }
         Err(cause) => Err(cause),
     }
 }
 
-/// Reads the values of these columns of row `y`.
+/// Reads the values of these columns of row `y`. The registers are kept by value: what is written to the table then
+/// doesn't make them go through memory.
 fn read_row(
     decoder: &mut Decoder<'_>,
     values: &mut [i64],
@@ -129,25 +170,37 @@ fn read_row(
     ensures len { length values.new ≡ length values.old }
     ensures few_doublings { decoder.new.at.doublings ≤ decoder.old.at.doublings + 702 * columns.length }
 {
+    if columns.length == 0 {
+        return Ok(());
+    }
+    if decoder.is_refused() {
+        return Err(Cause::CodeWord);
+    }
     let width = layout.width as usize;
     let mut left = contexts::left_value(values, width, columns.start, y);
     let mut corner = contexts::corner_value(values, width, columns.start, y);
+    let mut registers = decoder.registers();
     'values: for i in 0..columns.length {
-        let x = columns.start + i;
-        let above = contexts::above_value(values, width, x, y);
+        let at = Spot {
+            column: columns.start + i,
+            row: y,
+        };
+        let above = contexts::above_value(values, width, at.column, y);
         let neighbours = Neighbours {
             left,
             above,
             corner,
         };
-        match read_at(decoder, values, layout, parent, x, y, neighbours) {
-            Ok(value) => {
-                left = value;
+        match read_at(decoder, registers, values, layout, parent, at, neighbours) {
+            Ok(read) => {
+                left = read.value;
                 corner = above;
+                registers = read.registers;
             }
             Err(cause) => return Err(cause),
         }
     }
+    decoder.resume(registers);
     Ok(())
 }
 

@@ -1,14 +1,14 @@
 use Rattle.std.proofs.Common.{arith}
 use Rattle.std.proofs.lemmas.Result.{err_from_is_err_and}
 use Rattle.dirac_blocks.specs.Grammar.{split_step}
-use Rattle.dirac_blocks.specs.Reached.{progress}
-use Rattle.dirac_blocks.proofs.Repeating.{repeated_none, repeated_next, repeated_stops, blocks_refl, blocks_join}
+use Rattle.dirac_arith.proofs.CodedValues.{repeated_none, repeated_next, repeated_stops}
+use Rattle.dirac_blocks.proofs.Repeating.{blocks_refl, blocks_join}
 use Rattle.dirac_blocks.proofs.split_reader.read_split_row.Goals as goal
 
 pub superblocks-init : goal.superblocks-init
 superblocks-init c =
     record {
-      value = repeated_none (split_step c.args.sy) (progress c.args.table.now c.args.decoder.now);
+      value = repeated_none (split_step c.args.sy) c.args.table.now c.args.decoder.now;
       blocks = blocks_refl c.args.table.now;
       few_doublings = omega arith;
     }
@@ -17,7 +17,7 @@ pub superblocks-preserved : goal.superblocks-preserved
 superblocks-preserved c =
     record {
       value =
-          repeated_next (split_step c.args.sy) c.superblocks.n (progress c.args.table.now c.args.decoder.now) (progress c.superblocks.table c.superblocks.decoder) _ c.superblocks.invariant.value c.in_ok-read_split.ensures.value;
+          repeated_next (split_step c.args.sy) c.superblocks.n c.args.table.now c.args.decoder.now c.superblocks.table c.superblocks.decoder _ c.superblocks.invariant.value c.in_ok-read_split.ensures.value;
       blocks = blocks_join c.args.table.now c.superblocks.table c.read_split.new.table c.superblocks.invariant.blocks c.read_split.ensures.blocks;
       few_doublings = omega (arith, c.read_split.ensures.few_doublings);
     }
@@ -26,7 +26,7 @@ pub returns-in_err-read_split-clause-value : goal.returns-in_err-read_split-clau
 returns-in_err-read_split-clause-value c =
     let p = err_from_is_err_and c.from_residual.result c.from_residual.ensures.1 in
     rw (p.1, p.2)
-    (repeated_stops (split_step c.args.sy) c.superblocks.n c.args.count (progress c.args.table.now c.args.decoder.now) (progress c.superblocks.table c.superblocks.decoder) _ (omega arith) c.superblocks.invariant.value c.in_err-read_split.ensures.value)
+    (repeated_stops (split_step c.args.sy) c.superblocks.n c.args.count c.args.table.now c.args.decoder.now c.superblocks.table c.superblocks.decoder _ (omega arith) c.superblocks.invariant.value c.in_err-read_split.ensures.value)
 
 pub returns-in_err-read_split-clause-blocks : goal.returns-in_err-read_split-clause-blocks
 returns-in_err-read_split-clause-blocks c = blocks_join c.args.table.now c.superblocks.table c.read_split.new.table c.superblocks.invariant.blocks c.read_split.ensures.blocks

@@ -1,14 +1,14 @@
-use Rattle.std.proofs.Common.{rules, ◌≡◌, ℤ, false, ◌||◌, ap, ◌∙◌, subst, sym, to_z, of_z, w32, Ok, [], ◌∷◌}
+use Rattle.std.proofs.Common.{rules, ◌≡◌, ℤ, false, ◌||◌, ap, ◌∙◌, subst, sym, to_z, of_z, w32, Ok, Err, [], ◌∷◌}
 use Rattle.dirac_common.specs.declared.faults.Cause.TheVariants as causes
-use Rattle.dirac_arith.specs.Reading.{Reading}
+use Rattle.dirac_arith.specs.Coded.{read}
 use Rattle.dirac_vectors.specs.Neighbours.{IsShort}
 use Rattle.dirac_vectors.specs.Predictions.{dc_of}
 use Rattle.dirac_blocks.specs.declared.block.Block.{Block}
 use Rattle.dirac_blocks.specs.Decisions.{predicted}
-use Rattle.dirac_blocks.specs.Grammar.{is_dc, read_into, value_read, with_dc}
+use Rattle.dirac_blocks.specs.Grammar.{is_dc, coded_into, value_coded, with_dc}
 use Rattle.dirac_blocks.specs.Parts.{dc_at}
 use Rattle.dirac_blocks.specs.Tables.{IsBlock, block_at}
-use Rattle.dirac_blocks.proofs.UnitValues.{into_found, dc_lawful, is_dc_from}
+use Rattle.dirac_blocks.proofs.UnitValues.{into_found, into_refused, dc_lawful, is_dc_from}
 use Rattle.dirac_blocks.proofs.unit_reader.read_dc.Goals as goal
 
 pub returns-in-Ok-clause-value : goal.returns-in-Ok-clause-value
@@ -23,13 +23,25 @@ returns-in-Ok-clause-value c =
     let none : (b.ref1 || b.ref2) ≡ false = search rules in
     let stored : to_z w32 (of_z w32 v) ≡ v = search rules in
     let given : to_z w32 (of_z w32 c.predicted_dc-prediction.result) ≡ p = search rules in
-    let read : value_read causes.DcRange (34 ∷ 35 ∷ []) 36 37 p old ≡ Ok (v, new) =
-    subst (λ (q : ℤ). value_read causes.DcRange (34 ∷ 35 ∷ []) 36 37 q old ≡ Ok (v, new)) given c.in-Ok.ensures.value in
+    let found : read (value_coded causes.DcRange (34 ∷ 35 ∷ []) 36 37 p) old ≡ Ok (v, new) =
+    subst (λ (q : ℤ). read (value_coded causes.DcRange (34 ∷ 35 ∷ []) 36 37 q) old ≡ Ok (v, new)) given c.in-Ok.ensures.value in
     let put : c.set_dc.result ≡ with_dc k b v =
     c.set_dc.ensures ∙ ap (λ (x : Block). with_dc k x (to_z w32 (of_z w32 v))) c.at-block.ensures.value ∙ ap (λ (w : ℤ). with_dc k b w) stored in
-    let one = λ (r : Reading). value_read causes.DcRange (34 ∷ 35 ∷ []) 36 37 p r in
-    subst (λ (x : Block). read_into (is_dc b) b (with_dc k) one old ≡ Ok (x, new)) (sym put)
-    (into_found (is_dc b) b (with_dc k) one old new v (is_dc_from b none) read)
+    let one = value_coded causes.DcRange (34 ∷ 35 ∷ []) 36 37 p in
+    subst (λ (x : Block). read (coded_into (is_dc b) b (with_dc k) one) old ≡ Ok (x, new)) (sym put)
+    (into_found (is_dc b) b (with_dc k) one old new v (is_dc_from b none) found)
+
+pub returns-in-Err-clause-value : goal.returns-in-Err-clause-value
+returns-in-Err-clause-value c =
+    let t = c.args.table.now in
+    let k = c.args.component in
+    let b = block_at t c.args.i c.args.j in
+    let old = c.args.decoder.now in
+    let p = predicted dc_of (dc_at k t) c.args.i c.args.j in
+    let none : (b.ref1 || b.ref2) ≡ false = search rules in
+    let given : to_z w32 (of_z w32 c.predicted_dc-prediction.result) ≡ p = search rules in
+    into_refused (is_dc b) b (with_dc k) (value_coded causes.DcRange (34 ∷ 35 ∷ []) 36 37 p) old c.in-Err.e (is_dc_from b none)
+    (subst (λ (q : ℤ). read (value_coded causes.DcRange (34 ∷ 35 ∷ []) 36 37 q) old ≡ Err c.in-Err.e) given c.in-Err.ensures.value)
 
 pub returns-in-Ok-clause-block : goal.returns-in-Ok-clause-block
 returns-in-Ok-clause-block c =

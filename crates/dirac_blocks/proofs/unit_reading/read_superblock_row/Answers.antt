@@ -1,14 +1,14 @@
 use Rattle.std.proofs.Common.{arith}
 use Rattle.std.proofs.lemmas.Result.{err_from_is_err_and}
 use Rattle.dirac_blocks.specs.Grammar.{superblock_step}
-use Rattle.dirac_blocks.specs.Reached.{progress}
-use Rattle.dirac_blocks.proofs.Repeating.{repeated_none, repeated_next, repeated_stops, shape_refl, shape_join}
+use Rattle.dirac_arith.proofs.CodedValues.{repeated_none, repeated_next, repeated_stops}
+use Rattle.dirac_blocks.proofs.Repeating.{shape_refl, shape_join}
 use Rattle.dirac_blocks.proofs.unit_reading.read_superblock_row.Goals as goal
 
 pub superblocks-init : goal.superblocks-init
 superblocks-init c =
     record {
-      value = repeated_none (superblock_step c.args.part c.args.sy) (progress c.args.table.now c.args.decoder.now);
+      value = repeated_none (superblock_step c.args.part c.args.sy) c.args.table.now c.args.decoder.now;
       shape = shape_refl c.args.table.now;
       few_doublings = omega arith;
     }
@@ -17,7 +17,7 @@ pub superblocks-preserved : goal.superblocks-preserved
 superblocks-preserved c =
     record {
       value =
-          repeated_next (superblock_step c.args.part c.args.sy) c.superblocks.n (progress c.args.table.now c.args.decoder.now) (progress c.superblocks.table c.superblocks.decoder) _ c.superblocks.invariant.value c.in_ok-read_superblock.ensures.value;
+          repeated_next (superblock_step c.args.part c.args.sy) c.superblocks.n c.args.table.now c.args.decoder.now c.superblocks.table c.superblocks.decoder _ c.superblocks.invariant.value c.in_ok-read_superblock.ensures.value;
       shape = shape_join c.args.table.now c.superblocks.table c.read_superblock.new.table c.superblocks.invariant.shape c.read_superblock.ensures.shape;
       few_doublings = omega (arith, c.read_superblock.ensures.few_doublings);
     }
@@ -26,7 +26,7 @@ pub returns-in_err-read_superblock-clause-value : goal.returns-in_err-read_super
 returns-in_err-read_superblock-clause-value c =
     let p = err_from_is_err_and c.from_residual.result c.from_residual.ensures.1 in
     rw (p.1, p.2)
-    (repeated_stops (superblock_step c.args.part c.args.sy) c.superblocks.n c.args.count (progress c.args.table.now c.args.decoder.now) (progress c.superblocks.table c.superblocks.decoder) _ (omega arith) c.superblocks.invariant.value c.in_err-read_superblock.ensures.value)
+    (repeated_stops (superblock_step c.args.part c.args.sy) c.superblocks.n c.args.count c.args.table.now c.args.decoder.now c.superblocks.table c.superblocks.decoder _ (omega arith) c.superblocks.invariant.value c.in_err-read_superblock.ensures.value)
 
 pub returns-in_err-read_superblock-clause-shape : goal.returns-in_err-read_superblock-clause-shape
 returns-in_err-read_superblock-clause-shape c = shape_join c.args.table.now c.superblocks.table c.read_superblock.new.table c.superblocks.invariant.shape c.read_superblock.ensures.shape

@@ -1,12 +1,13 @@
 use Rattle.std.proofs.Common.{◌≡◌, ◌+◌, ◌*◌, ◌≤◌, Ok}
+use Rattle.dirac_arith.specs.Coded.{read}
 use Rattle.dirac_blocks.specs.Grammar.{unit_rows_step}
-use Rattle.dirac_blocks.specs.Reached.{SameShape, progress}
+use Rattle.dirac_blocks.specs.Reached.{SameShape}
 use Rattle.dirac_blocks.proofs.unit_reading.read_unit_rows.Given as goal
 
 abbrev pub invariant-rows : goal.invariant-rows
 invariant-rows l =
     record {
-      value : unit_rows_step l.part l.size l.across l.i l.j l.n (progress l.fn.table l.fn.decoder) ≡ Ok (progress l.table l.decoder);
+      value : read (unit_rows_step l.part l.size l.across l.i l.j l.n l.fn.table) l.fn.decoder ≡ Ok (l.table, l.decoder);
       shape : SameShape l.fn.table l.table;
       few_doublings : l.decoder.at.doublings ≤ l.fn.decoder.at.doublings + 2808 * l.n;
     }

@@ -1,16 +1,15 @@
-use Rattle.std.proofs.Common.{◌≡◌, ◌≢◌, Bool, Result, ◌+◌, ◌*◌, ◌^◌, ◌<◌, ◌≤◌, Ok, slice_set, ap, sym, subst, arith, ◌∙◌}
-use Rattle.std.proofs.lemmas.Bool.{both_ways}
+use Rattle.std.proofs.Common.{◌≡◌, ◌≢◌, Bool, Result, Ok, slice_set, ap, sym, subst, arith, ◌∙◌, ◌+◌, ◌≤◌}
 use Rattle.dirac_arith.specs.Carried.{Lies}
 use Rattle.dirac_arith.specs.Front.{front}
-use Rattle.dirac_arith.specs.Interval.{narrowed, contexts_after}
+use Rattle.dirac_arith.specs.Interval.{narrowed}
 use Rattle.dirac_arith.specs.Reading.{Reading}
-use Rattle.dirac_arith.specs.Registers.{doublings_of}
 use Rattle.dirac_arith.specs.Decoding.{reading}
+use Rattle.dirac_arith.specs.Registers.{doublings_of}
 use Rattle.dirac_common.specs.declared.faults.Cause.{Cause}
 use Rattle.dirac_arith.proofs.Decidings.{decided_is, decided_shut}
-use Rattle.dirac_arith.proofs.Intervals.{doublings_is, stands_self, one_truth, lies_kept}
+use Rattle.dirac_arith.proofs.Intervals.{one_truth, lies_kept}
 use Rattle.dirac_arith.proofs.Windows.{window_from_lies}
-use Rattle.dirac_arith.proofs.Decisions.{probabilities_set, moves, lies_moved}
+use Rattle.dirac_arith.proofs.Decisions.{probabilities_set, runs_of, sound_with, taken}
 use Rattle.dirac_arith.proofs.decoder.Decoder.decision.Goals as goal
 
 pub returns-then-self-clause-no_other_truth : goal.returns-then-self-clause-no_other_truth
@@ -29,48 +28,36 @@ returns-then-self-clause-no_other_truth c =
 pub invariant_of-self : goal.invariant_of-self
 invariant_of-self c =
     let a = c.self.inside in
-    let sound = c.self.invariant in
-    let decided = c.decide-decided.ensures in
     let filled = c.fill-self-inside.ensures in
-    let stands = filled.stands _ _ (decided.stands a.block.now _ _ sound.stands) in
-    record {
-      stands = stands_self a.block.now c.fill-self-inside.result _ _ stands;
-      wide = omega arith;
-      narrow = omega arith;
-      some_ahead = filled.some_ahead;
-      most_ahead = filled.most_ahead;
-      refused = λ e. absurd (both_ways a.refused c.if-self.false e);
-      inside = λ e. ((sound.inside e).0, rw filled.range (filled.inside _ decided.inside));
-      probabilities = probabilities_set a.contexts c.args.ctx c.adapt.result c.adapt.ensures.at_least_254_result c.adapt.ensures.at_most_65281_result sound.probabilities;
-    }
+    let adapted = c.adapt.ensures in
+    let runs = runs_of a c.self.invariant c.if-self.false in
+    let done = taken a c.args.ctx c.decide-decided.result.truth c.decide-decided.result.registers c.fill-self-inside.result c.adapt.result
+    runs c.decide-decided.ensures filled.stands filled.range filled.some_ahead filled.most_ahead filled.inside adapted.exact in
+    sound_with a c.fill-self-inside.result _ c.if-self.false done.runs
+    (probabilities_set a.contexts c.args.ctx c.adapt.result adapted.at_least_254_result adapted.at_most_65281_result c.self.invariant.probabilities)
 
 pub returns-clause-narrows : goal.returns-clause-narrows
 returns-clause-narrows c =
     let a = c.self.inside in
-    let decided = c.decide-decided.ensures in
     let filled = c.fill-self-inside.ensures in
     let truth = c.decide-decided.result.truth in
-    let r = c.fill-self-inside.result in
-    let contexts = slice_set a.contexts c.args.ctx c.adapt.result in
-    let stands = filled.stands _ _ (decided.stands a.block.now _ _ c.self.invariant.stands) in
-    let after : contexts ≡ contexts_after (reading a).at c.args.ctx truth = ap (λ p. slice_set a.contexts c.args.ctx p) c.adapt.ensures.exact in
-    let new : Reading = reading (record { block = a.block; registers = r; contexts = contexts; refused = a.refused }) in
+    let done = taken a c.args.ctx truth c.decide-decided.result.registers c.fill-self-inside.result c.adapt.result
+    (runs_of a c.self.invariant c.if-self.false) c.decide-decided.ensures
+    filled.stands filled.range filled.some_ahead filled.most_ahead filled.inside c.adapt.ensures.exact in
+    let new : Reading = reading (record { block = a.block; registers = c.fill-self-inside.result; contexts = slice_set a.contexts c.args.ctx c.adapt.result; refused = a.refused }) in
     let P : Reading → Type 0 = λ x. new ≡ record { block = x.block; at = narrowed x.at (c.args.ctx, truth) } in
-    subst P c.self.view_is (moves a c.args.ctx truth r contexts stands (filled.range ∙ decided.range) after)
+    subst P c.self.view_is done.moved
 
 pub returns-clause-lies_inside : goal.returns-clause-lies_inside
 returns-clause-lies_inside c =
     let a = c.self.inside in
-    let decided = c.decide-decided.ensures in
     let filled = c.fill-self-inside.ensures in
     let truth = c.decide-decided.result.truth in
-    let r = c.fill-self-inside.result in
-    let contexts = slice_set a.contexts c.args.ctx c.adapt.result in
-    let stands = filled.stands _ _ (decided.stands a.block.now _ _ c.self.invariant.stands) in
-    let after : contexts ≡ contexts_after (reading a).at c.args.ctx truth = ap (λ p. slice_set a.contexts c.args.ctx p) c.adapt.ensures.exact in
-    let inside : r.window < r.range * 2 ^ r.ahead = rw filled.range (filled.inside _ decided.inside) in
+    let done = taken a c.args.ctx truth c.decide-decided.result.registers c.fill-self-inside.result c.adapt.result
+    (runs_of a c.self.invariant c.if-self.false) c.decide-decided.ensures
+    filled.stands filled.range filled.some_ahead filled.most_ahead filled.inside c.adapt.ensures.exact in
     let P : Reading → Type 0 = λ x. Lies x.block (narrowed x.at (c.args.ctx, truth)) in
-    subst P c.self.view_is (lies_moved a c.args.ctx truth r contexts stands (filled.range ∙ decided.range) after inside)
+    subst P c.self.view_is done.lies
 
 pub returns-clause-no_other_truth : goal.returns-clause-no_other_truth
 returns-clause-no_other_truth c =
@@ -81,14 +68,12 @@ returns-clause-no_other_truth c =
 pub returns-clause-few_doublings : goal.returns-clause-few_doublings
 returns-clause-few_doublings c =
     let a = c.self.inside in
-    let decided = c.decide-decided.ensures in
     let filled = c.fill-self-inside.ensures in
-    let stands = decided.stands a.block.now _ _ c.self.invariant.stands in
-    let before = c.self.invariant.stands.bits in
-    let after = stands.bits in
-    let is = doublings_is a.block.now c.fill-self-inside.result _ _ (filled.stands _ _ stands) in
+    let done = taken a c.args.ctx c.decide-decided.result.truth c.decide-decided.result.registers c.fill-self-inside.result c.adapt.result
+    (runs_of a c.self.invariant c.if-self.false) c.decide-decided.ensures
+    filled.stands filled.range filled.some_ahead filled.most_ahead filled.inside c.adapt.ensures.exact in
     let P : Reading → Type 0 = λ x. doublings_of c.fill-self-inside.result ≤ x.at.doublings + 9 in
-    subst P c.self.view_is (omega (arith, is, decided.few_doublings, decided.next))
+    subst P c.self.view_is done.few_doublings
 
 pub returns-then-self-clause-read : goal.returns-then-self-clause-read
 returns-then-self-clause-read c =

@@ -1,4 +1,4 @@
-use Rattle.std.proofs.Common.{◌≡◌, ℕ, suc, ◌+◌, ◌-◌, ◌*◌, ◌^◌, ◌<◌, ◌≤◌, Bool, true, false, Result, Ok, Err, ap, subst, sym, ◌∙◌, arith}
+use Rattle.std.proofs.Common.{◌≡◌, suc, ◌+◌, ◌-◌, ◌*◌, Bool, true, false, Result, Ok, Err, ap, subst, sym, ◌∙◌, arith}
 use Rattle.std.proofs.lemmas.Nat.{pow-add}
 use Rattle.std.proofs.lemmas.Result.{err_from_is_err_and}
 use Rattle.std.proofs.Math.Nat.{pow-le-pow_right}
@@ -8,7 +8,7 @@ use Rattle.dirac_common.proofs.Digits.{bit_value-below}
 use Rattle.dirac_arith.specs.Deciding.{decided, number_from_digit}
 use Rattle.dirac_arith.specs.Reading.{Reading}
 use Rattle.dirac_arith.specs.Spelling.{follow_at}
-use Rattle.dirac_arith.proofs.Behind.{number_begins, number_ends, number_goes_on, number_shut_at, number_shut_first, number_too_long, digit_shut_at}
+use Rattle.dirac_arith.proofs.Behind.{number_begins, number_ends, number_goes_on, number_shut_at, number_shut_first, number_too_long}
 use Rattle.dirac_arith.proofs.Numbers.{bit_of_byte}
 use Rattle.dirac_arith.proofs.decoder.Decoder.magnitude_behind.Goals as goal
 
@@ -40,9 +40,9 @@ returns-in_err-last-clause-read c =
 pub returns-then-last-clause-read : goal.returns-then-last-clause-read
 returns-then-last-clause-read c =
     λ before open'.
-    let is = c.in_ok-last.ensures.read ∙ ap (λ (t : Bool). let x : Result (Bool × Reading) Cause = Ok (t, c.decision-in-digits.new.self) in x) c.if-last.true in
-    let here = subst (λ context. decided context c.digits.self ≡ Ok (true, c.decision-in-digits.new.self)) c.follow_context.ensures.exact is in
-    c.digits.invariant.reads before open' ∙ number_ends c.args.follow.now c.args.bits c.digits.i (38 - c.digits.i) c.digits.value c.digits.self c.decision-in-digits.new.self here
+    let is = c.in_ok-last.ensures.read ∙ ap (λ (t : Bool). let x : Result (Bool × Reading) Cause = Ok (t, c.foreseen.new.self) in x) c.if-last.true in
+    let here = subst (λ context. decided context c.digits.self ≡ Ok (true, c.foreseen.new.self)) c.follow_context.ensures.exact is in
+    c.digits.invariant.reads before open' ∙ number_ends c.args.follow.now c.args.bits c.digits.i (38 - c.digits.i) c.digits.value c.digits.self c.foreseen.new.self here
 
 pub returns-then-last-clause-below_2_39 : goal.returns-then-last-clause-below_2_39
 returns-then-last-clause-below_2_39 c =
@@ -58,14 +58,14 @@ digits-preserved c =
     let twice = pow-add 2 (c.digits.i + 1) 1 in
     let left : 38 - c.digits.i ≡ suc (38 - (c.digits.i + 1)) = omega arith in
     let value : 2 * c.digits.value + bit_value c.in_ok-digit.digit ≡ c.digits.value * 2 + c.from.result = omega (arith, bit) in
-    let is = c.in_ok-last.ensures.read ∙ ap (λ (t : Bool). let x : Result (Bool × Reading) Cause = Ok (t, c.decision-in-digits.new.self) in x) c.if-last.false in
-    let here = subst (λ context. decided context c.digits.self ≡ Ok (false, c.decision-in-digits.new.self)) c.follow_context.ensures.exact is in
+    let is = c.in_ok-last.ensures.read ∙ ap (λ (t : Bool). let x : Result (Bool × Reading) Cause = Ok (t, c.foreseen.new.self) in x) c.if-last.false in
+    let here = subst (λ context. decided context c.digits.self ≡ Ok (false, c.foreseen.new.self)) c.follow_context.ensures.exact is in
     record {
       reads = λ before open'.
           kept.reads before open'
           ∙ ap (λ n. number_from_digit c.args.follow.now c.args.bits c.digits.i n c.digits.value c.digits.self) left
-          ∙ number_goes_on c.args.follow.now c.args.bits c.digits.i (38 - (c.digits.i + 1)) c.digits.value c.digits.self c.decision-in-digits.new.self c.decision-in-digits-2.new.self c.in_ok-digit.digit here digit.read
-          ∙ ap (λ v. number_from_digit c.args.follow.now c.args.bits (c.digits.i + 1) (38 - (c.digits.i + 1)) v c.decision-in-digits-2.new.self) value;
+          ∙ number_goes_on c.args.follow.now c.args.bits c.digits.i (38 - (c.digits.i + 1)) c.digits.value c.digits.self c.foreseen.new.self c.decision-in-digits.new.self c.in_ok-digit.digit here digit.read
+          ∙ ap (λ v. number_from_digit c.args.follow.now c.args.bits (c.digits.i + 1) (38 - (c.digits.i + 1)) v c.decision-in-digits.new.self) value;
       start = omega arith;
       some = omega (arith, kept.some);
       below = omega (arith, kept.below, twice, bit, small);
@@ -86,9 +86,9 @@ returns-then-end-clause-read c =
     λ before open'.
     let at : c.digits.i ≡ 38 = omega arith in
     let place = c.follow_context-2.ensures.exact ∙ ap (λ i. follow_at c.args.follow.now i) (sym at) in
-    let is = c.in_ok-end.ensures.read ∙ ap (λ (t : Bool). let x : Result (Bool × Reading) Cause = Ok (t, c.decision-2.new.self) in x) c.if-end.true in
-    let here = subst (λ context. decided context c.digits.self ≡ Ok (true, c.decision-2.new.self)) place is in
-    c.digits.invariant.reads before open' ∙ number_ends c.args.follow.now c.args.bits c.digits.i (38 - c.digits.i) c.digits.value c.digits.self c.decision-2.new.self here
+    let is = c.in_ok-end.ensures.read ∙ ap (λ (t : Bool). let x : Result (Bool × Reading) Cause = Ok (t, c.foreseen-2.new.self) in x) c.if-end.true in
+    let here = subst (λ context. decided context c.digits.self ≡ Ok (true, c.foreseen-2.new.self)) place is in
+    c.digits.invariant.reads before open' ∙ number_ends c.args.follow.now c.args.bits c.digits.i (38 - c.digits.i) c.digits.value c.digits.self c.foreseen-2.new.self here
 
 pub returns-then-end-clause-below_2_39 : goal.returns-then-end-clause-below_2_39
 returns-then-end-clause-below_2_39 c =
@@ -101,8 +101,8 @@ returns-clause-read c =
     let at : c.digits.i ≡ 38 = omega arith in
     let left : 38 - c.digits.i ≡ 0 = omega arith in
     let place = c.follow_context-2.ensures.exact ∙ ap (λ i. follow_at c.args.follow.now i) (sym at) in
-    let is = c.in_ok-end.ensures.read ∙ ap (λ (t : Bool). let x : Result (Bool × Reading) Cause = Ok (t, c.decision-2.new.self) in x) c.if-end.false in
-    let here = subst (λ context. decided context c.digits.self ≡ Ok (false, c.decision-2.new.self)) place is in
+    let is = c.in_ok-end.ensures.read ∙ ap (λ (t : Bool). let x : Result (Bool × Reading) Cause = Ok (t, c.foreseen-2.new.self) in x) c.if-end.false in
+    let here = subst (λ context. decided context c.digits.self ≡ Ok (false, c.foreseen-2.new.self)) place is in
     c.digits.invariant.reads before open'
     ∙ ap (λ n. number_from_digit c.args.follow.now c.args.bits c.digits.i n c.digits.value c.digits.self) left
-    ∙ number_too_long c.args.follow.now c.args.bits c.digits.i c.digits.value c.digits.self c.decision-2.new.self here
+    ∙ number_too_long c.args.follow.now c.args.bits c.digits.i c.digits.value c.digits.self c.foreseen-2.new.self here

@@ -25,7 +25,7 @@ pub returns-then-last-clause-found : goal.returns-then-last-clause-found
 returns-then-last-clause-found c =
     let kept = c.digits.invariant in
     let taken = c.in_ok-last.ensures in
-    reads_spelling c.args.self.now c.digits.self c.decision.new.self c.args.follow.now c.args.bits c.follow_context.result c.digits.i (c.digits.value - 1) c.in_ok-last.last
+    reads_spelling c.args.self.now c.digits.self c.foreseen.new.self c.args.follow.now c.args.bits c.follow_context.result c.digits.i (c.digits.value - 1) c.in_ok-last.last
     kept.reads kept.digits c.follow_context.ensures.exact c.if-last.true taken.narrows taken.lies_inside
 
 pub returns-then-last-clause-below_2_39 : goal.returns-then-last-clause-below_2_39
@@ -45,7 +45,7 @@ digits-preserved c =
     let twice = pow-add 2 (c.digits.i + 1) 1 in
     record {
       reads =
-          reads_digit c.args.self.now c.digits.self c.decision.new.self c.decision-in-digits.new.self c.args.follow.now c.args.bits c.follow_context.result
+          reads_digit c.args.self.now c.digits.self c.foreseen.new.self c.decision.new.self c.args.follow.now c.args.bits c.follow_context.result
           c.digits.i c.digits.value c.from.result c.in_ok-last.last c.in_ok-digit.digit
           kept.reads kept.digits c.follow_context.ensures.exact c.if-last.false taken.narrows taken.lies_inside digit.narrows digit.lies_inside bit kept.some fits;
       some = omega (arith, kept.some);
@@ -60,7 +60,7 @@ returns-then-end-clause-found c =
     let kept = c.digits.invariant in
     let taken = c.in_ok-end.ensures in
     let count : length (digits_of (c.digits.value - 1)) ≡ 38 = kept.digits ∙ omega arith in
-    reads_spelling c.args.self.now c.digits.self c.decision-2.new.self c.args.follow.now c.args.bits c.follow_context-2.result 38 (c.digits.value - 1) c.in_ok-end.end
+    reads_spelling c.args.self.now c.digits.self c.foreseen-2.new.self c.args.follow.now c.args.bits c.follow_context-2.result 38 (c.digits.value - 1) c.in_ok-end.end
     kept.reads count c.follow_context-2.ensures.exact c.if-end.true taken.narrows taken.lies_inside
 
 pub returns-clause-long : goal.returns-clause-long
@@ -70,10 +70,10 @@ returns-clause-long c =
     let taken = c.in_ok-end.ensures in
     let digits = digits_of (c.digits.value - 1) in
     let count : length digits ≡ 38 = kept.digits ∙ omega arith in
-    let P : Bool → Type 0 = λ t. Reads c.args.self.now (spelt c.args.follow.now c.args.bits digits t) c.decision-2.new.self in (
+    let P : Bool → Type 0 = λ t. Reads c.args.self.now (spelt c.args.follow.now c.args.bits digits t) c.foreseen-2.new.self in (
       digits,
       count,
       subst P c.if-end.false
-          (reads_spelt c.args.self.now c.digits.self c.decision-2.new.self c.args.follow.now c.args.bits c.follow_context-2.result 38 digits c.in_ok-end.end
+          (reads_spelt c.args.self.now c.digits.self c.foreseen-2.new.self c.args.follow.now c.args.bits c.follow_context-2.result 38 digits c.in_ok-end.end
           kept.reads count c.follow_context-2.ensures.exact taken.narrows taken.lies_inside),
     )

@@ -1,4 +1,4 @@
-use Rattle.std.proofs.Common.{◌≡◌, ℤ, Bool, Result, Ok, ap, sym, ◌∙◌, w64, to_z, of_z, rules}
+use Rattle.std.proofs.Common.{◌≡◌, ℤ, Result, Ok, ap, sym, ◌∙◌, w64, to_z, of_z, rules}
 use Rattle.std.proofs.lemmas.Int.{to_z-of_z}
 use Rattle.std.proofs.lemmas.Result.{err_from_is_err_and}
 use Rattle.dirac_common.specs.Numbers.{signed_value}

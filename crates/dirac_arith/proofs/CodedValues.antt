@@ -1,0 +1,282 @@
+-- A coded value is read exactly where the block carries decisions that spell it, and refused where it breaks off.
+use Rattle.std.proofs.Common.{◌≡◌, ◌≢◌, ℕ, suc, zero, ◌+◌, ◌<◌, false, List, [], ◌∷◌, ◌++◌, inl, inr, ◌⊎◌, Result, Ok, Err, refl, sym, ap, ◌∙◌, arith, subst}
+use Rattle.std.proofs.lemmas.Bool.{cases_eq}
+use native.Mathlib.Numerals.{unary_clauses}
+use Rattle.dirac_common.specs.Chain.{◌>>=◌}
+use Rattle.dirac_common.specs.declared.faults.Cause.{Cause}
+use Rattle.dirac_common.specs.declared.faults.Cause.TheVariants as cause
+use Rattle.dirac_arith.specs.Carried.{Carries}
+use Rattle.dirac_arith.specs.Coded.{Coded, done, decide, number, signed, refuse, read, and_then, repeated, Spells, Breaks}
+use Rattle.dirac_arith.specs.CodedLaws.{SpelledIsRead, OneIsSpelled, BrokenIsRefused, OnesAreRefused}
+use Rattle.dirac_arith.specs.Deciding.{begin, after, after_all, truth_of, decided, number_read, signed_read}
+use Rattle.dirac_arith.specs.Front.{front}
+use Rattle.dirac_arith.specs.Interval.{Decision}
+use Rattle.dirac_arith.specs.Reading.{Reading, Reads}
+use Rattle.dirac_arith.specs.Spelling.{spelt, spelling, signed_spelling}
+use Rattle.dirac_arith.proofs.Carrieds.{IsLed, one_answer, some_number, some_signed, reads_of}
+use Rattle.dirac_arith.proofs.Decidings.{decided_open, decided_shut, number_is, number_is_long, number_is_shut, signed_is_read, signed_is_long, signed_is_shut}
+use Rattle.dirac_arith.proofs.Led.{reads_nothing, led_begin, led_more, reads_parted, carried_reads, reads_carried, decision_led, number_led, number_long_led, signed_led, signed_long_led, decision_leads, number_leads, signed_leads}
+use Rattle.dirac_arith.proofs.Spellings.{reads_more}
+
+-- a part that is read, and what is behind it
+then_read : {X Y : Type 0} (r : Result (X × Reading) Cause) (k : X × Reading → Result Y Cause) (v : X) (m : Reading) (y : Result Y Cause)
+    → r ≡ Ok (v, m) → k (v, m) ≡ y → (r >>= k) ≡ y
+then_read r k v m y first second = rw first second
+
+-- the same list of decisions is read
+same_reads : (r s : Reading) (ds es : List Decision) → ds ≡ es → Reads r ds s → Reads r es s
+same_reads r s ds es e reads = subst (λ (l : List Decision). Reads r l s) e reads
+
+-- ---- what is spelled is read, and what breaks off is refused
+
+pub spelled_read : {A : Type 0} (s : Coded A) (x : A) (ds : List Decision) (r m : Reading) → IsLed r → Spells s x ds → Reads r ds m → read s r ≡ Ok (x, m)
+spelled_read (done y) x ds r m led e reads =
+    let none = same_reads r m ds [] e.1 reads in
+    let moved : m ≡ r = none.moved in
+    rw (e.0, moved) refl
+spelled_read (decide context f) x ds r m led e reads =
+    let d : Decision = (context, e.0) in
+    let p = reads_parted r m (d ∷ []) e.1 led (same_reads r m ds (d ∷ e.1) e.2 reads) in
+    then_read (decided context r) (λ b. read (f b.0) b.1) e.0 p.mid (Ok (x, m)) (decision_led r p.mid context e.0 led p.first)
+    (spelled_read (f e.0) x e.1 p.mid m (led_more r p.mid (d ∷ []) led p.first) e.3 p.then)
+spelled_read (number follow bits f) x ds r m led e reads =
+    let first = spelling follow bits e.0 in
+    let p = reads_parted r m first e.1 led (same_reads r m ds (first ++ e.1) e.3 reads) in
+    then_read (number_read follow bits r) (λ n. read (f n.0) n.1) e.0 p.mid (Ok (x, m)) (number_led r p.mid follow bits e.0 led e.2 p.first)
+    (spelled_read (f e.0) x e.1 p.mid m (led_more r p.mid first led p.first) e.4 p.then)
+spelled_read (signed follow bits sign f) x ds r m led e reads =
+    let first = signed_spelling follow bits sign e.0 in
+    let p = reads_parted r m first e.1 led (same_reads r m ds (first ++ e.1) e.3 reads) in
+    then_read (signed_read follow bits sign r) (λ z. read (f z.0) z.1) e.0 p.mid (Ok (x, m)) (signed_led r p.mid follow bits sign e.0 led e.2 p.first)
+    (spelled_read (f e.0) x e.1 p.mid m (led_more r p.mid first led p.first) e.4 p.then)
+spelled_read (refuse cause) x ds r m led e reads = absurd e
+
+pub broken_refused : {A : Type 0} (s : Coded A) (e : Cause) (ds : List Decision) (r m : Reading) → IsLed r → Breaks s e ds → Reads r ds m → read s r ≡ Err e
+broken_refused (done y) e ds r m led b reads = absurd b
+broken_refused (decide context f) e ds r m led b reads =
+    let d : Decision = (context, b.0) in
+    let p = reads_parted r m (d ∷ []) b.1 led (same_reads r m ds (d ∷ b.1) b.2 reads) in
+    then_read (decided context r) (λ c. read (f c.0) c.1) b.0 p.mid (Err e) (decision_led r p.mid context b.0 led p.first)
+    (broken_refused (f b.0) e b.1 p.mid m (led_more r p.mid (d ∷ []) led p.first) b.3 p.then)
+broken_refused (number follow bits f) e ds r m led (inl long) reads =
+    rw (number_long_led r m follow bits long.0 led long.1 (same_reads r m ds (spelt follow bits long.0 false) long.3 reads), long.2) refl
+broken_refused (number follow bits f) e ds r m led (inr b) reads =
+    let first = spelling follow bits b.0 in
+    let p = reads_parted r m first b.1 led (same_reads r m ds (first ++ b.1) b.3 reads) in
+    then_read (number_read follow bits r) (λ n. read (f n.0) n.1) b.0 p.mid (Err e) (number_led r p.mid follow bits b.0 led b.2 p.first)
+    (broken_refused (f b.0) e b.1 p.mid m (led_more r p.mid first led p.first) b.4 p.then)
+broken_refused (signed follow bits sign f) e ds r m led (inl long) reads =
+    rw (signed_long_led r m follow bits sign long.0 led long.1 (same_reads r m ds (spelt follow bits long.0 false) long.3 reads), long.2) refl
+broken_refused (signed follow bits sign f) e ds r m led (inr b) reads =
+    let first = signed_spelling follow bits sign b.0 in
+    let p = reads_parted r m first b.1 led (same_reads r m ds (first ++ b.1) b.3 reads) in
+    then_read (signed_read follow bits sign r) (λ z. read (f z.0) z.1) b.0 p.mid (Err e) (signed_led r p.mid follow bits sign b.0 led b.2 p.first)
+    (broken_refused (f b.0) e b.1 p.mid m (led_more r p.mid first led p.first) b.4 p.then)
+broken_refused (refuse reason) e ds r m led b reads = ap Err (sym b.0)
+
+-- ---- what is read is spelled
+
+-- a part that was read, and what is behind it
+record Then {X Y : Type 0} (r : Result (X × Reading) Cause) (k : X × Reading → Result Y Cause) (y : Y) : Type 0 where
+  value : X
+  behind : Reading
+  first : r ≡ Ok (value, behind)
+  second : k (value, behind) ≡ Ok y
+
+was_read : {X Y : Type 0} (r : Result (X × Reading) Cause) (k : X × Reading → Result Y Cause) (y : Y) → (r >>= k) ≡ Ok y → Then r k y
+was_read (Ok x) k y e = record { value = x.0; behind = x.1; first = refl; second = e }
+was_read (Err c) k y e = absurd cc
+
+-- decisions that spell a value and were read
+pub record Spelled {A : Type 0} (s : Coded A) (x : A) (r m : Reading) : Type 0 where
+  pub ds : List Decision
+  pub spells : Spells s x ds
+  pub reads : Reads r ds m
+
+pub read_spelled : {A : Type 0} (s : Coded A) (x : A) (r m : Reading) → IsLed r → read s r ≡ Ok (x, m) → Spelled s x r m
+read_spelled (done y) x r m led e =
+    let one = one_answer (read (done y) r) (y, r) (x, m) refl e in
+    let value : y ≡ x = ap (λ p. p.0) one in
+    let place : r ≡ m = ap (λ p. p.1) one in
+    record { ds = []; spells = (value, refl); reads = subst (λ (n : Reading). Reads r [] n) place (reads_nothing r) }
+read_spelled (decide context f) x r m led e =
+    let t = was_read (decided context r) (λ b. read (f b.0) b.1) (x, m) e in
+    let d : Decision = (context, t.value) in
+    let here = decision_leads r t.behind context t.value led t.first in
+    let more = read_spelled (f t.value) x t.behind m (led_more r t.behind (d ∷ []) led here) t.second in
+    record { ds = d ∷ more.ds; spells = (t.value, more.ds, refl, more.spells); reads = reads_more r t.behind m (d ∷ []) more.ds here more.reads }
+read_spelled (number follow bits f) x r m led e =
+    let t = was_read (number_read follow bits r) (λ n. read (f n.0) n.1) (x, m) e in
+    let first = spelling follow bits t.value in
+    let here = number_leads r t.behind follow bits t.value led t.first in
+    let more = read_spelled (f t.value) x t.behind m (led_more r t.behind first led here.1) t.second in
+    record { ds = first ++ more.ds; spells = (t.value, more.ds, here.0, refl, more.spells); reads = reads_more r t.behind m first more.ds here.1 more.reads }
+read_spelled (signed follow bits sign f) x r m led e =
+    let t = was_read (signed_read follow bits sign r) (λ z. read (f z.0) z.1) (x, m) e in
+    let first = signed_spelling follow bits sign t.value in
+    let here = signed_leads r t.behind follow bits sign t.value led t.first in
+    let more = read_spelled (f t.value) x t.behind m (led_more r t.behind first led here.1) t.second in
+    record { ds = first ++ more.ds; spells = (t.value, more.ds, here.0, refl, more.spells); reads = reads_more r t.behind m first more.ds here.1 more.reads }
+read_spelled (refuse cause) x r m led e = absurd cc
+
+-- ---- what is refused breaks off
+
+-- decisions that lead to where a value breaks off and were read
+pub record Broken {A : Type 0} (s : Coded A) (e : Cause) (r : Reading) : Type 0 where
+  pub ds : List Decision
+  pub behind : Reading
+  pub breaks : Breaks s e ds
+  pub reads : Reads r ds behind
+
+pub refused_breaks : {A : Type 0} (s : Coded A) (e : Cause) (r : Reading) → IsLed r → front r.block 16 ≢ 0xFFFF → read s r ≡ Err e → Broken s e r
+refused_breaks (done y) e r led some shut = absurd cc
+refused_breaks (decide context f) e r led some shut =
+    let t = decided_open context r some in
+    let u = truth_of context r in
+    let d : Decision = (context, u) in
+    let m = after r d in
+    let here = decision_leads r m context u led t in
+    let more = refused_breaks (f u) e m (led_more r m (d ∷ []) led here) some (rw t at shut) in
+    record { ds = d ∷ more.ds; behind = more.behind; breaks = (u, more.ds, refl, more.breaks); reads = reads_more r m more.behind (d ∷ []) more.ds here more.reads }
+refused_breaks (number follow bits f) e r led some shut =
+    elim (some_number r.block r.at follow bits (led.lies some)) as (λ _. Broken (number follow bits f) e r) [
+      | inl found ↦
+          let n = found.0 in
+          let first = spelling follow bits n in
+          let m = after_all r first in
+          let here = reads_of r m first refl found.2 in
+          let is = number_is follow bits n r led.tame some found.1 found.2 in
+          let more = refused_breaks (f n) e m (led_more r m first led here) some (rw is at shut) in
+          record { ds = first ++ more.ds; behind = more.behind; breaks = inr (n, more.ds, found.1, refl, more.breaks); reads = reads_more r m more.behind first more.ds here more.reads }
+      | inr long ↦
+          let ds = spelt follow bits long.0 false in
+          let is = number_is_long follow bits long.0 r led.tame some long.1 long.2 in
+          let same : e ≡ cause.NumberTooLong = let f = rw is at shut in cc in
+          record { ds = ds; behind = after_all r ds; breaks = inl (long.0, long.1, same, refl); reads = reads_of r (after_all r ds) ds refl long.2 }
+    ]
+refused_breaks (signed follow bits sign f) e r led some shut =
+    elim (some_signed r.block r.at follow bits sign (led.lies some)) as (λ _. Broken (signed follow bits sign f) e r) [
+      | inl found ↦
+          let z = found.0 in
+          let first = signed_spelling follow bits sign z in
+          let m = after_all r first in
+          let here = reads_of r m first refl found.2 in
+          let is = signed_is_read follow bits sign z r led.tame some found.1 found.2 in
+          let more = refused_breaks (f z) e m (led_more r m first led here) some (rw is at shut) in
+          record { ds = first ++ more.ds; behind = more.behind; breaks = inr (z, more.ds, found.1, refl, more.breaks); reads = reads_more r m more.behind first more.ds here more.reads }
+      | inr long ↦
+          let ds = spelt follow bits long.0 false in
+          let is = signed_is_long follow bits sign long.0 r led.tame some long.1 long.2 in
+          let same : e ≡ cause.NumberTooLong = let f = rw is at shut in cc in
+          record { ds = ds; behind = after_all r ds; breaks = inl (long.0, long.1, same, refl); reads = reads_of r (after_all r ds) ds refl long.2 }
+    ]
+refused_breaks (refuse reason) e r led some shut =
+    let same : e ≡ reason = cc in
+    record { ds = []; behind = r; breaks = (same, refl); reads = reads_nothing r }
+
+-- ---- of a whole block
+
+pub is_read : {A : Type 0} (s : Coded A) (x : A) (ds : List Decision) (block : List ℕ) → Spells s x ds → Carries block ds → read s (begin block) ≡ Ok (x, after_all (begin block) ds)
+is_read s x ds block spells carries = spelled_read s x ds (begin block) (after_all (begin block) ds) (led_begin block) spells (carried_reads block ds carries)
+
+pub spelled_is_read : {A : Type 0} → SpelledIsRead A
+spelled_is_read {A} s x block = (
+  λ e. let t = read_spelled s x (begin block) e.0 (led_begin block) e.1 in (t.ds, t.spells, reads_carried block t.ds e.0 t.reads),
+  λ p. (after_all (begin block) p.0, is_read s x p.0 block p.1 p.2),
+)
+
+pub one_is_spelled : {A : Type 0} → OneIsSpelled A
+one_is_spelled {A} s x y ds es block p a q b =
+    ap (λ v. v.0) (one_answer (read s (begin block)) (x, after_all (begin block) ds) (y, after_all (begin block) es) (is_read s x ds block p a) (is_read s y es block q b))
+
+pub broken_is_refused : {A : Type 0} → BrokenIsRefused A
+broken_is_refused {A} s e block some = (
+  λ shut. let t = refused_breaks s e (begin block) (led_begin block) some shut in (t.ds, t.breaks, reads_carried block t.ds t.behind t.reads),
+  λ p. broken_refused s e p.0 (begin block) (after_all (begin block) p.0) (led_begin block) p.1 (carried_reads block p.0 p.2),
+)
+
+pub ones_are_refused : {A : Type 0} → OnesAreRefused A
+ones_are_refused {A} (done x) block ones = inr (inl (x, (refl, refl)))
+ones_are_refused {A} (decide context f) block ones = inl (rw (decided_shut context (begin block) ones) refl)
+ones_are_refused {A} (number follow bits f) block ones = inl (rw (number_is_shut follow bits (begin block) ones) refl)
+ones_are_refused {A} (signed follow bits sign f) block ones = inl (rw (signed_is_shut follow bits sign (begin block) ones) refl)
+ones_are_refused {A} (refuse cause) block ones = inr (inr (cause, (refl, refl)))
+
+-- ---- steps one after another
+
+-- two reads that agree on each answer agree
+same_behind : {X Y : Type 0} (r : Result X Cause) (k l : X → Result Y Cause) → ((x : X) → k x ≡ l x) → (r >>= k) ≡ (r >>= l)
+same_behind (Ok x) k l same = same x
+same_behind (Err e) k l same = refl
+
+chained : {X Y Z : Type 0} (r : Result X Cause) (k : X → Result Y Cause) (l : Y → Result Z Cause) → ((r >>= k) >>= l) ≡ (r >>= λ x. k x >>= l)
+chained (Ok x) k l = refl
+chained (Err e) k l = refl
+
+pub then_is_read : {A B : Type 0} (s : Coded A) (g : A → Coded B) (r : Reading) → read (and_then s g) r ≡ (read s r >>= λ x. read (g x.0) x.1)
+then_is_read (done x) g r = refl
+then_is_read (decide context f) g r =
+    same_behind (decided context r) (λ b. read (and_then (f b.0) g) b.1) (λ b. read (f b.0) b.1 >>= λ x. read (g x.0) x.1) (λ b. then_is_read (f b.0) g b.1)
+    ∙ sym (chained (decided context r) (λ b. read (f b.0) b.1) (λ x. read (g x.0) x.1))
+then_is_read (number follow bits f) g r =
+    same_behind (number_read follow bits r) (λ n. read (and_then (f n.0) g) n.1) (λ n. read (f n.0) n.1 >>= λ x. read (g x.0) x.1) (λ n. then_is_read (f n.0) g n.1)
+    ∙ sym (chained (number_read follow bits r) (λ n. read (f n.0) n.1) (λ x. read (g x.0) x.1))
+then_is_read (signed follow bits sign f) g r =
+    same_behind (signed_read follow bits sign r) (λ z. read (and_then (f z.0) g) z.1) (λ z. read (f z.0) z.1 >>= λ x. read (g x.0) x.1) (λ z. then_is_read (f z.0) g z.1)
+    ∙ sym (chained (signed_read follow bits sign r) (λ z. read (f z.0) z.1) (λ x. read (g x.0) x.1))
+then_is_read (refuse cause) g r = refl
+
+-- no step
+pub repeated_none : {A : Type 0} (step : ℕ → A → Coded A) (x : A) (r : Reading) → read (repeated step 0 x) r ≡ Ok (x, r)
+unfolding repeated
+repeated_none step x r = refl
+
+-- one step more
+pub repeated_next : {A : Type 0} (step : ℕ → A → Coded A) (n : ℕ) (x : A) (r : Reading) (y : A) (s : Reading) (z : Result (A × Reading) Cause) → read (repeated step n x) r ≡ Ok (y, s) → read (step n y) s ≡ z
+    → read (repeated step (n + 1) x) r ≡ z
+unfolding repeated
+repeated_next step n x r y s z before here = simp unary_clauses (then_is_read (repeated step n x) (step n) r ∙ rw before here)
+
+-- a step that is refused ends them all
+pub repeated_stops : {A : Type 0} (step : ℕ → A → Coded A) (n m : ℕ) (x : A) (r : Reading) (y : A) (s : Reading) (e : Cause) → n < m → read (repeated step n x) r ≡ Ok (y, s) → read (step n y) s ≡ Err e
+    → read (repeated step m x) r ≡ Err e
+unfolding repeated
+repeated_stops step n zero x r y s e less before here = absurd (omega arith)
+repeated_stops {A = A} step n (suc m) x r y s e less before here =
+    elim (cases_eq n m) [
+      | inl same ↦
+          let before' : read (repeated step m x) r ≡ Ok (y, s) = subst (λ (k : ℕ). read (repeated step k x) r ≡ Ok (y, s)) same before in
+          let here' : read (step m y) s ≡ Err e = subst (λ (k : ℕ). read (step k y) s ≡ Err e) same here in
+          then_is_read (repeated step m x) (step m) r ∙ rw before' here'
+      | inr other ↦ then_is_read (repeated step m x) (step m) r ∙ rw (repeated_stops step n m x r y s e (omega arith) before here) refl
+    ]
+
+-- ---- ones
+
+-- a value isn't refused before anything is read
+abbrev pub Open : {A : Type 0} → Coded A → Type 0
+Open (done x) = Unit {0}
+Open (decide context f) = Unit {0}
+Open (number follow bits f) = Unit {0}
+Open (signed follow bits sign f) = Unit {0}
+Open (refuse cause) = ⊥
+
+pub then_open : {A B : Type 0} (s : Coded A) (g : A → Coded B) → Open s → ((x : A) → Open (g x)) → Open (and_then s g)
+then_open (done x) g p q = q x
+then_open (decide context f) g p q = tt
+then_open (number follow bits f) g p q = tt
+then_open (signed follow bits sign f) g p q = tt
+then_open (refuse cause) g p q = absurd p
+
+pub repeated_open : {A : Type 0} (step : ℕ → A → Coded A) (n : ℕ) (x : A) → ((k : ℕ) (y : A) → Open (step k y)) → Open (repeated step n x)
+unfolding repeated
+repeated_open step zero x each = tt
+repeated_open step (suc n) x each = then_open (repeated step n x) (step n) (repeated_open step n x each) (λ y. each n y)
+
+-- so ones refuse it, where it needs a decision
+pub open_shut : {A : Type 0} (s : Coded A) (block : List ℕ) → Open s → front block 16 ≡ 0xFFFF → (read s (begin block) ≡ Err cause.CodeWord) ⊎ ((x : A) × Spells s x [])
+open_shut (done x) block p ones = inr (x, (refl, refl))
+open_shut (decide context f) block p ones = inl (rw (decided_shut context (begin block) ones) refl)
+open_shut (number follow bits f) block p ones = inl (rw (number_is_shut follow bits (begin block) ones) refl)
+open_shut (signed follow bits sign f) block p ones = inl (rw (signed_is_shut follow bits sign (begin block) ones) refl)
+open_shut (refuse cause) block p ones = absurd p

@@ -1,0 +1,11 @@
+use Rattle.std.proofs.Common.{refl, ◌∙◌}
+use Rattle.dirac_arith.specs.Coded.{done}
+use Rattle.dirac_arith.proofs.CodedValues.{then_is_read}
+use Rattle.dirac_blocks.specs.Grammar.{unit_coded, unit_step, with_unit}
+use Rattle.dirac_blocks.proofs.unit_reading.read_unit.Goals as goal
+
+pub returns-in-Err-clause-value : goal.returns-in-Err-clause-value
+unfolding unit_step
+returns-in-Err-clause-value c =
+    let t = c.args.table.now in
+    then_is_read (unit_coded c.args.part t c.args.i c.args.j) (λ b. done (with_unit t c.args.size c.args.i c.args.j b)) c.args.decoder.now ∙ rw c.in-Err.ensures.value refl
