@@ -11,6 +11,7 @@ pub mod LaneLemmas
 pub mod LaneSteps
 pub mod LevelGrowth
 pub mod LevelLemmas
+pub mod Liftables
 pub mod Lifted
 pub mod MapLemmas
 pub mod NarrowLevels

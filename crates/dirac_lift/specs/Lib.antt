@@ -4,8 +4,10 @@ pub mod HalfRuns
 pub mod Halves
 pub mod Lanes
 pub mod Level
+pub mod Liftables
 pub mod Lifting
 pub mod Places
+pub mod Running
 pub mod Safety
 pub mod Wavelets
 pub mod Zeros

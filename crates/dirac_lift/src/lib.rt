@@ -3,7 +3,6 @@
 //! The wavelet transforms as lifting steps in place.
 
 mod columns;
-mod half_analysis;
 mod half_ends;
 mod half_lanes;
 mod half_levels;
@@ -13,10 +12,12 @@ mod halves;
 mod lanes;
 mod laws;
 mod levels;
+mod liftable;
 mod lines;
 mod narrow_levels;
 mod step;
 mod tables;
+mod wavelets;
 
 pub use half_levels::synth_halves_level;
 pub use half_rows::{HalfRows, analyse_halves_level};
