@@ -20,6 +20,7 @@ pub mod RowLemmas
 pub mod Runs
 pub mod Signed
 pub mod Strips
+pub mod Turns
 pub mod Undone
 pub mod Weighted
 pub mod ZerosKept

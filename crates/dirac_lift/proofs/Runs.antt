@@ -19,7 +19,7 @@ run-append [] ts xs = refl
 run-append (s ∷ ss) ts xs = run-append ss ts (lift s xs)
 
 -- each step's parity is one
-abbrev has_parities : List Step → Bool
+abbrev pub has_parities : List Step → Bool
 has_parities [] = true
 has_parities (s ∷ ss) = nat_le s.parity 1 && has_parities ss
 
@@ -149,7 +149,7 @@ by_wavelet P p0 p1 p2 p3 p4 p5 p6 (suc (suc (suc (suc (suc (suc (suc n))))))) l 
 pub parities_of : (w : ℕ) → w ≤ 6 → has_parities (steps_of w) ≡ true
 parities_of = by_wavelet (λ w ss. has_parities ss ≡ true) refl refl refl refl refl refl refl
 
-parities_back : (w : ℕ) → w ≤ 6 → has_parities (taken_back (steps_of w)) ≡ true
+pub parities_back : (w : ℕ) → w ≤ 6 → has_parities (taken_back (steps_of w)) ≡ true
 parities_back = by_wavelet (λ w ss. has_parities (taken_back ss) ≡ true) refl refl refl refl refl refl refl
 
 small_of : (w : ℕ) → w ≤ 6 → stays_small (steps_of w) (2 ^ 108) (2 ^ 108) ≡ true

@@ -1,3 +1,4 @@
+pub mod ByLines
 pub mod Changes
 pub mod HalfRows
 pub mod HalfRuns

@@ -21,7 +21,7 @@ mod wavelets;
 
 pub use half_levels::synth_halves_level;
 pub use half_rows::{HalfRows, analyse_halves_level};
-pub use laws::zeros_stay_zeros;
+pub use laws::{lines_come_in_turn, zeros_stay_zeros};
 pub use levels::{analyse_level, synth_level};
 pub use lines::{analyse_line, synth_line};
 pub use narrow_levels::synth_level_narrow;
