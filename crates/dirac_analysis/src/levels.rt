@@ -2,17 +2,17 @@ ghost use Rattle.std.specs.Prelude.{◌≡◌, ◌-◌, ◌%◌, ◌≤◌, ◌^
 ghost use Rattle.std.specs.List.{All};
 ghost use Rattle.dirac_common.specs.Limits.{IsWavelet};
 ghost use Rattle.dirac_bands.specs.Interleaving.{band_of};
+ghost use Rattle.dirac_lift.specs.Held.{held_table};
 ghost use Rattle.dirac_lift.specs.Level.{analysed};
 ghost use Rattle.dirac_analysis.specs.Analysis.{analysis_of, as_coded, differences};
 ghost use Rattle.dirac_analysis.specs.Fits.{AreQuantisable, IsDivisible, IsQuantisable, grown};
-ghost use Rattle.dirac_analysis.specs.Halves.{held_table};
 
 use crate::analysed::AnalysedPlane;
-use crate::held::{Held, SplitLevel};
-use crate::narrow::{is_narrow, split_narrow};
+use crate::narrow::split_narrow;
+use crate::split::SplitLevel;
 use dirac_bands::{FourBands, dc_subtract, split_bands};
 use dirac_common::{Kind, LARGEST_TABLE_SIDE, Narrow, NoMemory, Wide};
-use dirac_lift::analyse_level;
+use dirac_lift::{Held, analyse_level, is_narrow};
 use std::alloc::Global;
 
 /// The last LL band as it is coded: an intra picture's less its predictions.

@@ -4,24 +4,14 @@ ghost use Rattle.std.specs.Prelude.{IfOk};
 ghost use Rattle.std.specs.List.{All};
 ghost use Rattle.dirac_common.specs.Limits.{IsWavelet};
 ghost use Rattle.dirac_bands.specs.Interleaving.{band_of};
+ghost use Rattle.dirac_lift.specs.Held.{held_table};
 ghost use Rattle.dirac_lift.specs.Level.{analysed};
-ghost use Rattle.dirac_analysis.specs.Halves.{half_columns, held_table};
+ghost use Rattle.dirac_analysis.specs.Halves.{half_columns};
 
-use crate::held::{Held, SplitLevel};
+use crate::split::SplitLevel;
 use dirac_common::{LARGEST_NARROW, LARGEST_TABLE_SIDE, Narrow, NoMemory, Wide};
-use dirac_lift::{HalfRows, analyse_halves_level};
+use dirac_lift::{HalfRows, Held, analyse_halves_level};
 use std::alloc::Global;
-
-/// Whether all values are at most 4,095 in magnitude.
-pub fn is_narrow(values: &[i32]) -> bool
-    ensures { result ≡ true → All (λ v. unsigned_abs v ≤ LARGEST_NARROW) values.now }
-{
-    let mut all = true;
-    for n in 0..values.len() {
-        all &= values[n].unsigned_abs() <= LARGEST_NARROW;
-    }
-    all
-}
 
 /// Copies the first values of a row.
 fn copy_front(row: &[i32], line: &mut [i32])

@@ -4,6 +4,7 @@ pub mod HalfRows
 pub mod HalfRuns
 pub mod Halves
 pub mod Lanes
+pub mod Held
 pub mod Level
 pub mod Liftables
 pub mod Lifting

@@ -9,6 +9,7 @@ mod half_levels;
 mod half_lines;
 mod half_rows;
 mod halves;
+mod held;
 mod lanes;
 mod laws;
 mod levels;
@@ -21,6 +22,7 @@ mod wavelets;
 
 pub use half_levels::synth_halves_level;
 pub use half_rows::{HalfRows, analyse_halves_level};
+pub use held::{Held, is_narrow};
 pub use laws::{lines_come_in_turn, zeros_stay_zeros};
 pub use levels::{analyse_level, synth_level};
 pub use lines::{analyse_line, synth_line};

@@ -3,13 +3,13 @@ ghost use Rattle.std.specs.Prelude.{◌≡◌, IfOk};
 ghost use Rattle.dirac_synthesis.specs.Levels.{IsLevel, level_plane, next_low};
 
 use crate::bands::{LevelBands, Synthesis, have_one_index};
-use crate::held::{Held, Residual};
+use crate::held::Residual;
 use crate::join::join_restored;
-use crate::narrow::{are_narrow, is_narrow, narrow_level};
+use crate::narrow::{are_narrow, narrow_level};
 use crate::restore::restore_band;
 use dirac_bands::join_bands;
 use dirac_common::{Narrow, NoMemory, Wide};
-use dirac_lift::synth_level;
+use dirac_lift::{Held, is_narrow, synth_level};
 use std::alloc::Global;
 
 /// The plane of a level, wide: its four bands interleaved.

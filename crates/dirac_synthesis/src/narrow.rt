@@ -20,13 +20,6 @@ use dirac_lift::synth_halves_level;
 use dirac_quant::{narrow_limit, restore_narrow};
 use std::alloc::Global;
 
-/// Whether all values are at most 4,095 in magnitude.
-pub fn is_narrow(values: &[i32]) -> bool
-    ensures { result ≡ true → All (λ v. unsigned_abs v ≤ LARGEST_NARROW) values.now }
-{
-    values.iter().all(|v| v.unsigned_abs() <= LARGEST_NARROW)
-}
-
 /// Whether all coefficients of a band are at most 4,095 in magnitude.
 fn is_narrow_band(band: &CodedBand, kind: Kind) -> bool
     requires { IsIndex band.now.index }

@@ -5,7 +5,7 @@ use Rattle.dirac_bands.specs.Interleaving.{band_of}
 use Rattle.dirac_lift.specs.Level.{analysed}
 use Rattle.dirac_analysis.specs.Analysis.{as_coded}
 use Rattle.dirac_analysis.specs.Fits.{IsQuantisable}
-use Rattle.dirac_analysis.specs.Halves.{held_table}
+use Rattle.dirac_lift.specs.Held.{held_table}
 use Rattle.dirac_analysis.proofs.Analysing.{analysed_more, analysed_none, more_quantisable, none_quantisable}
 use Rattle.dirac_analysis.proofs.Fitting.{low_ready, small_above, small_lowest}
 use Rattle.dirac_analysis.proofs.HalfBands.{level_quantisable}
