@@ -1,4 +1,4 @@
-ghost use Rattle.std.specs.Prelude.{◌≡◌, ℕ, pos, ◌+◌, ◌-◌, ◌*◌, ◌/◌, ◌%◌, ◌^◌, ◌<◌, ◌≤◌, ◌+ℤ◌, ◌*ℤ◌, unsigned_abs};
+ghost use Rattle.std.specs.Prelude.{◌≡◌, ℕ, true, pos, ◌+◌, ◌-◌, ◌*◌, ◌/◌, ◌%◌, ◌^◌, ◌<◌, ◌≤◌, ◌+ℤ◌, ◌*ℤ◌, unsigned_abs};
 ghost use Rattle.std.specs.Prelude.{length, slice_index_or, slice_set};
 ghost use Rattle.std.specs.List.{sum_by};
 ghost use Rattle.dirac_lift.specs.Changes.{is_minus, parity_of, with_taps};
@@ -126,36 +126,37 @@ fn weighted_inside(line: &[i128], step: Step, taps: &[i32], n: usize) -> i128
     sum
 }
 
-/// Changes pair `n`, of which a tap may read beyond an end of the line.
+/// The weighted sum for pair `n`, of which all taps read inside the line or some may read beyond an end of it.
 #[inline(always)]
-fn lift_pair_clamped(line: &mut [i128], step: Step, taps: &[i32], n: usize)
+fn weighted_sum(line: &[i128], step: Step, taps: &[i32], n: usize, inside: bool) -> i128
     requires parity { step.parity ≤ 1 }
-    requires pair { n < length line.old / 2 }
-    requires shift { step.shift ≤ 32 }
-    requires read { PlacesWithin (2 ^ 112) (1 - step.parity) line.old }
-    requires changed { unsigned_abs (slice_index_or line.old (own step.parity n) (pos 0)) ≤ 2 ^ 112 }
+    requires pair { n < length line.now / 2 }
+    requires inside { inside ≡ true → (step.lead ≤ n) × (n + length taps.now ≤ length line.now / 2 + step.lead) }
+    requires values { PlacesWithin (2 ^ 112) (1 - step.parity) line.now }
     requires taps { sum_by unsigned_abs taps.now ≤ 2 ^ 14 }
-    ensures { line.new ≡ slice_set line.old (own step.parity n) (new_at (with_taps step taps.now) line.old n) }
+    ensures value { result ≡ weighted taps.now (value_read step.parity step.lead line.now n) (length taps.now) }
+    ensures bound { unsigned_abs result ≤ 2 ^ 126 }
 {
-    let sum = weighted_clamped(line, step, taps, n);
-    let at = 2 * n + step.parity;
-    line[at] = moved_value(line[at], rounded_sum(sum, step.shift), step.minus);
+    if inside {
+        weighted_inside(line, step, taps, n)
+    } else {
+        weighted_clamped(line, step, taps, n)
+    }
 }
 
-/// Changes pair `n`, of which all taps read inside the line.
+/// Changes pair `n`.
 #[inline(always)]
-fn lift_pair_inside(line: &mut [i128], step: Step, taps: &[i32], n: usize)
+fn lift_pair(line: &mut [i128], step: Step, taps: &[i32], n: usize, inside: bool)
     requires parity { step.parity ≤ 1 }
     requires pair { n < length line.old / 2 }
-    requires first { step.lead ≤ n }
-    requires last { n + length taps.now ≤ length line.old / 2 + step.lead }
+    requires inside { inside ≡ true → (step.lead ≤ n) × (n + length taps.now ≤ length line.old / 2 + step.lead) }
     requires shift { step.shift ≤ 32 }
     requires read { PlacesWithin (2 ^ 112) (1 - step.parity) line.old }
     requires changed { unsigned_abs (slice_index_or line.old (own step.parity n) (pos 0)) ≤ 2 ^ 112 }
     requires taps { sum_by unsigned_abs taps.now ≤ 2 ^ 14 }
     ensures { line.new ≡ slice_set line.old (own step.parity n) (new_at (with_taps step taps.now) line.old n) }
 {
-    let sum = weighted_inside(line, step, taps, n);
+    let sum = weighted_sum(line, step, taps, n, inside);
     let at = 2 * n + step.parity;
     line[at] = moved_value(line[at], rounded_sum(sum, step.shift), step.minus);
 }
@@ -177,12 +178,12 @@ pub fn lift_by(line: &mut [i128], step: Step, taps: &[i32])
     let reach = taps.len().saturating_sub(step.lead);
     let high = half.saturating_sub(reach).max(low);
     'left: for n in 0..low {
-        lift_pair_clamped(line, step, taps, n);
+        lift_pair(line, step, taps, n, false);
     }
     'inside: for n in low..high {
-        lift_pair_inside(line, step, taps, n);
+        lift_pair(line, step, taps, n, true);
     }
     'right: for n in high..half {
-        lift_pair_clamped(line, step, taps, n);
+        lift_pair(line, step, taps, n, false);
     }
 }
