@@ -3,10 +3,8 @@ ghost use Rattle.std.specs.Prelude.{◌≡◌, ℕ, pos, true, ◌+◌, ◌/◌,
 ghost use Rattle.std.specs.Prelude.{IfOk};
 ghost use Rattle.std.specs.List.{All};
 ghost use Rattle.dirac_common.specs.Limits.{IsWavelet};
-ghost use Rattle.dirac_bands.specs.Interleaving.{band_of};
-ghost use Rattle.dirac_lift.specs.Held.{held_table};
-ghost use Rattle.dirac_lift.specs.Level.{analysed};
 ghost use Rattle.dirac_analysis.specs.Halves.{half_columns};
+ghost use Rattle.dirac_analysis.specs.Splitting.{AreFourBands};
 
 use crate::split::SplitLevel;
 use dirac_common::{LARGEST_NARROW, LARGEST_TABLE_SIDE, Narrow, NoMemory, Wide};
@@ -67,10 +65,7 @@ pub fn split_narrow(alloc: Global, plane: &Narrow, wavelet: u8) -> Result<SplitL
     requires across { (plane.now.width % 2 ≡ 0) × (plane.now.width ≤ LARGEST_TABLE_SIDE) }
     requires down { (plane.now.height % 2 ≡ 0) × (plane.now.height ≤ LARGEST_TABLE_SIDE) }
     requires at_most_4095 { All (λ v. unsigned_abs v ≤ LARGEST_NARROW) plane.now.values }
-    ensures ll { IfOk result (λ l. held_table l.ll ≡ band_of (analysed wavelet plane.now) 0 0) }
-    ensures hl { IfOk result (λ l. l.hl ≡ band_of (analysed wavelet plane.now) 1 0) }
-    ensures lh { IfOk result (λ l. l.lh ≡ band_of (analysed wavelet plane.now) 0 1) }
-    ensures hh { IfOk result (λ l. l.hh ≡ band_of (analysed wavelet plane.now) 1 1) }
+    ensures { IfOk result (AreFourBands wavelet plane.now) }
 {
     let half = plane.width() as usize / 2;
     let HalfRows { evens, odds } = analyse_halves_level(alloc, wavelet, plane)?;
