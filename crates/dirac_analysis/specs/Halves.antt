@@ -1,13 +1,6 @@
--- Planes that are held in 32 bits or wide, and halves of rows.
+-- Halves of rows.
 use Rattle.std.specs.Prelude.{ℕ, ◌+◌, ◌/◌}
 use Rattle.dirac_common.specs.Table.{Table, table_at, table_of}
-use Rattle.dirac_analysis.specs.declared.held.Held.{Held}
-use Rattle.dirac_analysis.specs.declared.held.Held.TheVariants.{Narrow, Wide}
-
--- the table that is held
-abbrev pub held_table : Held → Table
-held_table (Wide t) = t
-held_table (Narrow t) = t
 
 -- half as many columns of a table as it has, from this one on
 abbrev pub half_columns : Table → ℕ → Table

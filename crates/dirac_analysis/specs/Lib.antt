@@ -3,3 +3,4 @@ pub mod Coded
 pub mod Fits
 pub mod Halves
 pub mod Laws
+pub mod Splitting

@@ -1,18 +1,17 @@
 ghost use Rattle.std.specs.Prelude.{◌≡◌, ◌-◌, ◌%◌, ◌≤◌, ◌^◌, unsigned_abs, IfOk};
 ghost use Rattle.std.specs.List.{All};
 ghost use Rattle.dirac_common.specs.Limits.{IsWavelet};
-ghost use Rattle.dirac_bands.specs.Interleaving.{band_of};
-ghost use Rattle.dirac_lift.specs.Level.{analysed};
+ghost use Rattle.dirac_lift.specs.Held.{held_table};
 ghost use Rattle.dirac_analysis.specs.Analysis.{analysis_of, as_coded, differences};
 ghost use Rattle.dirac_analysis.specs.Fits.{AreQuantisable, IsDivisible, IsQuantisable, grown};
-ghost use Rattle.dirac_analysis.specs.Halves.{held_table};
+ghost use Rattle.dirac_analysis.specs.Splitting.{AreFourBands, IsSplittable};
 
 use crate::analysed::AnalysedPlane;
-use crate::held::{Held, SplitLevel};
-use crate::narrow::{is_narrow, split_narrow};
+use crate::narrow::split_narrow;
+use crate::split::SplitLevel;
 use dirac_bands::{FourBands, dc_subtract, split_bands};
 use dirac_common::{Kind, LARGEST_TABLE_SIDE, Narrow, NoMemory, Wide};
-use dirac_lift::analyse_level;
+use dirac_lift::{Held, analyse_level, is_narrow};
 use std::alloc::Global;
 
 /// The last LL band as it is coded: an intra picture's less its predictions.
@@ -44,14 +43,8 @@ fn less_predictions(mut low: Wide) -> Wide
 
 /// Analyses one level by wide numbers.
 fn split_wide(alloc: Global, mut plane: Wide, wavelet: u8) -> Result<SplitLevel, NoMemory>
-    requires wavelet { IsWavelet wavelet }
-    requires across { (plane.width % 2 ≡ 0) × (plane.width ≤ LARGEST_TABLE_SIDE) }
-    requires down { (plane.height % 2 ≡ 0) × (plane.height ≤ LARGEST_TABLE_SIDE) }
-    requires magnitudes_at_most_2_29 { All (λ v. unsigned_abs v ≤ 2 ^ 29) plane.values }
-    ensures ll { IfOk result (λ l. held_table l.ll ≡ band_of (analysed wavelet plane) 0 0) }
-    ensures hl { IfOk result (λ l. l.hl ≡ band_of (analysed wavelet plane) 1 0) }
-    ensures lh { IfOk result (λ l. l.lh ≡ band_of (analysed wavelet plane) 0 1) }
-    ensures hh { IfOk result (λ l. l.hh ≡ band_of (analysed wavelet plane) 1 1) }
+    requires { IsSplittable wavelet plane }
+    ensures { IfOk result (AreFourBands wavelet plane) }
 {
     analyse_level(wavelet, &mut plane);
     let FourBands { ll, hl, lh, hh } = split_bands(alloc, &plane)?;
@@ -65,14 +58,8 @@ fn split_wide(alloc: Global, mut plane: Wide, wavelet: u8) -> Result<SplitLevel,
 
 /// Analyses one level of a plane that is held in 32 bits: in these where all its values allow it.
 fn split_by_size(alloc: Global, plane: Narrow, wavelet: u8) -> Result<SplitLevel, NoMemory>
-    requires wavelet { IsWavelet wavelet }
-    requires across { (plane.width % 2 ≡ 0) × (plane.width ≤ LARGEST_TABLE_SIDE) }
-    requires down { (plane.height % 2 ≡ 0) × (plane.height ≤ LARGEST_TABLE_SIDE) }
-    requires magnitudes_at_most_2_29 { All (λ v. unsigned_abs v ≤ 2 ^ 29) plane.values }
-    ensures ll { IfOk result (λ l. held_table l.ll ≡ band_of (analysed wavelet plane) 0 0) }
-    ensures hl { IfOk result (λ l. l.hl ≡ band_of (analysed wavelet plane) 1 0) }
-    ensures lh { IfOk result (λ l. l.lh ≡ band_of (analysed wavelet plane) 0 1) }
-    ensures hh { IfOk result (λ l. l.hh ≡ band_of (analysed wavelet plane) 1 1) }
+    requires { IsSplittable wavelet plane }
+    ensures { IfOk result (AreFourBands wavelet plane) }
 {
     if is_narrow(plane.values()) {
         return split_narrow(alloc, &plane, wavelet);
@@ -83,14 +70,8 @@ fn split_by_size(alloc: Global, plane: Narrow, wavelet: u8) -> Result<SplitLevel
 
 /// Analyses one level.
 fn split_level(alloc: Global, plane: Held, wavelet: u8) -> Result<SplitLevel, NoMemory>
-    requires wavelet { IsWavelet wavelet }
-    requires across { ((held_table plane).width % 2 ≡ 0) × ((held_table plane).width ≤ LARGEST_TABLE_SIDE) }
-    requires down { ((held_table plane).height % 2 ≡ 0) × ((held_table plane).height ≤ LARGEST_TABLE_SIDE) }
-    requires magnitudes_at_most_2_29 { All (λ v. unsigned_abs v ≤ 2 ^ 29) (held_table plane).values }
-    ensures ll { IfOk result (λ l. held_table l.ll ≡ band_of (analysed wavelet (held_table plane)) 0 0) }
-    ensures hl { IfOk result (λ l. l.hl ≡ band_of (analysed wavelet (held_table plane)) 1 0) }
-    ensures lh { IfOk result (λ l. l.lh ≡ band_of (analysed wavelet (held_table plane)) 0 1) }
-    ensures hh { IfOk result (λ l. l.hh ≡ band_of (analysed wavelet (held_table plane)) 1 1) }
+    requires { IsSplittable wavelet (held_table plane) }
+    ensures { IfOk result (AreFourBands wavelet (held_table plane)) }
 {
     match plane {
         Held::Narrow(plane) => split_by_size(alloc, plane, wavelet),

@@ -7,13 +7,13 @@ mod band;
 mod choosing;
 mod coded;
 mod finer;
-mod held;
 mod laws;
 mod levels;
 mod narrow;
 mod padding;
 mod plane;
 mod quantising;
+mod split;
 
 pub use analysed::AnalysedPlane;
 pub use choosing::FLAT_BELOW;

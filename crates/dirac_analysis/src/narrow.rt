@@ -3,25 +3,13 @@ ghost use Rattle.std.specs.Prelude.{◌≡◌, ℕ, pos, true, ◌+◌, ◌/◌,
 ghost use Rattle.std.specs.Prelude.{IfOk};
 ghost use Rattle.std.specs.List.{All};
 ghost use Rattle.dirac_common.specs.Limits.{IsWavelet};
-ghost use Rattle.dirac_bands.specs.Interleaving.{band_of};
-ghost use Rattle.dirac_lift.specs.Level.{analysed};
-ghost use Rattle.dirac_analysis.specs.Halves.{half_columns, held_table};
+ghost use Rattle.dirac_analysis.specs.Halves.{half_columns};
+ghost use Rattle.dirac_analysis.specs.Splitting.{AreFourBands};
 
-use crate::held::{Held, SplitLevel};
+use crate::split::SplitLevel;
 use dirac_common::{LARGEST_NARROW, LARGEST_TABLE_SIDE, Narrow, NoMemory, Wide};
-use dirac_lift::{HalfRows, analyse_halves_level};
+use dirac_lift::{HalfRows, Held, analyse_halves_level};
 use std::alloc::Global;
-
-/// Whether all values are at most 4,095 in magnitude.
-pub fn is_narrow(values: &[i32]) -> bool
-    ensures { result ≡ true → All (λ v. unsigned_abs v ≤ LARGEST_NARROW) values.now }
-{
-    let mut all = true;
-    for n in 0..values.len() {
-        all &= values[n].unsigned_abs() <= LARGEST_NARROW;
-    }
-    all
-}
 
 /// Copies the first values of a row.
 fn copy_front(row: &[i32], line: &mut [i32])
@@ -77,10 +65,7 @@ pub fn split_narrow(alloc: Global, plane: &Narrow, wavelet: u8) -> Result<SplitL
     requires across { (plane.now.width % 2 ≡ 0) × (plane.now.width ≤ LARGEST_TABLE_SIDE) }
     requires down { (plane.now.height % 2 ≡ 0) × (plane.now.height ≤ LARGEST_TABLE_SIDE) }
     requires at_most_4095 { All (λ v. unsigned_abs v ≤ LARGEST_NARROW) plane.now.values }
-    ensures ll { IfOk result (λ l. held_table l.ll ≡ band_of (analysed wavelet plane.now) 0 0) }
-    ensures hl { IfOk result (λ l. l.hl ≡ band_of (analysed wavelet plane.now) 1 0) }
-    ensures lh { IfOk result (λ l. l.lh ≡ band_of (analysed wavelet plane.now) 0 1) }
-    ensures hh { IfOk result (λ l. l.hh ≡ band_of (analysed wavelet plane.now) 1 1) }
+    ensures { IfOk result (AreFourBands wavelet plane.now) }
 {
     let half = plane.width() as usize / 2;
     let HalfRows { evens, odds } = analyse_halves_level(alloc, wavelet, plane)?;

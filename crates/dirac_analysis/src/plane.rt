@@ -7,12 +7,12 @@ ghost use Rattle.dirac_analysis.specs.Analysis.{plane_analysis, plane_bands};
 ghost use Rattle.dirac_analysis.specs.Fits.{AreDifferences, AreLevelBands, AreQuantisable};
 
 use crate::analysed::AnalysedPlane;
-use crate::held::Held;
 use crate::levels::analyse_levels;
 use crate::padding::pad;
 use crate::quantising::quantise_plane;
 use dirac_common::{Kind, LARGEST_SIDE, NoMemory, Plane};
 use dirac_header::Transform;
+use dirac_lift::Held;
 use dirac_picture::PlaneBands;
 use std::alloc::Global;
 

@@ -86,6 +86,11 @@ even_changed m sh ld ts ss w h es os n =
     let s : Step = even_step m sh ld ts in
     all_weaker n.most.0 (2 ^ 21) es ((narrow_parts s n.most.0 n.most.1 (and_parts (is_narrow s n.most.0 n.most.1) (stays_narrow ss (after_step s n.most)) n.test).0).1) n.even_bound
 
+pub even_shift : (m : Bool) (sh ld : ℕ) (ts : List ℤ) (ss : List Step) (w h : ℕ) (es os : List ℤ) → AreNarrow (even_step m sh ld ts ∷ ss) w h es os → sh ≤ 12
+even_shift m sh ld ts ss w h es os n =
+    let s : Step = even_step m sh ld ts in
+    (narrow_parts s n.most.0 n.most.1 (and_parts (is_narrow s n.most.0 n.most.1) (stays_narrow ss (after_step s n.most)) n.test).0).0
+
 pub even_rest : (m : Bool) (sh ld : ℕ) (ts : List ℤ) (ss : List Step) (w h : ℕ) (es os new : List ℤ) → AreNarrow (even_step m sh ld ts ∷ ss) w h es os → HalfLifted (even_step m sh ld ts) w h es os new → AreNarrow ss w h new os
 even_rest m sh ld ts ss w h es os new n l =
     let s : Step = even_step m sh ld ts in
@@ -119,6 +124,11 @@ pub odd_changed : (m : Bool) (sh ld : ℕ) (ts : List ℤ) (ss : List Step) (w h
 odd_changed m sh ld ts ss w h es os n =
     let s : Step = odd_step m sh ld ts in
     all_weaker n.most.1 (2 ^ 21) os ((narrow_parts s n.most.1 n.most.0 (and_parts (is_narrow s n.most.1 n.most.0) (stays_narrow ss (after_step s n.most)) n.test).0).1) n.odd_bound
+
+pub odd_shift : (m : Bool) (sh ld : ℕ) (ts : List ℤ) (ss : List Step) (w h : ℕ) (es os : List ℤ) → AreNarrow (odd_step m sh ld ts ∷ ss) w h es os → sh ≤ 12
+odd_shift m sh ld ts ss w h es os n =
+    let s : Step = odd_step m sh ld ts in
+    (narrow_parts s n.most.1 n.most.0 (and_parts (is_narrow s n.most.1 n.most.0) (stays_narrow ss (after_step s n.most)) n.test).0).0
 
 pub odd_rest : (m : Bool) (sh ld : ℕ) (ts : List ℤ) (ss : List Step) (w h : ℕ) (es os new : List ℤ) → AreNarrow (odd_step m sh ld ts ∷ ss) w h es os → HalfLifted (odd_step m sh ld ts) w h os es new → AreNarrow ss w h es new
 odd_rest m sh ld ts ss w h es os new n l =

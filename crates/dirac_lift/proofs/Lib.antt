@@ -11,6 +11,7 @@ pub mod LaneLemmas
 pub mod LaneSteps
 pub mod LevelGrowth
 pub mod LevelLemmas
+pub mod Liftables
 pub mod Lifted
 pub mod MapLemmas
 pub mod NarrowLevels
@@ -19,6 +20,7 @@ pub mod RowLemmas
 pub mod Runs
 pub mod Signed
 pub mod Strips
+pub mod Turns
 pub mod Undone
 pub mod Weighted
 pub mod ZerosKept

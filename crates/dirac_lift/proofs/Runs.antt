@@ -4,7 +4,7 @@ use Rattle.std.specs.List.{All, sum_by}
 use Rattle.std.proofs.lemmas.Bool.{cases_lt, cases_eq, ne_eqb, and_parts, leb-true}
 use Rattle.std.proofs.lemmas.List.{get_or_past, get_or_default}
 use Rattle.dirac_lift.specs.Lifting.{Step, lift, opposite, PlacesWithin, grown}
-use Rattle.dirac_lift.specs.Safety.{Safe}
+use Rattle.dirac_lift.specs.Safety.{AreFit, Safe}
 use Rattle.dirac_lift.specs.Wavelets.{run, taken_back, steps_of, deslauriers_dubuc_9_7, legall_5_3, deslauriers_dubuc_13_7, haar, fidelity, daubechies_9_7, synth_bound, analyse_bound}
 use Rattle.dirac_lift.proofs.Lifted.{length-lift}
 use Rattle.dirac_lift.proofs.Undone.{lift_back, lift_there}
@@ -19,7 +19,7 @@ run-append [] ts xs = refl
 run-append (s ∷ ss) ts xs = run-append ss ts (lift s xs)
 
 -- each step's parity is one
-abbrev has_parities : List Step → Bool
+abbrev pub has_parities : List Step → Bool
 has_parities [] = true
 has_parities (s ∷ ss) = nat_le s.parity 1 && has_parities ss
 
@@ -106,6 +106,17 @@ safe_from_small (s ∷ ss) e o xs small even he ho =
       safe_from_small ss (evens_after s e o) (odds_after s e o) (lift s xs) a.1 (omega (arith, even, length-lift s xs)) next.0 next.1,
     )
 
+fit_from_small : (ss : List Step) (e o : ℕ) → stays_small ss e o ≡ true → AreFit ss
+fit_from_small [] e o small = tt
+fit_from_small (s ∷ ss) e o small =
+    let a = and_parts (nat_le s.parity 1 && (nat_le s.shift 32 && (nat_le (sum_by unsigned_abs s.taps) (2 ^ 14) && (nat_le e (2 ^ 112) && nat_le o (2 ^ 112))))) (stays_small ss (evens_after s e o) (odds_after s e o)) small in
+    let b = and_parts (nat_le s.parity 1) (nat_le s.shift 32 && (nat_le (sum_by unsigned_abs s.taps) (2 ^ 14) && (nat_le e (2 ^ 112) && nat_le o (2 ^ 112)))) a.0 in
+    let c = and_parts (nat_le s.shift 32) (nat_le (sum_by unsigned_abs s.taps) (2 ^ 14) && (nat_le e (2 ^ 112) && nat_le o (2 ^ 112))) b.1 in
+    let d = and_parts (nat_le (sum_by unsigned_abs s.taps) (2 ^ 14)) (nat_le e (2 ^ 112) && nat_le o (2 ^ 112)) c.1 in (
+      (leb-true s.parity 1 b.0, leb-true s.shift 32 c.0, leb-true (sum_by unsigned_abs s.taps) (2 ^ 14) d.0),
+      fit_from_small ss (evens_after s e o) (odds_after s e o) a.1,
+    )
+
 -- between all values and those at even or odd places
 pub within_from_all : (b parity : ℕ) (xs : List ℤ) → All (λ v. unsigned_abs v ≤ b) xs → PlacesWithin b parity xs
 within_from_all b parity xs all n = elim (cases_lt (2 * n + parity) (length xs)) [
@@ -138,7 +149,7 @@ by_wavelet P p0 p1 p2 p3 p4 p5 p6 (suc (suc (suc (suc (suc (suc (suc n))))))) l 
 pub parities_of : (w : ℕ) → w ≤ 6 → has_parities (steps_of w) ≡ true
 parities_of = by_wavelet (λ w ss. has_parities ss ≡ true) refl refl refl refl refl refl refl
 
-parities_back : (w : ℕ) → w ≤ 6 → has_parities (taken_back (steps_of w)) ≡ true
+pub parities_back : (w : ℕ) → w ≤ 6 → has_parities (taken_back (steps_of w)) ≡ true
 parities_back = by_wavelet (λ w ss. has_parities (taken_back ss) ≡ true) refl refl refl refl refl refl refl
 
 small_of : (w : ℕ) → w ≤ 6 → stays_small (steps_of w) (2 ^ 108) (2 ^ 108) ≡ true
@@ -154,6 +165,12 @@ synth_reach b = by_wavelet (λ w ss. ((reach ss b b).0 ≤ synth_bound w b) × (
 analyse_reach : (b w : ℕ) → w ≤ 6 → ((reach (taken_back (steps_of w)) b b).0 ≤ analyse_bound b) × ((reach (taken_back (steps_of w)) b b).1 ≤ analyse_bound b)
 analyse_reach b = by_wavelet (λ w ss. ((reach (taken_back ss) b b).0 ≤ analyse_bound b) × ((reach (taken_back ss) b b).1 ≤ analyse_bound b))
     (omega arith, omega arith) (omega arith, omega arith) (omega arith, omega arith) (omega arith, omega arith) (omega arith, omega arith) (omega arith, omega arith) (omega arith, omega arith)
+
+pub synth_fit : (w : ℕ) → w ≤ 6 → AreFit (steps_of w)
+synth_fit w l = fit_from_small (steps_of w) (2 ^ 108) (2 ^ 108) (small_of w l)
+
+pub analyse_fit : (w : ℕ) → w ≤ 6 → AreFit (taken_back (steps_of w))
+analyse_fit w l = fit_from_small (taken_back (steps_of w)) (2 ^ 108) (2 ^ 108) (small_back w l)
 
 -- what the two public calls need
 pub synth_safe : (w : ℕ) (xs : List ℤ) → w ≤ 6 → length xs % 2 ≡ 0 → All (λ v. unsigned_abs v ≤ 2 ^ 108) xs → Safe (steps_of w) xs

@@ -1,11 +1,15 @@
+pub mod ByLines
 pub mod Changes
 pub mod HalfRows
 pub mod HalfRuns
 pub mod Halves
 pub mod Lanes
+pub mod Held
 pub mod Level
+pub mod Liftables
 pub mod Lifting
 pub mod Places
+pub mod Running
 pub mod Safety
 pub mod Wavelets
 pub mod Zeros

@@ -11,3 +11,8 @@ IsFit s = (s.parity ≤ 1) × (s.shift ≤ 32) × (sum_by unsigned_abs s.taps �
 abbrev pub Safe : List Step → List ℤ → Type 0
 Safe [] xs = Unit {0}
 Safe (s ∷ ss) xs = IsFit s × PlacesWithin (2 ^ 112) 0 xs × PlacesWithin (2 ^ 112) 1 xs × Safe ss (lift s xs)
+
+-- all steps are
+abbrev pub AreFit : List Step → Type 0
+AreFit [] = Unit {0}
+AreFit (s ∷ ss) = IsFit s × AreFit ss

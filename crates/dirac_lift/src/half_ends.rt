@@ -5,7 +5,7 @@ ghost use Rattle.dirac_lift.specs.Halves.{AreHalves};
 ghost use Rattle.dirac_lift.specs.Level.{ended, halved};
 
 use crate::halves::rounded_sum;
-use crate::levels::halves;
+use crate::wavelets::halves;
 
 /// Puts pair `n` of a line, each value halved, to the nearest.
 #[inline(always)]

@@ -2,6 +2,7 @@
 ghost use Rattle.std.specs.Prelude.{◌≡◌, ℕ, ℤ, pos, ◌+◌, ◌-◌, ◌*◌, ◌/◌, ◌^◌, ◌<◌, ◌≤◌, min, true, unsigned_abs, length};
 ghost use Rattle.std.specs.Prelude.{slice_index_or};
 ghost use Rattle.std.specs.List.{All};
+ghost use Rattle.dirac_lift.specs.Changes.{with_taps};
 ghost use Rattle.dirac_lift.specs.Halves.{HalfLifted, IsReadable, half_read, half_value};
 ghost use Rattle.dirac_lift.specs.Lanes.{AreLanes, IsEight, RunPut, lane};
 ghost use Rattle.dirac_lift.specs.Lifting.{moved, rounded, weighted};
@@ -106,13 +107,7 @@ fn lift_pair(
     requires shift { step.shift ≤ 12 }
     requires read { IsReadable taps.now other.now }
     requires changed { (j : ℕ) → j < 8 → unsigned_abs (slice_index_or own.old (n * 8 + j) (pos 0)) ≤ 2 ^ 21 }
-    ensures { RunPut (n * 8) 8 (half_value (record {
-      parity = step.parity;
-      minus = step.minus;
-      shift = step.shift;
-      lead = step.lead;
-      taps = taps.now;
-    }) 8 half own.old other.now n) own.old own.new }
+    ensures { RunPut (n * 8) 8 (half_value (with_taps step taps.now) 8 half own.old other.now n) own.old own.new }
 {
     let sum = weighted_lanes(other, half, step, taps, n, inside);
     put_changed_lanes(own, n * 8, sum, step);
@@ -127,13 +122,7 @@ pub fn lift_eight(own: &mut [i32], other: &[i32], half: usize, step: Step, taps:
     requires shift { step.shift ≤ 12 }
     requires read { IsReadable taps.now other.now }
     requires changed { All (λ v. unsigned_abs v ≤ 2 ^ 21) own.old }
-    ensures { HalfLifted (record {
-      parity = step.parity;
-      minus = step.minus;
-      shift = step.shift;
-      lead = step.lead;
-      taps = taps.now;
-    }) 8 half own.old other.now own.new }
+    ensures { HalfLifted (with_taps step taps.now) 8 half own.old other.now own.new }
 {
     let low = step.lead.min(half);
     let reach = taps.len().saturating_sub(step.lead);

@@ -11,27 +11,16 @@ use crate::half_lines::{finish_half_line, synth_half_columns};
 use dirac_common::{LARGEST_NARROW, LARGEST_TABLE_SIDE, Narrow, NoMemory};
 use std::alloc::Global;
 
-/// A finished row of a level from its two halves, which stand one after the other; `low` and `high` are places to work.
-fn finish_row(
-    wavelet: u8,
-    half: usize,
-    row: &[i32],
-    low: &mut [i32],
-    high: &mut [i32],
-    line: &mut [i32],
-)
+/// A finished row of a level from its two halves, which stand one after the other and are places to work.
+fn finish_row(wavelet: u8, half: usize, row: &mut [i32], line: &mut [i32])
     requires wavelet { IsWavelet wavelet }
-    requires row { length row.now ≡ 2 * half }
-    requires low { length low.old ≡ half }
-    requires high { length high.old ≡ half }
+    requires row { length row.old ≡ 2 * half }
     requires line { length line.old ≡ 2 * half }
-    requires narrow { AreNarrow (steps_of wavelet) 1 half (take half row.now) (drop half row.now) }
-    ensures { (whole : List ℤ) → AreHalves 0 (take half row.now) (drop half row.now) whole
+    requires narrow { AreNarrow (steps_of wavelet) 1 half (take half row.old) (drop half row.old) }
+    ensures { (whole : List ℤ) → AreHalves 0 (take half row.old) (drop half row.old) whole
         → line.new ≡ ended wavelet (synth wavelet whole) }
 {
-    let (front, back) = row.split_at(half);
-    low.copy_from_slice(front);
-    high.copy_from_slice(back);
+    let (low, high) = row.split_at_mut(half);
     finish_half_line(wavelet, low, high, line);
 }
 
@@ -58,29 +47,13 @@ pub fn synth_halves_level(
     let across = width as usize;
     synth_half_columns(wavelet, evens, odds, across, height as usize);
     let half = across / 2;
-    let mut low = vec![in alloc; 0i32; half]?;
-    let mut high = vec![in alloc; 0i32; half]?;
     let mut plane = Narrow::try_new(alloc, width, 2 * height, 0)?;
     for y in 0..height {
         let at = y as usize * across;
-        let row = &evens[at..at + across];
-        finish_row(
-            wavelet,
-            half,
-            row,
-            low.as_mut_slice(),
-            high.as_mut_slice(),
-            plane.row_mut(2 * y),
-        );
-        let row = &odds[at..at + across];
-        finish_row(
-            wavelet,
-            half,
-            row,
-            low.as_mut_slice(),
-            high.as_mut_slice(),
-            plane.row_mut(2 * y + 1),
-        );
+        let row = &mut evens[at..at + across];
+        finish_row(wavelet, half, row, plane.row_mut(2 * y));
+        let row = &mut odds[at..at + across];
+        finish_row(wavelet, half, row, plane.row_mut(2 * y + 1));
     }
     Ok(plane)
 }

@@ -9,8 +9,8 @@ ghost use Rattle.dirac_lift.specs.Halves.{AreHalves, from_halves};
 ghost use Rattle.dirac_lift.specs.Level.{analysed, begun};
 ghost use Rattle.dirac_lift.specs.Wavelets.{analyse};
 
-use crate::half_analysis::{analyse_half_columns, analyse_half_line};
-use crate::levels::halves;
+use crate::half_lines::{analyse_half_columns, analyse_half_line};
+use crate::wavelets::halves;
 use dirac_common::{LARGEST_NARROW, LARGEST_TABLE_SIDE, Narrow, NoMemory};
 use std::alloc::Global;
 

@@ -2,11 +2,14 @@
 ghost use Rattle.std.specs.Prelude.{◌≡◌, ℕ, ℤ, pos, ◌+◌, ◌-◌, ◌*◌, ◌/◌, ◌^◌, ◌<◌, ◌≤◌, ◌+ℤ◌, ◌*ℤ◌, unsigned_abs};
 ghost use Rattle.std.specs.Prelude.{length, slice_index_or, slice_set};
 ghost use Rattle.std.specs.List.{All};
+ghost use Rattle.dirac_lift.specs.Changes.{with_taps};
 ghost use Rattle.dirac_lift.specs.Halves.{HalfLifted, IsReadable, half_read};
+ghost use Rattle.dirac_lift.specs.Liftables.{CanLiftHalves, HalvesLifted};
 ghost use Rattle.dirac_lift.specs.Lifting.{moved, rounded, weighted};
 
 use crate::half_lanes::lift_eight;
-use crate::step::Step;
+use crate::liftable::Liftable;
+use crate::step::{Change, Step};
 
 /// One more tap of a weighted sum.
 #[inline(always)]
@@ -108,13 +111,7 @@ fn lift_lines(own: &mut [i32], other: &[i32], width: usize, half: usize, step: S
     requires shift { step.shift ≤ 12 }
     requires read { IsReadable taps.now other.now }
     requires changed { All (λ v. unsigned_abs v ≤ 2 ^ 21) own.old }
-    ensures { HalfLifted (record {
-      parity = step.parity;
-      minus = step.minus;
-      shift = step.shift;
-      lead = step.lead;
-      taps = taps.now;
-    }) width half own.old other.now own.new }
+    ensures { HalfLifted (with_taps step taps.now) width half own.old other.now own.new }
 {
     for n in 0..half {
         for x in 0..width {
@@ -131,13 +128,7 @@ fn lift_line(own: &mut [i32], other: &[i32], step: Step, taps: &[i32])
     requires shift { step.shift ≤ 12 }
     requires read { IsReadable taps.now other.now }
     requires changed { All (λ v. unsigned_abs v ≤ 2 ^ 21) own.old }
-    ensures { HalfLifted (record {
-      parity = step.parity;
-      minus = step.minus;
-      shift = step.shift;
-      lead = step.lead;
-      taps = taps.now;
-    }) 1 (length own.old) own.old other.now own.new }
+    ensures { HalfLifted (with_taps step taps.now) 1 (length own.old) own.old other.now own.new }
 {
     let half = own.len();
     let low = step.lead.min(half);
@@ -159,26 +150,21 @@ fn lift_line(own: &mut [i32], other: &[i32], step: Step, taps: &[i32])
 
 /// One lifting step over one half of `width` lines, which reads the other half. Eight lines are lifted in lanes.
 #[inline(always)]
-pub fn lift_half(
-    own: &mut [i32],
-    other: &[i32],
+fn lift_half(
+    own: &mut &mut [i32],
+    other: &&mut [i32],
     width: usize,
     half: usize,
     step: Step,
     taps: &[i32],
 )
-    requires own_len { length own.old ≡ width * half }
-    requires len { length other.now ≡ width * half }
+    requires own_len { length own.old.now ≡ width * half }
+    requires len { length other.now.now ≡ width * half }
     requires shift { step.shift ≤ 12 }
-    requires read { IsReadable taps.now other.now }
-    requires changed { All (λ v. unsigned_abs v ≤ 2 ^ 21) own.old }
-    ensures { HalfLifted (record {
-      parity = step.parity;
-      minus = step.minus;
-      shift = step.shift;
-      lead = step.lead;
-      taps = taps.now;
-    }) width half own.old other.now own.new }
+    requires read { IsReadable taps.now other.now.now }
+    requires changed { All (λ v. unsigned_abs v ≤ 2 ^ 21) own.old.now }
+    ensures value { HalfLifted (with_taps step taps.now) width half own.old.now other.now.now own.new.now }
+    ensures same { own.new.ghost_name ≡ own.old.ghost_name }
 {
     if width == 1 {
         lift_line(own, other, step, taps);
@@ -186,5 +172,36 @@ pub fn lift_half(
         lift_eight(own, other, half, step, taps);
     } else {
         lift_lines(own, other, width, half, step, taps);
+    }
+}
+
+/// The even places of `width` lines and their odd ones, `half` of each in a line, in lists of their own.
+#[derive(Drop)]
+pub struct Halves<'a> {
+    pub evens: &'a mut [i32],
+    pub odds: &'a mut [i32],
+    pub width: usize,
+    pub half: usize,
+}
+
+impl Liftable for Halves<'_> {
+    ghost can_lift = { CanLiftHalves };
+
+    ghost lifted = { HalvesLifted };
+
+    #[inline(always)]
+    fn lift(&mut self, change: Change, shift: u32, lead: usize, taps: &[i32]) {
+        let Halves {
+            evens,
+            odds,
+            width,
+            half,
+        } = self;
+        let step = Step::new(change, shift, lead);
+        if step.parity == 0 {
+            lift_half(evens, odds, *width, *half, step, taps);
+        } else {
+            lift_half(odds, evens, *width, *half, step, taps);
+        }
     }
 }

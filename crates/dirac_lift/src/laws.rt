@@ -1,8 +1,17 @@
 //! What holds of the transforms of all lines and planes, as the contracts of functions that do nothing.
+ghost use Rattle.dirac_lift.specs.ByLines.{AnalysisByLines, LinesFinish, SynthesisByLines};
 ghost use Rattle.dirac_lift.specs.Zeros.{LevelsStayZeros, LinesStayZeros};
 
 /// The synthesis of zeros has zeros alone, whatever the wavelet: each sum and each rounding of zeros is 0.
 pub fn zeros_stay_zeros()
     ensures lines { LinesStayZeros }
     ensures levels { LevelsStayZeros }
+{}
+
+/// The order of lines does not matter: where each step follows the one before it at its distance, line by line, they
+/// come to what they come to one after another over the whole, and a line that all have gone over is finished.
+pub fn lines_come_in_turn()
+    ensures synthesis { SynthesisByLines }
+    ensures analysis { AnalysisByLines }
+    ensures finished { LinesFinish }
 {}

@@ -4,19 +4,13 @@ ghost use Rattle.dirac_common.specs.Limits.{IsWavelet};
 ghost use Rattle.dirac_bands.specs.DcSum.{by_rows};
 ghost use Rattle.dirac_lift.specs.Level.{analysed, begun, doubled, ended, halved, synthesised};
 ghost use Rattle.dirac_lift.specs.Places.{RowsBecome};
-ghost use Rattle.dirac_lift.specs.Wavelets.{analyse, has_shift, synth};
+ghost use Rattle.dirac_lift.specs.Wavelets.{analyse, synth};
 
 use crate::columns::{analyse_columns, synth_columns};
 use crate::lines::{analyse_line, synth_line};
 use crate::step::rounded_sum;
+use crate::wavelets::halves;
 use dirac_common::Wide;
-
-/// Whether a level of this wavelet ends by halving: its shift is 1.
-pub fn halves(wavelet: u8) -> bool
-    ensures { result ≡ has_shift wavelet }
-{
-    wavelet != 3 && wavelet != 5
-}
 
 fn synth_rows(wavelet: u8, values: &mut [i128], width: usize, height: usize)
     requires wavelet { IsWavelet wavelet }

@@ -3,24 +3,27 @@
 //! The wavelet transforms as lifting steps in place.
 
 mod columns;
-mod half_analysis;
 mod half_ends;
 mod half_lanes;
 mod half_levels;
 mod half_lines;
 mod half_rows;
 mod halves;
+mod held;
 mod lanes;
 mod laws;
 mod levels;
+mod liftable;
 mod lines;
 mod narrow_levels;
 mod step;
 mod tables;
+mod wavelets;
 
 pub use half_levels::synth_halves_level;
 pub use half_rows::{HalfRows, analyse_halves_level};
-pub use laws::zeros_stay_zeros;
+pub use held::{Held, is_narrow};
+pub use laws::{lines_come_in_turn, zeros_stay_zeros};
 pub use levels::{analyse_level, synth_level};
 pub use lines::{analyse_line, synth_line};
 pub use narrow_levels::synth_level_narrow;

@@ -1,7 +1,7 @@
-ghost use Rattle.std.specs.Prelude.{◌≡◌, ℕ, pos, ◌+◌, ◌-◌, ◌*◌, ◌/◌, ◌%◌, ◌^◌, ◌<◌, ◌≤◌, ◌+ℤ◌, ◌*ℤ◌, unsigned_abs};
+ghost use Rattle.std.specs.Prelude.{◌≡◌, ℕ, true, pos, ◌+◌, ◌-◌, ◌*◌, ◌/◌, ◌%◌, ◌^◌, ◌<◌, ◌≤◌, ◌+ℤ◌, ◌*ℤ◌, unsigned_abs};
 ghost use Rattle.std.specs.Prelude.{length, slice_index_or, slice_set};
 ghost use Rattle.std.specs.List.{sum_by};
-ghost use Rattle.dirac_lift.specs.Changes.{is_minus, parity_of};
+ghost use Rattle.dirac_lift.specs.Changes.{is_minus, parity_of, with_taps};
 ghost use Rattle.dirac_lift.specs.Lifting.{PlacesWithin, lift, moved, new_at, other, own, pair_read, rounded};
 ghost use Rattle.dirac_lift.specs.Lifting.{value_read, weighted};
 
@@ -13,29 +13,6 @@ pub enum Change {
     EvenPlus,
     OddMinus,
     OddPlus,
-}
-
-impl Change {
-    #[inline(always)]
-    pub fn parity(self) -> usize
-        ensures value { result ≡ parity_of self }
-        ensures bound { result ≤ 1 }
-    {
-        match self {
-            Change::EvenMinus | Change::EvenPlus => 0,
-            Change::OddMinus | Change::OddPlus => 1,
-        }
-    }
-
-    #[inline(always)]
-    pub fn takes(self) -> bool
-        ensures { result ≡ is_minus self }
-    {
-        match self {
-            Change::EvenMinus | Change::OddMinus => true,
-            Change::EvenPlus | Change::OddPlus => false,
-        }
-    }
 }
 
 /// A lifting step but for its taps. Places stand in pairs, an even one before an odd one.
@@ -51,9 +28,35 @@ pub struct Step {
     pub lead: usize,
 }
 
+impl Step {
+    #[inline(always)]
+    pub fn new(change: Change, shift: u32, lead: usize) -> Step
+        ensures value { result ≡ record {
+          parity = parity_of change;
+          minus = is_minus change;
+          shift = shift;
+          lead = lead;
+        } }
+        ensures bound { result.parity ≤ 1 }
+    {
+        let (parity, minus) = match change {
+            Change::EvenMinus => (0, true),
+            Change::EvenPlus => (0, false),
+            Change::OddMinus => (1, true),
+            Change::OddPlus => (1, false),
+        };
+        Step {
+            parity,
+            minus,
+            shift,
+            lead,
+        }
+    }
+}
+
 /// One more tap of a weighted sum.
 #[inline(always)]
-pub fn multiply_add(sum: i128, tap: i64, value: i128) -> i128
+pub fn multiply_add(sum: i128, tap: i32, value: i128) -> i128
     requires { unsigned_abs sum + unsigned_abs tap * unsigned_abs value ≤ 2 ^ 126 }
     ensures { result ≡ sum +ℤ tap *ℤ value }
 {
@@ -87,7 +90,7 @@ pub fn moved_value(value: i128, change: i128, minus: bool) -> i128
 
 /// The weighted sum for pair `n` where a tap may read beyond an end of the line.
 #[inline(always)]
-fn weighted_clamped(line: &[i128], step: Step, taps: &[i64], n: usize) -> i128
+fn weighted_clamped(line: &[i128], step: Step, taps: &[i32], n: usize) -> i128
     requires parity { step.parity ≤ 1 }
     requires pair { n < length line.now / 2 }
     requires values { PlacesWithin (2 ^ 112) (1 - step.parity) line.now }
@@ -106,7 +109,7 @@ fn weighted_clamped(line: &[i128], step: Step, taps: &[i64], n: usize) -> i128
 
 /// The weighted sum for pair `n` where all taps read inside the line.
 #[inline(always)]
-fn weighted_inside(line: &[i128], step: Step, taps: &[i64], n: usize) -> i128
+fn weighted_inside(line: &[i128], step: Step, taps: &[i32], n: usize) -> i128
     requires parity { step.parity ≤ 1 }
     requires first { step.lead ≤ n }
     requires last { n + length taps.now ≤ length line.now / 2 + step.lead }
@@ -123,48 +126,37 @@ fn weighted_inside(line: &[i128], step: Step, taps: &[i64], n: usize) -> i128
     sum
 }
 
-/// Changes pair `n`, of which a tap may read beyond an end of the line.
+/// The weighted sum for pair `n`, of which all taps read inside the line or some may read beyond an end of it.
 #[inline(always)]
-fn lift_pair_clamped(line: &mut [i128], step: Step, taps: &[i64], n: usize)
+fn weighted_sum(line: &[i128], step: Step, taps: &[i32], n: usize, inside: bool) -> i128
     requires parity { step.parity ≤ 1 }
-    requires pair { n < length line.old / 2 }
-    requires shift { step.shift ≤ 32 }
-    requires read { PlacesWithin (2 ^ 112) (1 - step.parity) line.old }
-    requires changed { unsigned_abs (slice_index_or line.old (own step.parity n) (pos 0)) ≤ 2 ^ 112 }
+    requires pair { n < length line.now / 2 }
+    requires inside { inside ≡ true → (step.lead ≤ n) × (n + length taps.now ≤ length line.now / 2 + step.lead) }
+    requires values { PlacesWithin (2 ^ 112) (1 - step.parity) line.now }
     requires taps { sum_by unsigned_abs taps.now ≤ 2 ^ 14 }
-    ensures { line.new ≡ slice_set line.old (own step.parity n) (new_at (record {
-      parity = step.parity;
-      minus = step.minus;
-      shift = step.shift;
-      lead = step.lead;
-      taps = taps.now;
-    }) line.old n) }
+    ensures value { result ≡ weighted taps.now (value_read step.parity step.lead line.now n) (length taps.now) }
+    ensures bound { unsigned_abs result ≤ 2 ^ 126 }
 {
-    let sum = weighted_clamped(line, step, taps, n);
-    let at = 2 * n + step.parity;
-    line[at] = moved_value(line[at], rounded_sum(sum, step.shift), step.minus);
+    if inside {
+        weighted_inside(line, step, taps, n)
+    } else {
+        weighted_clamped(line, step, taps, n)
+    }
 }
 
-/// Changes pair `n`, of which all taps read inside the line.
+/// Changes pair `n`.
 #[inline(always)]
-fn lift_pair_inside(line: &mut [i128], step: Step, taps: &[i64], n: usize)
+fn lift_pair(line: &mut [i128], step: Step, taps: &[i32], n: usize, inside: bool)
     requires parity { step.parity ≤ 1 }
     requires pair { n < length line.old / 2 }
-    requires first { step.lead ≤ n }
-    requires last { n + length taps.now ≤ length line.old / 2 + step.lead }
+    requires inside { inside ≡ true → (step.lead ≤ n) × (n + length taps.now ≤ length line.old / 2 + step.lead) }
     requires shift { step.shift ≤ 32 }
     requires read { PlacesWithin (2 ^ 112) (1 - step.parity) line.old }
     requires changed { unsigned_abs (slice_index_or line.old (own step.parity n) (pos 0)) ≤ 2 ^ 112 }
     requires taps { sum_by unsigned_abs taps.now ≤ 2 ^ 14 }
-    ensures { line.new ≡ slice_set line.old (own step.parity n) (new_at (record {
-      parity = step.parity;
-      minus = step.minus;
-      shift = step.shift;
-      lead = step.lead;
-      taps = taps.now;
-    }) line.old n) }
+    ensures { line.new ≡ slice_set line.old (own step.parity n) (new_at (with_taps step taps.now) line.old n) }
 {
-    let sum = weighted_inside(line, step, taps, n);
+    let sum = weighted_sum(line, step, taps, n, inside);
     let at = 2 * n + step.parity;
     line[at] = moved_value(line[at], rounded_sum(sum, step.shift), step.minus);
 }
@@ -172,61 +164,26 @@ fn lift_pair_inside(line: &mut [i128], step: Step, taps: &[i64], n: usize)
 /// One lifting step over a line, in place: it reads only places that it doesn't write. The pairs near the
 /// ends, whose taps are clamped, stand apart from the inside of the line.
 #[inline(always)]
-fn lift_by(line: &mut [i128], step: Step, taps: &[i64])
+pub fn lift_by(line: &mut [i128], step: Step, taps: &[i32])
     requires parity { step.parity ≤ 1 }
     requires shift { step.shift ≤ 32 }
     requires taps { sum_by unsigned_abs taps.now ≤ 2 ^ 14 }
     requires even { length line.old % 2 ≡ 0 }
     requires evens { PlacesWithin (2 ^ 112) 0 line.old }
     requires odds { PlacesWithin (2 ^ 112) 1 line.old }
-    ensures { line.new ≡ lift (record {
-      parity = step.parity;
-      minus = step.minus;
-      shift = step.shift;
-      lead = step.lead;
-      taps = taps.now;
-    }) line.old }
+    ensures { line.new ≡ lift (with_taps step taps.now) line.old }
 {
     let half = line.len() / 2;
     let low = step.lead.min(half);
     let reach = taps.len().saturating_sub(step.lead);
     let high = half.saturating_sub(reach).max(low);
     'left: for n in 0..low {
-        lift_pair_clamped(line, step, taps, n);
+        lift_pair(line, step, taps, n, false);
     }
     'inside: for n in low..high {
-        lift_pair_inside(line, step, taps, n);
+        lift_pair(line, step, taps, n, true);
     }
     'right: for n in high..half {
-        lift_pair_clamped(line, step, taps, n);
+        lift_pair(line, step, taps, n, false);
     }
-}
-
-/// One lifting step over a line, in place. Its first tap reads `lead` pairs before the pair that it changes, each
-/// further tap one pair later: where the standard's taps begin at index D, `lead` is 1 - D for the even places and
-/// -D for the odd ones.
-#[inline(always)]
-pub fn lift_in_place(line: &mut [i128], change: Change, shift: u32, lead: usize, taps: &[i64])
-    requires shift { shift ≤ 32 }
-    requires taps { sum_by unsigned_abs taps.now ≤ 2 ^ 14 }
-    requires even { length line.old % 2 ≡ 0 }
-    requires evens { PlacesWithin (2 ^ 112) 0 line.old }
-    requires odds { PlacesWithin (2 ^ 112) 1 line.old }
-    ensures { line.new ≡ lift (record {
-      parity = parity_of change;
-      minus = is_minus change;
-      shift = shift;
-      lead = lead;
-      taps = taps.now;
-    }) line.old }
-{
-    let parity = change.parity();
-    let minus = change.takes();
-    let step = Step {
-        parity,
-        minus,
-        shift,
-        lead,
-    };
-    lift_by(line, step, taps);
 }

@@ -1,17 +1,11 @@
 -- How large the coefficients are that coded numbers stand for.
-use Rattle.std.proofs.Common.{◌≡◌, ℕ, zero, suc, ℤ, pos, negsuc, neg_ℤ, ◌+◌, ◌-◌, ◌*◌, ◌/◌, ◌%◌, ◌^◌, ◌<◌, ◌≤◌, unsigned_abs, get_or, arith, refl, inl, inr, eq-eqb}
-use Rattle.std.specs.List.{All}
+use Rattle.std.proofs.Common.{◌≡◌, ℕ, zero, suc, ℤ, pos, negsuc, neg_ℤ, ◌+◌, ◌-◌, ◌*◌, ◌/◌, ◌%◌, ◌^◌, ◌<◌, ◌≤◌, unsigned_abs, arith, refl, inl, inr, eq-eqb}
 use Rattle.std.proofs.Math.Pow.{pow_mono}
 use Rattle.std.proofs.lemmas.Bool.{cases_eq, ne_eqb}
-use Rattle.std.proofs.lemmas.List.Elements.{All-map}
 use Rattle.std.proofs.lemmas.Nat.{mul-le}
-use Rattle.dirac_common.specs.Table.{Table}
 use Rattle.dirac_common.specs.declared.formats.Kind.{Kind}
 use Rattle.dirac_common.specs.declared.formats.Kind.TheVariants.{Intra, Inter}
 use Rattle.dirac_quant.specs.Quantiser.{factor_of, general_offset, offset_of, with_sign_of, restored_magnitude, restored}
-use Rattle.dirac_coeffs.specs.declared.layout.CodedBand.{CodedBand}
-use Rattle.dirac_synthesis.specs.Fits.{IsBesides}
-use Rattle.dirac_synthesis.specs.Codeblocks.{restored_by_one}
 
 factor_small : (index : ℕ) → index ≤ 99 → factor_of index < 2 ^ 27
 factor_small index most =
@@ -63,9 +57,3 @@ signed_small (negsuc n) magnitude b l = omega (arith, l, negated_size magnitude)
 pub restored_small : (v : ℤ) (index : ℕ) (kind : Kind) → unsigned_abs v < 2 ^ 39 - 1 → index ≤ 99 → unsigned_abs (restored v index kind) < 2 ^ 64
 restored_small v index kind small most =
     signed_small v (restored_magnitude (unsigned_abs v) index kind) (2 ^ 64) (magnitude_small (unsigned_abs v) index kind small most)
-
--- the coefficients of a band beside an LL band
-pub restored_at_most : (b : ℕ) (kind : Kind) (low : Table) (band : CodedBand) → 2 ^ 64 ≤ b → IsBesides low band → All (λ v. unsigned_abs v ≤ b) (restored_by_one kind band).values
-restored_at_most b kind low band least fits =
-    All-map (λ v. unsigned_abs v ≤ b) (λ v. restored v band.index kind) band.table.values
-    (λ k d l. omega (arith, least, restored_small (get_or band.table.values k d) band.index kind (fits.small k d l) fits.index))

@@ -1,5 +1,5 @@
 -- What is cut off below a table: its first rows stay as they are.
-use Rattle.std.proofs.Common.{◌≡◌, ℕ, pos, ◌+◌, ◌*◌, ◌<◌, ◌≤◌, length, get_or, take, arith, refl, mul_comm}
+use Rattle.std.proofs.Common.{◌≡◌, ℕ, pos, ◌+◌, ◌*◌, ◌<◌, ◌≤◌, length, take, arith, refl, mul_comm}
 use Rattle.std.proofs.lemmas.List.{length-take-le, get_or-take}
 use Rattle.std.proofs.lemmas.Nat.{row_fits, mul-le}
 use Rattle.dirac_common.specs.Table.{Table, table_at}

@@ -1,15 +1,21 @@
 -- The LL band of one level more.
-use Rattle.std.proofs.Common.{◌≡◌, ℕ, suc, ◌+◌, ◌*◌, List, slice_get, Some, arith, refl, ap, sym, ◌∙◌, subst}
+use Rattle.std.proofs.Common.{◌≡◌, ℕ, suc, ◌+◌, ◌*◌, ◌^◌, ◌<◌, ◌≤◌, List, slice_get, Some, unsigned_abs, arith, refl, ap, sym, ◌∙◌, subst}
+use Rattle.std.specs.List.{All}
 use Rattle.dirac_common.specs.declared.formats.Kind.{Kind}
 use Rattle.dirac_common.specs.declared.formats.Kind.TheVariants.{Intra, Inter}
+use Rattle.dirac_common.specs.Limits.{IsWavelet}
 use Rattle.dirac_common.specs.Table.{Table}
-use Rattle.dirac_bands.specs.Geometry.{level_of}
+use Rattle.dirac_bands.specs.Geometry.{level_of, lowest_size}
 use Rattle.dirac_header.specs.Counts.{counts_among, counts_at}
 use Rattle.dirac_header.specs.declared.transform.Transform.{Transform}
 use Rattle.dirac_coeffs.specs.declared.layout.CodedBand.{CodedBand}
 use Rattle.dirac_lift.specs.Level.{level}
+use Rattle.dirac_synthesis.specs.declared.bands.LevelBands.{LevelBands}
 use Rattle.dirac_synthesis.specs.Codeblocks.{HasIndices, restored_band}
+use Rattle.dirac_synthesis.specs.Fits.{AreBandsOf, IsBandOf, IsBesides}
+use Rattle.dirac_synthesis.specs.Levels.{IsLevel}
 use Rattle.dirac_synthesis.specs.Residual.{after_levels, restored_among, restored_at, summed}
+use Rattle.dirac_synthesis.proofs.Sizes.{level_length, quotient_bound}
 
 -- what a band of these counts stands for
 pub restored_is : (t : Transform) (kind : Kind) (bands : List CodedBand) (n level : ℕ) (counts : ℕ × ℕ) (b : CodedBand) → counts_at t.counts level ≡ counts → level_of n ≡ level → slice_get bands n ≡ Some b → restored_band kind counts b ≡ restored_at t kind bands n
@@ -52,6 +58,34 @@ more_levels t kind bands n counts a b d low next told el ga gb gd e =
     ∙ ap (level t.wavelet (after_levels t kind bands n) (restored_at t kind bands (3 * n + 1)) (restored_at t kind bands (3 * n + 2))) both
     ∙ ap (after_levels t kind bands) one
 
--- a level of equal bands
-pub same_level : (k : ℕ) (low a b d x y z : Table) → x ≡ a → y ≡ b → z ≡ d → level k low a b d ≡ level k low x y z
-same_level k low a b d x y z ea eb ed = rw (ea, eb, ed) refl
+-- band k of a plane stands beside the LL band of its level
+stands_beside : (t : Transform) (width height n k : ℕ) (low : Table) (b : CodedBand) → n < t.depth → 3 * n + 1 ≤ k → k ≤ 3 * n + 3 → low.width ≡ lowest_size width t.depth * 2 ^ n → low.height ≡ lowest_size height t.depth * 2 ^ n → IsBandOf t width height k b → IsBesides low b
+stands_beside t width height n k low b l least most ew eh fits = record {
+  index = fits.index;
+  across = fits.across ∙ level_length width t.depth n k l least most ∙ sym ew;
+  down = fits.down ∙ level_length height t.depth n k l least most ∙ sym eh;
+  small = fits.small;
+}
+
+-- so a level can be synthesised
+pub stands_level : (t : Transform) (kind : Kind) (bands : List CodedBand) (width height n : ℕ) (counts : ℕ × ℕ) (low : Table) (beside : LevelBands)
+    → IsWavelet t.wavelet → t.depth ≤ 5 → width ≤ 8192 → height ≤ 8192 → AreBandsOf t width height bands → n < t.depth → slice_get t.counts (n + 1) ≡ Some counts
+    → low.width ≡ lowest_size width t.depth * 2 ^ n → low.height ≡ lowest_size height t.depth * 2 ^ n → All (λ v. unsigned_abs v ≤ 2 ^ 103) low.values
+    → slice_get bands (3 * n + 1) ≡ Some beside.hl.now → slice_get bands (3 * n + 2) ≡ Some beside.lh.now → slice_get bands (3 * n + 3) ≡ Some beside.hh.now
+    → IsLevel (record { wavelet = t.wavelet; kind = kind; counts = counts }) low beside
+stands_level t kind bands width height n counts low beside wavelet deep across down all l told ew eh small ga gb gd =
+    let fa = all.each (3 * n + 1) beside.hl.now ga in
+    let fb = all.each (3 * n + 2) beside.lh.now gb in
+    let fd = all.each (3 * n + 3) beside.hh.now gd in
+    record {
+      wavelet = wavelet;
+      across = omega (arith, ew, quotient_bound width t.depth n across l deep);
+      down = omega (arith, eh, quotient_bound height t.depth n down l deep);
+      hl = stands_beside t width height n (3 * n + 1) low beside.hl.now l (omega arith) (omega arith) ew eh fa;
+      lh = stands_beside t width height n (3 * n + 2) low beside.lh.now l (omega arith) (omega arith) ew eh fb;
+      hh = stands_beside t width height n (3 * n + 3) low beside.hh.now l (omega arith) (omega arith) ew eh fd;
+      hl_indices = counts_given t (3 * n + 1) (n + 1) counts beside.hl.now (omega arith) told fa.indices;
+      lh_indices = counts_given t (3 * n + 2) (n + 1) counts beside.lh.now (omega arith) told fb.indices;
+      hh_indices = counts_given t (3 * n + 3) (n + 1) counts beside.hh.now (omega arith) told fd.indices;
+      small = small;
+    }

@@ -3,7 +3,6 @@ pub mod Bounds
 pub mod ByCodeblock
 pub mod Coefficients
 pub mod Cutting
-pub mod Growing
 pub mod JoinedRows
 pub mod LevelBounds
 pub mod LevelLemmas

@@ -92,3 +92,13 @@ bound_more n =
 
 pub bound_least : (n : ℕ) → 2 ^ 64 ≤ 2 ^ 77 * 73 ^ n
 bound_least n = omega (arith, bound_some n)
+
+-- an LL band has at least one column and one row
+some_factor : (q p : ℕ) → 1 ≤ q * p → 1 ≤ q
+some_factor zero p l = absurd (omega (arith, l))
+some_factor (suc q) p l = omega arith
+
+pub level_some : (size depth n low : ℕ) → 1 ≤ size → low ≡ lowest_size size depth * 2 ^ n → 1 ≤ low
+level_some size depth n low some e =
+    let lowest : 1 ≤ lowest_size size depth = some_factor (lowest_size size depth) (2 ^ depth) (omega (arith, some, size_within size depth)) in
+    omega (arith, e, mul-le 1 1 (lowest_size size depth) (2 ^ n) lowest (pow_pos n))

@@ -1,6 +1,6 @@
 pub mod Codeblocks
 pub mod Fits
 pub mod Halves
-pub mod Held
+pub mod Levels
 pub mod Residual
 pub mod Zeros

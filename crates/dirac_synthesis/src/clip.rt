@@ -4,8 +4,9 @@ ghost use Rattle.std.specs.List.{All};
 ghost use Rattle.dirac_common.specs.Samples.{clip};
 ghost use Rattle.dirac_synthesis.specs.Residual.{clipped, summed_with, with_prediction};
 
-use crate::held::{Held, Residual};
+use crate::held::Residual;
 use dirac_common::{LARGEST_TABLE_SIDE, NoMemory, Plane};
+use dirac_lift::Held;
 use std::alloc::Global;
 
 /// A value clipped to the range of samples, -128 to 127.

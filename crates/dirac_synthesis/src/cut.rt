@@ -1,8 +1,9 @@
 ghost use Rattle.std.specs.Prelude.{◌≡◌, ◌≤◌, IfOk};
 ghost use Rattle.dirac_synthesis.specs.Residual.{cut};
 
-use crate::held::{Held, Residual};
+use crate::held::Residual;
 use dirac_common::{LARGEST_TABLE_SIDE, Narrow, NoMemory, Wide};
+use dirac_lift::Held;
 use std::alloc::Global;
 
 fn cut_wide(alloc: Global, table: &Wide, width: u32, height: u32) -> Result<Wide, NoMemory>

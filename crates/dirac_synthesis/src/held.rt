@@ -1,15 +1,9 @@
 ghost use Rattle.std.specs.Prelude.{◌≡◌, ◌*◌, ◌≤◌, length, take, IfOk};
 
 use dirac_common::{LARGEST_TABLE_SIDE, Narrow, NoMemory, Wide};
+use dirac_lift::Held;
 use std::alloc::Global;
 use std::marker::Model;
-
-/// Values in 32 bits where these are enough, else wide.
-#[derive(Drop)]
-pub enum Held {
-    Wide(Wide),
-    Narrow(Narrow),
-}
 
 /// The residual of a plane, or the LL band of a level on the way to it.
 #[derive(Drop)]
@@ -19,7 +13,7 @@ pub struct Residual {
 
 impl Model for Residual {
     ghost use Rattle.dirac_common.specs.Table.{Table};
-    ghost use Rattle.dirac_synthesis.specs.Held.{held_table};
+    ghost use Rattle.dirac_lift.specs.Held.{held_table};
 
     ghost Value = { Table };
 
@@ -27,7 +21,7 @@ impl Model for Residual {
 }
 
 impl Residual {
-    ghost use Rattle.dirac_synthesis.specs.Held.{held_table};
+    ghost use Rattle.dirac_lift.specs.Held.{held_table};
     ghost use Rattle.dirac_synthesis.specs.Zeros.{zeros};
 
     /// A residual of zeros.

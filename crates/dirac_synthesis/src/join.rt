@@ -3,13 +3,13 @@ ghost use Rattle.std.specs.Prelude.{unsigned_abs, IfOk};
 ghost use Rattle.std.specs.List.{All};
 ghost use Rattle.dirac_common.specs.Limits.{IsIndex};
 ghost use Rattle.dirac_quant.specs.Quantiser.{restored};
-ghost use Rattle.dirac_bands.specs.Interleaving.{interleaved, joined};
-ghost use Rattle.dirac_synthesis.specs.Fits.{IsBesides};
+ghost use Rattle.dirac_bands.specs.Interleaving.{interleaved};
 ghost use Rattle.dirac_synthesis.specs.Codeblocks.{restored_by_one};
+ghost use Rattle.dirac_synthesis.specs.Levels.{IsLevel, joined_by};
 
+use crate::bands::{LevelBands, Synthesis};
 use crate::restore::restore_into;
-use dirac_coeffs::CodedBand;
-use dirac_common::{Kind, LARGEST_SIDE, NoMemory, Wide};
+use dirac_common::{Kind, NoMemory, Wide};
 use std::alloc::Global;
 
 /// Copies values to the places 2n of a line of twice the length.
@@ -64,20 +64,14 @@ fn odd_row(
 /// of each have its index: each coefficient is restored at its place, with no table of the band between.
 pub fn join_restored(
     alloc: Global,
+    by: Synthesis,
     low: &Wide,
-    hl: &CodedBand,
-    lh: &CodedBand,
-    hh: &CodedBand,
-    kind: Kind,
+    bands: LevelBands,
 ) -> Result<Wide, NoMemory>
-    requires across { low.now.width ≤ LARGEST_SIDE }
-    requires down { low.now.height ≤ LARGEST_SIDE }
-    requires hl { IsBesides low.now hl.now }
-    requires lh { IsBesides low.now lh.now }
-    requires hh { IsBesides low.now hh.now }
-    ensures { IfOk result (λ t. t ≡ joined low.now (restored_by_one kind hl.now) (restored_by_one kind lh.now)
-        (restored_by_one kind hh.now)) }
+    requires { IsLevel by low.now bands }
+    ensures { IfOk result (λ t. t ≡ joined_by (restored_by_one by.kind) low.now bands.entry) }
 {
+    let LevelBands { hl, lh, hh } = bands;
     let width = low.width();
     let height = low.height();
     let mut plane = Wide::try_new(alloc, 2 * width, 2 * height, 0)?;
@@ -86,7 +80,7 @@ pub fn join_restored(
     let hh_table = hh.table.try_wide(alloc)?;
     for y in 0..height {
         let right = hl_table.row(y);
-        even_row(low.row(y), right, hl.index, kind, plane.row_mut(2 * y));
+        even_row(low.row(y), right, hl.index, by.kind, plane.row_mut(2 * y));
         let left = lh_table.row(y);
         let right = hh_table.row(y);
         odd_row(
@@ -94,7 +88,7 @@ pub fn join_restored(
             lh.index,
             right,
             hh.index,
-            kind,
+            by.kind,
             plane.row_mut(2 * y + 1),
         );
     }

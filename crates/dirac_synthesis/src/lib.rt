@@ -2,6 +2,7 @@
 
 //! From the quantised subbands of a plane to its residual, and from that and what is predicted to its samples.
 
+mod bands;
 mod clip;
 mod codeblocks;
 mod cut;

@@ -3,14 +3,16 @@
 ghost use Rattle.std.specs.Prelude.{◌≡◌, ℕ, pos, true, ◌+◌, ◌*◌, ◌^◌, ◌<◌, ◌≤◌, length, slice_index_or, slice_set};
 ghost use Rattle.std.specs.Prelude.{unsigned_abs, IfOk};
 ghost use Rattle.std.specs.List.{All};
-ghost use Rattle.dirac_common.specs.Limits.{IsIndex, IsWavelet};
+ghost use Rattle.dirac_common.specs.Limits.{IsIndex};
 ghost use Rattle.dirac_common.specs.Table.{table_at};
 ghost use Rattle.dirac_quant.specs.Quantiser.{scaled};
-ghost use Rattle.dirac_lift.specs.Level.{level};
+ghost use Rattle.dirac_lift.specs.Level.{synthesised};
 ghost use Rattle.dirac_synthesis.specs.Fits.{IsBesides};
 ghost use Rattle.dirac_synthesis.specs.Halves.{IsNarrowBand, IsRestorable, beside};
 ghost use Rattle.dirac_synthesis.specs.Codeblocks.{restored_by_one};
+ghost use Rattle.dirac_synthesis.specs.Levels.{IsLevel, joined_by};
 
+use crate::bands::{LevelBands, Synthesis};
 use crate::scale::{Scale, scale_of};
 use dirac_coeffs::{CodedBand, Coefficients};
 use dirac_common::{Kind, LARGEST_NARROW, LARGEST_SIDE, Narrow, NoMemory};
@@ -18,19 +20,26 @@ use dirac_lift::synth_halves_level;
 use dirac_quant::{narrow_limit, restore_narrow};
 use std::alloc::Global;
 
-/// Whether all values are at most 4,095 in magnitude.
-pub fn is_narrow(values: &[i32]) -> bool
-    ensures { result ≡ true → All (λ v. unsigned_abs v ≤ LARGEST_NARROW) values.now }
-{
-    values.iter().all(|v| v.unsigned_abs() <= LARGEST_NARROW)
-}
-
 /// Whether all coefficients of a band are at most 4,095 in magnitude.
-pub fn is_narrow_band(band: &CodedBand, kind: Kind) -> bool
+fn is_narrow_band(band: &CodedBand, kind: Kind) -> bool
     requires { IsIndex band.now.index }
     ensures { result ≡ true → IsNarrowBand kind band.now }
 {
     band.table.largest() <= narrow_limit(band.index, kind)
+}
+
+/// Whether those of three bands are.
+pub fn are_narrow(bands: LevelBands, kind: Kind) -> bool
+    requires hl { IsIndex bands.hl.now.index }
+    requires lh { IsIndex bands.lh.now.index }
+    requires hh { IsIndex bands.hh.now.index }
+    ensures hl { result ≡ true → IsNarrowBand kind bands.entry.hl.now }
+    ensures lh { result ≡ true → IsNarrowBand kind bands.entry.lh.now }
+    ensures hh { result ≡ true → IsNarrowBand kind bands.entry.hh.now }
+{
+    is_narrow_band(bands.hl, kind)
+        && is_narrow_band(bands.lh, kind)
+        && is_narrow_band(bands.hh, kind)
 }
 
 /// Writes what one coded number stands for.
@@ -149,34 +158,27 @@ fn odd_rows(alloc: Global, lh: &CodedBand, hh: &CodedBand, kind: Kind) -> Result
     Ok(rows)
 }
 
-/// The LL band of the next level.
+/// The LL band of the next level, where the codeblocks of each band have its index.
 pub fn narrow_level(
     alloc: Global,
-    wavelet: u8,
-    kind: Kind,
+    by: Synthesis,
     low: &Narrow,
-    hl: &CodedBand,
-    lh: &CodedBand,
-    hh: &CodedBand,
+    bands: LevelBands,
 ) -> Result<Narrow, NoMemory>
-    requires wavelet { IsWavelet wavelet }
-    requires across { low.now.width ≤ LARGEST_SIDE }
-    requires down { low.now.height ≤ LARGEST_SIDE }
-    requires besides { IsBesides low.now hl.now × IsBesides low.now lh.now × IsBesides low.now hh.now }
-    requires narrow { IsNarrowBand kind hl.now × IsNarrowBand kind lh.now × IsNarrowBand kind hh.now }
+    requires level { IsLevel by low.now bands }
+    requires hl { IsNarrowBand by.kind bands.hl.now }
+    requires lh { IsNarrowBand by.kind bands.lh.now }
+    requires hh { IsNarrowBand by.kind bands.hh.now }
     requires at_most_4095 { All (λ v. unsigned_abs v ≤ LARGEST_NARROW) low.now.values }
-    ensures value { IfOk result (λ t. t ≡ level wavelet low.now (restored_by_one kind hl.now)
-        (restored_by_one kind lh.now) (restored_by_one kind hh.now)) }
-    ensures growth { IfOk result (λ t. (b : ℕ) → 2 ^ 64 ≤ b → All (λ v. unsigned_abs v ≤ b) low.now.values
-        → All (λ v. unsigned_abs v ≤ 72 * b + 40) t.values) }
+    ensures { IfOk result (λ t. t ≡ synthesised by.wavelet (joined_by (restored_by_one by.kind) low.now bands.entry)) }
 {
-    let mut evens = even_rows(alloc, low, hl, kind)?;
-    let mut odds = odd_rows(alloc, lh, hh, kind)?;
+    let mut evens = even_rows(alloc, low, bands.hl, by.kind)?;
+    let mut odds = odd_rows(alloc, bands.lh, bands.hh, by.kind)?;
     let width = evens.width();
     let height = evens.height();
     synth_halves_level(
         alloc,
-        wavelet,
+        by.wavelet,
         evens.values_mut(),
         odds.values_mut(),
         width,

@@ -8,9 +8,10 @@ ghost use Rattle.dirac_synthesis.specs.Codeblocks.{HasIndices, restored_band};
 ghost use Rattle.dirac_synthesis.specs.Fits.{AreBandsOf};
 ghost use Rattle.dirac_synthesis.specs.Residual.{residual, summed};
 
+use crate::bands::{LevelBands, Synthesis};
 use crate::cut::cut_off;
 use crate::held::Residual;
-use crate::levels::{Synthesis, next_level};
+use crate::levels::next_level;
 use crate::restore::restore_band;
 use dirac_bands::dc_add;
 use dirac_coeffs::CodedBand;
@@ -86,14 +87,12 @@ pub fn plane_residual(
             kind,
             counts: transform.counts.at(n as u8 + 1),
         };
-        let next = next_level(
-            alloc,
-            by,
-            &low,
-            &bands[3 * n + 1],
-            &bands[3 * n + 2],
-            &bands[3 * n + 3],
-        )?;
+        let beside = LevelBands {
+            hl: &bands[3 * n + 1],
+            lh: &bands[3 * n + 2],
+            hh: &bands[3 * n + 3],
+        };
+        let next = next_level(alloc, by, &low, beside)?;
         low = next;
     }
     cut_off(alloc, low, width, height)

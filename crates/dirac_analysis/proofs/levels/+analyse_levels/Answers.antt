@@ -5,7 +5,7 @@ use Rattle.dirac_bands.specs.Interleaving.{band_of}
 use Rattle.dirac_lift.specs.Level.{analysed}
 use Rattle.dirac_analysis.specs.Analysis.{as_coded}
 use Rattle.dirac_analysis.specs.Fits.{IsQuantisable}
-use Rattle.dirac_analysis.specs.Halves.{held_table}
+use Rattle.dirac_lift.specs.Held.{held_table}
 use Rattle.dirac_analysis.proofs.Analysing.{analysed_more, analysed_none, more_quantisable, none_quantisable}
 use Rattle.dirac_analysis.proofs.Fitting.{low_ready, small_above, small_lowest}
 use Rattle.dirac_analysis.proofs.HalfBands.{level_quantisable}
@@ -29,14 +29,15 @@ returns-then-depth-eq0-clause-value t c =
 pub returns-then-depth-eq0-clause-fits : goal.returns-then-depth-eq0-clause-fits
 returns-then-depth-eq0-clause-fits t c = rw c.if-depth-eq0.true (none_quantisable c.new.result c.lowest_band-lowest.result c.new.ensures c.lowest_band-lowest.ensures.fits)
 
-pub split_level-requires-clause-across : goal.split_level-requires-clause-across
-split_level-requires-clause-across t c = ((sizes_even c.args.depth (c.args.depth - 1) (held_table c.args.plane) (omega (arith, c.if-depth-eq0.false)) c.requires.divisible).0, c.requires.across)
-
-pub split_level-requires-clause-down : goal.split_level-requires-clause-down
-split_level-requires-clause-down t c = ((sizes_even c.args.depth (c.args.depth - 1) (held_table c.args.plane) (omega (arith, c.if-depth-eq0.false)) c.requires.divisible).1, c.requires.down)
-
-pub split_level-requires-clause-magnitudes_at_most_2_29 : goal.split_level-requires-clause-magnitudes_at_most_2_29
-split_level-requires-clause-magnitudes_at_most_2_29 t c = small_above (4 - c.args.depth) (held_table c.args.plane).values (omega (arith, c.if-depth-eq0.false)) c.requires.magnitudes_bounded
+pub split_level-requires : goal.split_level-requires
+split_level-requires t c =
+    let even = sizes_even c.args.depth (c.args.depth - 1) (held_table c.args.plane) (omega (arith, c.if-depth-eq0.false)) c.requires.divisible in
+    record {
+      known = c.requires.wavelet;
+      across = (even.0, c.requires.across);
+      down = (even.1, c.requires.down);
+      small = small_above (4 - c.args.depth) (held_table c.args.plane).values (omega (arith, c.if-depth-eq0.false)) c.requires.magnitudes_bounded;
+    }
 
 pub analyse_levels-requires : goal.analyse_levels-requires
 analyse_levels-requires t c =

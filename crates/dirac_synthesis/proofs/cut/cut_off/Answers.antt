@@ -1,5 +1,4 @@
 use Rattle.std.proofs.Common.{◌≡◌, ap, sym, ◌∙◌, arith}
-use Rattle.dirac_common.specs.Table.{Table}
 use Rattle.dirac_synthesis.specs.Residual.{cut}
 use Rattle.dirac_synthesis.proofs.Cutting.{first_rows_cut}
 use Rattle.dirac_synthesis.proofs.cut.cut_off.Goals as goal

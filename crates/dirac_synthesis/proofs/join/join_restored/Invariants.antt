@@ -8,5 +8,5 @@ abbrev pub invariant-loop-y : goal.invariant-loop-y
 invariant-loop-y l = record {
   across : l.plane.width ≡ 2 * l.low.width;
   down : l.plane.height ≡ 2 * l.low.height;
-  rows : RowsFilled (joined_at l.low (restored_by_one l.kind l.hl) (restored_by_one l.kind l.lh) (restored_by_one l.kind l.hh)) l.plane.width l.plane.height l.plane.values (2 * l.y);
+  rows : RowsFilled (joined_at l.low (restored_by_one l.by.kind l.hl) (restored_by_one l.by.kind l.lh) (restored_by_one l.by.kind l.hh)) l.plane.width l.plane.height l.plane.values (2 * l.y);
 }

@@ -6,9 +6,10 @@ use Rattle.dirac_header.specs.Counts.{counts_among}
 use Rattle.dirac_synthesis.specs.Codeblocks.{HasIndices}
 use Rattle.dirac_synthesis.specs.Fits.{IsBandOf}
 use Rattle.dirac_synthesis.proofs.Bounds.{cut_bound}
-use Rattle.dirac_synthesis.proofs.LevelLemmas.{counts_given, first_level, more_levels, summed_width, summed_height}
+use Rattle.dirac_synthesis.proofs.LevelBounds.{bands_of, next_grows}
+use Rattle.dirac_synthesis.proofs.LevelLemmas.{first_level, more_levels, stands_level, summed_width, summed_height}
 use Rattle.dirac_synthesis.proofs.Maps.{got_band, ok_weaker}
-use Rattle.dirac_synthesis.proofs.Sizes.{lowest_length, level_length, quotient_bound, size_within, next_length, entry_bound, end_bound, bound_more, bound_least}
+use Rattle.dirac_synthesis.proofs.Sizes.{lowest_length, level_some, quotient_bound, size_within, next_length, entry_bound, end_bound, bound_more, bound_least}
 use Rattle.dirac_synthesis.proofs.ZeroBands.{zeros_bound, zeros_stand_in}
 use Rattle.dirac_synthesis.proofs.plane.plane_residual.Goals as goal
 
@@ -56,82 +57,48 @@ loop-n-init c =
       bound = rw c.in_ok-low.ensures c.in_ok-lowest.ensures.bound;
     }
 
-pub next_level-requires-clause-across : goal.next_level-requires-clause-across
-next_level-requires-clause-across c =
-    omega (arith, c.loop-n.invariant.across, quotient_bound c.args.width c.args.transform.now.depth c.loop-n.n c.requires.across.1 c.loop-n-test.true c.requires.depth.1)
-
-pub next_level-requires-clause-down : goal.next_level-requires-clause-down
-next_level-requires-clause-down c =
-    omega (arith, c.loop-n.invariant.down, quotient_bound c.args.height c.args.transform.now.depth c.loop-n.n c.requires.down.1 c.loop-n-test.true c.requires.depth.1)
-
-pub next_level-requires-clause-magnitudes_at_most_2_103 : goal.next_level-requires-clause-magnitudes_at_most_2_103
-next_level-requires-clause-magnitudes_at_most_2_103 c =
-    all_weaker (2 ^ 77 * 73 ^ c.loop-n.n) (2 ^ 103) c.loop-n.low.values
-    (entry_bound c.loop-n.n (omega (arith, c.loop-n-test.true, c.requires.depth.1))) c.loop-n.invariant.bound
-
-pub next_level-requires-clause-hl : goal.next_level-requires-clause-hl
-next_level-requires-clause-hl c =
-    let got : slice_get c.args.bands.now (3 * c.loop-n.n + 1) ≡ Some c.index-bands-n.result =
+pub next_level-requires : goal.next_level-requires
+next_level-requires c =
+    let hl : slice_get c.args.bands.now (3 * c.loop-n.n + 1) ≡ Some c.index-bands-n.result =
     got_band c.args.bands.now (3 * c.loop-n.n + 1) c.index-bands-n.result (omega (arith, c.requires.bands.count, c.loop-n-test.true)) c.index-bands-n.is in
-    let fits : IsBandOf c.args.transform.now c.args.width c.args.height (3 * c.loop-n.n + 1) c.index-bands-n.result = c.requires.bands.each (3 * c.loop-n.n + 1) c.index-bands-n.result got in (
-      record {
-        index = fits.index;
-        across = fits.across ∙ level_length c.args.width c.args.transform.now.depth c.loop-n.n (3 * c.loop-n.n + 1) c.loop-n-test.true (omega arith) (omega arith) ∙ sym c.loop-n.invariant.across;
-        down = fits.down ∙ level_length c.args.height c.args.transform.now.depth c.loop-n.n (3 * c.loop-n.n + 1) c.loop-n-test.true (omega arith) (omega arith) ∙ sym c.loop-n.invariant.down;
-        small = fits.small;
-      },
-      counts_given c.args.transform.now (3 * c.loop-n.n + 1) (c.loop-n.n + 1) c.at-in-loop-n.result c.index-bands-n.result (omega arith) c.at-in-loop-n.ensures fits.indices,
-    )
-
-pub next_level-requires-clause-lh : goal.next_level-requires-clause-lh
-next_level-requires-clause-lh c =
-    let got : slice_get c.args.bands.now (3 * c.loop-n.n + 2) ≡ Some c.index-bands-n-in-loop-n.result =
+    let lh : slice_get c.args.bands.now (3 * c.loop-n.n + 2) ≡ Some c.index-bands-n-in-loop-n.result =
     got_band c.args.bands.now (3 * c.loop-n.n + 2) c.index-bands-n-in-loop-n.result (omega (arith, c.requires.bands.count, c.loop-n-test.true)) c.index-bands-n-in-loop-n.is in
-    let fits : IsBandOf c.args.transform.now c.args.width c.args.height (3 * c.loop-n.n + 2) c.index-bands-n-in-loop-n.result = c.requires.bands.each (3 * c.loop-n.n + 2) c.index-bands-n-in-loop-n.result got in (
-      record {
-        index = fits.index;
-        across = fits.across ∙ level_length c.args.width c.args.transform.now.depth c.loop-n.n (3 * c.loop-n.n + 2) c.loop-n-test.true (omega arith) (omega arith) ∙ sym c.loop-n.invariant.across;
-        down = fits.down ∙ level_length c.args.height c.args.transform.now.depth c.loop-n.n (3 * c.loop-n.n + 2) c.loop-n-test.true (omega arith) (omega arith) ∙ sym c.loop-n.invariant.down;
-        small = fits.small;
-      },
-      counts_given c.args.transform.now (3 * c.loop-n.n + 2) (c.loop-n.n + 1) c.at-in-loop-n.result c.index-bands-n-in-loop-n.result (omega arith) c.at-in-loop-n.ensures fits.indices,
-    )
-
-pub next_level-requires-clause-hh : goal.next_level-requires-clause-hh
-next_level-requires-clause-hh c =
-    let got : slice_get c.args.bands.now (3 * c.loop-n.n + 3) ≡ Some c.index-bands-n-in-loop-n-2.result =
+    let hh : slice_get c.args.bands.now (3 * c.loop-n.n + 3) ≡ Some c.index-bands-n-in-loop-n-2.result =
     got_band c.args.bands.now (3 * c.loop-n.n + 3) c.index-bands-n-in-loop-n-2.result (omega (arith, c.requires.bands.count, c.loop-n-test.true)) c.index-bands-n-in-loop-n-2.is in
-    let fits : IsBandOf c.args.transform.now c.args.width c.args.height (3 * c.loop-n.n + 3) c.index-bands-n-in-loop-n-2.result = c.requires.bands.each (3 * c.loop-n.n + 3) c.index-bands-n-in-loop-n-2.result got in (
-      record {
-        index = fits.index;
-        across = fits.across ∙ level_length c.args.width c.args.transform.now.depth c.loop-n.n (3 * c.loop-n.n + 3) c.loop-n-test.true (omega arith) (omega arith) ∙ sym c.loop-n.invariant.across;
-        down = fits.down ∙ level_length c.args.height c.args.transform.now.depth c.loop-n.n (3 * c.loop-n.n + 3) c.loop-n-test.true (omega arith) (omega arith) ∙ sym c.loop-n.invariant.down;
-        small = fits.small;
-      },
-      counts_given c.args.transform.now (3 * c.loop-n.n + 3) (c.loop-n.n + 1) c.at-in-loop-n.result c.index-bands-n-in-loop-n-2.result (omega arith) c.at-in-loop-n.ensures fits.indices,
-    )
+    stands_level c.args.transform.now c.args.kind c.args.bands.now c.args.width c.args.height c.loop-n.n c.at-in-loop-n.result c.loop-n.low _
+    c.requires.wavelet c.requires.depth.1 c.requires.across.1 c.requires.down.1 c.requires.bands c.loop-n-test.true c.at-in-loop-n.ensures
+    c.loop-n.invariant.across c.loop-n.invariant.down
+    (all_weaker (2 ^ 77 * 73 ^ c.loop-n.n) (2 ^ 103) c.loop-n.low.values (entry_bound c.loop-n.n (omega (arith, c.loop-n-test.true, c.requires.depth.1))) c.loop-n.invariant.bound)
+    hl lh hh
 
 pub loop-n-preserved : goal.loop-n-preserved
 loop-n-preserved c =
-    let a : slice_get c.args.bands.now (3 * c.loop-n.n + 1) ≡ Some c.index-bands-n.result =
+    let hl : slice_get c.args.bands.now (3 * c.loop-n.n + 1) ≡ Some c.index-bands-n.result =
     got_band c.args.bands.now (3 * c.loop-n.n + 1) c.index-bands-n.result (omega (arith, c.requires.bands.count, c.loop-n-test.true)) c.index-bands-n.is in
-    let b : slice_get c.args.bands.now (3 * c.loop-n.n + 2) ≡ Some c.index-bands-n-in-loop-n.result =
+    let lh : slice_get c.args.bands.now (3 * c.loop-n.n + 2) ≡ Some c.index-bands-n-in-loop-n.result =
     got_band c.args.bands.now (3 * c.loop-n.n + 2) c.index-bands-n-in-loop-n.result (omega (arith, c.requires.bands.count, c.loop-n-test.true)) c.index-bands-n-in-loop-n.is in
-    let d : slice_get c.args.bands.now (3 * c.loop-n.n + 3) ≡ Some c.index-bands-n-in-loop-n-2.result =
+    let hh : slice_get c.args.bands.now (3 * c.loop-n.n + 3) ≡ Some c.index-bands-n-in-loop-n-2.result =
     got_band c.args.bands.now (3 * c.loop-n.n + 3) c.index-bands-n-in-loop-n-2.result (omega (arith, c.requires.bands.count, c.loop-n-test.true)) c.index-bands-n-in-loop-n-2.is in
     record {
       value =
           more_levels c.args.transform.now c.args.kind c.args.bands.now c.loop-n.n c.at-in-loop-n.result c.index-bands-n.result c.index-bands-n-in-loop-n.result c.index-bands-n-in-loop-n-2.result
-          c.loop-n.low c.in_ok-next.next (ap counts_among c.at-in-loop-n.ensures) c.loop-n.invariant.value a b d c.in_ok-next.ensures.value;
+          c.loop-n.low c.in_ok-next.next (ap counts_among c.at-in-loop-n.ensures) c.loop-n.invariant.value hl lh hh c.in_ok-next.ensures;
       across =
           next_length (lowest_size c.args.width c.args.transform.now.depth) c.loop-n.n c.loop-n.low.width c.in_ok-next.next.width
-          (ap (λ (t : Table). t.width) c.in_ok-next.ensures.value) c.loop-n.invariant.across;
+          (ap (λ (t : Table). t.width) c.in_ok-next.ensures) c.loop-n.invariant.across;
       down =
           next_length (lowest_size c.args.height c.args.transform.now.depth) c.loop-n.n c.loop-n.low.height c.in_ok-next.next.height
-          (ap (λ (t : Table). t.height) c.in_ok-next.ensures.value) c.loop-n.invariant.down;
+          (ap (λ (t : Table). t.height) c.in_ok-next.ensures) c.loop-n.invariant.down;
       bound =
           all_weaker (72 * (2 ^ 77 * 73 ^ c.loop-n.n) + 40) (2 ^ 77 * 73 ^ (c.loop-n.n + 1)) c.in_ok-next.next.values (bound_more c.loop-n.n)
-          (c.in_ok-next.ensures.growth (2 ^ 77 * 73 ^ c.loop-n.n) (bound_least c.loop-n.n) c.loop-n.invariant.bound);
+          (next_grows (2 ^ 77 * 73 ^ c.loop-n.n) _ c.loop-n.low c.in_ok-next.next (bands_of c.index-bands-n.result c.index-bands-n-in-loop-n.result c.index-bands-n-in-loop-n-2.result) c.in_ok-next.ensures (bound_least c.loop-n.n)
+          (level_some c.args.width c.args.transform.now.depth c.loop-n.n c.loop-n.low.width c.requires.across.0 c.loop-n.invariant.across)
+          (stands_level c.args.transform.now c.args.kind c.args.bands.now c.args.width c.args.height c.loop-n.n c.at-in-loop-n.result c.loop-n.low _
+          c.requires.wavelet c.requires.depth.1 c.requires.across.1 c.requires.down.1 c.requires.bands c.loop-n-test.true c.at-in-loop-n.ensures
+          c.loop-n.invariant.across c.loop-n.invariant.down
+          (all_weaker (2 ^ 77 * 73 ^ c.loop-n.n) (2 ^ 103) c.loop-n.low.values (entry_bound c.loop-n.n (omega (arith, c.loop-n-test.true, c.requires.depth.1))) c.loop-n.invariant.bound)
+          hl lh hh)
+          c.loop-n.invariant.bound);
     }
 
 pub cut_off-requires-clause-across : goal.cut_off-requires-clause-across

@@ -1,0 +1,9 @@
+-- Tables that are held in 32 bits or wide.
+use Rattle.dirac_common.specs.Table.{Table}
+use Rattle.dirac_lift.specs.declared.held.Held.{Held}
+use Rattle.dirac_lift.specs.declared.held.Held.TheVariants.{Narrow, Wide}
+
+-- the table that is held
+abbrev pub held_table : Held → Table
+held_table (Wide t) = t
+held_table (Narrow t) = t
