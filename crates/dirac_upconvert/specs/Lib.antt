@@ -1,3 +1,4 @@
 pub mod HalfSamples
 pub mod Phases
+pub mod Rests
 pub mod SubSamples

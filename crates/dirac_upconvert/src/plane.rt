@@ -4,7 +4,8 @@ ghost use Rattle.std.specs.List.{All};
 ghost use Rattle.dirac_common.specs.Table.{Table, clamped_at, table_at};
 ghost use Rattle.dirac_upconvert.specs.HalfSamples.{IsSample, half, half_at, half_behind};
 ghost use Rattle.dirac_upconvert.specs.Phases.{phase_at, place_in_row};
-ghost use Rattle.dirac_upconvert.specs.SubSamples.{ArePartsByFour, IsRest, IsUp, Up, sub_sample};
+ghost use Rattle.dirac_upconvert.specs.Rests.{AreRests};
+ghost use Rattle.dirac_upconvert.specs.SubSamples.{ArePartsByFour, IsUp, Up, sub_sample};
 
 use crate::lines::{double_line, half_of_rows};
 use crate::parts::{part, place, twice, whole_sample};
@@ -135,11 +136,9 @@ pub fn upconvert(alloc: Global, plane: &Plane) -> Result<UpPlane, NoMemory>
 /// of eight.
 fn eight_by_four(table: &Phases, rests: Rests, across: i64, down: i64, out: &mut [i16])
     requires samples { All IsSample table.now.values }
-    requires bits { rests.bits ≤ 2 }
+    requires rests { AreRests rests }
     requires across { unsigned_abs across ≤ 2 ^ 34 }
     requires down { unsigned_abs down ≤ 2 ^ 34 }
-    requires right { IsRest rests.bits rests.right }
-    requires below { IsRest rests.bits rests.below }
     requires four_rows_of_eight { length out.old ≡ 32 }
     ensures { ArePartsByFour table.now rests.bits across down rests.right rests.below out.new }
 {
