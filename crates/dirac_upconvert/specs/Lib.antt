@@ -1,3 +1,4 @@
+pub mod Around
 pub mod HalfSamples
 pub mod Phases
 pub mod Rests
