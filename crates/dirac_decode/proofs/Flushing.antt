@@ -117,7 +117,7 @@ last_is_flushed state unit_place (unit ∷ units) end all =
     (λ next. last_is_flushed next (after unit_place unit.info) units end (rest_of unit units all))
 
 -- an end unit
-end_moves : (state : StreamState) (code : ℕ) (payload : List ℕ) → code ≡ 0x10 → unit_step state code payload ≡ Ok (ended state)
+pub end_moves : (state : StreamState) (code : ℕ) (payload : List ℕ) → code ≡ 0x10 → unit_step state code payload ≡ Ok (ended state)
 unfolding unit_step
 end_moves state code payload is = subst (λ (n : ℕ). unit_step state n payload ≡ Ok (ended state)) (sym is) refl
 

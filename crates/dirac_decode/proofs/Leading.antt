@@ -71,7 +71,7 @@ brings_refusal unit units units' state held held' refusal cuts gives is given gi
 }
 
 -- a due picture leaves, and then the others do
-flushed_one : (ws ws' : List Waiting) (p : Picture) → p ∷ [] ≡ least ws → ws' ≡ others ws → length ws' + 1 ≡ length ws → flushed ws ≡ p ∷ flushed ws'
+pub flushed_one : (ws ws' : List Waiting) (p : Picture) → p ∷ [] ≡ least ws → ws' ≡ others ws → length ws' + 1 ≡ length ws → flushed ws ≡ p ∷ flushed ws'
 flushed_one ws ws' p gone rest long =
     let step : length ws ≡ suc (length ws') = omega arith in
     ap (λ n. flushed_by n ws) step

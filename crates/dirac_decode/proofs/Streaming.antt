@@ -38,7 +38,7 @@ streamed_none d held taken same = record {
   written = Appends-nil taken;
 }
 
-raws_more : (given : List Picture) (p : Picture) → raws (given ++ p ∷ []) ≡ raws given ++ raw p
+pub raws_more : (given : List Picture) (p : Picture) → raws (given ++ p ∷ []) ≡ raws given ++ raw p
 raws_more given p = flat_map-append raw given (p ∷ []) ∙ ap (λ t. raws given ++ t) (append-nil (raw p))
 
 front_more : (given : List Picture) (p : Picture) (o : Outcome) → with_front given (with_front (p ∷ []) o) ≡ with_front (given ++ p ∷ []) o
@@ -127,7 +127,7 @@ comes_some d held cuts moving =
 abbrev IsCutOff : List ℕ → Option (List ℕ) → Option (List ℕ) → Type 0
 IsCutOff bytes taken taken' = (o : Outcome) × IsShown bytes o × AppendsFront taken taken' (raws o.shown)
 
-raws_front : (front rest : List Picture) → raws (front ++ rest) ≡ raws front ++ raws rest
+pub raws_front : (front rest : List Picture) → raws (front ++ rest) ≡ raws front ++ raws rest
 raws_front front rest = flat_map-append raw front rest
 
 pub cut_off : (d : Decoding) (held held' taken taken' : Option (List ℕ)) → EachHasACut → (d.stream_end ≡ stream_end.Stopped → ⊥) → IsStreamed d held held' taken taken' → IfSome held (λ bytes. IsCutOff bytes taken taken')

@@ -9,3 +9,5 @@ pub mod Decoded
 pub mod Sequences
 pub mod Predicting
 pub mod Rebuilding
+pub mod Moved
+pub mod Doubled

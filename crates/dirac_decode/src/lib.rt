@@ -18,7 +18,9 @@ mod stream;
 mod written;
 
 pub use answers::{Decoded, Next, Tally};
-pub use compensate::{named, plane_motion, predict, predict_from, predict_with};
+pub use compensate::{
+    Moved, named, named_reference, plane_motion, predict, predict_from, predict_with, up_plane,
+};
 pub use decoder::Decoder;
 pub use dirac_picture::{CodedMotion, CodedPicture, CodedResidual, PlaneBands, read_picture};
 pub use laws::a_stream_shows_its_sequences;

@@ -10,10 +10,11 @@ ghost use Rattle.dirac_synthesis.specs.Residual.{clipped as clipped_table, with_
 ghost use Rattle.dirac_decode.specs.Content as content;
 ghost use Rattle.dirac_decode.specs.Content.{AreReferences, IsPicture, rebuilt};
 ghost use Rattle.dirac_decode.specs.Predicting.{inter_picture, inter_plane, intra_picture};
-ghost use Rattle.dirac_decode.specs.Rebuilding.{Rebuilds};
+ghost use Rattle.dirac_decode.specs.Moved.{IsMoved};
+ghost use Rattle.dirac_decode.specs.Rebuilding.{CanBeRebuilt, Rebuilds};
 ghost use Rattle.dirac_decode.specs.Taking.{IfStopped, IsRebuilt};
 
-use crate::compensate::{named_reference, predict_from_references};
+use crate::compensate::{Moved, named_reference, predict_from};
 use crate::planes::residual_of;
 use dirac_common::{Kind, NoMemory, Picture, Plane, Stop};
 use dirac_obmc::Component;
@@ -61,61 +62,47 @@ pub fn predicted_samples(
 /// The samples of a plane of an inter picture: its residual and what its references predict, clipped.
 fn inter_samples(
     alloc: Global,
-    coded: &CodedPicture,
-    motion: &CodedMotion,
-    sequence: &Sequence,
+    moved: &Moved<'_>,
+    residual: &Option<CodedResidual>,
     first: &Reference,
     second: Option<&Reference>,
     component: Component,
 ) -> Result<Plane, NoMemory>
-    requires sequence { IsSequence sequence.now }
-    requires motion { IsMotion coded.now.code sequence.now motion.now }
-    requires fits { IfSome coded.now.residual (IsResidual sequence.now) }
-    requires first { IsPicture sequence.now first.now }
-    requires second { ForSome (option_copied second) (IsPicture sequence.now) }
-    requires two { motion.now.blocks.refs ≡ 2 → IsSome second }
-    ensures value { IfOk result (λ t. t ≡ inter_plane sequence.now (Some first.now) (option_copied second.entry)
-        motion.now coded.now.residual component) }
+    requires moved { IsMoved moved.now }
+    requires fits { IfSome residual.now (IsResidual moved.now.sequence.now) }
+    requires first { IsPicture moved.now.sequence.now first.now }
+    requires second { ForSome (option_copied second) (IsPicture moved.now.sequence.now) }
+    requires two { moved.now.motion.now.blocks.refs ≡ 2 → IsSome second }
+    ensures value { IfOk result (λ t. t ≡ inter_plane moved.now.sequence.now (Some first.now)
+        (option_copied second.entry) moved.now.motion.now residual.now component) }
 {
-    let predicted = predict_from_references(
-        alloc, coded.code, sequence, motion, first, second, component,
-    )?;
-    predicted_samples(
-        alloc,
-        sequence,
-        &coded.residual,
-        predicted.values(),
-        component,
-    )
+    let predicted = predict_from(alloc, moved, first, second, component)?;
+    let values = predicted.values();
+    predicted_samples(alloc, moved.sequence, residual, values, component)
 }
 
 /// An inter picture, from its references.
 fn rebuild_from(
     alloc: Global,
+    moved: &Moved<'_>,
     coded: &CodedPicture,
-    motion: &CodedMotion,
-    sequence: &Sequence,
     first: &Reference,
     second: Option<&Reference>,
 ) -> Result<Picture, NoMemory>
-    requires sequence { IsSequence sequence.now }
-    requires motion { IsMotion coded.now.code sequence.now motion.now }
-    requires fits { IfSome coded.now.residual (IsResidual sequence.now) }
-    requires first { IsPicture sequence.now first.now }
-    requires second { ForSome (option_copied second) (IsPicture sequence.now) }
-    requires two { motion.now.blocks.refs ≡ 2 → IsSome second }
-    ensures { IfOk result (λ p. p ≡ inter_picture sequence.now (Some first.now) (option_copied second.entry)
-        coded.now.header motion.now coded.now.residual) }
+    requires moved { IsMoved moved.now }
+    requires fits { IfSome coded.now.residual (IsResidual moved.now.sequence.now) }
+    requires first { IsPicture moved.now.sequence.now first.now }
+    requires second { ForSome (option_copied second) (IsPicture moved.now.sequence.now) }
+    requires two { moved.now.motion.now.blocks.refs ≡ 2 → IsSome second }
+    ensures { IfOk result (λ p. p ≡ inter_picture moved.now.sequence.now (Some first.now)
+        (option_copied second.entry) coded.now.header moved.now.motion.now coded.now.residual) }
 {
-    let y = inter_samples(alloc, coded, motion, sequence, first, second, Component::Y)?;
-    let u = inter_samples(alloc, coded, motion, sequence, first, second, Component::U)?;
-    let v = inter_samples(alloc, coded, motion, sequence, first, second, Component::V)?;
-    Ok(Picture {
-        number: coded.header.number,
-        y,
-        u,
-        v,
-    })
+    let residual = &coded.residual;
+    let y = inter_samples(alloc, moved, residual, first, second, Component::Y)?;
+    let u = inter_samples(alloc, moved, residual, first, second, Component::U)?;
+    let v = inter_samples(alloc, moved, residual, first, second, Component::V)?;
+    let number = coded.header.number;
+    Ok(Picture { number, y, u, v })
 }
 
 /// An inter picture. Its references are looked up once.
@@ -134,10 +121,15 @@ fn rebuild_inter(
     requires fits { IfSome coded.now.residual (IsResidual sequence.now) }
     ensures { IfOk result (λ p. p ≡ rebuilt sequence.now refs.now coded.now) }
 {
+    let moved = Moved {
+        code: coded.code,
+        sequence,
+        motion,
+    };
     let second = named_reference(refs, coded.header.ref2);
     match named_reference(refs, coded.header.ref1) {
         None => unreachable!(),
-        Some(first) => rebuild_from(alloc, coded, motion, sequence, first, second),
+        Some(first) => rebuild_from(alloc, &moved, coded, first, second),
     }
 }
 
@@ -154,12 +146,8 @@ fn intra_planes(
     let y = intra_samples(alloc, sequence, Component::Y, &coded.residual)?;
     let u = intra_samples(alloc, sequence, Component::U, &coded.residual)?;
     let v = intra_samples(alloc, sequence, Component::V, &coded.residual)?;
-    Ok(Picture {
-        number: coded.header.number,
-        y,
-        u,
-        v,
-    })
+    let number = coded.header.number;
+    Ok(Picture { number, y, u, v })
 }
 
 /// An intra picture from its residual, an inter picture from its references too.
@@ -169,10 +157,8 @@ fn rebuild_planes(
     sequence: &Sequence,
     refs: &RefBuffer,
 ) -> Result<Picture, NoMemory>
-    requires sequence { IsSequence sequence.now }
-    requires fits { FitsSequence coded.now.code sequence.now coded.now }
-    requires refs { AreReferences sequence.now refs.now coded.now.header }
-    ensures value { IfOk result (λ p. p ≡ rebuilt sequence.now refs.now coded.now) }
+    requires { CanBeRebuilt coded.now sequence.now refs.now }
+    ensures { IfOk result (λ p. p ≡ rebuilt sequence.now refs.now coded.now) }
 {
     match &coded.motion {
         None => intra_planes(alloc, coded, sequence),
@@ -215,9 +201,7 @@ fn rebuilt_by<F: Fn(Global, &CodedPicture, &Sequence, &RefBuffer) -> Result<Pict
     refs: &RefBuffer,
 ) -> Result<Picture, NoMemory>
     requires rebuilds { Rebuilds (F.pre make.now) (F.post make.now) }
-    requires sequence { IsSequence sequence.now }
-    requires fits { FitsSequence coded.now.code sequence.now coded.now }
-    requires refs { AreReferences sequence.now refs.now coded.now.header }
+    requires can_be_rebuilt { CanBeRebuilt coded.now sequence.now refs.now }
     ensures value { IfOk result (λ p. p ≡ rebuilt sequence.now refs.now coded.now) }
     ensures fits { IfOk result (IsPicture sequence.now) }
 {

@@ -1,8 +1,8 @@
 -- What a cut answers, of whatever is known of its input.
-use Rattle.std.proofs.Common.{◌≡◌, ◌∙◌, ℕ, List, [], Option, None, Some, Result, Ok, Err, refl, sym, ap, subst}
+use Rattle.std.proofs.Common.{◌≡◌, ◌∙◌, ℕ, List, Option, None, Some, Result, Ok, Err, refl, sym, ap, subst}
 use Rattle.std.specs.Prelude.{IfSome, OnOk}
 use Rattle.std.specs.Io.KnownBytes.{Appends}
-use Rattle.std.proofs.KnownBytes.{Appends-nil, Keeps-refl}
+use Rattle.std.proofs.KnownBytes.{Keeps-refl}
 use Rattle.dirac_io.specs.declared.sink.Unwritten.{Unwritten}
 use Rattle.dirac_io.specs.declared.sink.Unwritten.TheVariants as unwritten
 use Rattle.dirac_io.specs.Writing.{AppendsFront}
@@ -16,16 +16,13 @@ use Rattle.dirac_edit.specs.declared.answers.Edited.{Edited}
 use Rattle.dirac_edit.specs.declared.answers.Edited.TheVariants as edited
 use Rattle.dirac_edit.specs.Edits.{AnswersEdit, IsCutBy, ShowsPart, cut_refusal, unless_refused}
 use Rattle.dirac_edit.specs.Steps.{IsPart, RefusesCut, StopsReading, ended_as}
+use Rattle.dirac_decode.proofs.Rows.{nothing_yet}
 
 -- something is shown by all bytes
 pub some_shown : EachHasACut → (bytes : List ℕ) → (o : Outcome) × IsShown bytes o
 some_shown each bytes =
     let cut = each start bytes in
     (outcome begun start cut.0 cut.1, record { units = cut.0; end = cut.1; cut = cut.2; same = refl })
-
--- nothing is a front of whatever may be written
-pub nothing_in_front : (out : Option (List ℕ)) (bytes : List ℕ) → AppendsFront out out bytes
-nothing_in_front out bytes = ([], bytes, refl, Appends-nil out)
 
 -- the reading stopped
 pub stopped_by : (answer : Edited) (refusal : Option Edited) (bytes : List ℕ) (out : Option (List ℕ)) → StopsReading answer → AnswersEdit answer refusal bytes out out
@@ -35,7 +32,7 @@ stopped_by (edited.NoSuchPoint n) refusal bytes out stops = absurd stops
 stopped_by (edited.OpenCut n) refusal bytes out stops = absurd stops
 stopped_by edited.ReadFault refusal bytes out stops = Keeps-refl out
 stopped_by edited.WriteFault refusal bytes out stops = absurd stops
-stopped_by edited.NoMemory refusal bytes out stops = nothing_in_front out (unless_refused refusal bytes)
+stopped_by edited.NoMemory refusal bytes out stops = nothing_yet out (unless_refused refusal bytes)
 
 pub reading_stopped : (held out : Option (List ℕ)) (from : ℕ) (to : Option ℕ) (answer : Edited) → EachHasACut → StopsReading answer → IfSome held (λ bytes. IsCutBy bytes from to answer out out)
 reading_stopped None out from to answer each stops = tt
@@ -55,7 +52,7 @@ refused_by edited.WriteFault bytes from to out r = absurd r.reason
 refused_by edited.NoMemory bytes from to out r = (
   r.outcome,
   r.stream,
-  nothing_in_front out (unless_refused (cut_refusal r.outcome.end r.stream.units from to) (cut_bytes r.stream.units from (end_point to (points_of r.stream.units)))),
+  nothing_yet out (unless_refused (cut_refusal r.outcome.end r.stream.units from to) (cut_bytes r.stream.units from (end_point to (points_of r.stream.units)))),
 )
 
 pub cut_refused : (held out : Option (List ℕ)) (bytes bytes' : List ℕ) (from : ℕ) (to : Option ℕ) (answer : Edited) → IfSome held (λ h. bytes ≡ h) → bytes' ≡ bytes → RefusesCut bytes' from to answer

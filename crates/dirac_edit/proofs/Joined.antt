@@ -19,9 +19,10 @@ use Rattle.dirac_edit.specs.declared.answers.Edited.TheVariants as edited
 use Rattle.dirac_edit.specs.Edits.{AnswersEdit, IsJoinAnswer, IsJoinedBy, JoinedShowsSame, join_refusal, unless_refused}
 use Rattle.dirac_edit.specs.Kept.{kept_of}
 use Rattle.dirac_edit.specs.Steps.{IsChecked, IsReason, IsRefused, IsWhole, RefusesJoin, StopsReading, ended_as}
-use Rattle.dirac_edit.proofs.Answering.{ended_by, nothing_in_front, some_shown, stopped_by}
+use Rattle.dirac_edit.proofs.Answering.{ended_by, some_shown, stopped_by}
 use Rattle.dirac_edit.proofs.Checking.{ends_well, faultless}
 use Rattle.dirac_edit.proofs.Keeping.{all_kept}
+use Rattle.dirac_decode.proofs.Rows.{nothing_yet}
 
 -- ---- what was read
 
@@ -89,7 +90,7 @@ reason_answers (edited.NoSuchPoint n) refusal bytes out reason = (reason, Keeps-
 reason_answers (edited.OpenCut n) refusal bytes out reason = (reason, Keeps-refl out)
 reason_answers edited.ReadFault refusal bytes out reason = absurd reason
 reason_answers edited.WriteFault refusal bytes out reason = absurd reason
-reason_answers edited.NoMemory refusal bytes out reason = nothing_in_front out (unless_refused refusal bytes)
+reason_answers edited.NoMemory refusal bytes out reason = nothing_yet out (unless_refused refusal bytes)
 
 pub join_refused : (held out : Option (List ℕ)) (bytes bytes' : List ℕ) (answer : Edited) → IfSome held (λ h. bytes ≡ h) → bytes' ≡ bytes → RefusesJoin bytes' answer → IfSome held (λ h. IsJoinedBy h answer out out)
 join_refused None out bytes bytes' answer all same r = tt

@@ -1,6 +1,6 @@
 -- Sequences that are joined while they're written are the joined ones.
 use Rattle.std.proofs.Common.{◌≡◌, ◌∙◌, ℕ, ℤ, pos, ◌+ℤ◌, ◌+◌, ◌-◌, ◌%◌, ◌<◌, ◌≤◌, ◌^◌, ◌&&◌, nat_lt, if◌then◌else◌, Bool, true, false, List, [], ◌∷◌, ◌++◌, drop, map, length, get_or, Option, None, Some, refl, sym, ap, ap₂, subst, arith, append_assoc, append-nil}
-use Rattle.std.specs.Prelude.{int_le, ◌≤ℤ◌, ◌-ℤ◌}
+use Rattle.std.specs.Prelude.{int_le, ◌-ℤ◌}
 use Rattle.std.proofs.lemmas.Bool.{cond-false, cond-true, le-ltb, lt-ltb}
 use Rattle.std.proofs.lemmas.Int.{ints}
 use Rattle.std.proofs.lemmas.List.{drop_all, map-append}
@@ -14,6 +14,7 @@ use Rattle.dirac_edit_laws.proofs.Keys.{Merges, below_high, merges}
 use Rattle.dirac_edit.specs.Merged.{Added, Latest, Progress, added, added_behind, below, keys_among, length_behind, may_follow, moved_on, onto, own, own_bytes, own_length, shift_onto, units_behind, way_onto}
 use Rattle.dirac_edit.proofs.Going.{left_at}
 use Rattle.dirac_edit.proofs.Placed.{high_is, high_onto, low_is, moved_texts_are, own_texts}
+use Rattle.dirac_edit_laws.proofs.Joining.{at_most_itself}
 
 -- ---- bytes
 
@@ -161,9 +162,6 @@ own_last : (t : SequenceText) → first_number t.pictures < 2 ^ 32 → group_len
 own_last t small = ap (length_behind (13 + length t.header)) (own_texts (first_number t.pictures) t.pictures small)
 
 -- one that is appended
-at_most_itself : (z : ℤ) → z ≤ℤ z
-at_most_itself z = omega (arith, ints)
-
 appended_are : (now : Group) (l : Latest) (t : SequenceText) → IsLatest l now → first_number t.pictures < 2 ^ 32 → may_merge now (group_of t) ≡ true
     → appended now (group_of t) ≡ map (moved_on (way_onto l (keys_among t.pictures))) t.pictures
 appended_are now l t i small may =

@@ -1,5 +1,5 @@
 -- What headers say of a part is what its rebuilt pictures say.
-use Rattle.std.proofs.Common.{◌≡◌, ◌∙◌, ℕ, ◌==◌, Bool, true, false, not, ◌&&◌, ◌||◌, if◌then◌else◌, List, [], ◌∷◌, ◌++◌, length, drop, map, nat_le, Option, None, Some, Result, Ok, Err, refl, sym, ap, ap₂, subst}
+use Rattle.std.proofs.Common.{◌≡◌, ◌∙◌, ℕ, ◌==◌, Bool, true, false, not, ◌&&◌, ◌||◌, if◌then◌else◌, List, [], ◌∷◌, ◌++◌, length, drop, map, nat_le, Option, None, Some, Result, Ok, Err, refl, sym, ap, ap₂}
 use Rattle.std.specs.Prelude.{is_some}
 use Rattle.std.specs.List.{AllByRecursion, filter, list_any}
 use Rattle.std.proofs.lemmas.List.{length-map, map-append}
@@ -20,11 +20,12 @@ use Rattle.dirac_refs.specs.References.{append, appended, as_reference, committe
 use Rattle.dirac_picture.specs.declared.coded.CodedMotion.{CodedMotion}
 use Rattle.dirac_picture.specs.declared.coded.CodedPicture.{CodedPicture}
 use Rattle.dirac_picture.specs.Grammar.{are_listed, body, is_listed, motion, picture, picture_read, residual_unless, zero_residual}
-use Rattle.dirac_picture.proofs.Every.{Every, every_any, every_read, every_then}
+use Rattle.dirac_picture.proofs.Every.{Every, every_any, every_then}
 use Rattle.dirac_edit_laws.specs.Cut.{first_of, is_between, open_among, open_from, part_rebuilt, restricted}
 use Rattle.dirac_edit_laws.specs.Rebuilt.{AreRead, IsRead, RebuiltText, list_behind, rebuilt_behind, rebuilt_from, rebuilt_of, rebuilt_on, rebuilt_text}
 use Rattle.dirac_edit_laws.specs.Texts.{PictureText, SequenceText}
 use Rattle.dirac_edit.specs.Open.{first_open, first_open_among, header_in, list_with, numbered, open_or}
+use Rattle.dirac_edit_laws.proofs.Alike.{every_value}
 
 -- a picture that was read has the header that its payload begins with, and its unit's parse code
 record HasFront (code : ℕ) (head : PictureHeader) (coded : CodedPicture) : Type 0 where
@@ -44,13 +45,6 @@ body_front code s head =
     every_then (λ _. Unit {0}) P (motion code s) (behind_gap code s head) (every_any (motion code s)) (λ m _.
     every_then (λ _. Unit {0}) P (zero_residual code) (with_residual code s head m) (every_any (zero_residual code)) (λ none _.
     every_then (λ _. Unit {0}) P (residual_unless none s) (λ coded. done (record { code = code; header = head; motion = m; residual = coded })) (every_any (residual_unless none s)) (λ r _. record { head_is = refl; code_is = refl })))
-
-every_value : (P : CodedPicture → Type 0) (syntax : Syntax CodedPicture) (c : Cursor) (coded : CodedPicture) → Every P syntax → value_of (read syntax c) ≡ Ok coded → P coded
-every_value P syntax c coded every is =
-    elim (read syntax c) as (λ r. read syntax c ≡ r → value_of r ≡ Ok coded → P coded) [
-      | Err e ↦ λ at bad. absurd cc
-      | Ok x ↦ λ at good. let same : x.0 ≡ coded = cc in subst P same (every_read P syntax c x.1 x.0 every at)
-    ] refl is
 
 abbrev behind : ℕ → Sequence → List Picture → PictureHeader → Syntax CodedPicture
 behind code s refs head = if are_listed refs head then body code s head else refuse 0 MissingReference

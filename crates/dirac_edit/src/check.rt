@@ -1,4 +1,5 @@
 ghost use Rattle.std.specs.Prelude.{◌<◌, ◌^◌, IfErr, OnOk, length};
+ghost use Rattle.std.specs.List.{AllByRecursion};
 ghost use Rattle.dirac_edit.specs.Steps.{HasNoFault, IsRefused};
 
 use crate::answers::Edited;
@@ -22,3 +23,8 @@ pub(crate) fn check(alloc: Global, bytes: &[u8]) -> Result<(), Edited>
         Decoded::NoMemory => Err(Edited::NoMemory),
     }
 }
+
+/// Bytes are below 256.
+pub(crate) fn are_bytes(bytes: &[u8])
+    ensures { AllByRecursion (λ b. b < 2 ^ 8) bytes.now }
+{}

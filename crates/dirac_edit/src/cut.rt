@@ -1,7 +1,6 @@
 //! A part of a stream.
 
 ghost use Rattle.std.specs.Prelude.{◌≡◌, ◌≤◌, ◌<◌, ◌^◌, IfErr, IfOk, IfSome, length};
-ghost use Rattle.std.specs.List.{AllByRecursion};
 ghost use Rattle.std.specs.Io.KnownBytes.{IsAtEnd};
 ghost use Rattle.dirac_io.specs.Faults.{Rose};
 ghost use Rattle.dirac_edit.specs.Edits.{IfUnwritten, IsCutBy, ShowsPart};
@@ -9,7 +8,7 @@ ghost use Rattle.dirac_edit.specs.Steps.{IsPart, RefusesCut};
 
 use crate::answers::Edited;
 use crate::bounds::{Part, points_of, wrong_point};
-use crate::check::check;
+use crate::check::{are_bytes, check};
 use crate::open::first_open;
 use crate::part::sequences_of;
 use crate::reading::take_all;
@@ -54,11 +53,6 @@ pub fn cut_stream<S: Source, K: Sink>(
         Err(answer) => answer,
     }
 }
-
-/// Bytes are below 256.
-fn are_bytes(bytes: &[u8])
-    ensures { AllByRecursion (λ b. b < 2 ^ 8) bytes.now }
-{}
 
 /// The sequences of a part, or why it isn't written.
 fn part_of<'a>(

@@ -1,14 +1,13 @@
 //! The sequences of a stream, joined.
 
 ghost use Rattle.std.specs.Prelude.{◌≡◌, ◌≤◌, ◌<◌, ◌^◌, IfErr, IfOk, IfSome, length};
-ghost use Rattle.std.specs.List.{AllByRecursion};
 ghost use Rattle.std.specs.Io.KnownBytes.{IsAtEnd};
 ghost use Rattle.dirac_io.specs.Faults.{Rose};
 ghost use Rattle.dirac_edit.specs.Edits.{IfUnwritten, IsJoinAnswer, IsJoinedBy, JoinedShowsSame};
 ghost use Rattle.dirac_edit.specs.Steps.{IsWhole, RefusesJoin};
 
 use crate::answers::Edited;
-use crate::check::check;
+use crate::check::{are_bytes, check};
 use crate::joining::put_joined;
 use crate::part::sequences_of;
 use crate::reading::take_all;
@@ -48,11 +47,6 @@ pub fn join_stream<S: Source, K: Sink>(alloc: Global, source: &mut S, out: &mut 
         Err(answer) => answer,
     }
 }
-
-/// Bytes are below 256.
-fn are_bytes(bytes: &[u8])
-    ensures { AllByRecursion (λ b. b < 2 ^ 8) bytes.now }
-{}
 
 /// The sequences of a stream, or why nothing is written.
 fn whole_of<'a>(alloc: Global, bytes: &'a [u8]) -> Result<Vec<HeldSequence<'a>>, Edited>

@@ -77,8 +77,8 @@ body_header code s head =
     every_then (λ _. Unit {0}) P (zero_residual code) (with_residual code s head m) (every_any (zero_residual code)) (λ none _.
     every_then (λ _. Unit {0}) P (residual_unless none s) (λ coded. done (record { code = code; header = head; motion = m; residual = coded })) (every_any (residual_unless none s)) (λ r _. refl)))
 
-header_of : (P : CodedPicture → Type 0) (syntax : Syntax CodedPicture) (c : Cursor) (coded : CodedPicture) → Every P syntax → value_of (read syntax c) ≡ Ok coded → P coded
-header_of P syntax c coded every is =
+pub every_value : (P : CodedPicture → Type 0) (syntax : Syntax CodedPicture) (c : Cursor) (coded : CodedPicture) → Every P syntax → value_of (read syntax c) ≡ Ok coded → P coded
+every_value P syntax c coded every is =
     elim (read syntax c) as (λ r. read syntax c ≡ r → value_of r ≡ Ok coded → P coded) [
       | Err e ↦ λ at bad. absurd cc
       | Ok x ↦ λ at good. let same : x.0 ≡ coded = cc in subst P same (every_read P syntax c x.1 x.0 every at)
@@ -94,7 +94,7 @@ behind_alike code s whole inside head d coded closed is =
     elim (are_listed whole head) as (λ b. value_of (read (if b then body code s head else refuse 0 MissingReference) d) ≡ Ok coded → value_of (read (behind code s inside head) d) ≡ Ok coded) [
       | false ↦ λ bad. absurd cc
       | true ↦ λ good.
-          let same : coded.header ≡ head = header_of (λ (x : CodedPicture). x.header ≡ head) (body code s head) d coded (body_header code s head) good in
+          let same : coded.header ≡ head = every_value (λ (x : CodedPicture). x.header ≡ head) (body code s head) d coded (body_header code s head) good in
           let there : are_listed inside head ≡ true = ap (are_listed inside) (sym same) ∙ closed in
           ap (λ (b : Bool). value_of (read (if b then body code s head else refuse 0 MissingReference) d)) there ∙ good
     ] is
@@ -140,7 +140,7 @@ behind_whole code s whole inside head d coded w is =
     elim (are_listed inside head) as (λ b. are_listed inside head ≡ b → value_of (read (if b then body code s head else refuse 0 MissingReference) d) ≡ Ok coded → Passes whole inside coded (value_of (read (behind code s whole head) d))) [
       | false ↦ λ e bad. absurd cc
       | true ↦ λ e good.
-          let same : coded.header ≡ head = header_of (λ (x : CodedPicture). x.header ≡ head) (body code s head) d coded (body_header code s head) good in
+          let same : coded.header ≡ head = every_value (λ (x : CodedPicture). x.header ≡ head) (body code s head) d coded (body_header code s head) good in
           record {
             read = ap (λ (b : Bool). value_of (read (if b then body code s head else refuse 0 MissingReference) d)) (all_listed whole inside head w e) ∙ good;
             closed = ap (are_listed inside) same ∙ e;

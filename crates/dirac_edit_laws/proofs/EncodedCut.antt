@@ -11,7 +11,7 @@ use Rattle.std.proofs.lemmas.List.Elements.{filter-append}
 use Rattle.dirac_common.specs.declared.picture.Picture.{Picture}
 use Rattle.dirac_types.specs.declared.settings.Settings.{Settings}
 use Rattle.dirac_types.specs.Settings.{IsAccepted}
-use Rattle.dirac_common.specs.Bits.{bit_value, number_from}
+use Rattle.dirac_common.specs.Bits.{number_from}
 use Rattle.dirac_common.specs.Bytes.{bytes_in}
 use Rattle.dirac_common.specs.Codes.{is_intra}
 use Rattle.dirac_units.specs.Cut.{UnitText}
@@ -32,9 +32,9 @@ use Rattle.dirac_plan_laws.specs.Headers.{IsPictureCode}
 use Rattle.dirac_plan_laws.specs.Order.{as_waiting}
 use Rattle.dirac_plan_laws.specs.Plans.{PlansCanBeCoded}
 use Rattle.dirac_plan_laws.proofs.Each.{each_append, each_more}
-use Rattle.dirac_encode_laws.specs.Coding.{Made, coded_under, coding, job_of, made, own_index, pushed, reconstructions, refs_after, shown_of}
+use Rattle.dirac_encode_laws.specs.Coding.{Made, coded_under, coding, job_of, made, own_index, reconstructions, refs_after, shown_of}
 use Rattle.dirac_encode_laws.specs.Laws.{AreMade, AreSources, Begins, JobsAreRead}
-use Rattle.dirac_encode_laws.specs.Payloads.{payload_of, with_picture as picture_bits}
+use Rattle.dirac_encode_laws.specs.Payloads.{with_picture as picture_bits}
 use Rattle.dirac_encode_laws.specs.Stream.{end_text, header_text, picture_length, picture_text as made_unit, stream_units, units_from, units_in}
 use Rattle.dirac_encode_laws.proofs.Headers.{header_read, header_short}
 use Rattle.dirac_encode_laws.proofs.Indices.{own_gives, sources_under}
@@ -59,6 +59,8 @@ use Rattle.dirac_edit_laws.proofs.Shifted.{flush_moved, waiting_with}
 use Rattle.dirac_edit_laws.proofs.UnitKinds.{behind_end, behind_header, behind_picture, kind_of, of_end, of_header, of_other, of_picture}
 use Rattle.dirac_edit_laws.proofs.Walking.{first_in, longer}
 use Rattle.dirac_edit_laws.proofs.Whole.{restricted_fit, stream_shown}
+use Rattle.dirac_encode_laws.proofs.Sourcing.{pushed_shown}
+use Rattle.dirac_encode_laws.proofs.InBytes.{bit_small}
 
 -- ---- the stream is one sequence
 
@@ -303,10 +305,6 @@ slice_last f g k l first few = ap (take l) (drop_at f (g ++ []) k first ∙ appe
 
 -- ---- payloads are bytes
 
-bit_small : (b : Bool) → bit_value b ≤ 1
-bit_small true = omega arith
-bit_small false = omega arith
-
 byte_small : (bits : List Bool) → number_from 0 (take 8 bits) < 2 ^ 8
 byte_small [] = omega arith
 byte_small (a ∷ []) = omega (arith, bit_small a)
@@ -344,10 +342,6 @@ header_fits t =
 codes_of : (t : Settings) (ms : List Made) (refs : List Picture) → AreMade t refs ms → Codes ms
 codes_of t [] refs all = tt
 codes_of t (m ∷ ms) refs all = (all.0.fits.code, codes_of t ms (refs_after refs m) all.1)
-
-as_pushed : (ms : List Made) → pushed ms ≡ map as_waiting (map shown_of ms)
-as_pushed [] = refl
-as_pushed (m ∷ ms) = ap (λ ws. as_waiting m.shown ∷ ws) (as_pushed ms)
 
 -- ---- the order
 
@@ -451,7 +445,7 @@ reconstructions_split plans t pictures a m e accepted few some is low =
     let over : a * group_pictures t ≤ high = omega arith in
     let within : high ≤ n = omega arith in
     let both = each_append (λ (p : Picture). (a * group_pictures t ≤ p.number) × (p.number < n)) ys zs (numbers_within ys (a * group_pictures t) high (a * group_pictures t) n (omega arith) within parts.second) (numbers_within zs high n (a * group_pictures t) n over (omega arith) parts.third) in
-    sym (sources_leave plans own_index t pictures accepted few) ∙ ap flush (as_pushed (coding t pictures) ∙ ap (map as_waiting) all)
+    sym (sources_leave plans own_index t pictures accepted few) ∙ ap flush (pushed_shown (coding t pictures) ∙ ap (map as_waiting) all)
     ∙ parts_leave xs ys zs (a * group_pictures t) high n parts.first both parts.second parts.third (omega (arith, few)) low within
 
 -- those of the groups

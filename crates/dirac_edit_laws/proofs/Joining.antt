@@ -4,7 +4,6 @@ use Rattle.std.specs.Prelude.{◌≤ℤ◌, nat_lt}
 use Rattle.std.specs.Int.{to_be_bytes, w32}
 use Rattle.std.specs.List.{AllByRecursion}
 use Rattle.std.proofs.lemmas.Bool.{ltb-true}
-use Rattle.std.proofs.lemmas.Grind.{flat_map-append}
 use Rattle.std.proofs.lemmas.Int.{ints}
 use Rattle.std.proofs.lemmas.List.{map-append}
 use Rattle.dirac_common.specs.declared.picture.Picture.{Picture}
@@ -37,8 +36,10 @@ use Rattle.dirac_edit_laws.proofs.Parts.{rebuilt_is, same_with_pictures}
 use Rattle.dirac_edit_laws.proofs.Renumbered.{IsNumbered, all_onward, picture_onward, rebuilt_text_onward, text_in, text_onward}
 use Rattle.dirac_edit_laws.proofs.Restricted.{none_yet}
 use Rattle.dirac_edit_laws.proofs.Shifted.{flush_moved, waiting_with}
-use Rattle.dirac_edit_laws.proofs.Walking.{first_in, lists_behind, step_end, units_shown}
+use Rattle.dirac_edit_laws.proofs.Walking.{first_in, lists_behind, units_shown}
 use Rattle.dirac_edit_laws.proofs.Whole.{stream_shown}
+use Rattle.dirac_decode.proofs.Flushing.{end_moves}
+use Rattle.dirac_decode.proofs.Streaming.{raws_front}
 
 -- a picture with its key moved by this, and its number moved on
 abbrev waiting_onward : ℤ → ℕ → Waiting → Waiting
@@ -139,9 +140,6 @@ all_fit_onward (r ∷ rs) d numbered fits = (fits_onward d r.text numbered.0.lon
 raws_onward : (d : ℕ) (pictures : List Picture) → raws (map (picture_onward d) pictures) ≡ raws pictures
 raws_onward d [] = refl
 raws_onward d (p ∷ pictures) = ap (λ l. raw p ++ l) (raws_onward d pictures)
-
-raws_append : (a b : List Picture) → raws (a ++ b) ≡ raws a ++ raws b
-raws_append a b = flat_map-append raw a b
 
 -- ---- a joined sequence
 
@@ -301,7 +299,7 @@ at_least_moved (k ∷ ks) bottom top by most all = (raise k.key bottom top by al
     raise : (z bottom top : ℤ) (by : ℕ) → bottom ≤ℤ z → top ≤ℤ (bottom +ℤ pos by) → top ≤ℤ (z +ℤ pos by)
     raise z bottom top by low most = omega (arith, ints)
 
-at_most_itself : (z : ℤ) → z ≤ℤ z
+pub at_most_itself : (z : ℤ) → z ≤ℤ z
 at_most_itself z = omega (arith, ints)
 
 -- pictures behind those of a joined sequence
@@ -373,7 +371,7 @@ merge_sound g bytes t i f is =
       shown =
           ap (λ x. raws (in_order x)) now ∙ ap (λ x. raws (flush x)) a.waits
           ∙ ap raws (later_leave_later (with_keys ps) ws order)
-          ∙ raws_append (flush (with_keys ps)) (flush ws)
+          ∙ raws_front (flush (with_keys ps)) (flush ws)
           ∙ ap₂ (λ (x y : List ℕ). x ++ y) i.shown (moved_shown m.by d ws (with_keys (pictures_of rs)) b.waits ∙ sym (ap raws (shown_as s t read_header)));
     }
 
@@ -392,7 +390,7 @@ one_sound g bytes gs more i read fits shown = record {
   read = (record { sequence = i.sequence; header = i.header; pictures = i.read }, read);
   fits = (record { header = i.header_fits; pictures = i.fits }, fits);
   shown =
-      raws_append (shown_of (text_of g)) (all_shown (map text_of gs))
+      raws_front (shown_of (text_of g)) (all_shown (map text_of gs))
       ∙ ap₂ (λ (x y : List ℕ). x ++ y) (ap raws (shown_as i.sequence (text_of g) i.header) ∙ i.shown) shown;
   some = omega arith;
 }
@@ -402,7 +400,7 @@ unfolding groups_behind
 groups_sound [] now bytes i all = one_sound now bytes [] [] i tt tt refl
 groups_sound (t ∷ ts) now bytes i all =
     let rest = map group_of ts in
-    let shown : bytes ++ raws (all_shown (t ∷ ts)) ≡ bytes ++ (raws (shown_of t) ++ raws (all_shown ts)) = ap (λ x. bytes ++ x) (raws_append (shown_of t) (all_shown ts)) in
+    let shown : bytes ++ raws (all_shown (t ∷ ts)) ≡ bytes ++ (raws (shown_of t) ++ raws (all_shown ts)) = ap (λ x. bytes ++ x) (raws_front (shown_of t) (all_shown ts)) in
     subst (AreSound (groups_behind now (map group_of (t ∷ ts)))) (sym shown)
     (elim (may_merge now (group_of t)) as (λ b. may_merge now (group_of t) ≡ b → AreSound (if b then groups_behind (merged now (group_of t)) rest else now ∷ groups_behind (group_of t) rest) (bytes ++ (raws (shown_of t) ++ raws (all_shown ts)))) [
       | true ↦ λ is.
@@ -429,7 +427,7 @@ unfolding outcome sequences_bytes pictures_bytes AreRead rebuilt_of rebuilt_from
 bare_shown written [] read fits =
     let units = end_for 0 ∷ [] in
     let cut : IsCut start (end_unit 0) units None = subst (λ (l : List ℕ). IsCut start l units None) (append-nil (end_unit 0)) (end_cut written 0 start [] [] (omega arith) (nothing_left (after start (end_info 0)) refl)) in
-    let step = outcome_more begun start (end_for 0) [] (ended begun) (step_end begun 0x10 [] refl) in
+    let step = outcome_more begun start (end_for 0) [] (ended begun) (end_moves begun 0x10 [] refl) in
     (outcome begun start units None, record { units = units; end = None; cut = cut; same = refl }, ap (λ (o : Outcome). o.shown) step, ap (λ (o : Outcome). o.end) step)
 bare_shown written (t ∷ ts) read fits =
     let alone : SequenceText = record { header = t.header; pictures = [] } in
@@ -456,7 +454,7 @@ joined_by : IsReadAsWritten → (all full : List SequenceText) → AllByRecursio
 joined_by written all [] read fits each = raw_shown (bare all) [] [] (bare_shown written all read fits) refl
 joined_by written all (t ∷ full) read fits each =
     let a = groups_sound full (group_of t) (raws (shown_of t)) (own_sound t each.0) each.1 in
-    let same : raws (shown_of t) ++ raws (all_shown full) ≡ raws (all_shown (t ∷ full)) = sym (raws_append (shown_of t) (all_shown full)) in
+    let same : raws (shown_of t) ++ raws (all_shown full) ≡ raws (all_shown (t ∷ full)) = sym (raws_front (shown_of t) (all_shown full)) in
     subst (ShowsRaw (bytes_or_bare all (map text_of (groups_behind (group_of t) (map group_of full))))) same
     (some_joined written all (groups_behind (group_of t) (map group_of full)) (raws (shown_of t) ++ raws (all_shown full)) a)
 

@@ -30,7 +30,7 @@ use Rattle.dirac_edit_laws.proofs.Closed.{one_rebuilt}
 use Rattle.dirac_edit_laws.proofs.Cutting.{Fits, FitsPicture}
 use Rattle.dirac_edit_laws.proofs.Onward.{IsBelow, IsReadOnward, ListsOnward, coded_onward, header_onward, onward, onward_of, payload_onward, read_onward}
 use Rattle.dirac_edit_laws.proofs.Restricted.{keeps_committed, listed_in_whole}
-use Rattle.dirac_edit_laws.proofs.Whole.{each_filter}
+use Rattle.dirac_encode_laws.proofs.Sourcing.{all_filtered}
 
 -- a picture whose number is moved on
 abbrev pub picture_onward : ℕ → Picture → Picture
@@ -116,7 +116,7 @@ appended_onward d list (Some p) all small = ap (λ l. append l (picture_onward d
 
 retired_below : (list : List Picture) (r : Option ℕ) → AreBelow list → AreBelow (retire list r)
 retired_below list None all = all
-retired_below list (Some n) all = each_filter (λ (p : Picture). p.number < 2 ^ 32) (λ p. not (p.number == n)) list all
+retired_below list (Some n) all = all_filtered (λ (p : Picture). p.number < 2 ^ 32) (λ p. not (p.number == n)) list all
 
 append_below : (list : List Picture) (p : Picture) (b : Bool) → AreBelow list → p.number < 2 ^ 32 → AreBelow ((if b then drop 1 list else list) ++ p ∷ [])
 append_below list p true all small = each_append (λ (q : Picture). q.number < 2 ^ 32) (drop 1 list) (p ∷ []) (each_drop (λ (q : Picture). q.number < 2 ^ 32) 1 list all) (small, tt)
@@ -124,7 +124,7 @@ append_below list p false all small = each_append (λ (q : Picture). q.number < 
 
 appended_below : (list : List Picture) (reference : Option Picture) → AreBelow list → AreBelow (listing reference) → AreBelow (appended list reference)
 appended_below list None all small = all
-appended_below list (Some p) all small = append_below (without p.number list) p (nat_le 8 (length (without p.number list))) (each_filter (λ (q : Picture). q.number < 2 ^ 32) (λ q. not (q.number == p.number)) list all) small.0
+appended_below list (Some p) all small = append_below (without p.number list) p (nat_le 8 (length (without p.number list))) (all_filtered (λ (q : Picture). q.number < 2 ^ 32) (λ q. not (q.number == p.number)) list all) small.0
 
 reference_is : (d code : ℕ) (p : Picture) → as_reference code (picture_onward d p) ≡ reference_onward d (as_reference code p)
 reference_is d code p =

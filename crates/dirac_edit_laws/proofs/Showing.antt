@@ -21,7 +21,8 @@ use Rattle.dirac_edit_laws.specs.Rebuilt.{AreRead, IsRead, all_shown, rebuilt_fr
 use Rattle.dirac_edit_laws.specs.Texts.{PictureText, SequenceText}
 use Rattle.dirac_edit_laws.specs.Units.{end_for, pictures_units, sequences_units, text_for}
 use Rattle.dirac_edit_laws.proofs.Cutting.{FitsPicture, FitsSequence}
-use Rattle.dirac_edit_laws.proofs.Walking.{IsIn, bare_text, closed_state, fresh, fresh_inside, left_of, longer, moves, shown_is, step_end, step_header, step_picture}
+use Rattle.dirac_edit_laws.proofs.Walking.{IsIn, bare_text, closed_state, fresh, fresh_inside, left_of, longer, moves, shown_is, step_header, step_picture}
+use Rattle.dirac_decode.proofs.Flushing.{end_moves}
 
 -- these pictures come out, and no fault
 pub record Shows (o : Outcome) (pictures : List Picture) : Type 0 where
@@ -47,7 +48,7 @@ end_shown s t previous unit_place state rest pictures i more =
     let u = end_for previous in
     let left = left_of s t in
     let later = more (after unit_place u.info) (ended state).state (closed_state state) in
-    let step = outcome_more state unit_place u rest (ended state) (step_end state u.info.code u.payload refl) in
+    let step = outcome_more state unit_place u rest (ended state) (end_moves state u.info.code u.payload refl) in
     record {
       shown =
           ap (λ (o : Outcome). left.gone ++ o.shown) step

@@ -28,6 +28,7 @@ use Rattle.dirac_edit_laws.specs.Rebuilt.{AreRead, IsRead, RebuiltText, all_show
 use Rattle.dirac_edit_laws.specs.Texts.{PictureText, SequenceText, closed_off, opened_by, picture_text, points_with, sequences_from, with_picture}
 use Rattle.dirac_edit_laws.proofs.Closed.{one_rebuilt}
 use Rattle.dirac_edit_laws.proofs.UnitKinds.{behind_end, behind_header, behind_other, behind_picture, kind_of, of_end, of_header, of_other, of_picture}
+use Rattle.dirac_decode.proofs.Flushing.{end_moves}
 
 -- ---- pictures one after another
 
@@ -314,10 +315,6 @@ pub step_header : (state : StreamState) (code : ℕ) (payload : List ℕ) → co
 unfolding unit_step
 step_header state code payload is = ap (λ n. if fields_are_read n then content state n payload else Ok (passed state n)) is
 
-pub step_end : (state : StreamState) (code : ℕ) (payload : List ℕ) → code ≡ 0x10 → unit_step state code payload ≡ Ok (ended state)
-unfolding unit_step
-step_end state code payload is = ap (λ n. if fields_are_read n then content state n payload else Ok (passed state n)) is
-
 pub step_picture : (state : StreamState) (code : ℕ) (payload : List ℕ) → IsPictureCode code → unit_step state code payload ≡ picture_step state state.opened code payload
 unfolding unit_step
 step_picture state code payload is =
@@ -356,7 +353,7 @@ pass_header state unit_place u units now is i =
 pub pass_end : (state : StreamState) (unit_place : UnitPlace) (u : UnitText) (units : List UnitText) (now : Option SequenceText) → u.info.code ≡ 0x10
     → Passing state unit_place u units now None (all_shown (closed_off now))
 pass_end state unit_place u units now is i =
-    by_step state unit_place u units now None (all_shown (closed_off now)) (Ok (ended state)) (step_end state u.info.code u.payload is)
+    by_step state unit_place u units now None (all_shown (closed_off now)) (Ok (ended state)) (end_moves state u.info.code u.payload is)
     (end_goes state unit_place (rest_behind unit_place u units) now i)
 
 pub pass_picture : (state : StreamState) (unit_place : UnitPlace) (u : UnitText) (units : List UnitText) (now : Option SequenceText) (index points : ℕ) → IsPictureCode u.info.code

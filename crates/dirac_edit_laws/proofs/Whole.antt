@@ -22,6 +22,7 @@ use Rattle.dirac_edit_laws.proofs.UnitKinds.{behind_end, behind_header, behind_o
 use Rattle.dirac_edit_laws.proofs.Parts.{RisesOpen, all_kept, same_with_pictures, texts_rise}
 use Rattle.dirac_edit_laws.proofs.Showing.{Shows, sequences_shown}
 use Rattle.dirac_edit_laws.proofs.Walking.{IsAt, IsOpen, at_start, pass_end, pass_header, pass_open, pass_other, pass_picture, units_shown}
+use Rattle.dirac_encode_laws.proofs.Sourcing.{all_filtered}
 
 -- ---- the part has pictures
 
@@ -174,17 +175,9 @@ are_there from to points none = elim (cases_Bool (nat_le points from)) [
 
 -- ---- the units of the part fit
 
-pub each_filter : {X : Type 0} (P : X → Type 0) (test : X → Bool) (xs : List X) → AllByRecursion P xs → AllByRecursion P (filter test xs)
-each_filter P test [] all = tt
-each_filter P test (x ∷ xs) all =
-    elim (test x) as (λ b. AllByRecursion P (if b then x ∷ filter test xs else filter test xs)) [
-      | true ↦ (all.0, each_filter P test xs all.1)
-      | false ↦ each_filter P test xs all.1
-    ]
-
 pub restricted_fit : (ts : List SequenceText) (a b : ℕ) → AllByRecursion FitsSequence ts → AllByRecursion FitsSequence (map (restricted a b) ts)
 restricted_fit [] a b all = tt
-restricted_fit (t ∷ ts) a b all = (record { header = all.0.header; pictures = each_filter FitsPicture (is_between a b) t.pictures all.0.pictures }, restricted_fit ts a b all.1)
+restricted_fit (t ∷ ts) a b all = (record { header = all.0.header; pictures = all_filtered FitsPicture (is_between a b) t.pictures all.0.pictures }, restricted_fit ts a b all.1)
 
 -- ---- sequences that are read, as a stream
 
@@ -211,4 +204,4 @@ cuts_shown written bytes units from to f points closed =
     let same = same_with_pictures parts kept.read in
     let has = some_part units from to' begun start 0 0 None at_start f.none (omega arith) (omega (arith, there.inside)) there.ordered in
     stream_shown written (part_of from to' units) (part_shown units from to') has.some same.read
-    (each_filter FitsSequence (λ (s : SequenceText). nat_lt 0 (length s.pictures)) parts (restricted_fit ts from to' fit)) (same.same ∙ kept.same)
+    (all_filtered FitsSequence (λ (s : SequenceText). nat_lt 0 (length s.pictures)) parts (restricted_fit ts from to' fit)) (same.same ∙ kept.same)

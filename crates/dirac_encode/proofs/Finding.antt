@@ -24,6 +24,7 @@ use Rattle.dirac_plan.specs.Waiting.{number_of}
 use Rattle.dirac_plan.specs.Planning.{Planning, Takes, with_end, with_picture}
 use Rattle.dirac_plan.specs.Plan.{plan}
 use Rattle.dirac_encode.specs.Going.{Lists, list_behind}
+use Rattle.dirac_plan_laws.proofs.Each.{each_at}
 
 -- a list behind others that has an item first
 split_at : {X : Type 0} (xs rest : List X) (n : ℕ) (x : X) → n ≡ length xs → slice_get (xs ++ rest) n ≡ Some x → (more : List X) × (rest ≡ x ∷ more)
@@ -36,12 +37,6 @@ split_at [] (y ∷ rest) zero x e is = let same : y ≡ x = cc in (rest, ap (λ 
 split_at [] (y ∷ rest) (suc n) x e is = absurd (omega (arith, e))
 split_at (y ∷ xs) rest zero x e is = absurd (omega (arith, e))
 split_at (y ∷ xs) rest (suc n) x e is = split_at xs rest n x (omega (arith, e)) is
-
-all_get : {X : Type 0} (P : X → Type 0) (xs : List X) (n : ℕ) (x : X) → AllByRecursion P xs → slice_get xs n ≡ Some x → P x
-all_get P [] zero x all is = absurd cc
-all_get P [] (suc n) x all is = absurd cc
-all_get P (y ∷ xs) zero x all is = let same : y ≡ x = cc in subst P same all.0
-all_get P (y ∷ xs) (suc n) x all is = all_get P xs n x all.1 is
 
 -- any picture of a number
 named_so : Planned → Picture
@@ -90,7 +85,7 @@ lists_found plans t ended p p' c q s accepted same l takes =
     map-append number_of l.shown (map named_so (q ∷ rest.0)) ∙ ap₂ (λ (a b : List ℕ). a ++ b) l.numbers (numbers_so (q ∷ rest.0)) ∙ sym (map-append planned_number l.qs (q ∷ rest.0)) ∙ ap (map planned_number) (sym whole) in
     let found : AreFound [] (l.qs ++ q ∷ rest.0) pictures = subst (λ (qs : List Planned). AreFound [] qs pictures) whole (law.found pictures numbers) in (
       ap (λ r. are_listed r (header_of q)) l.refs ∙ found_at [] l.qs rest.0 q l.shown (map named_so rest.0) (named_so q) (same_length l.qs l.shown l.numbers) found,
-      all_get IsPlanned (plan m t) c.count q law.each there,
+      each_at IsPlanned (plan m t) c.count q law.each there,
       (taken (IsSource t) takes.before takes.after s (subst (λ (ws : List Picture). AllByRecursion (IsSource t) ws) takes.waited l.sources)).0,
       l.listed,
     )

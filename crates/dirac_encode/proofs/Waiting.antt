@@ -1,14 +1,15 @@
 -- Pictures that wait, written one after another.
-use Rattle.std.proofs.Common.{◌≡◌, ℕ, suc, ◌+◌, List, [], ◌∷◌, ◌++◌, length, sym, ap, ◌∙◌, subst, arith, append_assoc, append-nil, Option}
+use Rattle.std.proofs.Common.{◌≡◌, ℕ, ◌+◌, List, [], ◌∷◌, ◌++◌, length, sym, ap, ◌∙◌, subst, append_assoc, append-nil, Option}
 use Rattle.std.specs.Io.KnownBytes.{Appends}
 use Rattle.std.proofs.KnownBytes.{Appends-trans}
 use Rattle.std.proofs.lemmas.Grind.{flat_map-append}
 use Rattle.dirac_common.specs.declared.picture.Picture.{Picture}
 use Rattle.dirac_io.specs.Writing.{AppendsFront}
 use Rattle.dirac_refs.specs.declared.waiting.Waiting.{Waiting}
-use Rattle.dirac_refs.specs.Delivery.{flushed, flushed_by, least, others}
+use Rattle.dirac_refs.specs.Delivery.{flushed, least, others}
 use Rattle.dirac_decode.specs.Raw.{raw, raws}
-use Rattle.dirac_encode_laws.proofs.Sources.{raws_more}
+use Rattle.dirac_decode.proofs.Leading.{flushed_one}
+use Rattle.dirac_decode.proofs.Streaming.{raws_more}
 
 -- these left and were written, and the others wait on
 pub record Flushes (first now : List Waiting) (side0 side : Option (List ℕ)) : Type 0 where
@@ -16,17 +17,11 @@ pub record Flushes (first now : List Waiting) (side0 side : Option (List ℕ)) :
   pub all : flushed first ≡ given ++ flushed now
   pub written : Appends side0 side (raws given)
 
--- one leaves
-flush_next : (old new : List Waiting) (p : Picture) → p ∷ [] ≡ least old → new ≡ others old → length new + 1 ≡ length old → flushed old ≡ p ∷ flushed new
-flush_next old new p is rest count =
-    let more : length old ≡ suc (length new) = omega (arith, count) in
-    ap (λ n. flushed_by n old) more ∙ ap (λ l. l ++ flushed_by (length new) (others old)) (sym is) ∙ ap (λ ws. p ∷ flushed_by (length new) ws) (sym rest)
-
 pub flushes_more : (first old new : List Waiting) (p : Picture) (side0 side side' : Option (List ℕ)) → Flushes first old side0 side → p ∷ [] ≡ least old → new ≡ others old → length new + 1 ≡ length old
     → Appends side side' (raw p) → Flushes first new side0 side'
 flushes_more first old new p side0 side side' so is rest count written = record {
   given = so.given ++ p ∷ [];
-  all = so.all ∙ ap (λ l. so.given ++ l) (flush_next old new p is rest count) ∙ sym (append_assoc so.given (p ∷ []) (flushed new));
+  all = so.all ∙ ap (λ l. so.given ++ l) (flushed_one old new p is rest count) ∙ sym (append_assoc so.given (p ∷ []) (flushed new));
   written = subst (λ (l : List ℕ). Appends side0 side' l) (sym (raws_more so.given p)) (Appends-trans side0 side side' (raws so.given) (raw p) so.written written);
 }
 
@@ -35,7 +30,7 @@ pub flushes_part : (first old new : List Waiting) (p : Picture) (side0 side side
     → AppendsFront side side' (raw p) → AppendsFront side0 side' (raws (flushed first))
 flushes_part first old new p side0 side side' so is rest count front =
     let text : raws (flushed first) ≡ (raws so.given ++ front.0) ++ (front.1 ++ raws (flushed new)) =
-    ap raws (so.all ∙ ap (λ l. so.given ++ l) (flush_next old new p is rest count)) ∙ flat_map-append raw so.given (p ∷ flushed new)
+    ap raws (so.all ∙ ap (λ l. so.given ++ l) (flushed_one old new p is rest count)) ∙ flat_map-append raw so.given (p ∷ flushed new)
     ∙ ap (λ l. raws so.given ++ (l ++ raws (flushed new))) front.2 ∙ ap (λ l. raws so.given ++ l) (append_assoc front.0 front.1 (raws (flushed new)))
     ∙ sym (append_assoc (raws so.given) front.0 (front.1 ++ raws (flushed new))) in
     (raws so.given ++ front.0, front.1 ++ raws (flushed new), text, Appends-trans side0 side side' (raws so.given) front.0 so.written front.3)

@@ -1,19 +1,20 @@
 //! A picture, coded with the least quantiser index by which its unit fits a budget.
 
-ghost use Rattle.std.specs.Prelude.{◌≡◌, ◌≤◌, ◌<◌, true, IfOk};
+ghost use Rattle.std.specs.Prelude.{◌≡◌, ◌<◌, true, IfOk};
 ghost use Rattle.std.specs.List.{AllByRecursion};
 ghost use Rattle.dirac_common.specs.Limits.{IsIndex};
 ghost use Rattle.dirac_types.specs.Settings.{IsAccepted};
 ghost use Rattle.dirac_picture.specs.Grammar.{are_listed};
-ghost use Rattle.dirac_motion.specs.Chosen.{IsChosenAtEachIndex, at_index};
-ghost use Rattle.dirac_encode_picture.specs.Prepared.{IsPrepared, blocks_in};
+ghost use Rattle.dirac_motion.specs.Chosen.{at_index};
+ghost use Rattle.dirac_encode_picture.specs.Prepared.{IsPreparedFor};
 ghost use Rattle.dirac_plan_laws.specs.Headers.{IsPlanned, header_of};
 ghost use Rattle.dirac_encode_laws.specs.Coded.{IsSource};
 ghost use Rattle.dirac_encode_laws.specs.Coding.{made, made_under};
 ghost use Rattle.dirac_encode_laws.specs.Fit.{IsLeast, fit, length_at};
+ghost use Rattle.dirac_encode.specs.Asked.{HasChosenBlocks, job_of};
 
 use dirac_common::{LARGEST_INDEX, NoMemory, Picture, RowGate};
-use dirac_encode_picture::{Coded, Prepared, code_prepared, prepare_picture};
+use dirac_encode_picture::{Asked, Coded, Prepared, code_prepared, prepare_picture};
 use dirac_plan::Planned;
 use dirac_refs::RefBuffer;
 use dirac_types::Settings;
@@ -25,23 +26,18 @@ use std::thread::Threads;
 fn code_at(
     alloc: Global,
     prepared: &Prepared,
-    planned: &Planned,
-    source: &Picture,
-    refs: &RefBuffer,
-    settings: &Settings,
+    asked: &Asked<'_>,
     index: u8,
 ) -> Result<Coded, NoMemory>
-    requires prepared { IsPrepared settings.now refs.now planned.now source.now prepared.now }
-    requires blocks { IsChosenAtEachIndex settings.now refs.now planned.now source.now (blocks_in prepared.now) }
+    requires prepared { IsPreparedFor asked.now prepared.now }
+    requires blocks { HasChosenBlocks asked.now prepared.now }
     requires index { IsIndex index }
     ensures payload { IfOk result (λ c. c.payload.items
-        ≡ (made (at_index settings.now index) refs.now
-        (record { planned = planned.now; source = source.now })).payload) }
+        ≡ (made (at_index asked.now.settings.now index) asked.now.refs.now (job_of asked.now)).payload) }
     ensures shown { IfOk result (λ c. c.shown
-        ≡ (made (at_index settings.now index) refs.now
-        (record { planned = planned.now; source = source.now })).shown) }
+        ≡ (made (at_index asked.now.settings.now index) asked.now.refs.now (job_of asked.now)).shown) }
 {
-    code_prepared(alloc, prepared, planned, source, refs, settings, index)
+    code_prepared(alloc, prepared, asked, index)
 }
 
 /// Codes a prepared picture with the least index, from the settings' on, by which its unit fits the budget, or with the
@@ -49,33 +45,28 @@ fn code_at(
 fn fit_by(
     alloc: Global,
     prepared: &Prepared,
-    planned: &Planned,
-    source: &Picture,
-    refs: &RefBuffer,
-    settings: &Settings,
+    asked: &Asked<'_>,
     budget: u32,
 ) -> Result<(Coded, u8), NoMemory>
-    requires accepted { IsAccepted settings.now }
-    requires prepared { IsPrepared settings.now refs.now planned.now source.now prepared.now }
-    requires blocks { IsChosenAtEachIndex settings.now refs.now planned.now source.now (blocks_in prepared.now) }
+    requires accepted { IsAccepted asked.now.settings.now }
+    requires prepared { IsPreparedFor asked.now prepared.now }
+    requires blocks { HasChosenBlocks asked.now prepared.now }
     ensures least { IfOk result (λ r. IsLeast
-        (length_at settings.now refs.now (record { planned = planned.now; source = source.now }))
-        budget settings.now.index r.1) }
+        (length_at asked.now.settings.now asked.now.refs.now (job_of asked.now))
+        budget asked.now.settings.now.index r.1) }
     ensures payload { IfOk result (λ r. r.0.payload.items
-        ≡ (made (at_index settings.now r.1) refs.now
-        (record { planned = planned.now; source = source.now })).payload) }
+        ≡ (made (at_index asked.now.settings.now r.1) asked.now.refs.now (job_of asked.now)).payload) }
     ensures shown { IfOk result (λ r. r.0.shown
-        ≡ (made (at_index settings.now r.1) refs.now
-        (record { planned = planned.now; source = source.now })).shown) }
+        ≡ (made (at_index asked.now.settings.now r.1) asked.now.refs.now (job_of asked.now)).shown) }
 {
-    'indices: for index in settings.index as u8..LARGEST_INDEX as u8 {
-        let coded = code_at(alloc, prepared, planned, source, refs, settings, index)?;
+    'indices: for index in asked.settings.index as u8..LARGEST_INDEX as u8 {
+        let coded = code_at(alloc, prepared, asked, index)?;
         if (PARSE_INFO_LENGTH + coded.payload.len()) as u64 <= u64::from(budget) {
             return Ok((coded, index));
         }
     }
     let last = LARGEST_INDEX as u8;
-    let coded = code_at(alloc, prepared, planned, source, refs, settings, last)?;
+    let coded = code_at(alloc, prepared, asked, last)?;
     Ok((coded, last))
 }
 
@@ -111,7 +102,13 @@ pub fn fit_picture<R: Threads + Sync, G: RowGate>(
         ≡ (made_under (fit budget) settings.now refs.now
         (record { planned = planned.now; source = source.now })).shown) }
 {
-    let prepared = prepare_picture(rt, alloc, planned, source, refs, settings, gate)?;
-    let fitted = fit_by(alloc, &prepared, planned, source, refs, settings, budget)?;
+    let asked = Asked {
+        planned,
+        source,
+        refs,
+        settings,
+    };
+    let prepared = prepare_picture(rt, alloc, &asked, gate)?;
+    let fitted = fit_by(alloc, &prepared, &asked, budget)?;
     Ok(fitted)
 }

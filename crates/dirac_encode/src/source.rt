@@ -124,27 +124,12 @@ fn code_source<R: Threads + Sync, G: RowGate>(
         ≡ (made_under (rule_of coder.now.budget) coder.now.settings.now refs.now
         (record { planned = planned.now; source = source.now })).shown) }
 {
-    let settings = coder.settings;
+    let (rt, alloc, settings, gate) = (coder.rt, coder.alloc, coder.settings, coder.gate);
     match coder.budget {
-        None => code_picture(
-            coder.rt,
-            coder.alloc,
-            planned,
-            source,
-            refs,
-            settings,
-            coder.gate,
-        ),
+        None => code_picture(rt, alloc, planned, source, refs, settings, gate),
         Some(budget) => {
             let (coded, _index) = fit_picture(
-                coder.rt,
-                coder.alloc,
-                planned,
-                source,
-                refs,
-                settings,
-                budget,
-                coder.gate,
+                rt, alloc, planned, source, refs, settings, budget, gate,
             )?;
             Ok(coded)
         }

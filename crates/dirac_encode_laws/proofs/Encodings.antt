@@ -2,8 +2,7 @@
 use Rattle.std.proofs.Common.{◌≡◌, ℕ, zero, suc, ◌+◌, ◌≤◌, ◌==◌, if◌then◌else◌, Bool, true, false, List, [], ◌∷◌, ◌++◌, length, map, drop, refl, sym, ap, ◌∙◌, subst, arith, append_assoc, append-nil, ne_eqb, Option, None, Some}
 use Rattle.std.specs.Prelude.{slice_get}
 use Rattle.std.specs.List.{AllByRecursion}
-use Rattle.std.proofs.lemmas.List.{map-append, drop_more}
-use Rattle.std.proofs.lemmas.Option.{slice_get_within, get_or_from_slice_get}
+use Rattle.std.proofs.lemmas.List.{map-append}
 use Rattle.dirac_common.specs.declared.picture.Picture.{Picture}
 use Rattle.dirac_types.specs.declared.settings.Settings.{Settings}
 use Rattle.dirac_refs.specs.Delivery.{Leaving, deliver, flushed, pushed_all}
@@ -16,6 +15,7 @@ use Rattle.dirac_encode_laws.specs.Standing.{AreShort, Leave, pushed_now}
 use Rattle.dirac_encode_laws.specs.Steps.{last_units, leaving, picture_units}
 use Rattle.dirac_encode_laws.specs.Stream.{closing, header_before, last_length, picture_length, picture_unit, stream_from, units_of, end_unit, header_length, header_unit}
 use Rattle.dirac_plan_laws.specs.Order.{by_number}
+use Rattle.dirac_picture.proofs.Taken.{dropped_next}
 
 -- ---- the first long unit
 
@@ -163,10 +163,6 @@ ends_whole t answer ps short leave =
     ap (encoding_by t answer ps) (none_long t ps short) ∙ ap (λ l. record { answer = answer; stream = stream_from t ps; shown = l }) (sym leave)
 
 -- ---- one picture more is coded
-
-pub dropped_next : {X : Type 0} (xs : List X) (n : ℕ) (x : X) → slice_get xs n ≡ Some x → drop n xs ≡ x ∷ drop (n + 1) xs
-dropped_next xs n x e =
-    drop_more xs n x (slice_get_within xs n x e) ∙ ap (λ y. y ∷ drop (n + 1) xs) (get_or_from_slice_get xs n x x e)
 
 none_left : {X : Type 0} (xs : List X) (n : ℕ) → length xs ≤ n → drop n xs ≡ []
 none_left [] zero few = refl

@@ -1,5 +1,5 @@
 -- The bytes of a sequence header are few, and are read as the sequence of its settings.
-use Rattle.std.proofs.Common.{Ok, ◌≡◌, ℕ, zero, suc, ◌+◌, ◌*◌, ◌/◌, ◌<◌, ◌≤◌, ◌^◌, Bool, true, false, List, [], ◌∷◌, ◌++◌, length, drop, refl, ap, arith, ◌-◌, ◌%◌, ◌==◌, length-append}
+use Rattle.std.proofs.Common.{Ok, ◌≡◌, ℕ, zero, suc, ◌+◌, ◌*◌, ◌/◌, ◌<◌, ◌≤◌, ◌^◌, Bool, true, false, List, [], ◌∷◌, ◌++◌, length, drop, refl, ap, arith, ◌-◌, ◌%◌, length-append}
 use Rattle.std.proofs.lemmas.List.{length-replicate}
 use Rattle.dirac_types.specs.Settings.{IsAccepted}
 use Rattle.dirac_bits.proofs.Whole.{whole_read}
@@ -9,16 +9,12 @@ use Rattle.dirac_bits.proofs.Packed.{starts}
 use Rattle.dirac_sequence.proofs.Written.{sequence_spelled}
 use Rattle.dirac_types.specs.declared.settings.Settings.{Settings}
 use Rattle.dirac_common.specs.Bytes.{bytes_in, bytes_of}
-use Rattle.dirac_common.specs.Numbers.{digits_of, digits_within, followed, uint}
+use Rattle.dirac_common.specs.Numbers.{digits_of, followed, uint}
 use Rattle.dirac_bits.specs.Writing.{gap}
 use Rattle.dirac_sequence.specs.Written.{base_bits, custom_bits, frames_bits, is_own_chroma, is_own_rate, is_own_signal, is_own_size, samples_bits, sequence_bits, sequence_of, sequence_payload, up_to_byte, whole_area_bits}
 use Rattle.dirac_encode_laws.specs.Stream.{header_length}
 use Rattle.dirac_encode_laws.proofs.InBytes.{bytes_again}
-
-digits_few : (most n : ℕ) → length (digits_within most n) ≤ most
-unfolding digits_within
-digits_few zero n = omega arith
-digits_few (suc most) n = grind (arith, digits_few most (n / 2), length-append (digits_within most (n / 2)) ((n % 2 == 1) ∷ []))
+use Rattle.dirac_common.proofs.Digits.{length-digits_within}
 
 length-followed : (bits : List Bool) → length (followed bits) ≡ 2 * length bits
 length-followed [] = refl
@@ -26,7 +22,7 @@ length-followed (b ∷ bits) = omega (arith, length-followed bits)
 
 uint_few : (v : ℕ) → length (uint v) ≤ 77
 unfolding digits_of
-uint_few v = omega (arith, length-append (followed (digits_of v)) (true ∷ []), length-followed (digits_of v), digits_few 38 (v + 1))
+uint_few v = omega (arith, length-append (followed (digits_of v)) (true ∷ []), length-followed (digits_of v), length-digits_within 38 (v + 1))
 
 custom_few : (own : Bool) (bits : List Bool) → length (custom_bits own bits) ≤ 1 + length bits
 custom_few true bits = omega arith

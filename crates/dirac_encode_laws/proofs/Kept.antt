@@ -62,7 +62,7 @@ length-zip [] ps few = refl
 length-zip (v ∷ vs) [] few = absurd (omega (arith, few))
 length-zip (v ∷ vs) (p ∷ ps) few = ap suc (length-zip vs ps (omega (arith, few)))
 
-whole_plane : (p : Picture) (o : Component) → IsWhole p → length (plane_of p o).values ≡ (plane_of p o).width * (plane_of p o).height
+pub whole_plane : (p : Picture) (o : Component) → IsWhole p → length (plane_of p o).values ≡ (plane_of p o).width * (plane_of p o).height
 whole_plane p component.Y is = is.y
 whole_plane p component.U is = is.u
 whole_plane p component.V is = is.v

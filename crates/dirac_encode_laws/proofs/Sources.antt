@@ -1,13 +1,10 @@
 -- Raw pictures in bytes.
-use Rattle.std.proofs.Common.{append-nil, ◌≡◌, ℕ, zero, suc, ◌+◌, ◌-◌, ◌*◌, ◌/◌, ◌%◌, ◌<◌, ◌≤◌, List, [], ◌∷◌, ◌++◌, length, take, drop, refl, sym, ap, ◌∙◌, arith}
+use Rattle.std.proofs.Common.{◌≡◌, ℕ, zero, suc, ◌+◌, ◌-◌, ◌*◌, ◌/◌, ◌%◌, ◌<◌, ◌≤◌, List, [], ◌∷◌, ◌++◌, length, take, drop, refl, sym, ap, ◌∙◌, arith}
 use Rattle.std.proofs.Math.Nat.{mul-add-div_right}
 use Rattle.std.proofs.Math.Seq.{take-add, take-append_seam, drop-append_seam}
 use Rattle.std.proofs.lemmas.Nat.{div-mul-add, mod-mul-add}
 use Rattle.std.proofs.lemmas.List.{drop-drop}
-use Rattle.std.proofs.lemmas.Grind.{flat_map-append}
-use Rattle.dirac_common.specs.declared.picture.Picture.{Picture}
 use Rattle.dirac_types.specs.declared.settings.Settings.{Settings}
-use Rattle.dirac_decode.specs.Raw.{raw, raws}
 use Rattle.dirac_sources.specs.Sources.{picture_from, pictures_in, raw_length}
 use Rattle.dirac_encode_laws.specs.Laws.{AreNumbered}
 
@@ -58,10 +55,6 @@ front_more n r place bytes chunk rest is whole next =
     let there : place ≡ n * r + r = omega (arith, next) in
     ap (λ p. take p bytes) there ∙ take-add (n * r) r bytes
     ∙ ap (λ l. take (n * r) bytes ++ l) (ap (take r) is ∙ ap (λ k. take k (chunk ++ rest)) (sym whole) ∙ take-append_seam chunk rest)
-
--- the bytes of pictures, and of one more
-pub raws_more : (pictures : List Picture) (p : Picture) → raws (pictures ++ p ∷ []) ≡ raws pictures ++ raw p
-raws_more pictures p = flat_map-append raw pictures (p ∷ []) ∙ ap (λ l. raws pictures ++ l) (append-nil (raw p))
 
 -- how many are whole, where so many bytes are left over
 pub whole_count : (n r k len : ℕ) → len ≡ n * r + k → k < r → len / r ≡ n

@@ -86,7 +86,7 @@ filter_step : {X : Type 0} (P : X → Type 0) (keep : X → Bool) (x : X) (xs : 
 filter_step P keep x xs true e one rest = rw e (one, rest)
 filter_step P keep x xs false e one rest = rw e rest
 
-all_filtered : {X : Type 0} (P : X → Type 0) (keep : X → Bool) (xs : List X) → AllByRecursion P xs → AllByRecursion P (filter keep xs)
+pub all_filtered : {X : Type 0} (P : X → Type 0) (keep : X → Bool) (xs : List X) → AllByRecursion P xs → AllByRecursion P (filter keep xs)
 all_filtered P keep [] all = tt
 all_filtered P keep (x ∷ xs) all = filter_step P keep x xs (keep x) refl all.0 (all_filtered P keep xs all.1)
 
@@ -174,7 +174,7 @@ unfolding coded_under
 begins f t pictures [] is = tt
 begins f t pictures (q ∷ qs) is = (is.0, is.1)
 
-pushed_shown : (ms : List Made) → pushed ms ≡ map as_waiting (map shown_of ms)
+pub pushed_shown : (ms : List Made) → pushed ms ≡ map as_waiting (map shown_of ms)
 pushed_shown [] = refl
 pushed_shown (m ∷ ms) = ap (λ ws. waiting_of m ∷ ws) (pushed_shown ms)
 

@@ -4,5 +4,6 @@ pub mod Differences
 pub mod Facts
 pub mod Finishing
 pub mod Lending
+pub mod Planes
 pub mod Predicting
 pub mod Preparing

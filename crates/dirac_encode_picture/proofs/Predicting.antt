@@ -1,5 +1,5 @@
 -- What is predicted for a source is what its definitions say, and can be taken away from it.
-use Rattle.std.proofs.Common.{◌≡◌, ℕ, ◌*◌, ℤ, List, length, IsSome, Option, None, Some, refl, sym, ap, ap₂, ◌∙◌, subst}
+use Rattle.std.proofs.Common.{◌≡◌, ℕ, ◌*◌, ℤ, List, IsSome, Option, None, Some, refl, sym, ap, ap₂, ◌∙◌, subst}
 use Rattle.std.specs.List.{All}
 use Rattle.std.specs.Option.{ForSome}
 use Rattle.dirac_common.specs.declared.formats.Kind.TheVariants.{Inter}
@@ -29,6 +29,7 @@ use Rattle.dirac_encode_laws.proofs.Reading.{predicting, second_found, source_pl
 use Rattle.dirac_encode_picture.specs.declared.predictions.Predictions.{Predictions}
 use Rattle.dirac_encode_picture.specs.Asked.{IsAsked}
 use Rattle.dirac_encode_picture.specs.Predictions.{ArePredictions, IsPicturePredictedBy, IsPredictedBy, IsPrediction, picture_from}
+use Rattle.dirac_encode_laws.proofs.Kept.{whole_plane}
 
 -- what is predicted from the references of a plan
 pub named_predictions : (s : Sequence) (refs : List Picture) (q : Planned) (m : CodedMotion) (ps : Predictions) (r : References) → AreNamed refs q r
@@ -53,11 +54,6 @@ pub same_among : (t : Settings) (s : Sequence) (refs : List Picture) (q : Planne
     → IsPrediction s (named refs q.ref1) (named refs q.ref2) m o values → values ≡ predicted_among (sequence_of t) (motion_with t b) (named refs q.ref1) (named refs q.ref2) o
 same_among t s refs q m b o values es em is =
     is.same ∙ ap₂ (λ (x : Sequence) (y : CodedMotion). predicted_among x y (named refs q.ref1) (named refs q.ref2) o) es em
-
-whole_plane : (p : Picture) (o : Component) → IsWhole p → length (plane_of p o).values ≡ (plane_of p o).width * (plane_of p o).height
-whole_plane p component.Y is = is.y
-whole_plane p component.U is = is.u
-whole_plane p component.V is = is.v
 
 -- it can be taken away from a plane of the source
 plane_asked : (t : Settings) (s : Sequence) (refs : List Picture) (q : Planned) (p : Picture) (m : CodedMotion) (b : BlockTable) (o : Component) (values : List ℤ) → IsAsked t refs q p → IsWhole p → s ≡ sequence_of t

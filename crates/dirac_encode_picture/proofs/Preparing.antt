@@ -1,7 +1,6 @@
 -- A prepared picture: what is made of it at a quantiser index is what the definitions say.
-use Rattle.std.proofs.Common.{◌≡◌, ℕ, ℤ, ◌≤◌, true, false, if◌then◌else◌, List, [], ◌∷◌, Option, None, Some, refl, sym, ap, ap₂, ◌∙◌, subst, arith}
+use Rattle.std.proofs.Common.{◌≡◌, ℕ, ℤ, ◌≤◌, true, false, if◌then◌else◌, List, Option, None, Some, refl, sym, ap, ap₂, ◌∙◌, subst, arith}
 use Rattle.std.specs.Prelude.{IfSome, option_map}
-use Rattle.std.specs.List.{AllByRecursion}
 use Rattle.dirac_common.specs.declared.formats.Component.TheVariants as component
 use Rattle.dirac_common.specs.declared.formats.Kind.{Kind}
 use Rattle.dirac_common.specs.declared.formats.Kind.TheVariants.{Intra, Inter}
@@ -23,7 +22,7 @@ use Rattle.dirac_plan.specs.declared.planned.Planned.{Planned}
 use Rattle.dirac_plan_laws.specs.Headers.{header_of}
 use Rattle.dirac_analysis.specs.Analysis.{Analysis, quantised}
 use Rattle.dirac_analysis.proofs.Analysing.{plane_quantised}
-use Rattle.dirac_encode_laws.specs.Coded.{IsSource, bands_of, coded_with, is_zero_residual, kind_of, less_prediction, motion_among, motion_with, residual_of, transform_of}
+use Rattle.dirac_encode_laws.specs.Coded.{bands_of, coded_with, is_zero_residual, kind_of, less_prediction, motion_among, motion_with, residual_of, transform_of}
 use Rattle.dirac_encode_laws.specs.Laws.{IsWhole}
 use Rattle.dirac_motion.specs.Chosen.{IsChosen, at_index}
 use Rattle.dirac_encode_picture.specs.declared.prepared.Compensated.{Compensated}
@@ -35,6 +34,7 @@ use Rattle.dirac_encode_picture.specs.Asked.{HasBlocks, IsAsked, coded_by}
 use Rattle.dirac_encode_picture.specs.Predictions.{ArePredictions}
 use Rattle.dirac_encode_picture.specs.Prepared.{IsCompensated, IsLeft, IsPrepared, blocks_in}
 use Rattle.dirac_encode_picture.proofs.Predicting.{same_among}
+use Rattle.dirac_encode_laws.proofs.Indices.{sources_with}
 
 -- ---- what is prepared
 
@@ -145,11 +145,6 @@ unfolding table
 accepted_at t index is few =
     (is.0, (is.1.0, (is.1.1.0, (is.1.1.1.0, (is.1.1.1.1.0, (is.1.1.1.1.1.0, (is.1.1.1.1.1.1.0, (is.1.1.1.1.1.1.1.0, (is.1.1.1.1.1.1.1.1.0, (is.1.1.1.1.1.1.1.1.1.0, (is.1.1.1.1.1.1.1.1.1.1.0, ((omega arith, few, omega arith), is.1.1.1.1.1.1.1.1.1.1.1.1))))))))))))
 
-sources_at : (t : Settings) (index : ℕ) (refs : List Picture) → AllByRecursion (IsSource t) refs → AllByRecursion (IsSource (at_index t index)) refs
-unfolding sequence_of
-sources_at t index [] all = tt
-sources_at t index (p ∷ refs) all = (record { y = all.0.y; u = all.0.u; v = all.0.v }, sources_at t index refs all.1)
-
 blocks_again : (t : Settings) (index code : ℕ) (o : Option BlockTable) → HasBlocks t code o → HasBlocks (at_index t index) code o
 unfolding sequence_of
 blocks_again t index code None has = has
@@ -182,7 +177,7 @@ prepared_at t index refs q p x is few =
     record {
       asked = record {
         accepted = accepted_at t index asked.accepted few;
-        listed = sources_at t index refs asked.listed;
+        listed = sources_with t index refs asked.listed;
         source = record { y = asked.source.y; u = asked.source.u; v = asked.source.v };
         planned = asked.planned;
         found = asked.found;

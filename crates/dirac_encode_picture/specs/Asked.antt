@@ -17,6 +17,7 @@ use Rattle.dirac_encode_laws.specs.Coded.{IsSource, coded_with, motion_among, re
 use Rattle.dirac_encode_laws.specs.Codable.{AreSmall}
 use Rattle.dirac_motion.specs.Chosen.{IsChosen}
 use Rattle.dirac_motion.specs.Lent.{AreLent, AreNamed}
+use Rattle.dirac_encode_picture.specs.declared.asked.Asked.{Asked}
 use Rattle.dirac_encode_picture.specs.declared.prepared.Moving.{Moving}
 use Rattle.dirac_encode_picture.specs.declared.picture.Coded.{Coded}
 
@@ -27,6 +28,10 @@ pub record IsAsked (t : Settings) (refs : List Picture) (q : Planned) (p : Pictu
   pub source : IsSource t p
   pub planned : IsPlanned q
   pub found : are_listed refs (header_of q) ≡ true
+
+-- what is asked is that
+abbrev pub CanBeCoded : Asked → Type 0
+CanBeCoded a = IsAsked a.settings.now a.refs.now a.planned.now a.source.now
 
 -- the block table that a picture is predicted by, if there is one
 abbrev pub blocks_of : Option Moving → Option BlockTable

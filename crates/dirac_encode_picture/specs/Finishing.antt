@@ -7,6 +7,7 @@ use Rattle.dirac_picture.specs.Writable.{IsWritten}
 use Rattle.dirac_decode.specs.Content.{named}
 use Rattle.dirac_decode.specs.Rebuilding.{CanBeRebuilt}
 use Rattle.dirac_encode_picture.specs.declared.prepared.Compensated.{Compensated}
+use Rattle.dirac_encode_picture.specs.declared.showing.Finishing.{Finishing}
 use Rattle.dirac_encode_picture.specs.Predictions.{ArePredictions}
 
 -- these are the predictions of a coded picture
@@ -19,3 +20,7 @@ pub record CanBeFinished (s : Sequence) (refs : List Picture) (c : CodedPicture)
   pub rebuilt : CanBeRebuilt c s refs
   pub written : IfSome c.residual (IsWritten s)
   pub predicted : IfSome o (ArePredicted s refs c)
+
+-- what is finished can be
+abbrev pub IsFinishable : Finishing → Type 0
+IsFinishable f = CanBeFinished f.sequence.now f.refs.now f.coded.now f.compensated.now

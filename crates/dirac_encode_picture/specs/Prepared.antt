@@ -1,21 +1,24 @@
 -- What the coding of a picture shares between all quantiser indices.
-use Rattle.std.specs.Prelude.{◌≡◌, List, Option, IfSome, option_map}
+use Rattle.std.specs.Prelude.{◌≡◌, ℕ, List, Option, IfSome, option_map}
 use Rattle.dirac_common.specs.declared.formats.Component.TheVariants as component
 use Rattle.dirac_common.specs.declared.picture.Picture.{Picture}
 use Rattle.dirac_types.specs.declared.settings.Settings.{Settings}
 use Rattle.dirac_sequence.specs.Written.{sequence_of}
 use Rattle.dirac_blocks.specs.Tables.{BlockTable}
 use Rattle.dirac_picture.specs.declared.coded.CodedMotion.{CodedMotion}
+use Rattle.dirac_picture.specs.declared.coded.CodedPicture.{CodedPicture}
 use Rattle.dirac_decode.specs.Content.{named}
 use Rattle.dirac_plan.specs.declared.planned.Planned.{Planned}
 use Rattle.dirac_plan_laws.specs.Headers.{header_of}
 use Rattle.dirac_encode_laws.specs.Coded.{kind_of, left_of, motion_among, motion_with}
 use Rattle.dirac_encode_laws.specs.Laws.{IsWhole}
+use Rattle.dirac_motion.specs.Chosen.{at_index}
+use Rattle.dirac_encode_picture.specs.declared.asked.Asked.{Asked}
 use Rattle.dirac_encode_picture.specs.declared.prepared.Compensated.{Compensated}
 use Rattle.dirac_encode_picture.specs.declared.prepared.Prepared.{Prepared}
 use Rattle.dirac_encode_picture.specs.declared.residual.AnalysedPlanes.{AnalysedPlanes}
 use Rattle.dirac_encode_picture.specs.Analyses.{AreAnalysed}
-use Rattle.dirac_encode_picture.specs.Asked.{HasBlocks, IsAsked}
+use Rattle.dirac_encode_picture.specs.Asked.{HasBlocks, IsAsked, coded_by}
 use Rattle.dirac_encode_picture.specs.Predictions.{ArePredictions}
 
 -- the block table that a prepared picture is predicted by, if there is one
@@ -40,3 +43,16 @@ pub record IsPrepared (t : Settings) (refs : List Picture) (q : Planned) (p : Pi
   pub blocks : HasBlocks t q.code (blocks_in x)
   pub compensated : IfSome x.compensated (IsCompensated t refs q)
   pub left : IsLeft t refs q p (motion_among t (blocks_in x)) x.left
+
+-- what is asked is prepared
+abbrev pub IsPreparedFor : Asked → Prepared → Type 0
+IsPreparedFor a x = IsPrepared a.settings.now a.refs.now a.planned.now a.source.now x
+
+-- its coded picture, predicted by this block table if there is one
+abbrev pub coded_for : Asked → Option BlockTable → CodedPicture
+coded_for a o = coded_by a.settings.now a.refs.now a.planned.now a.source.now o
+
+-- the coded picture of what was prepared, at a quantiser index
+abbrev pub coded_at : Asked → ℕ → Prepared → CodedPicture
+coded_at a index x =
+    coded_by (at_index a.settings.now index) a.refs.now a.planned.now a.source.now (blocks_in x)

@@ -11,14 +11,15 @@ ghost use Rattle.dirac_plan_laws.specs.Headers.{IsPlanned, header_of};
 ghost use Rattle.dirac_encode_laws.specs.Coded.{IsSource, coded_of, motion_of, residual_of};
 ghost use Rattle.dirac_encode_laws.specs.Codable.{AreSmall};
 ghost use Rattle.dirac_motion.specs.Chosen.{IsChosenAtEachIndex, chosen, chosen_unless_intra};
-ghost use Rattle.dirac_encode_picture.specs.Asked.{IsAsked};
-ghost use Rattle.dirac_encode_picture.specs.Prepared.{IsPrepared, blocks_in};
+ghost use Rattle.dirac_encode_picture.specs.Asked.{CanBeCoded};
+ghost use Rattle.dirac_encode_picture.specs.Prepared.{IsPreparedFor, blocks_in};
 
+use crate::asked::Asked;
 use crate::picture::{Coded, code_at};
 use crate::prepared::{Moving, Prepared, prepare_by};
 use crate::workers::SeveralWorkers;
 use dirac_common::{NoMemory, Picture, RowGate};
-use dirac_decode::named;
+use dirac_decode::named_reference;
 use dirac_motion::{Lumas, choose_from};
 use dirac_picture::is_intra;
 use dirac_plan::Planned;
@@ -32,24 +33,23 @@ use std::thread::Threads;
 fn prepare_searched<R: Threads + Sync, G: RowGate>(
     rt: &R,
     alloc: Global,
-    planned: &Planned,
-    source: &Picture,
-    refs: &RefBuffer,
-    settings: &Settings,
+    asked: &Asked<'_>,
     gate: &G,
 ) -> Result<Prepared, NoMemory>
-    requires asked { IsAsked settings.now refs.now planned.now source.now }
-    requires inter { is_intra_code planned.now.code ≡ false }
-    ensures prepared { IfOk result (IsPrepared settings.now refs.now planned.now source.now) }
-    ensures blocks { IfOk result (λ x. blocks_in x ≡ Some (chosen settings.now refs.now planned.now source.now)) }
+    requires asked { CanBeCoded asked.now }
+    requires inter { is_intra_code asked.now.planned.now.code ≡ false }
+    ensures prepared { IfOk result (IsPreparedFor asked.now) }
+    ensures blocks { IfOk result (λ x. blocks_in x
+        ≡ Some (chosen asked.now.settings.now asked.now.refs.now asked.now.planned.now asked.now.source.now)) }
 {
-    let second = named(refs, planned.ref2);
-    match named(refs, planned.ref1) {
+    let settings = asked.settings;
+    let second = named_reference(asked.refs, asked.planned.ref2);
+    match named_reference(asked.refs, asked.planned.ref1) {
         None => unreachable!(),
         Some(first) => {
             let lumas = Lumas::by_workers(rt, alloc, first, second, settings.workers)?;
             let references = lumas.lend(first, second);
-            let blocks = choose_from(rt, alloc, source, &references, settings, gate)?;
+            let blocks = choose_from(rt, alloc, asked.source, &references, settings, gate)?;
             let moving = Moving {
                 references: &references,
                 blocks: &blocks,
@@ -59,7 +59,7 @@ fn prepare_searched<R: Threads + Sync, G: RowGate>(
                 count: settings.workers,
             };
             let moving = Some(moving);
-            prepare_by(&workers, alloc, planned, source, refs, settings, moving)
+            prepare_by(&workers, alloc, asked, moving)
         }
     }
 }
@@ -69,32 +69,26 @@ fn prepare_searched<R: Threads + Sync, G: RowGate>(
 pub fn prepare_picture<R: Threads + Sync, G: RowGate>(
     rt: &R,
     alloc: Global,
-    planned: &Planned,
-    source: &Picture,
-    refs: &RefBuffer,
-    settings: &Settings,
+    asked: &Asked<'_>,
     gate: &G,
 ) -> Result<Prepared, NoMemory>
-    requires accepted { IsAccepted settings.now }
-    requires listed { AllByRecursion (IsSource settings.now) refs.now }
-    requires source { IsSource settings.now source.now }
-    requires planned { IsPlanned planned.now }
-    requires found { are_listed refs.now (header_of planned.now) ≡ true }
-    ensures prepared { IfOk result (IsPrepared settings.now refs.now planned.now source.now) }
-    ensures blocks { IfOk result (λ x. blocks_in x ≡ chosen_unless_intra settings.now refs.now planned.now source.now) }
+    requires { CanBeCoded asked.now }
+    ensures prepared { IfOk result (IsPreparedFor asked.now) }
+    ensures blocks { IfOk result (λ x. blocks_in x
+        ≡ chosen_unless_intra asked.now.settings.now asked.now.refs.now asked.now.planned.now asked.now.source.now) }
     // They are the same at each index.
-    ensures without_index { IfOk result (λ x.
-        IsChosenAtEachIndex settings.now refs.now planned.now source.now (blocks_in x)) }
+    ensures without_index { IfOk result (λ x. IsChosenAtEachIndex asked.now.settings.now asked.now.refs.now
+        asked.now.planned.now asked.now.source.now (blocks_in x)) }
 {
-    if is_intra(planned.code) {
+    if is_intra(asked.planned.code) {
         let workers = SeveralWorkers {
             rt,
-            count: settings.workers,
+            count: asked.settings.workers,
         };
-        let prepared = prepare_by(&workers, alloc, planned, source, refs, settings, None)?;
+        let prepared = prepare_by(&workers, alloc, asked, None)?;
         return Ok(prepared);
     }
-    let prepared = prepare_searched(rt, alloc, planned, source, refs, settings, gate)?;
+    let prepared = prepare_searched(rt, alloc, asked, gate)?;
     Ok(prepared)
 }
 
@@ -129,10 +123,16 @@ pub fn code_picture<R: Threads + Sync, G: RowGate>(
     ensures lossless { IfOk result (λ c. source.now.number ≡ planned.now.number → settings.now.index ≡ 0
         → c.shown ≡ source.now) }
 {
-    let prepared = prepare_picture(rt, alloc, planned, source, refs, settings, gate)?;
+    let asked = Asked {
+        planned,
+        source,
+        refs,
+        settings,
+    };
+    let prepared = prepare_picture(rt, alloc, &asked, gate)?;
     let workers = SeveralWorkers {
         rt,
         count: settings.workers,
     };
-    code_at(&workers, alloc, &prepared, planned, source, refs, settings)
+    code_at(&workers, alloc, &prepared, &asked)
 }

@@ -1,6 +1,7 @@
 //! A picture, coded as it is planned: its payload, and the picture that decoders show for it.
 #![tactic(auto)]
 
+mod asked;
 mod beside;
 mod choosing;
 mod difference;
@@ -15,6 +16,7 @@ mod texts;
 mod transform;
 mod workers;
 
+pub use asked::Asked;
 pub use choosing::{code_picture, prepare_picture};
 pub use dirac_motion::choose_blocks;
 pub use picture::{Coded, code_prepared, code_with_blocks};

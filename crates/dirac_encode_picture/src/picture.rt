@@ -14,11 +14,12 @@ ghost use Rattle.dirac_encode_laws.specs.Coded.{IsSource, motion_among, residual
 ghost use Rattle.dirac_encode_laws.specs.Codable.{AreSmall};
 ghost use Rattle.dirac_motion.specs.Chosen.{at_index};
 ghost use Rattle.dirac_encode_picture.specs.Asked.{HasBlocks, IsCoding, coded_by};
-ghost use Rattle.dirac_encode_picture.specs.Prepared.{IsPrepared, blocks_in};
+ghost use Rattle.dirac_encode_picture.specs.Prepared.{IsPreparedFor, blocks_in, coded_at};
 
-use crate::making::{Asked, coded_picture};
+use crate::asked::Asked;
+use crate::making::coded_picture;
 use crate::prepared::{Prepared, prepare};
-use crate::showing::Finished;
+use crate::showing::{Finished, Finishing};
 use crate::workers::{OneWorker, Workers};
 use dirac_blocks::BlockData;
 use dirac_common::{NoMemory, Picture};
@@ -46,32 +47,28 @@ pub(crate) fn code_at<W: Workers>(
     workers: &W,
     alloc: Global,
     prepared: &Prepared,
-    planned: &Planned,
-    source: &Picture,
-    refs: &RefBuffer,
-    settings: &Settings,
+    asked: &Asked<'_>,
 ) -> Result<Coded, NoMemory>
     requires shared { W.are_shared workers.now }
-    requires prepared { IsPrepared settings.now refs.now planned.now source.now prepared.now }
-    ensures { IfOk result (IsCoding settings.now refs.now planned.now source.now
-        (motion_among settings.now (blocks_in prepared.now))) }
+    requires prepared { IsPreparedFor asked.now prepared.now }
+    ensures { IfOk result (IsCoding asked.now.settings.now asked.now.refs.now asked.now.planned.now
+        asked.now.source.now (motion_among asked.now.settings.now (blocks_in prepared.now))) }
 {
-    let sequence = sequence_of(settings);
-    let asked = Asked {
-        settings,
-        refs,
-        planned,
-        source,
-    };
+    let sequence = sequence_of(asked.settings);
     let coded = coded_picture(workers, alloc, asked, prepared)?;
-    let compensated = &prepared.compensated;
-    let finished = workers.finish(alloc, &sequence, refs, &coded, compensated)?;
+    let from = Finishing {
+        sequence: &sequence,
+        refs: asked.refs,
+        coded: &coded,
+        compensated: &prepared.compensated,
+    };
+    let finished = workers.finish(alloc, &from)?;
     let Finished { texts, shown } = finished;
     let payload = payload_bytes(
         alloc,
         &sequence,
-        settings.blocks,
-        settings.precision,
+        asked.settings.blocks,
+        asked.settings.precision,
         &coded,
         &texts,
     )?;
@@ -84,36 +81,37 @@ pub(crate) fn code_at<W: Workers>(
 pub fn code_prepared(
     alloc: Global,
     prepared: &Prepared,
-    planned: &Planned,
-    source: &Picture,
-    refs: &RefBuffer,
-    settings: &Settings,
+    asked: &Asked<'_>,
     index: u8,
 ) -> Result<Coded, NoMemory>
-    requires prepared { IsPrepared settings.now refs.now planned.now source.now prepared.now }
+    requires prepared { IsPreparedFor asked.now prepared.now }
     requires index { IsIndex index }
-    ensures payload { IfOk result (λ c. c.payload.items ≡ payload_of (at_index settings.now index)
-        (coded_by (at_index settings.now index) refs.now planned.now source.now (blocks_in prepared.now))) }
+    ensures payload { IfOk result (λ c. c.payload.items
+        ≡ payload_of (at_index asked.now.settings.now index) (coded_at asked.now index prepared.now)) }
     // What is shown is what a decoder rebuilds from it.
-    ensures shown { IfOk result (λ c. c.shown ≡ rebuilt (sequence_for (at_index settings.now index)) refs.now
-        (coded_by (at_index settings.now index) refs.now planned.now source.now (blocks_in prepared.now))) }
+    ensures shown { IfOk result (λ c. c.shown ≡ rebuilt (sequence_for (at_index asked.now.settings.now index))
+        asked.now.refs.now (coded_at asked.now index prepared.now)) }
     // The payload is read as that coded picture, with these pictures listed.
-    ensures read { IfOk result (λ c.
-        picture_read planned.now.code (sequence_for (at_index settings.now index)) refs.now c.payload.items
-        ≡ Ok (coded_by (at_index settings.now index) refs.now planned.now source.now (blocks_in prepared.now))) }
+    ensures read { IfOk result (λ c. picture_read asked.now.planned.now.code
+        (sequence_for (at_index asked.now.settings.now index)) asked.now.refs.now c.payload.items
+        ≡ Ok (coded_at asked.now index prepared.now)) }
     // Its coefficients stay below 2^38.
-    ensures magnitudes_bounded { IfOk result (λ c. AreSmall (residual_of (at_index settings.now index) refs.now
-        (header_of planned.now) (motion_among (at_index settings.now index) (blocks_in prepared.now)) source.now)) }
+    ensures magnitudes_bounded { IfOk result (λ c. AreSmall (residual_of (at_index asked.now.settings.now index)
+        asked.now.refs.now (header_of asked.now.planned.now)
+        (motion_among (at_index asked.now.settings.now index) (blocks_in prepared.now)) asked.now.source.now)) }
     // At index 0 nothing is lost.
-    ensures lossless { IfOk result (λ c. source.now.number ≡ planned.now.number → index ≡ 0 → c.shown ≡ source.now) }
+    ensures lossless { IfOk result (λ c. asked.now.source.now.number ≡ asked.now.planned.now.number → index ≡ 0
+        → c.shown ≡ asked.now.source.now) }
 {
     let settings = Settings {
         index: u32::from(index),
-        ..*settings
+        ..*asked.settings
     };
-    code_at(
-        &OneWorker, alloc, prepared, planned, source, refs, &settings,
-    )
+    let asked = Asked {
+        settings: &settings,
+        ..*asked
+    };
+    code_at(&OneWorker, alloc, prepared, &asked)
 }
 
 /// Codes a picture as it is planned, an inter picture predicted by this block table: its payload, and the picture that
@@ -150,8 +148,12 @@ pub fn code_with_blocks(
     ensures lossless { IfOk result (λ c. source.now.number ≡ planned.now.number → settings.now.index ≡ 0
         → c.shown ≡ source.now) }
 {
-    let prepared = prepare(alloc, planned, source, refs, settings, blocks)?;
-    code_at(
-        &OneWorker, alloc, &prepared, planned, source, refs, settings,
-    )
+    let asked = Asked {
+        planned,
+        source,
+        refs,
+        settings,
+    };
+    let prepared = prepare(alloc, &asked, blocks)?;
+    code_at(&OneWorker, alloc, &prepared, &asked)
 }

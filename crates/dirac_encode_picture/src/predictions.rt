@@ -1,19 +1,15 @@
 //! What is predicted for the planes of an inter picture.
 
-ghost use Rattle.std.specs.Prelude.{◌≡◌, Some, IfOk, IsSome};
-ghost use Rattle.dirac_sequence_header.specs.Lawful.{IsSequence};
+ghost use Rattle.std.specs.Prelude.{◌≡◌, IfOk};
 ghost use Rattle.dirac_common.specs.declared.formats.Component.TheVariants as component;
-ghost use Rattle.dirac_picture.specs.Fits.{IsMotion};
-ghost use Rattle.dirac_motion.specs.Lent.{AreLent, first_of, second_of};
-ghost use Rattle.dirac_encode_picture.specs.Predictions.{ArePredictions, IsPrediction};
+ghost use Rattle.dirac_encode_picture.specs.Predicting.{ArePredicted, CanBePredicted, IsPredicted};
+ghost use Rattle.dirac_encode_picture.specs.Predictions.{values_of};
 
 use crate::beside::{Planes, side_by_side};
 use dirac_common::NoMemory;
-use dirac_decode::{predict_from, predict_with};
+use dirac_decode::{Moved, predict_from, predict_with};
 use dirac_motion::References;
 use dirac_obmc::{Component, Predicted};
-use dirac_picture::CodedMotion;
-use dirac_sequence_header::Sequence;
 use std::alloc::Global;
 use std::marker::Sync;
 use std::thread::Threads;
@@ -27,125 +23,86 @@ pub(crate) struct Predictions {
     pub(crate) v: Predicted,
 }
 
+impl Predictions {
+    /// Lends what is predicted for a plane, by rows.
+    pub(crate) fn of(&self, component: Component) -> &[i32]
+        ensures { result.now ≡ values_of self.now component }
+    {
+        match component {
+            Component::Y => self.y.values(),
+            Component::U => self.u.values(),
+            Component::V => self.v.values(),
+        }
+    }
+}
+
+/// What an inter picture is predicted by, and from.
+#[derive(Clone, Copy)]
+pub(crate) struct Predicting<'a> {
+    pub(crate) moved: Moved<'a>,
+    pub(crate) references: &'a References<'a>,
+}
+
 /// Predicts luma from what is lent of the references.
-fn predict_luma(
-    alloc: Global,
-    code: u8,
-    sequence: &Sequence,
-    references: &References<'_>,
-    motion: &CodedMotion,
-) -> Result<Predicted, NoMemory>
-    requires sequence { IsSequence sequence.now }
-    requires motion { IsMotion code sequence.now motion.now }
-    requires lent { AreLent sequence.now references.now }
-    requires two { motion.now.blocks.refs ≡ 2 → IsSome (second_of references.now) }
-    ensures { IfOk result (λ t. IsPrediction sequence.now (Some (first_of references.now)) (second_of references.now)
-        motion.now component.Y t.values) }
+fn predict_luma(alloc: Global, from: &Predicting<'_>) -> Result<Predicted, NoMemory>
+    requires { CanBePredicted from.now }
+    ensures { IfOk result (λ t. IsPredicted from.now component.Y t.values) }
 {
+    let moved = &from.moved;
+    let references = from.references;
     let first = references.first.luma;
     match references.second {
-        None => predict_with(alloc, code, sequence, motion, first, None, Component::Y),
-        Some(second) => {
-            let second = Some(second.luma);
-            predict_with(alloc, code, sequence, motion, first, second, Component::Y)
-        }
+        None => predict_with(alloc, moved, first, None, Component::Y),
+        Some(second) => predict_with(alloc, moved, first, Some(second.luma), Component::Y),
     }
 }
 
-/// Predicts a plane of chroma, for which the references are upconverted: this is done once a picture.
-fn predict_chroma(
-    alloc: Global,
-    code: u8,
-    sequence: &Sequence,
-    references: &References<'_>,
-    motion: &CodedMotion,
-    component: Component,
-) -> Result<Predicted, NoMemory>
-    requires sequence { IsSequence sequence.now }
-    requires motion { IsMotion code sequence.now motion.now }
-    requires lent { AreLent sequence.now references.now }
-    requires two { motion.now.blocks.refs ≡ 2 → IsSome (second_of references.now) }
-    ensures { IfOk result (λ t. IsPrediction sequence.now (Some (first_of references.now)) (second_of references.now)
-        motion.now component t.values) }
-{
-    let first = references.first.picture;
-    match references.second {
-        None => predict_from(alloc, code, sequence, motion, first, None, component),
-        Some(second) => {
-            let second = Some(second.picture);
-            predict_from(alloc, code, sequence, motion, first, second, component)
-        }
-    }
-}
-
-/// Predicts the planes of an inter picture as decoders do.
-pub(crate) fn predict_planes(
-    alloc: Global,
-    code: u8,
-    sequence: &Sequence,
-    references: &References<'_>,
-    motion: &CodedMotion,
-) -> Result<Predictions, NoMemory>
-    requires sequence { IsSequence sequence.now }
-    requires motion { IsMotion code sequence.now motion.now }
-    requires lent { AreLent sequence.now references.now }
-    requires two { motion.now.blocks.refs ≡ 2 → IsSome (second_of references.now) }
-    ensures { IfOk result (ArePredictions sequence.now (Some (first_of references.now)) (second_of references.now)
-        motion.now) }
-{
-    let y = predict_luma(alloc, code, sequence, references, motion)?;
-    let u = predict_chroma(alloc, code, sequence, references, motion, Component::U)?;
-    let v = predict_chroma(alloc, code, sequence, references, motion, Component::V)?;
-    Ok(Predictions { y, u, v })
-}
-
-/// Predicts a plane.
+/// Predicts a plane as decoders do. For chroma the references are upconverted: this is done once a picture.
 fn predict_plane(
     alloc: Global,
-    code: u8,
-    sequence: &Sequence,
-    references: &References<'_>,
-    motion: &CodedMotion,
+    from: &Predicting<'_>,
     component: Component,
 ) -> Result<Predicted, NoMemory>
-    requires sequence { IsSequence sequence.now }
-    requires motion { IsMotion code sequence.now motion.now }
-    requires lent { AreLent sequence.now references.now }
-    requires two { motion.now.blocks.refs ≡ 2 → IsSome (second_of references.now) }
-    ensures { IfOk result (λ t. IsPrediction sequence.now (Some (first_of references.now)) (second_of references.now)
-        motion.now component t.values) }
+    requires { CanBePredicted from.now }
+    ensures { IfOk result (λ t. IsPredicted from.now component t.values) }
 {
-    match component {
-        Component::Y => predict_luma(alloc, code, sequence, references, motion),
-        Component::U => predict_chroma(alloc, code, sequence, references, motion, Component::U),
-        Component::V => predict_chroma(alloc, code, sequence, references, motion, Component::V),
+    if let Component::Y = component {
+        return predict_luma(alloc, from);
     }
+    let moved = &from.moved;
+    let references = from.references;
+    let first = references.first.picture;
+    match references.second {
+        None => predict_from(alloc, moved, first, None, component),
+        Some(second) => predict_from(alloc, moved, first, Some(second.picture), component),
+    }
+}
+
+/// Predicts the planes of an inter picture.
+pub(crate) fn predict_planes(alloc: Global, from: &Predicting<'_>) -> Result<Predictions, NoMemory>
+    requires { CanBePredicted from.now }
+    ensures { IfOk result (ArePredicted from.now) }
+{
+    let y = predict_plane(alloc, from, Component::Y)?;
+    let u = predict_plane(alloc, from, Component::U)?;
+    let v = predict_plane(alloc, from, Component::V)?;
+    Ok(Predictions { y, u, v })
 }
 
 /// Predicts the planes of an inter picture side by side.
 pub(crate) fn predict_side_by_side<R: Threads + Sync>(
     rt: &R,
-    workers: u32,
     alloc: Global,
-    code: u8,
-    sequence: &Sequence,
-    references: &References<'_>,
-    motion: &CodedMotion,
+    from: &Predicting<'_>,
+    workers: u32,
 ) -> Result<Predictions, NoMemory>
-    requires sequence { IsSequence sequence.now }
-    requires motion { IsMotion code sequence.now motion.now }
-    requires lent { AreLent sequence.now references.now }
-    requires two { motion.now.blocks.refs ≡ 2 → IsSome (second_of references.now) }
-    ensures { IfOk result (ArePredictions sequence.now (Some (first_of references.now)) (second_of references.now)
-        motion.now) }
+    requires { CanBePredicted from.now }
+    ensures { IfOk result (ArePredicted from.now) }
 {
     let work = |component: Component| -> Result<Predicted, NoMemory>
-        requires { IsSequence sequence.now × IsMotion code sequence.now motion.now
-            × AreLent sequence.now references.now
-            × (motion.now.blocks.refs ≡ 2 → IsSome (second_of references.now)) }
-        ensures { IfOk result (λ t. IsPrediction sequence.entry.now (Some (first_of references.entry.now))
-            (second_of references.entry.now) motion.entry.now component t.values) }
-    { predict_plane(alloc, code, sequence, references, motion, component) };
+        requires { CanBePredicted from.now }
+        ensures { IfOk result (λ t. IsPredicted from.entry.now component t.values) }
+    { predict_plane(alloc, from, component) };
     let Planes { y, u, v } = side_by_side(rt, workers, &work)?;
     Ok(Predictions { y, u, v })
 }

@@ -1,30 +1,24 @@
 //! What the coding of a picture shares between all quantiser indices: its prediction, and the analysis of what is left.
 
 ghost use Rattle.std.specs.Prelude.{◌≡◌, false, true, None, Some, IfOk};
-ghost use Rattle.std.specs.List.{AllByRecursion};
 ghost use Rattle.std.specs.Option.{ForSome, option_copied};
-ghost use Rattle.dirac_types.specs.Settings.{IsAccepted};
-ghost use Rattle.dirac_picture.specs.Grammar.{are_listed, is_intra};
-ghost use Rattle.dirac_plan_laws.specs.Headers.{IsPlanned, header_of};
-ghost use Rattle.dirac_encode_laws.specs.Coded.{IsSource};
+ghost use Rattle.dirac_picture.specs.Grammar.{is_intra};
 ghost use Rattle.dirac_encode_laws.specs.Laws.{IsWhole};
 ghost use Rattle.dirac_motion.specs.Chosen.{IsChosen};
-ghost use Rattle.dirac_encode_picture.specs.Asked.{HasBlocks, IsAsked, IsMoving, blocks_of};
-ghost use Rattle.dirac_encode_picture.specs.Prepared.{IsPrepared, blocks_in};
+ghost use Rattle.dirac_encode_picture.specs.Asked.{CanBeCoded, HasBlocks, IsMoving, blocks_of};
+ghost use Rattle.dirac_encode_picture.specs.Prepared.{IsPreparedFor, blocks_in};
 
+use crate::asked::Asked;
 use crate::motion::motion_of;
-use crate::predictions::Predictions;
-use crate::residual::AnalysedPlanes;
+use crate::predictions::{Predicting, Predictions};
+use crate::residual::{AnalysedPlanes, Analysing};
 use crate::workers::{OneWorker, Workers};
 use dirac_blocks::BlockData;
 use dirac_common::{NoMemory, Picture};
-use dirac_decode::named;
+use dirac_decode::{Moved, named_reference};
 use dirac_motion::{Lumas, References};
 use dirac_picture::CodedMotion;
-use dirac_plan::Planned;
-use dirac_refs::RefBuffer;
 use dirac_sequence::sequence_of;
-use dirac_types::Settings;
 use std::alloc::Global;
 
 /// What an inter picture is predicted from, and the block table by which it is.
@@ -63,19 +57,21 @@ fn are_whole(picture: &Picture)
 fn prepare_intra<W: Workers>(
     workers: &W,
     alloc: Global,
-    planned: &Planned,
-    source: &Picture,
-    refs: &RefBuffer,
-    settings: &Settings,
+    asked: &Asked<'_>,
 ) -> Result<Prepared, NoMemory>
     requires shared { W.are_shared workers.now }
-    requires asked { IsAsked settings.now refs.now planned.now source.now }
-    requires whole { IsWhole source.now }
-    requires intra { is_intra planned.now.code ≡ true }
-    ensures prepared { IfOk result (IsPrepared settings.now refs.now planned.now source.now) }
+    requires asked { CanBeCoded asked.now }
+    requires whole { IsWhole asked.now.source.now }
+    requires intra { is_intra asked.now.planned.now.code ≡ true }
+    ensures prepared { IfOk result (IsPreparedFor asked.now) }
     ensures blocks { IfOk result (λ x. blocks_in x ≡ None) }
 {
-    let left = workers.analyse(alloc, settings, source)?;
+    let from = Analysing {
+        settings: asked.settings,
+        source: asked.source,
+        predictions: None,
+    };
+    let left = workers.analyse(alloc, &from)?;
     Ok(Prepared {
         compensated: None,
         left,
@@ -86,26 +82,37 @@ fn prepare_intra<W: Workers>(
 fn prepare_inter<W: Workers>(
     workers: &W,
     alloc: Global,
-    planned: &Planned,
-    source: &Picture,
-    refs: &RefBuffer,
-    settings: &Settings,
+    asked: &Asked<'_>,
     moving: Moving<'_>,
 ) -> Result<Prepared, NoMemory>
     requires shared { W.are_shared workers.now }
-    requires asked { IsAsked settings.now refs.now planned.now source.now }
-    requires whole { IsWhole source.now }
-    requires inter { is_intra planned.now.code ≡ false }
-    requires moving { IsMoving settings.now refs.now planned.now moving }
-    requires blocks { IsChosen settings.now planned.now.code moving.blocks.now }
-    ensures prepared { IfOk result (IsPrepared settings.now refs.now planned.now source.now) }
+    requires asked { CanBeCoded asked.now }
+    requires whole { IsWhole asked.now.source.now }
+    requires inter { is_intra asked.now.planned.now.code ≡ false }
+    requires moving { IsMoving asked.now.settings.now asked.now.refs.now asked.now.planned.now moving }
+    requires blocks { IsChosen asked.now.settings.now asked.now.planned.now.code moving.blocks.now }
+    ensures prepared { IfOk result (IsPreparedFor asked.now) }
     ensures blocks { IfOk result (λ x. blocks_in x ≡ Some moving.entry.blocks.now) }
 {
-    let motion = motion_of(alloc, settings, moving.blocks)?;
-    let sequence = sequence_of(settings);
-    let references = moving.references;
-    let predictions = workers.predict(alloc, planned.code, &sequence, references, &motion)?;
-    let left = workers.analyse_rest(alloc, settings, source, &predictions)?;
+    let motion = motion_of(alloc, asked.settings, moving.blocks)?;
+    let sequence = sequence_of(asked.settings);
+    let moved = Moved {
+        code: asked.planned.code,
+        sequence: &sequence,
+        motion: &motion,
+    };
+    let from = Predicting {
+        moved,
+        references: moving.references,
+    };
+    let predictions = workers.predict(alloc, &from)?;
+    let predicted = Some(&predictions);
+    let rest = Analysing {
+        settings: asked.settings,
+        source: asked.source,
+        predictions: predicted,
+    };
+    let left = workers.analyse(alloc, &rest)?;
     let compensated = Compensated {
         motion,
         predictions,
@@ -120,43 +127,37 @@ fn prepare_inter<W: Workers>(
 pub(crate) fn prepare_by<W: Workers>(
     workers: &W,
     alloc: Global,
-    planned: &Planned,
-    source: &Picture,
-    refs: &RefBuffer,
-    settings: &Settings,
+    asked: &Asked<'_>,
     moving: Option<Moving<'_>>,
 ) -> Result<Prepared, NoMemory>
     requires shared { W.are_shared workers.now }
-    requires asked { IsAsked settings.now refs.now planned.now source.now }
-    requires moving { ForSome moving (IsMoving settings.now refs.now planned.now) }
-    requires blocks { HasBlocks settings.now planned.now.code (blocks_of moving) }
-    ensures prepared { IfOk result (IsPrepared settings.now refs.now planned.now source.now) }
+    requires asked { CanBeCoded asked.now }
+    requires moving { ForSome moving (IsMoving asked.now.settings.now asked.now.refs.now asked.now.planned.now) }
+    requires blocks { HasBlocks asked.now.settings.now asked.now.planned.now.code (blocks_of moving) }
+    ensures prepared { IfOk result (IsPreparedFor asked.now) }
     ensures blocks { IfOk result (λ x. blocks_in x ≡ blocks_of moving.entry) }
 {
-    are_whole(source);
+    are_whole(asked.source);
     match moving {
-        None => prepare_intra(workers, alloc, planned, source, refs, settings),
-        Some(moving) => { prepare_inter(workers, alloc, planned, source, refs, settings, moving) }
+        None => prepare_intra(workers, alloc, asked),
+        Some(moving) => prepare_inter(workers, alloc, asked, moving),
     }
 }
 
 /// Prepares an inter picture by this block table. Its references are looked up, and their luma is upconverted.
 fn prepare_looked_up(
     alloc: Global,
-    planned: &Planned,
-    source: &Picture,
-    refs: &RefBuffer,
-    settings: &Settings,
+    asked: &Asked<'_>,
     blocks: &BlockData,
 ) -> Result<Prepared, NoMemory>
-    requires asked { IsAsked settings.now refs.now planned.now source.now }
-    requires inter { is_intra planned.now.code ≡ false }
-    requires blocks { IsChosen settings.now planned.now.code blocks.now }
-    ensures prepared { IfOk result (IsPrepared settings.now refs.now planned.now source.now) }
+    requires asked { CanBeCoded asked.now }
+    requires inter { is_intra asked.now.planned.now.code ≡ false }
+    requires blocks { IsChosen asked.now.settings.now asked.now.planned.now.code blocks.now }
+    ensures prepared { IfOk result (IsPreparedFor asked.now) }
     ensures blocks { IfOk result (λ x. blocks_in x ≡ Some blocks.now) }
 {
-    let second = named(refs, planned.ref2);
-    match named(refs, planned.ref1) {
+    let second = named_reference(asked.refs, asked.planned.ref2);
+    match named_reference(asked.refs, asked.planned.ref1) {
         None => unreachable!(),
         Some(first) => {
             let lumas = Lumas::of(alloc, first, second)?;
@@ -166,7 +167,7 @@ fn prepare_looked_up(
                 blocks,
             };
             let moving = Some(moving);
-            prepare_by(&OneWorker, alloc, planned, source, refs, settings, moving)
+            prepare_by(&OneWorker, alloc, asked, moving)
         }
     }
 }
@@ -175,23 +176,16 @@ fn prepare_looked_up(
 /// at any quantiser index.
 pub fn prepare(
     alloc: Global,
-    planned: &Planned,
-    source: &Picture,
-    refs: &RefBuffer,
-    settings: &Settings,
+    asked: &Asked<'_>,
     blocks: Option<&BlockData>,
 ) -> Result<Prepared, NoMemory>
-    requires accepted { IsAccepted settings.now }
-    requires listed { AllByRecursion (IsSource settings.now) refs.now }
-    requires source { IsSource settings.now source.now }
-    requires planned { IsPlanned planned.now }
-    requires found { are_listed refs.now (header_of planned.now) ≡ true }
-    requires blocks { HasBlocks settings.now planned.now.code (option_copied blocks) }
-    ensures prepared { IfOk result (IsPrepared settings.now refs.now planned.now source.now) }
+    requires asked { CanBeCoded asked.now }
+    requires blocks { HasBlocks asked.now.settings.now asked.now.planned.now.code (option_copied blocks) }
+    ensures prepared { IfOk result (IsPreparedFor asked.now) }
     ensures blocks { IfOk result (λ x. blocks_in x ≡ option_copied blocks.entry) }
 {
     match blocks {
-        None => prepare_by(&OneWorker, alloc, planned, source, refs, settings, None),
-        Some(blocks) => prepare_looked_up(alloc, planned, source, refs, settings, blocks),
+        None => prepare_by(&OneWorker, alloc, asked, None),
+        Some(blocks) => prepare_looked_up(alloc, asked, blocks),
     }
 }

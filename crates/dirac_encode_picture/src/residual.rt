@@ -1,18 +1,17 @@
 //! The residual of a source, analysed, and then quantised.
 
 ghost use Rattle.std.specs.Prelude.{◌≡◌, ◌≤◌, IfOk, if◌then◌else◌, Some, None};
-ghost use Rattle.dirac_common.specs.declared.formats.Kind.TheVariants.{Inter, Intra};
+ghost use Rattle.dirac_common.specs.declared.formats.Kind.TheVariants.{Inter};
 ghost use Rattle.dirac_coeffs.specs.Written.{is_zero_band};
 ghost use Rattle.dirac_synthesis.specs.Zeros.{are_zero_bands};
 ghost use Rattle.dirac_analysis.specs.Analysis.{quantised};
 ghost use Rattle.dirac_analysis.specs.Fits.{AreDifferences, AreQuantisable};
-ghost use Rattle.dirac_decode.specs.Content.{plane_of};
 ghost use Rattle.dirac_encode_laws.specs.Coded as coding;
 ghost use Rattle.dirac_encode_laws.specs.Codable.{IsCodable};
-ghost use Rattle.dirac_encode_picture.specs.Analyses.{AreAnalysed, AreQuantisablePlanes, IsAnalysed, analysis_of};
-ghost use Rattle.dirac_encode_picture.specs.Analyses.{quantised_planes};
-ghost use Rattle.dirac_encode_picture.specs.Predictions.{IsCodablePlane, IsCodableSource, IsPicturePredictedBy, IsPredictedBy};
-ghost use Rattle.dirac_encode_picture.specs.Predictions.{values_of};
+ghost use Rattle.dirac_encode_picture.specs.Analyses.{IsAnalysed, quantised_planes};
+ghost use Rattle.dirac_encode_picture.specs.Analysing.{AreAnalysedPlanes, CanBeAnalysed, CanBeQuantised, bands_in};
+ghost use Rattle.dirac_encode_picture.specs.Analysing.{kind_in, plane_in};
+ghost use Rattle.dirac_encode_picture.specs.Predictions.{IsCodablePlane, IsPredictedBy};
 
 use crate::beside::{Planes, side_by_side};
 use crate::difference::difference;
@@ -21,6 +20,7 @@ use crate::transform::transform_of;
 use dirac_analysis::{AnalysedPlane, analyse, quantise_plane};
 use dirac_coeffs::CodedBand;
 use dirac_common::{Component, Kind, LARGEST_SIDE, NoMemory, Picture, Plane};
+use dirac_decode::plane_of;
 use dirac_picture::{CodedResidual, PlaneBands};
 use dirac_types::Settings;
 use std::alloc::Global;
@@ -33,6 +33,14 @@ pub(crate) struct AnalysedPlanes {
     pub(crate) y: AnalysedPlane,
     pub(crate) u: AnalysedPlane,
     pub(crate) v: AnalysedPlane,
+}
+
+/// What is analysed: the planes of a source, less what is predicted for them where it is predicted.
+#[derive(Clone, Copy)]
+pub(crate) struct Analysing<'a, 'p> {
+    pub(crate) settings: &'a Settings,
+    pub(crate) source: &'a Picture,
+    pub(crate) predictions: Option<&'p Predictions>,
 }
 
 /// A plane of values, analysed.
@@ -69,128 +77,64 @@ fn analyse_difference(
     analyse_values(alloc, settings, Kind::Inter, &left)
 }
 
-/// The planes of a picture, analysed.
-pub(crate) fn analyse_source(
-    alloc: Global,
-    settings: &Settings,
-    source: &Picture,
-) -> Result<AnalysedPlanes, NoMemory>
-    requires codable { IsCodable settings.now }
-    requires source { IsCodableSource source.now }
-    ensures { IfOk result (AreAnalysed settings.now Intra source.now.y source.now.u source.now.v) }
-{
-    let y = analyse_values(alloc, settings, Kind::Intra, &source.y)?;
-    let u = analyse_values(alloc, settings, Kind::Intra, &source.u)?;
-    let v = analyse_values(alloc, settings, Kind::Intra, &source.v)?;
-    Ok(AnalysedPlanes { y, u, v })
-}
-
-/// A plane of a picture, analysed.
+/// A plane of a picture, or what is left of it, analysed.
 fn analyse_plane(
     alloc: Global,
-    settings: &Settings,
-    source: &Picture,
+    from: &Analysing<'_, '_>,
     component: Component,
 ) -> Result<AnalysedPlane, NoMemory>
-    requires codable { IsCodable settings.now }
-    requires source { IsCodableSource source.now }
-    ensures { IfOk result (IsAnalysed settings.now Intra (plane_of source.now component)) }
+    requires { CanBeAnalysed from.now }
+    ensures { IfOk result (IsAnalysed from.now.settings.now (kind_in from.now) (plane_in from.now component)) }
 {
-    match component {
-        Component::Y => analyse_values(alloc, settings, Kind::Intra, &source.y),
-        Component::U => analyse_values(alloc, settings, Kind::Intra, &source.u),
-        Component::V => analyse_values(alloc, settings, Kind::Intra, &source.v),
+    let plane = plane_of(from.source, component);
+    match from.predictions {
+        None => analyse_values(alloc, from.settings, Kind::Intra, plane),
+        Some(predictions) => {
+            let predicted = predictions.of(component);
+            analyse_difference(alloc, from.settings, plane, predicted)
+        }
     }
 }
 
-/// The planes of a picture, analysed side by side.
+/// The planes of a picture, or what is left of them, analysed.
+pub(crate) fn analyse_planes(
+    alloc: Global,
+    from: &Analysing<'_, '_>,
+) -> Result<AnalysedPlanes, NoMemory>
+    requires { CanBeAnalysed from.now }
+    ensures { IfOk result (AreAnalysedPlanes from.now) }
+{
+    let y = analyse_plane(alloc, from, Component::Y)?;
+    let u = analyse_plane(alloc, from, Component::U)?;
+    let v = analyse_plane(alloc, from, Component::V)?;
+    Ok(AnalysedPlanes { y, u, v })
+}
+
+/// The planes of a picture, or what is left of them, analysed side by side.
 pub(crate) fn analyse_side_by_side<R: Threads + Sync>(
     rt: &R,
-    workers: u32,
     alloc: Global,
-    settings: &Settings,
-    source: &Picture,
+    from: &Analysing<'_, '_>,
+    workers: u32,
 ) -> Result<AnalysedPlanes, NoMemory>
-    requires codable { IsCodable settings.now }
-    requires source { IsCodableSource source.now }
-    ensures { IfOk result (AreAnalysed settings.now Intra source.now.y source.now.u source.now.v) }
+    requires { CanBeAnalysed from.now }
+    ensures { IfOk result (AreAnalysedPlanes from.now) }
 {
     let work = |component: Component| -> Result<AnalysedPlane, NoMemory>
-        requires { IsCodable settings.now × IsCodableSource source.now }
-        ensures { IfOk result (IsAnalysed settings.entry.now Intra (plane_of source.entry.now component)) }
-    { analyse_plane(alloc, settings, source, component) };
+        requires { CanBeAnalysed from.now }
+        ensures { IfOk result (IsAnalysed from.entry.now.settings.now (kind_in from.entry.now)
+            (plane_in from.entry.now component)) }
+    { analyse_plane(alloc, from, component) };
     let Planes { y, u, v } = side_by_side(rt, workers, &work)?;
     Ok(AnalysedPlanes { y, u, v })
 }
 
-/// The planes of a picture less what is predicted for them, analysed.
-pub(crate) fn analyse_differences(
-    alloc: Global,
-    settings: &Settings,
-    source: &Picture,
-    predictions: &Predictions,
-) -> Result<AnalysedPlanes, NoMemory>
-    requires codable { IsCodable settings.now }
-    requires source { IsCodableSource source.now }
-    requires predicted { IsPicturePredictedBy source.now predictions.now }
-    ensures { IfOk result (AreAnalysed settings.now Inter
-        (coding.less_prediction source.now.y predictions.now.y.values)
-        (coding.less_prediction source.now.u predictions.now.u.values)
-        (coding.less_prediction source.now.v predictions.now.v.values)) }
-{
-    let y = analyse_difference(alloc, settings, &source.y, predictions.y.values())?;
-    let u = analyse_difference(alloc, settings, &source.u, predictions.u.values())?;
-    let v = analyse_difference(alloc, settings, &source.v, predictions.v.values())?;
-    Ok(AnalysedPlanes { y, u, v })
-}
-
-/// A plane of a picture less what is predicted for it, analysed.
-fn analyse_rest(
-    alloc: Global,
-    settings: &Settings,
-    source: &Picture,
-    predictions: &Predictions,
-    component: Component,
-) -> Result<AnalysedPlane, NoMemory>
-    requires codable { IsCodable settings.now }
-    requires source { IsCodableSource source.now }
-    requires predicted { IsPicturePredictedBy source.now predictions.now }
-    ensures { IfOk result (IsAnalysed settings.now Inter
-        (coding.less_prediction (plane_of source.now component) (values_of predictions.now component))) }
-{
-    match component {
-        Component::Y => analyse_difference(alloc, settings, &source.y, predictions.y.values()),
-        Component::U => analyse_difference(alloc, settings, &source.u, predictions.u.values()),
-        Component::V => analyse_difference(alloc, settings, &source.v, predictions.v.values()),
-    }
-}
-
-/// The planes of a picture less what is predicted for them, analysed side by side.
-pub(crate) fn analyse_rest_side_by_side<R: Threads + Sync>(
-    rt: &R,
-    workers: u32,
-    alloc: Global,
-    settings: &Settings,
-    source: &Picture,
-    predictions: &Predictions,
-) -> Result<AnalysedPlanes, NoMemory>
-    requires codable { IsCodable settings.now }
-    requires source { IsCodableSource source.now }
-    requires predicted { IsPicturePredictedBy source.now predictions.now }
-    ensures { IfOk result (AreAnalysed settings.now Inter
-        (coding.less_prediction source.now.y predictions.now.y.values)
-        (coding.less_prediction source.now.u predictions.now.u.values)
-        (coding.less_prediction source.now.v predictions.now.v.values)) }
-{
-    let work = |component: Component| -> Result<AnalysedPlane, NoMemory>
-        requires { IsCodable settings.now × IsCodableSource source.now
-            × IsPicturePredictedBy source.now predictions.now }
-        ensures { IfOk result (IsAnalysed settings.entry.now Inter
-            (coding.less_prediction (plane_of source.entry.now component)
-            (values_of predictions.entry.now component))) }
-    { analyse_rest(alloc, settings, source, predictions, component) };
-    let Planes { y, u, v } = side_by_side(rt, workers, &work)?;
-    Ok(AnalysedPlanes { y, u, v })
+/// What is quantised: analysed planes, at the index of these settings.
+#[derive(Clone, Copy)]
+pub(crate) struct Quantising<'a> {
+    pub(crate) settings: &'a Settings,
+    pub(crate) kind: Kind,
+    pub(crate) planes: &'a AnalysedPlanes,
 }
 
 /// The subbands of an analysed plane, quantised at the index of these settings.
@@ -210,36 +154,20 @@ fn quantise_one(
     quantise_plane(alloc, kind, &transform, plane, finer, settings.index as u8)
 }
 
-/// The coded residual of analysed planes, quantised at the index of these settings.
-pub(crate) fn quantise_planes(
-    alloc: Global,
-    settings: &Settings,
-    kind: Kind,
-    planes: &AnalysedPlanes,
-) -> Result<CodedResidual, NoMemory>
-    requires codable { IsCodable settings.now }
-    requires fits { AreQuantisablePlanes settings.now.depth planes.now }
-    ensures { IfOk result (λ r. r ≡ quantised_planes settings.now kind planes.now) }
-{
-    let y = quantise_one(alloc, settings, kind, &planes.y)?;
-    let u = quantise_one(alloc, settings, kind, &planes.u)?;
-    let v = quantise_one(alloc, settings, kind, &planes.v)?;
-    Ok(with_transform(settings, y, u, v))
-}
-
-/// The subbands of an analysed plane, quantised at the index of these settings.
+/// The subbands of one of the planes, quantised.
 fn quantise_component(
     alloc: Global,
-    settings: &Settings,
-    kind: Kind,
-    planes: &AnalysedPlanes,
+    from: &Quantising<'_>,
     component: Component,
 ) -> Result<PlaneBands, NoMemory>
-    requires codable { IsCodable settings.now }
-    requires fits { AreQuantisablePlanes settings.now.depth planes.now }
-    ensures { IfOk result (λ b. b ≡ quantised kind (coding.transform_of settings.now) settings.now.finer
-        settings.now.index (analysis_of planes.now component)) }
+    requires { CanBeQuantised from.now }
+    ensures { IfOk result (λ b. b ≡ bands_in from.now component) }
 {
+    let Quantising {
+        settings,
+        kind,
+        planes,
+    } = *from;
     match component {
         Component::Y => quantise_one(alloc, settings, kind, &planes.y),
         Component::U => quantise_one(alloc, settings, kind, &planes.u),
@@ -247,27 +175,36 @@ fn quantise_component(
     }
 }
 
-/// The coded residual of analysed planes, quantised side by side.
+/// The coded residual of the planes, quantised.
+pub(crate) fn quantise_planes(
+    alloc: Global,
+    from: &Quantising<'_>,
+) -> Result<CodedResidual, NoMemory>
+    requires { CanBeQuantised from.now }
+    ensures { IfOk result (λ r. r ≡ quantised_planes from.now.settings.now from.now.kind from.now.planes.now) }
+{
+    let y = quantise_component(alloc, from, Component::Y)?;
+    let u = quantise_component(alloc, from, Component::U)?;
+    let v = quantise_component(alloc, from, Component::V)?;
+    Ok(with_transform(from.settings, y, u, v))
+}
+
+/// The coded residual of the planes, quantised side by side.
 pub(crate) fn quantise_side_by_side<R: Threads + Sync>(
     rt: &R,
-    workers: u32,
     alloc: Global,
-    settings: &Settings,
-    kind: Kind,
-    planes: &AnalysedPlanes,
+    from: &Quantising<'_>,
+    workers: u32,
 ) -> Result<CodedResidual, NoMemory>
-    requires codable { IsCodable settings.now }
-    requires fits { AreQuantisablePlanes settings.now.depth planes.now }
-    ensures { IfOk result (λ r. r ≡ quantised_planes settings.now kind planes.now) }
+    requires { CanBeQuantised from.now }
+    ensures { IfOk result (λ r. r ≡ quantised_planes from.now.settings.now from.now.kind from.now.planes.now) }
 {
     let work = |component: Component| -> Result<PlaneBands, NoMemory>
-        requires { IsCodable settings.now × AreQuantisablePlanes settings.now.depth planes.now }
-        ensures { IfOk result (λ b. b
-            ≡ quantised kind (coding.transform_of settings.entry.now) settings.entry.now.finer settings.entry.now.index
-            (analysis_of planes.entry.now component)) }
-    { quantise_component(alloc, settings, kind, planes, component) };
+        requires { CanBeQuantised from.now }
+        ensures { IfOk result (λ b. b ≡ bands_in from.entry.now component) }
+    { quantise_component(alloc, from, component) };
     let Planes { y, u, v } = side_by_side(rt, workers, &work)?;
-    Ok(with_transform(settings, y, u, v))
+    Ok(with_transform(from.settings, y, u, v))
 }
 
 /// The subbands of the planes of a picture, with the transform parameters of these settings.

@@ -8,7 +8,7 @@ ghost use Rattle.dirac_picture.specs.Fits.{IsResidual};
 ghost use Rattle.dirac_picture.specs.Writable.{IsWritten};
 ghost use Rattle.dirac_picture.specs.Texts.{AreTexts};
 ghost use Rattle.dirac_decode.specs.Content.{height_of, rebuilt, width_of};
-ghost use Rattle.dirac_encode_picture.specs.Finishing.{CanBeFinished};
+ghost use Rattle.dirac_encode_picture.specs.Finishing.{CanBeFinished, IsFinishable};
 ghost use Rattle.dirac_encode_picture.specs.Predictions.{picture_from};
 
 use crate::predictions::Predictions;
@@ -70,16 +70,22 @@ pub(crate) fn show_predicted(
         predictions.v.values(),
         Component::V,
     )?;
-    Ok(Picture {
-        number: coded.header.number,
-        y,
-        u,
-        v,
-    })
+    let number = coded.header.number;
+    Ok(Picture { number, y, u, v })
+}
+
+/// What is finished: a coded picture of a sequence, with the pictures listed before it and its predictions, if it is
+/// predicted.
+#[derive(Clone, Copy)]
+pub(crate) struct Finishing<'a> {
+    pub(crate) sequence: &'a Sequence,
+    pub(crate) refs: &'a RefBuffer,
+    pub(crate) coded: &'a CodedPicture,
+    pub(crate) compensated: &'a Option<Compensated>,
 }
 
 /// The picture that decoders show for a coded picture, from its predictions if it is predicted.
-pub(crate) fn show(
+fn show(
     alloc: Global,
     sequence: &Sequence,
     refs: &RefBuffer,
@@ -102,29 +108,26 @@ pub(crate) fn show(
 }
 
 /// Writes the bands of a coded picture, and shows it.
-pub(crate) fn finish(
-    alloc: Global,
-    sequence: &Sequence,
-    refs: &RefBuffer,
-    coded: &CodedPicture,
-    compensated: &Option<Compensated>,
-) -> Result<Finished, NoMemory>
-    requires { CanBeFinished sequence.now refs.now coded.now compensated.now }
-    ensures texts { IfOk result (λ f. IfSome coded.now.residual (λ r. AreTexts sequence.now r f.texts)) }
-    ensures shown { IfOk result (λ f. f.shown ≡ rebuilt sequence.now refs.now coded.now) }
+pub(crate) fn finish(alloc: Global, from: &Finishing<'_>) -> Result<Finished, NoMemory>
+    requires { IsFinishable from.now }
+    ensures texts { IfOk result (λ f. IfSome from.now.coded.now.residual
+        (λ r. AreTexts from.now.sequence.now r f.texts)) }
+    ensures shown { IfOk result (λ f. f.shown ≡ rebuilt from.now.sequence.now from.now.refs.now from.now.coded.now) }
 {
+    let sequence = from.sequence;
+    let coded = from.coded;
     let texts = texts_of(alloc, sequence, &coded.residual)?;
-    let shown = show(alloc, sequence, refs, coded, compensated)?;
+    let shown = show(alloc, sequence, from.refs, coded, from.compensated)?;
     Ok(Finished { texts, shown })
 }
 
 /// The bytes of a coded picture's bands, by that many workers.
 fn texts_by<R: Threads + Sync>(
     rt: &R,
-    workers: u32,
     alloc: Global,
     sequence: &Sequence,
     residual: &Option<CodedResidual>,
+    workers: u32,
 ) -> Result<Texts, NoMemory>
     requires sequence { IsSequence sequence.now }
     requires written { IfSome residual.now (IsWritten sequence.now) }
@@ -139,18 +142,20 @@ fn texts_by<R: Threads + Sync>(
 /// Writes the bands of a coded picture, by all workers but one, and shows it beside that.
 pub(crate) fn finish_side_by_side<R: Threads + Sync>(
     rt: &R,
-    workers: u32,
     alloc: Global,
-    sequence: &Sequence,
-    refs: &RefBuffer,
-    coded: &CodedPicture,
-    compensated: &Option<Compensated>,
+    from: &Finishing<'_>,
+    workers: u32,
 ) -> Result<Finished, NoMemory>
     requires workers { 2 ≤ workers }
-    requires finishing { CanBeFinished sequence.now refs.now coded.now compensated.now }
-    ensures texts { IfOk result (λ f. IfSome coded.now.residual (λ r. AreTexts sequence.now r f.texts)) }
-    ensures shown { IfOk result (λ f. f.shown ≡ rebuilt sequence.now refs.now coded.now) }
+    requires finishing { IsFinishable from.now }
+    ensures texts { IfOk result (λ f. IfSome from.now.coded.now.residual
+        (λ r. AreTexts from.now.sequence.now r f.texts)) }
+    ensures shown { IfOk result (λ f. f.shown ≡ rebuilt from.now.sequence.now from.now.refs.now from.now.coded.now) }
 {
+    let sequence = from.sequence;
+    let refs = from.refs;
+    let coded = from.coded;
+    let compensated = from.compensated;
     let (shown, texts) = join(
         rt,
         || -> Result<Picture, NoMemory>
@@ -161,7 +166,7 @@ pub(crate) fn finish_side_by_side<R: Threads + Sync>(
             requires { IsSync R.row × (2 ≤ workers) × IsSequence sequence.now
                 × IfSome coded.now.residual (IsWritten sequence.now) }
             ensures { IfOk result (λ x. IfSome coded.entry.now.residual (λ r. AreTexts sequence.entry.now r x)) }
-        { texts_by(rt, workers - 1, alloc, sequence, &coded.residual) },
+        { texts_by(rt, alloc, sequence, &coded.residual, workers - 1) },
     );
     let shown = shown?;
     let texts = texts?;

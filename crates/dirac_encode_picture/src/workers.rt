@@ -1,31 +1,21 @@
 //! The planes of a picture, made by one worker or by several.
 
-ghost use Rattle.std.specs.Prelude.{◌≡◌, IfOk, IfSome, IsSome, Some};
-ghost use Rattle.dirac_common.specs.declared.formats.Kind.TheVariants.{Inter, Intra};
-ghost use Rattle.dirac_sequence_header.specs.Lawful.{IsSequence};
-ghost use Rattle.dirac_picture.specs.Fits.{IsMotion};
+ghost use Rattle.std.specs.Prelude.{◌≡◌, IfOk, IfSome};
 ghost use Rattle.dirac_picture.specs.Texts.{AreTexts};
 ghost use Rattle.dirac_decode.specs.Content.{rebuilt};
-ghost use Rattle.dirac_encode_laws.specs.Coded as coding;
-ghost use Rattle.dirac_encode_laws.specs.Codable.{IsCodable};
-ghost use Rattle.dirac_motion.specs.Lent.{AreLent, first_of, second_of};
-ghost use Rattle.dirac_encode_picture.specs.Analyses.{AreAnalysed, AreQuantisablePlanes, quantised_planes};
-ghost use Rattle.dirac_encode_picture.specs.Finishing.{CanBeFinished};
-ghost use Rattle.dirac_encode_picture.specs.Predictions.{ArePredictions, IsCodableSource, IsPicturePredictedBy};
+ghost use Rattle.dirac_encode_picture.specs.Analyses.{quantised_planes};
+ghost use Rattle.dirac_encode_picture.specs.Analysing.{AreAnalysedPlanes, CanBeAnalysed, CanBeQuantised};
+ghost use Rattle.dirac_encode_picture.specs.Finishing.{IsFinishable};
+ghost use Rattle.dirac_encode_picture.specs.Predicting.{ArePredicted, CanBePredicted};
 
-use crate::predictions::{Predictions, predict_planes, predict_side_by_side};
-use crate::prepared::Compensated;
+use crate::predictions::{Predicting, Predictions, predict_planes, predict_side_by_side};
 use crate::residual::{
-    AnalysedPlanes, analyse_differences, analyse_rest_side_by_side, analyse_side_by_side,
-    analyse_source, quantise_planes, quantise_side_by_side,
+    AnalysedPlanes, Analysing, Quantising, analyse_planes, analyse_side_by_side, quantise_planes,
+    quantise_side_by_side,
 };
-use crate::showing::{Finished, finish, finish_side_by_side};
-use dirac_common::{Kind, NoMemory, Picture};
-use dirac_motion::References;
-use dirac_picture::{CodedMotion, CodedPicture, CodedResidual};
-use dirac_refs::RefBuffer;
-use dirac_sequence_header::Sequence;
-use dirac_types::Settings;
+use crate::showing::{Finished, Finishing, finish, finish_side_by_side};
+use dirac_common::NoMemory;
+use dirac_picture::CodedResidual;
 use std::alloc::Global;
 use std::marker::Sync;
 use std::thread::Threads;
@@ -36,77 +26,31 @@ pub(crate) trait Workers {
     ghost are_shared: { Self → Type 0 };
 
     /// Predicts the planes of an inter picture as decoders do.
-    fn predict(
-        &self,
-        alloc: Global,
-        code: u8,
-        sequence: &Sequence,
-        references: &References<'_>,
-        motion: &CodedMotion,
-    ) -> Result<Predictions, NoMemory>
+    fn predict(&self, alloc: Global, from: &Predicting<'_>) -> Result<Predictions, NoMemory>
         requires shared { are_shared self.now }
-        requires sequence { IsSequence sequence.now }
-        requires motion { IsMotion code sequence.now motion.now }
-        requires lent { AreLent sequence.now references.now }
-        requires two { motion.now.blocks.refs ≡ 2 → IsSome (second_of references.now) }
-        ensures { IfOk result (ArePredictions sequence.now (Some (first_of references.now)) (second_of references.now)
-            motion.now) };
+        requires from { CanBePredicted from.now }
+        ensures { IfOk result (ArePredicted from.now) };
 
-    /// The planes of a picture, analysed.
-    fn analyse(
-        &self,
-        alloc: Global,
-        settings: &Settings,
-        source: &Picture,
-    ) -> Result<AnalysedPlanes, NoMemory>
+    /// The planes of a picture, or what is left of them, analysed.
+    fn analyse(&self, alloc: Global, from: &Analysing<'_, '_>) -> Result<AnalysedPlanes, NoMemory>
         requires shared { are_shared self.now }
-        requires codable { IsCodable settings.now }
-        requires source { IsCodableSource source.now }
-        ensures { IfOk result (AreAnalysed settings.now Intra source.now.y source.now.u source.now.v) };
+        requires from { CanBeAnalysed from.now }
+        ensures { IfOk result (AreAnalysedPlanes from.now) };
 
-    /// The planes of a picture less what is predicted for them, analysed.
-    fn analyse_rest(
-        &self,
-        alloc: Global,
-        settings: &Settings,
-        source: &Picture,
-        predictions: &Predictions,
-    ) -> Result<AnalysedPlanes, NoMemory>
+    /// The coded residual of analysed planes, quantised.
+    fn quantise(&self, alloc: Global, from: &Quantising<'_>) -> Result<CodedResidual, NoMemory>
         requires shared { are_shared self.now }
-        requires codable { IsCodable settings.now }
-        requires source { IsCodableSource source.now }
-        requires predicted { IsPicturePredictedBy source.now predictions.now }
-        ensures { IfOk result (AreAnalysed settings.now Inter
-            (coding.less_prediction source.now.y predictions.now.y.values)
-            (coding.less_prediction source.now.u predictions.now.u.values)
-            (coding.less_prediction source.now.v predictions.now.v.values)) };
-
-    /// The coded residual of analysed planes, quantised at the index of these settings.
-    fn quantise(
-        &self,
-        alloc: Global,
-        settings: &Settings,
-        kind: Kind,
-        planes: &AnalysedPlanes,
-    ) -> Result<CodedResidual, NoMemory>
-        requires shared { are_shared self.now }
-        requires codable { IsCodable settings.now }
-        requires fits { AreQuantisablePlanes settings.now.depth planes.now }
-        ensures { IfOk result (λ r. r ≡ quantised_planes settings.now kind planes.now) };
+        requires from { CanBeQuantised from.now }
+        ensures { IfOk result (λ r. r ≡ quantised_planes from.now.settings.now from.now.kind from.now.planes.now) };
 
     /// Writes the bands of a coded picture, and shows it.
-    fn finish(
-        &self,
-        alloc: Global,
-        sequence: &Sequence,
-        refs: &RefBuffer,
-        coded: &CodedPicture,
-        compensated: &Option<Compensated>,
-    ) -> Result<Finished, NoMemory>
+    fn finish(&self, alloc: Global, from: &Finishing<'_>) -> Result<Finished, NoMemory>
         requires shared { are_shared self.now }
-        requires finishing { CanBeFinished sequence.now refs.now coded.now compensated.now }
-        ensures texts { IfOk result (λ f. IfSome coded.now.residual (λ r. AreTexts sequence.now r f.texts)) }
-        ensures shown { IfOk result (λ f. f.shown ≡ rebuilt sequence.now refs.now coded.now) };
+        requires from { IsFinishable from.now }
+        ensures texts { IfOk result (λ f. IfSome from.now.coded.now.residual
+            (λ r. AreTexts from.now.sequence.now r f.texts)) }
+        ensures shown { IfOk result (λ f. f.shown
+            ≡ rebuilt from.now.sequence.now from.now.refs.now from.now.coded.now) };
 }
 
 /// One worker makes one plane after the other.
@@ -116,55 +60,20 @@ pub(crate) struct OneWorker;
 impl Workers for OneWorker {
     ghost are_shared = { λ w. Unit {0} };
 
-    fn predict(
-        &self,
-        alloc: Global,
-        code: u8,
-        sequence: &Sequence,
-        references: &References<'_>,
-        motion: &CodedMotion,
-    ) -> Result<Predictions, NoMemory> {
-        predict_planes(alloc, code, sequence, references, motion)
+    fn predict(&self, alloc: Global, from: &Predicting<'_>) -> Result<Predictions, NoMemory> {
+        predict_planes(alloc, from)
     }
 
-    fn analyse(
-        &self,
-        alloc: Global,
-        settings: &Settings,
-        source: &Picture,
-    ) -> Result<AnalysedPlanes, NoMemory> {
-        analyse_source(alloc, settings, source)
+    fn analyse(&self, alloc: Global, from: &Analysing<'_, '_>) -> Result<AnalysedPlanes, NoMemory> {
+        analyse_planes(alloc, from)
     }
 
-    fn analyse_rest(
-        &self,
-        alloc: Global,
-        settings: &Settings,
-        source: &Picture,
-        predictions: &Predictions,
-    ) -> Result<AnalysedPlanes, NoMemory> {
-        analyse_differences(alloc, settings, source, predictions)
+    fn quantise(&self, alloc: Global, from: &Quantising<'_>) -> Result<CodedResidual, NoMemory> {
+        quantise_planes(alloc, from)
     }
 
-    fn quantise(
-        &self,
-        alloc: Global,
-        settings: &Settings,
-        kind: Kind,
-        planes: &AnalysedPlanes,
-    ) -> Result<CodedResidual, NoMemory> {
-        quantise_planes(alloc, settings, kind, planes)
-    }
-
-    fn finish(
-        &self,
-        alloc: Global,
-        sequence: &Sequence,
-        refs: &RefBuffer,
-        coded: &CodedPicture,
-        compensated: &Option<Compensated>,
-    ) -> Result<Finished, NoMemory> {
-        finish(alloc, sequence, refs, coded, compensated)
+    fn finish(&self, alloc: Global, from: &Finishing<'_>) -> Result<Finished, NoMemory> {
+        finish(alloc, from)
     }
 }
 
@@ -180,79 +89,31 @@ impl<'a, R: Threads + Sync> Workers for SeveralWorkers<'a, R> {
 
     ghost are_shared = { λ w. IsSync R.row };
 
-    fn predict(
-        &self,
-        alloc: Global,
-        code: u8,
-        sequence: &Sequence,
-        references: &References<'_>,
-        motion: &CodedMotion,
-    ) -> Result<Predictions, NoMemory> {
+    fn predict(&self, alloc: Global, from: &Predicting<'_>) -> Result<Predictions, NoMemory> {
         if self.count <= 1 {
-            return predict_planes(alloc, code, sequence, references, motion);
+            return predict_planes(alloc, from);
         }
-        predict_side_by_side(
-            self.rt, self.count, alloc, code, sequence, references, motion,
-        )
+        predict_side_by_side(self.rt, alloc, from, self.count)
     }
 
-    fn analyse(
-        &self,
-        alloc: Global,
-        settings: &Settings,
-        source: &Picture,
-    ) -> Result<AnalysedPlanes, NoMemory> {
+    fn analyse(&self, alloc: Global, from: &Analysing<'_, '_>) -> Result<AnalysedPlanes, NoMemory> {
         if self.count <= 1 {
-            return analyse_source(alloc, settings, source);
+            return analyse_planes(alloc, from);
         }
-        analyse_side_by_side(self.rt, self.count, alloc, settings, source)
+        analyse_side_by_side(self.rt, alloc, from, self.count)
     }
 
-    fn analyse_rest(
-        &self,
-        alloc: Global,
-        settings: &Settings,
-        source: &Picture,
-        predictions: &Predictions,
-    ) -> Result<AnalysedPlanes, NoMemory> {
+    fn quantise(&self, alloc: Global, from: &Quantising<'_>) -> Result<CodedResidual, NoMemory> {
         if self.count <= 1 {
-            return analyse_differences(alloc, settings, source, predictions);
+            return quantise_planes(alloc, from);
         }
-        analyse_rest_side_by_side(self.rt, self.count, alloc, settings, source, predictions)
+        quantise_side_by_side(self.rt, alloc, from, self.count)
     }
 
-    fn quantise(
-        &self,
-        alloc: Global,
-        settings: &Settings,
-        kind: Kind,
-        planes: &AnalysedPlanes,
-    ) -> Result<CodedResidual, NoMemory> {
+    fn finish(&self, alloc: Global, from: &Finishing<'_>) -> Result<Finished, NoMemory> {
         if self.count <= 1 {
-            return quantise_planes(alloc, settings, kind, planes);
+            return finish(alloc, from);
         }
-        quantise_side_by_side(self.rt, self.count, alloc, settings, kind, planes)
-    }
-
-    fn finish(
-        &self,
-        alloc: Global,
-        sequence: &Sequence,
-        refs: &RefBuffer,
-        coded: &CodedPicture,
-        compensated: &Option<Compensated>,
-    ) -> Result<Finished, NoMemory> {
-        if self.count <= 1 {
-            return finish(alloc, sequence, refs, coded, compensated);
-        }
-        finish_side_by_side(
-            self.rt,
-            self.count,
-            alloc,
-            sequence,
-            refs,
-            coded,
-            compensated,
-        )
+        finish_side_by_side(self.rt, alloc, from, self.count)
     }
 }

@@ -1,4 +1,4 @@
-ghost use Rattle.std.specs.Prelude.{◌≡◌, IfOk, Some, None, false, is_none};
+ghost use Rattle.std.specs.Prelude.{◌≡◌, IfOk, false, is_none};
 ghost use Rattle.std.specs.Option.{ForSome};
 ghost use Rattle.dirac_types.specs.Settings.{IsAccepted};
 ghost use Rattle.dirac_sequence.specs.Written.{sequence_of};
@@ -6,14 +6,14 @@ ghost use Rattle.dirac_picture.specs.Grammar.{is_intra as is_intra_code};
 ghost use Rattle.dirac_decode.specs.Content.{IsPicture};
 ghost use Rattle.dirac_motion.specs.Chosen.{IsChoosing, IsChosen, IsChosenAtEachIndex, blocks_from, chosen};
 ghost use Rattle.dirac_motion.specs.Chosen.{chosen_unless_intra};
-ghost use Rattle.dirac_motion.specs.Lent.{AreLent, IsReference, first_of, second_of};
+ghost use Rattle.dirac_motion.specs.Lent.{AreLent, first_of, second_of};
 
-use crate::lent::{Lumas, Reference, References};
+use crate::lent::{Lumas, References};
 use crate::search::vectors_in;
 use dirac_blocks::BlockData;
 use dirac_common::{NoMemory, Picture, RowGate};
 use dirac_decide::{RefView, decide_by_workers};
-use dirac_decode::named;
+use dirac_decode::named_reference;
 use dirac_picture::is_intra;
 use dirac_plan::Planned;
 use dirac_pyramid::Pyramid;
@@ -22,60 +22,6 @@ use dirac_types::Settings;
 use std::alloc::Global;
 use std::marker::Sync;
 use std::thread::Threads;
-
-/// The block table of a picture with one reference.
-fn choose_from_one<R: Threads + Sync, G: RowGate>(
-    rt: &R,
-    alloc: Global,
-    source: &Picture,
-    first: Reference<'_>,
-    settings: &Settings,
-    gate: &G,
-) -> Result<BlockData, NoMemory>
-    requires settings { IsAccepted settings.now }
-    requires source { IsPicture (sequence_of settings.now) source.now }
-    requires first { IsReference (sequence_of settings.now) first }
-    ensures { IfOk result (λ t. t ≡ blocks_from settings.now source.now first.entry.picture.now None) }
-{
-    let pyramid = Pyramid::build(alloc, &source.y, settings.pyramid as u8)?;
-    let field = vectors_in(rt, alloc, source, &pyramid, first, settings, gate)?;
-    let view = RefView {
-        up: first.luma,
-        field: &field,
-    };
-    decide_by_workers(rt, alloc, source, settings, view, None)
-}
-
-/// The block table of a picture with two references.
-fn choose_from_two<R: Threads + Sync, G: RowGate>(
-    rt: &R,
-    alloc: Global,
-    source: &Picture,
-    first: Reference<'_>,
-    second: Reference<'_>,
-    settings: &Settings,
-    gate: &G,
-) -> Result<BlockData, NoMemory>
-    requires settings { IsAccepted settings.now }
-    requires source { IsPicture (sequence_of settings.now) source.now }
-    requires first { IsReference (sequence_of settings.now) first }
-    requires second { IsReference (sequence_of settings.now) second }
-    ensures { IfOk result (λ t. t
-        ≡ blocks_from settings.now source.now first.entry.picture.now (Some second.entry.picture.now)) }
-{
-    let pyramid = Pyramid::build(alloc, &source.y, settings.pyramid as u8)?;
-    let field1 = vectors_in(rt, alloc, source, &pyramid, first, settings, gate)?;
-    let field2 = vectors_in(rt, alloc, source, &pyramid, second, settings, gate)?;
-    let view1 = RefView {
-        up: first.luma,
-        field: &field1,
-    };
-    let view2 = RefView {
-        up: second.luma,
-        field: &field2,
-    };
-    decide_by_workers(rt, alloc, source, settings, view1, Some(view2))
-}
 
 /// The block table of a picture with these references, whose luma is upconverted already.
 ///
@@ -95,9 +41,22 @@ pub fn choose_from<R: Threads + Sync, G: RowGate>(
         ≡ blocks_from settings.now source.now (first_of references.now) (second_of references.now)) }
 {
     let first = references.first;
+    let pyramid = Pyramid::build(alloc, &source.y, settings.pyramid as u8)?;
+    let field1 = vectors_in(rt, alloc, source, &pyramid, first, settings, gate)?;
+    let view1 = RefView {
+        up: first.luma,
+        field: &field1,
+    };
     match references.second {
-        None => choose_from_one(rt, alloc, source, first, settings, gate),
-        Some(second) => choose_from_two(rt, alloc, source, first, second, settings, gate),
+        None => decide_by_workers(rt, alloc, source, settings, view1, None),
+        Some(second) => {
+            let field2 = vectors_in(rt, alloc, source, &pyramid, second, settings, gate)?;
+            let view2 = RefView {
+                up: second.luma,
+                field: &field2,
+            };
+            decide_by_workers(rt, alloc, source, settings, view1, Some(view2))
+        }
     }
 }
 
@@ -115,8 +74,8 @@ fn choose_for<R: Threads + Sync, G: RowGate>(
     requires inter { is_intra_code planned.now.code ≡ false }
     ensures { IfOk result (λ t. t ≡ chosen settings.now refs.now planned.now source.now) }
 {
-    let second = named(refs, planned.ref2);
-    match named(refs, planned.ref1) {
+    let second = named_reference(refs, planned.ref2);
+    match named_reference(refs, planned.ref1) {
         None => unreachable!(),
         Some(first) => {
             let lumas = Lumas::by_workers(rt, alloc, first, second, settings.workers)?;

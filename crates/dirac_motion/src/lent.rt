@@ -4,7 +4,8 @@ ghost use Rattle.dirac_sequence_header.specs.declared.sequence.Sequence.{Sequenc
 ghost use Rattle.dirac_decode.specs.Content.{IsPicture, up_of};
 ghost use Rattle.dirac_motion.specs.Lent.{AreLent, AreLumas, HasLuma, first_of, second_of};
 
-use dirac_common::{NoMemory, Picture};
+use dirac_common::NoMemory;
+use dirac_refs::Reference as Listed;
 use dirac_upconvert::{UpPlane, upconvert};
 use std::alloc::Global;
 use std::marker::Sync;
@@ -13,7 +14,7 @@ use std::thread::{Threads, join};
 /// A reference of a picture, and its luma with half samples.
 #[derive(Clone, Copy)]
 pub struct Reference<'a> {
-    pub picture: &'a Picture,
+    pub picture: &'a Listed,
     pub luma: &'a UpPlane,
 }
 
@@ -32,11 +33,11 @@ pub struct Lumas {
 }
 
 /// The luma of a picture, upconverted.
-fn luma_of(alloc: Global, picture: &Picture) -> Result<UpPlane, NoMemory>
-    requires { HasLuma picture.now }
-    ensures { IfOk result (λ u. u ≡ up_of picture.now.y) }
+fn luma_of(alloc: Global, listed: &Listed) -> Result<UpPlane, NoMemory>
+    requires { HasLuma listed.now }
+    ensures { IfOk result (λ u. u ≡ up_of listed.now.y) }
 {
-    let luma = upconvert(alloc, &picture.y)?;
+    let luma = upconvert(alloc, &listed.picture().y)?;
     Ok(luma)
 }
 
@@ -44,8 +45,8 @@ fn luma_of(alloc: Global, picture: &Picture) -> Result<UpPlane, NoMemory>
 fn lumas_side_by_side<R: Threads + Sync>(
     rt: &R,
     alloc: Global,
-    first: &Picture,
-    second: &Picture,
+    first: &Listed,
+    second: &Listed,
 ) -> Result<Lumas, NoMemory>
     requires first { HasLuma first.now }
     requires second { HasLuma second.now }
@@ -72,19 +73,19 @@ fn lumas_side_by_side<R: Threads + Sync>(
 
 impl Lumas {
     /// Upconverts the luma of references.
-    pub fn of(alloc: Global, first: &Picture, second: Option<&Picture>) -> Result<Lumas, NoMemory>
+    pub fn of(alloc: Global, first: &Listed, second: Option<&Listed>) -> Result<Lumas, NoMemory>
         requires first { HasLuma first.now }
         requires second { ForSome (option_copied second) HasLuma }
         ensures { IfOk result (λ l. AreLumas first.now (option_copied second.entry) l) }
     {
-        let luma = upconvert(alloc, &first.y)?;
+        let luma = luma_of(alloc, first)?;
         match second {
             None => Ok(Lumas {
                 first: luma,
                 second: None,
             }),
             Some(second) => {
-                let other = upconvert(alloc, &second.y)?;
+                let other = luma_of(alloc, second)?;
                 Ok(Lumas {
                     first: luma,
                     second: Some(other),
@@ -97,8 +98,8 @@ impl Lumas {
     pub fn by_workers<R: Threads + Sync>(
         rt: &R,
         alloc: Global,
-        first: &Picture,
-        second: Option<&Picture>,
+        first: &Listed,
+        second: Option<&Listed>,
         workers: u32,
     ) -> Result<Lumas, NoMemory>
         requires first { HasLuma first.now }
@@ -115,7 +116,7 @@ impl Lumas {
     }
 
     /// The references, whose luma these planes are.
-    pub fn lend<'a>(&'a self, first: &'a Picture, second: Option<&'a Picture>) -> References<'a>
+    pub fn lend<'a>(&'a self, first: &'a Listed, second: Option<&'a Listed>) -> References<'a>
         requires { AreLumas first.now (option_copied second) self.now }
         ensures first { first_of result ≡ first.now }
         ensures second { second_of result ≡ option_copied second.entry }

@@ -41,7 +41,8 @@ pub fn vectors_in<R: Threads + Sync, G: RowGate>(
 {
     let sequence = sequence_of(settings);
     let grid = block_grid(u64::from(settings.blocks));
-    let other = Pyramid::build(alloc, &reference.picture.y, settings.pyramid as u8)?;
+    let listed = reference.picture.picture();
+    let other = Pyramid::build(alloc, &listed.y, settings.pyramid as u8)?;
     let search = Search {
         source: pyramid,
         reference: &other,

@@ -1,4 +1,5 @@
 pub mod Adding
+pub mod Blending
 pub mod Compensation
 pub mod Directions
 pub mod Given

@@ -59,39 +59,6 @@ fn columns_with<'a>(motion: &Motion<'_>, weights: &'a ColumnWeights) -> Columns<
     }
 }
 
-/// The predictions of rows `first` to `end - 1` of a plane whose size has its limits.
-fn rows_between(
-    alloc: Global,
-    motion: &Motion<'_>,
-    weights: &ColumnWeights,
-    first: u32,
-    end: u32,
-) -> Result<Predicted, NoMemory>
-    requires not_empty { first < end }
-    requires inside { end ≤ motion.now.height }
-    requires motion { IsMotion (given motion.now) }
-    requires weights { weights.now ≡ columns_of (given motion.now) }
-    ensures value { IfOk result (λ t. t ≡ predicted_rows (given motion.now) first end) }
-    ensures each { IfOk result (λ t. (x y : ℕ) → x < motion.now.width → y < end - first → table_at t x y
-        ≡ predicted_at (given motion.now) x (first + y)) }
-    ensures magnitudes_at_most_2_15 { IfOk result (λ t. All (λ v. unsigned_abs v ≤ 2 ^ 15) t.values) }
-{
-    lawful(motion);
-    let columns = columns_with(motion, weights);
-    let blocks = down(motion);
-    let weights = weight_table(alloc, blocks)?;
-    let lines = Lines {
-        blocks,
-        weights: weights.as_slice(),
-        first,
-        end,
-    };
-    let mut room = block_room(alloc, columns.blocks, blocks)?;
-    let mut predicted = Predicted::try_new(alloc, motion.width, end - first, 0)?;
-    predict_lines(motion, columns, lines, &mut room, predicted.values_mut());
-    Ok(predicted)
-}
-
 /// The predictions of rows `first` to `end - 1` of a plane, by the weights of its columns, which are made already
 /// (motion compensation, Dirac specification).
 pub fn predict_rows_with(
@@ -111,7 +78,20 @@ pub fn predict_rows_with(
     ensures magnitudes_at_most_2_15 { IfOk result (λ t. All (λ v. unsigned_abs v ≤ 2 ^ 15) t.values) }
 {
     bounded(motion);
-    rows_between(alloc, motion, weights, first, end)
+    lawful(motion);
+    let columns = columns_with(motion, weights);
+    let blocks = down(motion);
+    let weights = weight_table(alloc, blocks)?;
+    let lines = Lines {
+        blocks,
+        weights: weights.as_slice(),
+        first,
+        end,
+    };
+    let mut room = block_room(alloc, columns.blocks, blocks)?;
+    let mut predicted = Predicted::try_new(alloc, motion.width, end - first, 0)?;
+    predict_lines(motion, columns, lines, &mut room, predicted.values_mut());
+    Ok(predicted)
 }
 
 /// The predictions of rows `first` to `end - 1` of a plane (motion compensation, Dirac specification).

@@ -2,11 +2,11 @@ ghost use Rattle.std.specs.Prelude.{◌≡◌, ℕ, pos, ◌+◌, ◌-◌, ◌*�
 ghost use Rattle.std.specs.Prelude.{slice_index_or};
 ghost use Rattle.std.specs.List.{All};
 ghost use Rattle.dirac_obmc.specs.Adding.{Adds};
+ghost use Rattle.dirac_obmc.specs.Blending.{IsBlending};
 ghost use Rattle.dirac_obmc.specs.Compensation.{IsMotion, blended, blocks_across, blocks_down, predicted_at, total};
 ghost use Rattle.dirac_obmc.specs.Compensation.{x_length, y_length};
-ghost use Rattle.dirac_obmc.specs.Directions.{IsColumns, IsSound};
 ghost use Rattle.dirac_obmc.specs.Given.{given};
-ghost use Rattle.dirac_obmc.specs.Strips.{AreValues, IsLines, IsPart, IsRoom, IsSpan, added_at};
+ghost use Rattle.dirac_obmc.specs.Strips.{AreValues, IsPart, IsRoom, IsSpan, added_at};
 ghost use Rattle.dirac_obmc.specs.Weights.{IsOverlap, margin};
 
 use crate::direction::Direction;
@@ -80,10 +80,7 @@ fn add_part(
     part: Part<'_>,
     sums: &mut [i32],
 )
-    requires motion { IsMotion (given motion.now) }
-    requires sound { IsSound (given motion.now) }
-    requires columns { IsColumns (given motion.now) columns }
-    requires lines { IsLines (given motion.now) lines }
+    requires blending { IsBlending (given motion.now) columns lines }
     requires part { IsPart (given motion.now) lines.first lines.end part }
     requires len { length sums.old ≡ motion.now.width * (lines.end - lines.first) }
     requires sums { All (λ v. unsigned_abs v ≤ 2 ^ 22) sums.old }
@@ -156,10 +153,7 @@ fn add_block(
     room: &mut BlockRoom,
     sums: &mut [i32],
 )
-    requires motion { IsMotion (given motion.now) }
-    requires sound { IsSound (given motion.now) }
-    requires columns { IsColumns (given motion.now) columns }
-    requires lines { IsLines (given motion.now) lines }
+    requires blending { IsBlending (given motion.now) columns lines }
     requires across { i < blocks_across (given motion.now) }
     requires down { j < blocks_down (given motion.now) }
     requires room_fits { IsRoom (x_length (given motion.now)) (y_length (given motion.now)) room.old }
@@ -198,10 +192,7 @@ fn add_blocks(
     room: &mut BlockRoom,
     sums: &mut [i32],
 )
-    requires motion { IsMotion (given motion.now) }
-    requires sound { IsSound (given motion.now) }
-    requires columns { IsColumns (given motion.now) columns }
-    requires lines { IsLines (given motion.now) lines }
+    requires blending { IsBlending (given motion.now) columns lines }
     requires down { j < blocks_down (given motion.now) }
     requires room_fits { IsRoom (x_length (given motion.now)) (y_length (given motion.now)) room.old }
     requires len { length sums.old ≡ motion.now.width * (lines.end - lines.first) }
@@ -249,10 +240,7 @@ fn add_rows(
     room: &mut BlockRoom,
     sums: &mut [i32],
 )
-    requires motion { IsMotion (given motion.now) }
-    requires sound { IsSound (given motion.now) }
-    requires columns { IsColumns (given motion.now) columns }
-    requires lines { IsLines (given motion.now) lines }
+    requires blending { IsBlending (given motion.now) columns lines }
     requires room_fits { IsRoom (x_length (given motion.now)) (y_length (given motion.now)) room.old }
     requires len { length sums.old ≡ motion.now.width * (lines.end - lines.first) }
     requires sums { (p : ℕ) → slice_index_or sums.old p (pos 0) ≡ pos 0 }
@@ -274,10 +262,7 @@ pub fn predict_lines(
     room: &mut BlockRoom,
     out: &mut [i32],
 )
-    requires motion { IsMotion (given motion.now) }
-    requires sound { IsSound (given motion.now) }
-    requires columns { IsColumns (given motion.now) columns }
-    requires lines { IsLines (given motion.now) lines }
+    requires blending { IsBlending (given motion.now) columns lines }
     requires room_fits { IsRoom (x_length (given motion.now)) (y_length (given motion.now)) room.old }
     requires len { length out.old ≡ motion.now.width * (lines.end - lines.first) }
     requires out { (p : ℕ) → slice_index_or out.old p (pos 0) ≡ pos 0 }

@@ -60,10 +60,6 @@ pub(crate) fn intra_picture<R: Threads + Sync, G: RowGate>(
     let y = intra_samples(alloc, sequence, coded_residual, planes.as_slice(), 0)?;
     let u = intra_samples(alloc, sequence, coded_residual, planes.as_slice(), 1)?;
     let v = intra_samples(alloc, sequence, coded_residual, planes.as_slice(), 2)?;
-    Ok(Picture {
-        number: coded.header.number,
-        y,
-        u,
-        v,
-    })
+    let number = coded.header.number;
+    Ok(Picture { number, y, u, v })
 }

@@ -49,37 +49,8 @@ fn inter_picture<R: Threads + Sync, G: RowGate>(
     let y = inter_samples(alloc, inter, residuals.as_slice(), slices.as_slice(), 0)?;
     let u = inter_samples(alloc, inter, residuals.as_slice(), slices.as_slice(), 1)?;
     let v = inter_samples(alloc, inter, residuals.as_slice(), slices.as_slice(), 2)?;
-    Ok(Picture {
-        number: header.number,
-        y,
-        u,
-        v,
-    })
-}
-
-/// An intra picture from its residual, an inter picture from its references too.
-fn made_by_rows<R: Threads + Sync, G: RowGate>(
-    rt: &R,
-    alloc: Global,
-    coded: &CodedPicture,
-    sequence: &Sequence,
-    refs: &RefBuffer,
-    workers: u32,
-    gate: &G,
-) -> Result<Picture, NoMemory>
-    requires sequence { IsSequence sequence.now }
-    requires fits { FitsSequence coded.now.code sequence.now coded.now }
-    requires refs { AreReferences sequence.now refs.now coded.now.header }
-    requires workers { (1 ≤ workers) × (workers ≤ 64) }
-    ensures { IfOk result (λ p. p ≡ rebuilt sequence.now refs.now coded.now) }
-{
-    match &coded.motion {
-        None => intra_picture(rt, alloc, coded, sequence, workers, gate),
-        Some(motion) => {
-            let inter = inter_of(coded, motion, sequence, refs);
-            inter_picture(rt, alloc, &coded.header, &inter, workers, gate)
-        }
-    }
+    let number = header.number;
+    Ok(Picture { number, y, u, v })
 }
 
 /// The picture that a coded picture stands for, made by that many workers: its residual planes, the upconverted planes
@@ -100,6 +71,11 @@ pub fn rebuild_rows<R: Threads + Sync, G: RowGate>(
     ensures value { IfOk result (λ p. p ≡ rebuilt sequence.now refs.now coded.now) }
     ensures fits { IfOk result (IsPicture sequence.now) }
 {
-    let picture = made_by_rows(rt, alloc, coded, sequence, refs, workers, gate)?;
-    Ok(picture)
+    match &coded.motion {
+        None => intra_picture(rt, alloc, coded, sequence, workers, gate),
+        Some(motion) => {
+            let inter = inter_of(coded, motion, sequence, refs);
+            inter_picture(rt, alloc, &coded.header, &inter, workers, gate)
+        }
+    }
 }

@@ -1,5 +1,5 @@
 ghost use Rattle.std.specs.Prelude.{◌≡◌, ◌<◌, ◌≤◌, IfOk, None, Some, option_map};
-ghost use Rattle.std.specs.Option.{ForSome, option_copied};
+ghost use Rattle.std.specs.Option.{option_copied};
 ghost use Rattle.dirac_common.specs.declared.picture.Picture.{Picture};
 ghost use Rattle.dirac_sequence_header.specs.Lawful.{IsSequence};
 ghost use Rattle.dirac_decode.specs.Content.{IsPicture, plane_of as lent_plane, up_of};
@@ -10,28 +10,14 @@ ghost use Rattle.dirac_pardec.specs.Planes as planes;
 
 use crate::inter::Inter;
 use crate::places::component_at;
-use dirac_common::{Component, NoMemory, Picture, RowGate};
-use dirac_decode::plane_of;
+use dirac_common::{NoMemory, Picture, RowGate};
+use dirac_decode::up_plane;
 use dirac_rows::map_rows;
 use dirac_sequence_header::Sequence;
-use dirac_upconvert::{UpPlane, upconvert};
+use dirac_upconvert::UpPlane;
 use std::alloc::Global;
 use std::marker::Sync;
 use std::thread::Threads;
-
-/// A plane of a reference with its half samples.
-fn up_plane(
-    alloc: Global,
-    sequence: &Sequence,
-    picture: &Picture,
-    component: Component,
-) -> Result<UpPlane, NoMemory>
-    requires sequence { IsSequence sequence.now }
-    requires picture { IsPicture sequence.now picture.now }
-    ensures { IfOk result (λ u. u ≡ up_of (lent_plane picture.now component)) }
-{
-    upconvert(alloc, plane_of(picture, component))
-}
 
 /// The planes of one reference with their half samples.
 fn ups_of_one<R: Threads + Sync, G: RowGate>(

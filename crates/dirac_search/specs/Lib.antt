@@ -5,3 +5,5 @@ pub mod Costs
 pub mod Fields
 pub mod Given
 pub mod Rows
+pub mod Tried
+pub mod Staged

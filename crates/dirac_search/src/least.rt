@@ -5,10 +5,11 @@ ghost use Rattle.dirac_search.specs.Candidates.{HasFormer, IsWithinReach, no_mot
 ghost use Rattle.dirac_search.specs.Costs.{HasLevel, HasPrecision, IsBlockWindow, IsBelow, window_cost};
 ghost use Rattle.dirac_search.specs.Fields.{IsSearch, IsStage, best_of};
 ghost use Rattle.dirac_search.specs.Given.{given, lent};
+ghost use Rattle.dirac_search.specs.Staged.{best_at};
 
 use crate::candidate_list::CandidateList;
 use crate::field::Field;
-use crate::stage::{Search, Stage};
+use crate::stage::{Search, Stage, Staged};
 use crate::stage_candidates::push_choice;
 use crate::window_costs::{cost_below, whole_cost, window};
 use dirac_common::{NoMemory, Vector};
@@ -97,22 +98,25 @@ pub fn new_room(alloc: Global) -> Room {
 }
 
 /// The first candidate of least cost for block `i` of row `j` at a stage.
-pub fn best_in(
-    search: &Search<'_>,
-    stage: Stage,
-    settings: &Settings,
+pub(crate) fn best_in(
+    staged: &Staged<'_, '_>,
     before: Option<&Field>,
     i: u32,
     j: u32,
     room: &mut Room,
 ) -> Result<Vector, NoMemory>
-    requires search { IsSearch (given search.now) settings.now }
-    requires stage { IsStage settings.now stage }
-    requires former { HasFormer stage (lent before) i j }
-    requires column { i < 4 * search.now.across }
-    requires row { j < 4 * search.now.down }
-    ensures { IfOk result (λ v. v ≡ best_of (given search.now) settings.now stage (lent before.entry) i j) }
+    requires search { IsSearch (given staged.now.search.now) staged.now.settings.now }
+    requires stage { IsStage staged.now.settings.now staged.now.stage }
+    requires former { HasFormer staged.now.stage (lent before) i j }
+    requires column { i < 4 * staged.now.search.now.across }
+    requires row { j < 4 * staged.now.search.now.down }
+    ensures { IfOk result (λ v. v ≡ best_at staged.now (lent before.entry) i j) }
 {
+    let Staged {
+        search,
+        stage,
+        settings,
+    } = *staged;
     room.list.clear();
     push_choice(
         &mut room.list,
@@ -146,5 +150,10 @@ pub fn best(
     ensures { IfOk result (λ v. v ≡ best_of (given search.now) settings.now stage (lent before.entry) i j) }
 {
     let mut room = new_room(alloc);
-    best_in(search, stage, settings, before, i, j, &mut room)
+    let staged = Staged {
+        search,
+        stage,
+        settings,
+    };
+    best_in(&staged, before, i, j, &mut room)
 }

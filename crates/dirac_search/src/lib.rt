@@ -14,6 +14,7 @@ mod stage;
 mod stage_candidates;
 mod stages;
 mod sub_sums;
+mod tried;
 mod whole_sums;
 mod window_costs;
 

@@ -1,5 +1,6 @@
 use dirac_common::BlockGrid;
 use dirac_pyramid::Pyramid;
+use dirac_types::Settings;
 use dirac_upconvert::UpPlane;
 
 /// A stage of the search.
@@ -25,4 +26,12 @@ pub struct Search<'a> {
     pub across: u32,
     /// The number of superblocks down.
     pub down: u32,
+}
+
+/// A stage of a search.
+#[derive(Clone, Copy)]
+pub(crate) struct Staged<'a, 's> {
+    pub(crate) search: &'a Search<'s>,
+    pub(crate) stage: Stage,
+    pub(crate) settings: &'a Settings,
 }

@@ -1,16 +1,17 @@
-ghost use Rattle.std.specs.Prelude.{◌≡◌, ℕ, pos, ◌+◌, ◌-◌, ◌*◌, ◌^◌, ◌<◌, ◌≤◌, ◌++◌, length, Some, None, Ok, IfOk};
+ghost use Rattle.std.specs.Prelude.{◌≡◌, ◌+◌, ◌-◌, ◌*◌, ◌<◌, ◌++◌, Some, None, Ok, IfOk};
 ghost use Rattle.std.specs.List.{All, flat_map};
 ghost use Rattle.dirac_vectors.specs.Predictions.{IsShortVector};
 ghost use Rattle.dirac_search.specs.ByRows.{row_values};
 ghost use Rattle.dirac_search.specs.Candidates.{IsWithinReach};
 ghost use Rattle.dirac_rows.specs.Answers.{AnswerRows};
-ghost use Rattle.dirac_search.specs.Fields.{HasFormerField, IsSearch, IsStage, after_finer, best_of, field};
+ghost use Rattle.dirac_search.specs.Fields.{HasFormerField, IsSearch, IsStage, after_finer, field};
 ghost use Rattle.dirac_search.specs.Fields.{stage_field, superblock_row};
 ghost use Rattle.dirac_search.specs.Given.{given, lent};
+ghost use Rattle.dirac_search.specs.Staged.{IsStaged, best_at};
 
 use crate::field::Field;
 use crate::least::{Room, best_in, new_room};
-use crate::stage::{Search, Stage};
+use crate::stage::{Search, Stage, Staged};
 use dirac_common::{NoMemory, RowGate, Vector};
 use dirac_rows::map_rows;
 use dirac_types::Settings;
@@ -20,25 +21,41 @@ use std::thread::Threads;
 
 /// Appends the best vectors of a row of blocks.
 fn push_block_row(
-    search: &Search<'_>,
-    stage: Stage,
-    settings: &Settings,
+    staged: &Staged<'_, '_>,
     before: Option<&Field>,
     j: u32,
     room: &mut Room,
     vectors: &mut Vec<Vector>,
 ) -> Result<(), NoMemory>
-    requires search { IsSearch (given search.now) settings.now }
-    requires stage { IsStage settings.now stage }
-    requires former { HasFormerField (given search.now) stage (lent before) }
-    requires row { j < 4 * search.now.down }
+    requires staged { IsStaged staged.now (lent before) }
+    requires row { j < 4 * staged.now.search.now.down }
     ensures { IfOk result (λ _. vectors.new.items ≡ vectors.old.items
-        ++ row_values (4 * search.now.across) (best_of (given search.now) settings.now stage (lent before.entry)) j) }
+        ++ row_values (4 * staged.now.search.now.across) (best_at staged.now (lent before.entry)) j) }
 {
-    for i in 0..4 * search.across {
-        vectors.push(best_in(search, stage, settings, before, i, j, room)?)?;
+    for i in 0..4 * staged.search.across {
+        vectors.push(best_in(staged, before, i, j, room)?)?;
     }
     Ok(())
+}
+
+/// The best vectors of the four block rows of superblock row `row`, by rows.
+fn rows_of(
+    alloc: Global,
+    staged: &Staged<'_, '_>,
+    before: Option<&Field>,
+    row: u32,
+) -> Result<Vec<Vector>, NoMemory>
+    requires staged { IsStaged staged.now (lent before) }
+    requires row { row < staged.now.search.now.down }
+    ensures { IfOk result (λ v. v.items ≡ superblock_row (given staged.now.search.now) staged.now.settings.now
+        staged.now.stage (lent before.entry) row) }
+{
+    let mut room = new_room(alloc);
+    let mut vectors = Vec::new(alloc);
+    for k in 0..4 {
+        push_block_row(staged, before, 4 * row + k, &mut room, &mut vectors)?;
+    }
+    Ok(vectors)
 }
 
 /// The best vectors of the four block rows of superblock row `row`, by rows. `before` has the former stage's vectors;
@@ -58,20 +75,12 @@ pub fn search_rows(
     ensures { IfOk result (λ v. v.items
         ≡ superblock_row (given search.now) settings.now stage (lent before.entry) row) }
 {
-    let mut room = new_room(alloc);
-    let mut vectors = Vec::new(alloc);
-    for k in 0..4 {
-        push_block_row(
-            search,
-            stage,
-            settings,
-            before,
-            4 * row + k,
-            &mut room,
-            &mut vectors,
-        )?;
-    }
-    Ok(vectors)
+    let staged = Staged {
+        search,
+        stage,
+        settings,
+    };
+    rows_of(alloc, &staged, before, row)
 }
 
 /// The best vectors of each row of superblocks. The settings' workers share the rows, and each passes the gate before
@@ -79,25 +88,27 @@ pub fn search_rows(
 fn stage_rows<R: Threads + Sync, G: RowGate>(
     rt: &R,
     alloc: Global,
-    search: &Search<'_>,
-    stage: Stage,
-    settings: &Settings,
+    staged: &Staged<'_, '_>,
     before: Option<&Field>,
     gate: &G,
 ) -> Result<Vec<Vec<Vector>>, NoMemory>
-    requires search { IsSearch (given search.now) settings.now }
-    requires stage { IsStage settings.now stage }
-    requires former { HasFormerField (given search.now) stage (lent before) }
-    ensures { IfOk result (λ rows. AnswerRows (λ r v. v.items
-        ≡ superblock_row (given search.now) settings.now stage (lent before.entry) r) search.now.down rows.items) }
+    requires { IsStaged staged.now (lent before) }
+    ensures { IfOk result (λ rows. AnswerRows (λ r v. v.items ≡ superblock_row (given staged.now.search.now)
+        staged.now.settings.now staged.now.stage (lent before.entry) r) staged.now.search.now.down rows.items) }
 {
     let work = |row: u32| -> Result<Vec<Vector>, NoMemory>
-        requires { IsSearch (given search.now) settings.now × IsStage settings.now stage
-            × HasFormerField (given search.now) stage (lent before) × (row < search.now.down) }
-        ensures { IfOk result (λ v. v.items ≡ superblock_row (given search.entry.now) settings.entry.now stage
-            (lent before.entry) row) }
-    { search_rows(alloc, search, stage, settings, before, row) };
-    map_rows(rt, alloc, search.down, settings.workers, gate, &work)
+        requires { IsStaged staged.now (lent before) × (row < staged.now.search.now.down) }
+        ensures { IfOk result (λ v. v.items ≡ superblock_row (given staged.entry.now.search.now)
+            staged.entry.now.settings.now staged.entry.now.stage (lent before.entry) row) }
+    { rows_of(alloc, staged, before, row) };
+    map_rows(
+        rt,
+        alloc,
+        staged.search.down,
+        staged.settings.workers,
+        gate,
+        &work,
+    )
 }
 
 /// The vectors of these rows, one row after another.
@@ -115,64 +126,55 @@ fn joined(alloc: Global, rows: &[Vec<Vector>]) -> Result<Vec<Vector>, NoMemory>
 fn search_stage<R: Threads + Sync, G: RowGate>(
     rt: &R,
     alloc: Global,
-    search: &Search<'_>,
-    stage: Stage,
-    settings: &Settings,
+    staged: &Staged<'_, '_>,
     before: Option<&Field>,
     gate: &G,
 ) -> Result<Field, NoMemory>
-    requires search { IsSearch (given search.now) settings.now }
-    requires stage { IsStage settings.now stage }
-    requires former { HasFormerField (given search.now) stage (lent before) }
-    ensures { IfOk result (λ f. f ≡ stage_field (given search.now) settings.now stage (lent before.entry)) }
+    requires { IsStaged staged.now (lent before) }
+    ensures { IfOk result (λ f. f ≡ stage_field (given staged.now.search.now) staged.now.settings.now staged.now.stage
+        (lent before.entry)) }
 {
-    let rows = stage_rows(rt, alloc, search, stage, settings, before, gate)?;
+    let rows = stage_rows(rt, alloc, staged, before, gate)?;
     let vectors = joined(alloc, rows.as_slice())?;
+    let search = staged.search;
     Ok(Field::new(search.across, search.down, vectors))
 }
 
 /// The vectors after all stages in whole samples.
-fn search_whole<R: Threads + Sync, G: RowGate>(
+fn search_whole<'a, R: Threads + Sync, G: RowGate>(
     rt: &R,
     alloc: Global,
-    search: &Search<'_>,
-    settings: &Settings,
+    search: &'a Search<'_>,
+    settings: &'a Settings,
     gate: &G,
 ) -> Result<Field, NoMemory>
     requires { IsSearch (given search.now) settings.now }
     ensures { IfOk result (λ f. f ≡ after_finer (given search.now) settings.now settings.now.pyramid) }
 {
     let levels = settings.pyramid as u8;
-    let mut field = search_stage(
-        rt,
-        alloc,
+    let coarse = Staged {
         search,
-        Stage::Coarse(levels),
+        stage: Stage::Coarse(levels),
         settings,
-        None,
-        gate,
-    )?;
+    };
+    let mut field = search_stage(rt, alloc, &coarse, None, gate)?;
     for k in 0..levels {
-        field = search_stage(
-            rt,
-            alloc,
-            search,
-            Stage::Finer(levels - 1 - k),
-            settings,
-            Some(&field),
-            gate,
-        )?;
+        let finer = Staged {
+            stage: Stage::Finer(levels - 1 - k),
+            ..coarse
+        };
+        field = search_stage(rt, alloc, &finer, Some(&field), gate)?;
     }
     Ok(field)
 }
 
 /// The vectors after the last stage. In each stage the settings' workers share the rows of superblocks, and each passes
 /// the gate before it searches a row: the result is the same for any number of workers.
-pub fn search_field<R: Threads + Sync, G: RowGate>(
+pub fn search_field<'a, R: Threads + Sync, G: RowGate>(
     rt: &R,
     alloc: Global,
-    search: &Search<'_>,
-    settings: &Settings,
+    search: &'a Search<'_>,
+    settings: &'a Settings,
     gate: &G,
 ) -> Result<Field, NoMemory>
     requires { IsSearch (given search.now) settings.now }
@@ -183,15 +185,12 @@ pub fn search_field<R: Threads + Sync, G: RowGate>(
 {
     let mut field = search_whole(rt, alloc, search, settings, gate)?;
     for q in 0..settings.precision as u8 {
-        field = search_stage(
-            rt,
-            alloc,
+        let sub = Staged {
             search,
-            Stage::Sub(q + 1),
+            stage: Stage::Sub(q + 1),
             settings,
-            Some(&field),
-            gate,
-        )?;
+        };
+        field = search_stage(rt, alloc, &sub, Some(&field), gate)?;
     }
     Ok(field)
 }

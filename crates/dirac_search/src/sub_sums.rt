@@ -1,12 +1,14 @@
 ghost use Rattle.std.specs.Prelude.{◌≡◌, ◌+◌, ◌*◌, ◌%◌, ◌^◌, ◌<◌, ◌≤◌, IfSome, IfNone, length};
 ghost use Rattle.dirac_search.specs.Candidates.{IsWithinReach};
-ghost use Rattle.dirac_search.specs.Costs.{IsBlockWindow, Reaches, IsBelow};
-ghost use Rattle.dirac_search.specs.Rows.{four_sub_rows_apart, sub_row_apart, sub_rows};
+ghost use Rattle.dirac_search.specs.Costs.{Reaches, IsBelow};
+ghost use Rattle.dirac_search.specs.Rows.{four_sub_rows_apart, sub_row_apart};
+ghost use Rattle.dirac_search.specs.Tried.{IsTried, sub_sum};
 
 use crate::eight_columns::four_rows_beside;
 use crate::places::moved;
+use crate::tried::Tried;
 use dirac_common::{Plane, Vector};
-use dirac_costs::{Window, row_differences};
+use dirac_costs::row_differences;
 use dirac_upconvert::UpPlane;
 
 /// A place counted in 2 to the power `precision` parts of a sample.
@@ -70,87 +72,68 @@ fn sum_four_sub_rows(source: &Plane, up: &UpPlane, precision: u8, x: u32, y: u32
     four_rows_beside(source, x as usize, y, &samples)
 }
 
-/// `first` and the absolute differences of a window and of the samples to which a vector in parts of a sample leads,
-/// where all of it is below a limit: row by row.
-fn sub_below_by_rows(
-    source: &Plane,
-    up: &UpPlane,
-    precision: u8,
-    window: Window,
-    v: Vector,
-    first: u32,
-    limit: u32,
-) -> Option<u32>
+/// What is summed already and the absolute differences of a window and of the samples to which a vector in parts of a
+/// sample leads, where all of it is below the limit: row by row.
+fn sub_below_by_rows(source: &Plane, up: &UpPlane, precision: u8, tried: Tried) -> Option<u32>
     requires precision { precision ≤ 3 }
-    requires window { IsBlockWindow window }
-    requires v { IsWithinReach (2 ^ 24) v }
-    requires at_most_66300 { first ≤ 66300 }
-    ensures below { IfSome result (IsBelow limit (first + sub_rows source.now up.now precision window v window.rows)) }
-    ensures above { IfNone result (Reaches limit (first + sub_rows source.now up.now precision window v window.rows)) }
+    requires tried { IsTried tried }
+    ensures below { IfSome result (IsBelow tried.limit (sub_sum source.now up.now precision tried)) }
+    ensures above { IfNone result (Reaches tried.limit (sub_sum source.now up.now precision tried)) }
 {
+    let Tried { window, limit, .. } = tried;
     let mut room = [0i16; 16];
     let samples = &mut room[..window.columns as usize];
-    let mut sum = first;
+    let mut sum = tried.first;
     'rows: for k in 0..window.rows {
         if sum >= limit {
             return None;
         }
-        sum += sum_sub_row(source, up, precision, window.x, window.y + k, v, samples);
+        sum += sum_sub_row(
+            source,
+            up,
+            precision,
+            window.x,
+            window.y + k,
+            tried.v,
+            samples,
+        );
     }
     if sum < limit { Some(sum) } else { None }
 }
 
-/// The same for a window of eight columns that the source has: four rows at a time.
-fn sub_below_by_four(
-    source: &Plane,
-    up: &UpPlane,
-    precision: u8,
-    window: Window,
-    v: Vector,
-    first: u32,
-    limit: u32,
-) -> Option<u32>
+/// Sums a window of eight columns that the source has as `sub_below_by_rows` does: four rows at a time.
+fn sub_below_by_four(source: &Plane, up: &UpPlane, precision: u8, tried: Tried) -> Option<u32>
     requires precision { precision ≤ 3 }
-    requires window { IsBlockWindow window }
-    requires eight_columns { window.columns ≡ 8 }
-    requires fours_of_rows { window.rows % 4 ≡ 0 }
-    requires x { window.x + 8 ≤ source.now.width }
-    requires v { IsWithinReach (2 ^ 24) v }
-    requires at_most_66300 { first ≤ 66300 }
-    ensures below { IfSome result (IsBelow limit (first + sub_rows source.now up.now precision window v window.rows)) }
-    ensures above { IfNone result (Reaches limit (first + sub_rows source.now up.now precision window v window.rows)) }
+    requires tried { IsTried tried }
+    requires eight_columns { tried.window.columns ≡ 8 }
+    requires fours_of_rows { tried.window.rows % 4 ≡ 0 }
+    requires x { tried.window.x + 8 ≤ source.now.width }
+    ensures below { IfSome result (IsBelow tried.limit (sub_sum source.now up.now precision tried)) }
+    ensures above { IfNone result (Reaches tried.limit (sub_sum source.now up.now precision tried)) }
 {
-    let mut sum = first;
+    let Tried { window, limit, .. } = tried;
+    let mut sum = tried.first;
     'fours: for k in 0..window.rows / 4 {
         if sum >= limit {
             return None;
         }
-        sum += sum_four_sub_rows(source, up, precision, window.x, window.y + 4 * k, v);
+        sum += sum_four_sub_rows(source, up, precision, window.x, window.y + 4 * k, tried.v);
     }
     if sum < limit { Some(sum) } else { None }
 }
 
-/// `first` and the absolute differences of a window and of the samples to which a vector in parts of a sample leads,
-/// where all of it is below a limit. The summing ends as soon as it isn't.
-pub fn sub_below(
-    source: &Plane,
-    up: &UpPlane,
-    precision: u8,
-    window: Window,
-    v: Vector,
-    first: u32,
-    limit: u32,
-) -> Option<u32>
+/// What is summed already and the absolute differences of a window and of the samples to which a vector in parts of a
+/// sample leads, where all of it is below the limit. The summing ends as soon as it isn't.
+pub fn sub_below(source: &Plane, up: &UpPlane, precision: u8, tried: Tried) -> Option<u32>
     requires precision { precision ≤ 3 }
-    requires window { IsBlockWindow window }
-    requires v { IsWithinReach (2 ^ 24) v }
-    requires at_most_66300 { first ≤ 66300 }
-    ensures below { IfSome result (IsBelow limit (first + sub_rows source.now up.now precision window v window.rows)) }
-    ensures above { IfNone result (Reaches limit (first + sub_rows source.now up.now precision window v window.rows)) }
+    requires tried { IsTried tried }
+    ensures below { IfSome result (IsBelow tried.limit (sub_sum source.now up.now precision tried)) }
+    ensures above { IfNone result (Reaches tried.limit (sub_sum source.now up.now precision tried)) }
 {
+    let window = tried.window;
     if window.columns == 8 && window.rows % 4 == 0 && window.x + 8 <= source.width() {
-        sub_below_by_four(source, up, precision, window, v, first, limit)
+        sub_below_by_four(source, up, precision, tried)
     } else {
-        sub_below_by_rows(source, up, precision, window, v, first, limit)
+        sub_below_by_rows(source, up, precision, tried)
     }
 }

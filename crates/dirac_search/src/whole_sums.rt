@@ -1,13 +1,15 @@
 ghost use Rattle.std.specs.Prelude.{◌≡◌, pos, ◌+◌, ◌*◌, ◌%◌, ◌^◌, ◌<◌, ◌≤◌, ◌+ℤ◌, ◌-ℤ◌, ◌≤ℤ◌, IfSome, IfNone};
-ghost use Rattle.std.specs.Prelude.{unsigned_abs, length, false, true};
+ghost use Rattle.std.specs.Prelude.{unsigned_abs, false, true};
 ghost use Rattle.dirac_search.specs.Candidates.{IsWithinReach};
-ghost use Rattle.dirac_search.specs.Costs.{IsBlockWindow, Reaches, IsBelow};
-ghost use Rattle.dirac_search.specs.Rows.{AreColumns, clamped_row, row_apart, whole_row_apart, whole_rows};
+ghost use Rattle.dirac_search.specs.Costs.{Reaches, IsBelow};
+ghost use Rattle.dirac_search.specs.Rows.{AreColumns, clamped_row, row_apart, whole_row_apart};
+ghost use Rattle.dirac_search.specs.Tried.{HasColumns, IsTried, whole_sum};
 
 use crate::eight_columns::four_rows;
 use crate::places::{column, is_inside, moved, moved_inside, nearest_row, sample_behind};
+use crate::tried::Tried;
 use dirac_common::{Plane, Vector};
-use dirac_costs::{Window, difference, values_differences};
+use dirac_costs::{difference, values_differences};
 
 /// How far a sample of the source and one of the reference are apart, `k` places behind these positions, which are
 /// clamped.
@@ -133,32 +135,28 @@ fn sum_whole_row(
     }
 }
 
-/// `first` and the absolute differences of a window and of the whole samples to which a vector leads, where all of it
-/// is below a limit: row by row.
+/// What is summed already and the absolute differences of a window and of the whole samples to which a vector leads,
+/// where all of it is below the limit: row by row.
 #[inline(always)]
 fn whole_below_by_rows(
     source: &Plane,
     reference: &Plane,
-    window: Window,
-    v: Vector,
+    tried: Tried,
     columns: Columns,
-    first: u32,
-    limit: u32,
 ) -> Option<u32>
-    requires window { IsBlockWindow window }
-    requires v { IsWithinReach (2 ^ 24) v }
-    requires columns { AreColumns source.now reference.now window.x v columns }
-    requires of_the_window { columns.count ≡ window.columns }
-    requires at_most_66300 { first ≤ 66300 }
-    ensures below { IfSome result (IsBelow limit (first + whole_rows source.now reference.now window v window.rows)) }
-    ensures above { IfNone result (Reaches limit (first + whole_rows source.now reference.now window v window.rows)) }
+    requires tried { IsTried tried }
+    requires columns { AreColumns source.now reference.now tried.window.x tried.v columns }
+    requires of_the_window { columns.count ≡ tried.window.columns }
+    ensures below { IfSome result (IsBelow tried.limit (whole_sum source.now reference.now tried)) }
+    ensures above { IfNone result (Reaches tried.limit (whole_sum source.now reference.now tried)) }
 {
-    let mut sum = first;
+    let Tried { window, limit, .. } = tried;
+    let mut sum = tried.first;
     'rows: for k in 0..window.rows {
         if sum >= limit {
             return None;
         }
-        sum += sum_whole_row(source, reference, window.x, window.y + k, v, columns);
+        sum += sum_whole_row(source, reference, window.x, window.y + k, tried.v, columns);
     }
     if sum < limit { Some(sum) } else { None }
 }
@@ -187,67 +185,41 @@ fn outer(count: usize) -> Columns
     }
 }
 
-/// The same for a window all of whose columns both planes have. The sums over a row are compiled anew for each number
-/// of columns that is common on the levels.
-fn whole_below_by_columns(
-    source: &Plane,
-    reference: &Plane,
-    window: Window,
-    v: Vector,
-    first: u32,
-    limit: u32,
-) -> Option<u32>
-    requires window { IsBlockWindow window }
-    requires v { IsWithinReach (2 ^ 24) v }
-    requires at_most_66300 { first ≤ 66300 }
-    requires x { window.x + window.columns ≤ source.now.width }
-    requires left { pos 0 ≤ℤ (pos window.x +ℤ v.x) }
-    requires right { ((pos window.x +ℤ v.x) +ℤ pos window.columns) ≤ℤ pos reference.now.width }
-    ensures below { IfSome result (IsBelow limit (first + whole_rows source.now reference.now window v window.rows)) }
-    ensures above { IfNone result (Reaches limit (first + whole_rows source.now reference.now window v window.rows)) }
+/// Sums a window all of whose columns both planes have as `whole_below_by_rows` does. The sums over a row are compiled
+/// anew for each number of columns that is common on the levels.
+fn whole_below_by_columns(source: &Plane, reference: &Plane, tried: Tried) -> Option<u32>
+    requires tried { IsTried tried }
+    requires columns { HasColumns source.now reference.now tried }
+    ensures below { IfSome result (IsBelow tried.limit (whole_sum source.now reference.now tried)) }
+    ensures above { IfNone result (Reaches tried.limit (whole_sum source.now reference.now tried)) }
 {
-    match window.columns {
-        1 => whole_below_by_rows(source, reference, window, v, inner(1), first, limit),
-        2 => whole_below_by_rows(source, reference, window, v, inner(2), first, limit),
-        4 => whole_below_by_rows(source, reference, window, v, inner(4), first, limit),
-        count => whole_below_by_rows(
-            source,
-            reference,
-            window,
-            v,
-            inner(count as usize),
-            first,
-            limit,
-        ),
+    match tried.window.columns {
+        1 => whole_below_by_rows(source, reference, tried, inner(1)),
+        2 => whole_below_by_rows(source, reference, tried, inner(2)),
+        4 => whole_below_by_rows(source, reference, tried, inner(4)),
+        count => whole_below_by_rows(source, reference, tried, inner(count as usize)),
     }
 }
 
-/// The same for a window of eight columns all of whose samples both planes have: four rows at a time.
-fn whole_below_by_four(
-    source: &Plane,
-    reference: &Plane,
-    window: Window,
-    v: Vector,
-    first: u32,
-    limit: u32,
-) -> Option<u32>
-    requires window { IsBlockWindow window }
-    requires eight_columns { window.columns ≡ 8 }
-    requires fours_of_rows { window.rows % 4 ≡ 0 }
-    requires v { IsWithinReach (2 ^ 24) v }
-    requires at_most_66300 { first ≤ 66300 }
-    requires x { window.x + 8 ≤ source.now.width }
-    requires y { window.y + window.rows ≤ source.now.height }
-    requires left { pos 0 ≤ℤ (pos window.x +ℤ v.x) }
-    requires right { ((pos window.x +ℤ v.x) +ℤ pos 8) ≤ℤ pos reference.now.width }
-    requires top { pos 0 ≤ℤ (pos window.y +ℤ v.y) }
-    requires bottom { ((pos window.y +ℤ v.y) +ℤ pos window.rows) ≤ℤ pos reference.now.height }
-    ensures below { IfSome result (IsBelow limit (first + whole_rows source.now reference.now window v window.rows)) }
-    ensures above { IfNone result (Reaches limit (first + whole_rows source.now reference.now window v window.rows)) }
+/// Sums a window of eight columns, all of whose samples both planes have, as `whole_below_by_rows` does: four rows at a
+/// time.
+fn whole_below_by_four(source: &Plane, reference: &Plane, tried: Tried) -> Option<u32>
+    requires tried { IsTried tried }
+    requires eight_columns { tried.window.columns ≡ 8 }
+    requires fours_of_rows { tried.window.rows % 4 ≡ 0 }
+    requires x { tried.window.x + 8 ≤ source.now.width }
+    requires y { tried.window.y + tried.window.rows ≤ source.now.height }
+    requires left { pos 0 ≤ℤ (pos tried.window.x +ℤ tried.v.x) }
+    requires right { ((pos tried.window.x +ℤ tried.v.x) +ℤ pos 8) ≤ℤ pos reference.now.width }
+    requires top { pos 0 ≤ℤ (pos tried.window.y +ℤ tried.v.y) }
+    requires bottom { ((pos tried.window.y +ℤ tried.v.y) +ℤ pos tried.window.rows) ≤ℤ pos reference.now.height }
+    ensures below { IfSome result (IsBelow tried.limit (whole_sum source.now reference.now tried)) }
+    ensures above { IfNone result (Reaches tried.limit (whole_sum source.now reference.now tried)) }
 {
-    let across = moved_inside(window.x, v.x);
-    let down = moved_inside(window.y, v.y);
-    let mut sum = first;
+    let Tried { window, limit, .. } = tried;
+    let across = moved_inside(window.x, tried.v.x);
+    let down = moved_inside(window.y, tried.v.y);
+    let mut sum = tried.first;
     'fours: for k in 0..window.rows / 4 {
         if sum >= limit {
             return None;
@@ -264,59 +236,41 @@ fn whole_below_by_four(
     if sum < limit { Some(sum) } else { None }
 }
 
-/// The same for a window all of whose columns both planes have: four rows at a time where they also have all its rows
-/// and there are eight columns.
-fn whole_below_inside(
-    source: &Plane,
-    reference: &Plane,
-    window: Window,
-    v: Vector,
-    first: u32,
-    limit: u32,
-) -> Option<u32>
-    requires window { IsBlockWindow window }
-    requires v { IsWithinReach (2 ^ 24) v }
-    requires at_most_66300 { first ≤ 66300 }
-    requires x { window.x + window.columns ≤ source.now.width }
-    requires left { pos 0 ≤ℤ (pos window.x +ℤ v.x) }
-    requires right { ((pos window.x +ℤ v.x) +ℤ pos window.columns) ≤ℤ pos reference.now.width }
-    ensures below { IfSome result (IsBelow limit (first + whole_rows source.now reference.now window v window.rows)) }
-    ensures above { IfNone result (Reaches limit (first + whole_rows source.now reference.now window v window.rows)) }
+/// Sums a window all of whose columns both planes have as `whole_below_by_rows` does: four rows at a time where they
+/// also have all its rows and there are eight columns.
+fn whole_below_inside(source: &Plane, reference: &Plane, tried: Tried) -> Option<u32>
+    requires tried { IsTried tried }
+    requires columns { HasColumns source.now reference.now tried }
+    ensures below { IfSome result (IsBelow tried.limit (whole_sum source.now reference.now tried)) }
+    ensures above { IfNone result (Reaches tried.limit (whole_sum source.now reference.now tried)) }
 {
-    let down = moved(window.y, v.y);
+    let window = tried.window;
+    let down = moved(window.y, tried.v.y);
     let rows = window.rows as usize;
     if window.columns == 8
         && window.rows % 4 == 0
         && window.y + window.rows <= source.height()
         && is_inside(down, rows, reference.height())
     {
-        whole_below_by_four(source, reference, window, v, first, limit)
+        whole_below_by_four(source, reference, tried)
     } else {
-        whole_below_by_columns(source, reference, window, v, first, limit)
+        whole_below_by_columns(source, reference, tried)
     }
 }
 
-/// `first` and the absolute differences of a window and of the whole samples to which a vector leads, where all of it
-/// is below a limit. The summing ends as soon as it isn't.
-pub fn whole_below(
-    source: &Plane,
-    reference: &Plane,
-    window: Window,
-    v: Vector,
-    first: u32,
-    limit: u32,
-) -> Option<u32>
-    requires window { IsBlockWindow window }
-    requires v { IsWithinReach (2 ^ 24) v }
-    requires at_most_66300 { first ≤ 66300 }
-    ensures below { IfSome result (IsBelow limit (first + whole_rows source.now reference.now window v window.rows)) }
-    ensures above { IfNone result (Reaches limit (first + whole_rows source.now reference.now window v window.rows)) }
+/// What is summed already and the absolute differences of a window and of the whole samples to which a vector leads,
+/// where all of it is below the limit. The summing ends as soon as it isn't.
+pub fn whole_below(source: &Plane, reference: &Plane, tried: Tried) -> Option<u32>
+    requires { IsTried tried }
+    ensures below { IfSome result (IsBelow tried.limit (whole_sum source.now reference.now tried)) }
+    ensures above { IfNone result (Reaches tried.limit (whole_sum source.now reference.now tried)) }
 {
-    let across = moved(window.x, v.x);
+    let window = tried.window;
+    let across = moved(window.x, tried.v.x);
     let count = window.columns as usize;
     if window.x + window.columns > source.width() || !is_inside(across, count, reference.width()) {
-        whole_below_by_rows(source, reference, window, v, outer(count), first, limit)
+        whole_below_by_rows(source, reference, tried, outer(count))
     } else {
-        whole_below_inside(source, reference, window, v, first, limit)
+        whole_below_inside(source, reference, tried)
     }
 }

@@ -1,15 +1,17 @@
-ghost use Rattle.std.specs.Prelude.{◌≡◌, ◌+◌, ◌*◌, ◌^◌, ◌<◌, ◌≤◌, length, IfSome, IfNone};
+ghost use Rattle.std.specs.Prelude.{◌≡◌, ◌*◌, ◌^◌, ◌<◌, ◌≤◌, length, IfSome, IfNone};
 ghost use Rattle.dirac_search.specs.declared.stage.Stage.TheVariants as stage;
 ghost use Rattle.dirac_costs.specs.Bits.{bits_of_vector};
 ghost use Rattle.dirac_search.specs.Candidates.{IsWithinReach};
 ghost use Rattle.dirac_search.specs.Costs.{HasLevel, HasPrecision, IsBlockWindow, Reaches, IsBelow, cost_of};
-ghost use Rattle.dirac_search.specs.Costs.{distortion, level_of_stage, window_cost, window_of, window_size};
+ghost use Rattle.dirac_search.specs.Costs.{level_of_stage, window_cost, window_of, window_size};
 ghost use Rattle.dirac_search.specs.Costs.{window_start};
 ghost use Rattle.dirac_search.specs.Fields.{IsSearch, IsStage};
 ghost use Rattle.dirac_search.specs.Given.{given};
+ghost use Rattle.dirac_search.specs.Tried.{IsTried, stage_sum};
 
 use crate::stage::{Search, Stage};
 use crate::sub_sums::sub_below;
+use crate::tried::Tried;
 use crate::whole_sums::whole_below;
 use dirac_common::Vector;
 use dirac_costs::{Window, vector_bits};
@@ -66,63 +68,34 @@ pub fn window(search: &Search<'_>, stage: Stage, i: u32, j: u32) -> Window
     }
 }
 
-/// `bits` and the differences of a window on a level, where all of it is below a limit.
+/// What a vector's bits cost and the differences of a window on a level, where all of it is below the limit.
 #[inline(always)]
-fn whole_cost_below(
-    search: &Search<'_>,
-    level: u8,
-    window: Window,
-    v: Vector,
-    bits: u32,
-    limit: u32,
-) -> Option<u32>
+fn whole_cost_below(search: &Search<'_>, level: u8, tried: Tried) -> Option<u32>
     requires levels { (level < length (given search.now).source) × (level < length (given search.now).reference) }
-    requires window { IsBlockWindow window }
-    requires v { IsWithinReach (2 ^ 24) v }
-    requires at_most_66300 { bits ≤ 66300 }
-    ensures below { IfSome result (IsBelow limit (bits + distortion (given search.now) (stage.Coarse level) window v)) }
-    ensures above { IfNone result (Reaches limit (bits + distortion (given search.now) (stage.Coarse level) window v)) }
+    requires tried { IsTried tried }
+    ensures below { IfSome result (IsBelow tried.limit (stage_sum (given search.now) (stage.Coarse level) tried)) }
+    ensures above { IfNone result (Reaches tried.limit (stage_sum (given search.now) (stage.Coarse level) tried)) }
 {
     whole_below(
         search.source.level(level),
         search.reference.level(level),
-        window,
-        v,
-        bits,
-        limit,
+        tried,
     )
 }
 
-/// `bits` and the differences of a window at a stage, where all of it is below a limit. The summing ends as soon as it
-/// isn't.
-fn stage_cost_below(
-    search: &Search<'_>,
-    stage: Stage,
-    window: Window,
-    v: Vector,
-    bits: u32,
-    limit: u32,
-) -> Option<u32>
+/// What a vector's bits cost and the differences of a window at a stage, where all of it is below the limit. The
+/// summing ends as soon as it isn't.
+fn stage_cost_below(search: &Search<'_>, stage: Stage, tried: Tried) -> Option<u32>
     requires levels { HasLevel (given search.now) stage }
     requires precision { HasPrecision stage }
-    requires window { IsBlockWindow window }
-    requires v { IsWithinReach (2 ^ 24) v }
-    requires at_most_66300 { bits ≤ 66300 }
-    ensures below { IfSome result (IsBelow limit (bits + distortion (given search.now) stage window v)) }
-    ensures above { IfNone result (Reaches limit (bits + distortion (given search.now) stage window v)) }
+    requires tried { IsTried tried }
+    ensures below { IfSome result (IsBelow tried.limit (stage_sum (given search.now) stage tried)) }
+    ensures above { IfNone result (Reaches tried.limit (stage_sum (given search.now) stage tried)) }
 {
     match stage {
-        Stage::Coarse(level) => whole_cost_below(search, level, window, v, bits, limit),
-        Stage::Finer(level) => whole_cost_below(search, level, window, v, bits, limit),
-        Stage::Sub(precision) => sub_below(
-            search.source.level(0),
-            search.up,
-            precision,
-            window,
-            v,
-            bits,
-            limit,
-        ),
+        Stage::Coarse(level) => whole_cost_below(search, level, tried),
+        Stage::Finer(level) => whole_cost_below(search, level, tried),
+        Stage::Sub(precision) => sub_below(search.source.level(0), search.up, precision, tried),
     }
 }
 
@@ -157,7 +130,13 @@ pub fn cost_below(
 {
     let bits = bits_cost(bias, v);
     if bits < limit {
-        stage_cost_below(search, stage, window, v, bits, limit)
+        let tried = Tried {
+            window,
+            v,
+            first: bits,
+            limit,
+        };
+        stage_cost_below(search, stage, tried)
     } else {
         None
     }

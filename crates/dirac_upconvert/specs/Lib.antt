@@ -1,3 +1,5 @@
+pub mod Around
 pub mod HalfSamples
 pub mod Phases
+pub mod Rests
 pub mod SubSamples

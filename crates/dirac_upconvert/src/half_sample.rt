@@ -1,9 +1,8 @@
-ghost use Rattle.std.specs.Prelude.{◌≡◌, ℕ, pos, ◌+◌, ◌-◌, ◌<◌, ◌≤◌, ◌+ℤ◌, ◌-ℤ◌, ◌*ℤ◌, unsigned_abs, length};
-ghost use Rattle.std.specs.Prelude.{slice_index_or};
-ghost use Rattle.std.specs.List.{All};
+ghost use Rattle.std.specs.Prelude.{◌≡◌, pos, ◌+◌, ◌-◌, ◌<◌, ◌≤◌, ◌+ℤ◌, ◌-ℤ◌, ◌*ℤ◌, unsigned_abs};
 ghost use Rattle.std.specs.Int.{int_shr};
 ghost use Rattle.dirac_common.specs.Samples.{clip};
-ghost use Rattle.dirac_upconvert.specs.HalfSamples.{IsSample, between, weighted};
+ghost use Rattle.dirac_upconvert.specs.Around.{AreSamplesAround, between_those};
+ghost use Rattle.dirac_upconvert.specs.HalfSamples.{IsSample, weighted};
 
 #[inline(always)]
 fn pair_sum(a: i16, b: i16) -> i16
@@ -76,25 +75,31 @@ fn clip(value: i16) -> i16
     value.max(-128).min(127)
 }
 
+/// What lies around a half sample: `a0` just before it and `b0` just behind it, the others further out.
+#[derive(Clone, Copy)]
+pub struct Around<T> {
+    pub a3: T,
+    pub a2: T,
+    pub a1: T,
+    pub a0: T,
+    pub b0: T,
+    pub b1: T,
+    pub b2: T,
+    pub b3: T,
+}
+
 /// The half sample between `a0` and `b0` (half-pixel upconversion filter, Dirac specification).
 #[inline(always)]
 #[tactic(auto, unfolding(crate::specs::HalfSamples::between))]
-pub fn half_sample(a3: i16, a2: i16, a1: i16, a0: i16, b0: i16, b1: i16, b2: i16, b3: i16) -> i16
-    requires a3 { IsSample a3 }
-    requires a2 { IsSample a2 }
-    requires a1 { IsSample a1 }
-    requires a0 { IsSample a0 }
-    requires b0 { IsSample b0 }
-    requires b1 { IsSample b1 }
-    requires b2 { IsSample b2 }
-    requires b3 { IsSample b3 }
-    ensures value { result ≡ between a3 a2 a1 a0 b0 b1 b2 b3 }
+pub fn half_sample(of: Around<i16>) -> i16
+    requires { AreSamplesAround of }
+    ensures value { result ≡ between_those of }
     ensures sample { IsSample result }
 {
     clip(shifted(whole_sum(
-        pair_sum(a0, b0),
-        pair_sum(a1, b1),
-        pair_sum(a2, b2),
-        pair_sum(a3, b3),
+        pair_sum(of.a0, of.b0),
+        pair_sum(of.a1, of.b1),
+        pair_sum(of.a2, of.b2),
+        pair_sum(of.a3, of.b3),
     )))
 }

@@ -1,10 +1,11 @@
 ghost use Rattle.std.specs.Prelude.{◌≡◌, ℕ, pos, ◌+◌, ◌-◌, ◌*◌, ◌<◌, ◌≤◌, length, slice_index_or};
 ghost use Rattle.std.specs.List.{All};
-ghost use Rattle.dirac_upconvert.specs.HalfSamples.{IsSample, between, doubled_at, half_behind};
+ghost use Rattle.dirac_upconvert.specs.Around.{AreRowsAround, between_rows_at};
+ghost use Rattle.dirac_upconvert.specs.HalfSamples.{IsSample, doubled_at, half_behind};
 ghost use Rattle.dirac_upconvert.specs.Phases.{place_in_row};
 ghost use Rattle.dirac_upconvert.specs.SubSamples.{PutFrom};
 
-use crate::half_sample::half_sample;
+use crate::half_sample::{Around, half_sample};
 
 /// The sample at place `k` of a line.
 #[inline(always)]
@@ -19,77 +20,33 @@ fn sample_at(line: &[i16], k: usize) -> i16
 
 /// The half sample in column `x` between the rows `a0` and `b0`.
 #[inline(always)]
-fn half_in_column(
-    a3: &[i16],
-    a2: &[i16],
-    a1: &[i16],
-    a0: &[i16],
-    b0: &[i16],
-    b1: &[i16],
-    b2: &[i16],
-    b3: &[i16],
-    x: usize,
-) -> i16
-    requires inside { x < length a0.now }
-    requires lens { (length a1.now ≡ length a0.now) × (length a2.now ≡ length a0.now) × (length a3.now ≡ length a0.now)
-        × (length b0.now ≡ length a0.now) × (length b1.now ≡ length a0.now) × (length b2.now ≡ length a0.now)
-        × (length b3.now ≡ length a0.now) }
-    requires a3 { All IsSample a3.now }
-    requires a2 { All IsSample a2.now }
-    requires a1 { All IsSample a1.now }
-    requires a0 { All IsSample a0.now }
-    requires b0 { All IsSample b0.now }
-    requires b1 { All IsSample b1.now }
-    requires b2 { All IsSample b2.now }
-    requires b3 { All IsSample b3.now }
-    ensures value { result ≡ between (slice_index_or a3.now x (pos 0)) (slice_index_or a2.now x (pos 0))
-        (slice_index_or a1.now x (pos 0)) (slice_index_or a0.now x (pos 0)) (slice_index_or b0.now x (pos 0))
-        (slice_index_or b1.now x (pos 0)) (slice_index_or b2.now x (pos 0)) (slice_index_or b3.now x (pos 0)) }
+fn half_in_column(rows: Around<&[i16]>, x: usize) -> i16
+    requires inside { x < length rows.a0.now }
+    requires rows { AreRowsAround (length rows.a0.now) rows }
+    ensures value { result ≡ between_rows_at rows.entry x }
     ensures sample { IsSample result }
 {
-    half_sample(
-        sample_at(a3, x),
-        sample_at(a2, x),
-        sample_at(a1, x),
-        sample_at(a0, x),
-        sample_at(b0, x),
-        sample_at(b1, x),
-        sample_at(b2, x),
-        sample_at(b3, x),
-    )
+    half_sample(Around {
+        a3: sample_at(rows.a3, x),
+        a2: sample_at(rows.a2, x),
+        a1: sample_at(rows.a1, x),
+        a0: sample_at(rows.a0, x),
+        b0: sample_at(rows.b0, x),
+        b1: sample_at(rows.b1, x),
+        b2: sample_at(rows.b2, x),
+        b3: sample_at(rows.b3, x),
+    })
 }
 
 /// The half samples between the rows `a0` and `b0`.
 #[inline(always)]
-pub fn half_of_rows(
-    a3: &[i16],
-    a2: &[i16],
-    a1: &[i16],
-    a0: &[i16],
-    b0: &[i16],
-    b1: &[i16],
-    b2: &[i16],
-    b3: &[i16],
-    out: &mut [i16],
-)
-    requires lens { (length a0.now ≡ length out.old) × (length a1.now ≡ length out.old)
-        × (length a2.now ≡ length out.old) × (length a3.now ≡ length out.old) × (length b0.now ≡ length out.old)
-        × (length b1.now ≡ length out.old) × (length b2.now ≡ length out.old) × (length b3.now ≡ length out.old) }
-    requires a3 { All IsSample a3.now }
-    requires a2 { All IsSample a2.now }
-    requires a1 { All IsSample a1.now }
-    requires a0 { All IsSample a0.now }
-    requires b0 { All IsSample b0.now }
-    requires b1 { All IsSample b1.now }
-    requires b2 { All IsSample b2.now }
-    requires b3 { All IsSample b3.now }
-    ensures value { (x : ℕ) → x < length out.old → slice_index_or out.new x (pos 0)
-        ≡ between (slice_index_or a3.now x (pos 0)) (slice_index_or a2.now x (pos 0)) (slice_index_or a1.now x (pos 0))
-        (slice_index_or a0.now x (pos 0)) (slice_index_or b0.now x (pos 0)) (slice_index_or b1.now x (pos 0))
-        (slice_index_or b2.now x (pos 0)) (slice_index_or b3.now x (pos 0)) }
+pub fn half_of_rows(rows: Around<&[i16]>, out: &mut [i16])
+    requires rows { AreRowsAround (length out.old) rows }
+    ensures value { (x : ℕ) → x < length out.old
+        → slice_index_or out.new x (pos 0) ≡ between_rows_at rows.entry x }
 {
     for x in 0..out.len() {
-        out[x] = half_in_column(a3, a2, a1, a0, b0, b1, b2, b3, x);
+        out[x] = half_in_column(rows, x);
     }
 }
 
@@ -102,16 +59,16 @@ fn half_clamped(line: &[i16], i: usize) -> i16
     ensures sample { IsSample result }
 {
     let last = line.len() - 1;
-    half_sample(
-        sample_at(line, i.saturating_sub(3)),
-        sample_at(line, i.saturating_sub(2)),
-        sample_at(line, i.saturating_sub(1)),
-        sample_at(line, i),
-        sample_at(line, (i + 1).min(last)),
-        sample_at(line, (i + 2).min(last)),
-        sample_at(line, (i + 3).min(last)),
-        sample_at(line, (i + 4).min(last)),
-    )
+    half_sample(Around {
+        a3: sample_at(line, i.saturating_sub(3)),
+        a2: sample_at(line, i.saturating_sub(2)),
+        a1: sample_at(line, i.saturating_sub(1)),
+        a0: sample_at(line, i),
+        b0: sample_at(line, (i + 1).min(last)),
+        b1: sample_at(line, (i + 2).min(last)),
+        b2: sample_at(line, (i + 3).min(last)),
+        b3: sample_at(line, (i + 4).min(last)),
+    })
 }
 
 /// The half sample behind place `i` of a line, where all neighbours lie inside.
@@ -123,16 +80,16 @@ fn half_inside(line: &[i16], i: usize) -> i16
     ensures value { result ≡ half_behind (λ k. slice_index_or line.now k (pos 0)) (length line.now - 1) i }
     ensures sample { IsSample result }
 {
-    half_sample(
-        sample_at(line, i - 3),
-        sample_at(line, i - 2),
-        sample_at(line, i - 1),
-        sample_at(line, i),
-        sample_at(line, i + 1),
-        sample_at(line, i + 2),
-        sample_at(line, i + 3),
-        sample_at(line, i + 4),
-    )
+    half_sample(Around {
+        a3: sample_at(line, i - 3),
+        a2: sample_at(line, i - 2),
+        a1: sample_at(line, i - 1),
+        a0: sample_at(line, i),
+        b0: sample_at(line, i + 1),
+        b1: sample_at(line, i + 2),
+        b2: sample_at(line, i + 3),
+        b3: sample_at(line, i + 4),
+    })
 }
 
 /// The half samples behind the places of a line from place `i` on.

@@ -1,11 +1,13 @@
 ghost use Rattle.std.specs.Prelude.{◌≡◌, ℕ, ℤ, pos, ◌+◌, ◌-◌, ◌*◌, ◌/◌, ◌%◌, ◌^◌, ◌<◌, ◌≤◌, ◌+ℤ◌, unsigned_abs, length};
 ghost use Rattle.std.specs.Prelude.{slice_index_or, IfOk};
 ghost use Rattle.std.specs.List.{All};
-ghost use Rattle.dirac_common.specs.Table.{Table, clamped_at, table_at};
+ghost use Rattle.dirac_common.specs.Table.{clamped_at, table_at};
 ghost use Rattle.dirac_upconvert.specs.HalfSamples.{IsSample, half, half_at, half_behind};
 ghost use Rattle.dirac_upconvert.specs.Phases.{phase_at, place_in_row};
-ghost use Rattle.dirac_upconvert.specs.SubSamples.{ArePartsByFour, IsRest, IsUp, Up, sub_sample};
+ghost use Rattle.dirac_upconvert.specs.Rests.{AreRests};
+ghost use Rattle.dirac_upconvert.specs.SubSamples.{ArePartsByFour, IsUp, Up, sub_sample};
 
+use crate::half_sample::Around;
 use crate::lines::{double_line, half_of_rows};
 use crate::parts::{part, place, twice, whole_sample};
 use crate::phases::Phases;
@@ -55,17 +57,17 @@ fn half_row(plane: &Plane, y: u32, line: &mut [i16])
     ensures samples { All IsSample line.new }
 {
     let last = plane.height() - 1;
-    half_of_rows(
-        row_of_samples(plane, y.saturating_sub(3)),
-        row_of_samples(plane, y.saturating_sub(2)),
-        row_of_samples(plane, y.saturating_sub(1)),
-        row_of_samples(plane, y),
-        row_of_samples(plane, (y + 1).min(last)),
-        row_of_samples(plane, (y + 2).min(last)),
-        row_of_samples(plane, (y + 3).min(last)),
-        row_of_samples(plane, (y + 4).min(last)),
-        line,
-    );
+    let rows = Around {
+        a3: row_of_samples(plane, y.saturating_sub(3)),
+        a2: row_of_samples(plane, y.saturating_sub(2)),
+        a1: row_of_samples(plane, y.saturating_sub(1)),
+        a0: row_of_samples(plane, y),
+        b0: row_of_samples(plane, (y + 1).min(last)),
+        b1: row_of_samples(plane, (y + 2).min(last)),
+        b2: row_of_samples(plane, (y + 3).min(last)),
+        b3: row_of_samples(plane, (y + 4).min(last)),
+    };
+    half_of_rows(rows, line);
 }
 
 /// Row `y` of the upconverted plane; `line` is room for one row of half samples.
@@ -135,11 +137,9 @@ pub fn upconvert(alloc: Global, plane: &Plane) -> Result<UpPlane, NoMemory>
 /// of eight.
 fn eight_by_four(table: &Phases, rests: Rests, across: i64, down: i64, out: &mut [i16])
     requires samples { All IsSample table.now.values }
-    requires bits { rests.bits ≤ 2 }
+    requires rests { AreRests rests }
     requires across { unsigned_abs across ≤ 2 ^ 34 }
     requires down { unsigned_abs down ≤ 2 ^ 34 }
-    requires right { IsRest rests.bits rests.right }
-    requires below { IsRest rests.bits rests.below }
     requires four_rows_of_eight { length out.old ≡ 32 }
     ensures { ArePartsByFour table.now rests.bits across down rests.right rests.below out.new }
 {

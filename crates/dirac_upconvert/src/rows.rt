@@ -2,9 +2,9 @@ ghost use Rattle.std.specs.Prelude.{◌≡◌, ℕ, pos, ◌+◌, ◌-◌, ◌*�
 ghost use Rattle.std.specs.Prelude.{unsigned_abs};
 ghost use Rattle.std.specs.Prelude.{length, slice_index_or};
 ghost use Rattle.std.specs.List.{All};
-ghost use Rattle.dirac_common.specs.Table.{clamped_at};
 ghost use Rattle.dirac_upconvert.specs.HalfSamples.{IsSample};
 ghost use Rattle.dirac_upconvert.specs.Phases.{place_in_row};
+ghost use Rattle.dirac_upconvert.specs.Rests.{AreRests};
 ghost use Rattle.dirac_upconvert.specs.SubSamples.{AreParts, ArePartsByRows, ArePlaces, IsRest, IsWithin, PutFrom};
 ghost use Rattle.dirac_upconvert.specs.SubSamples.{between_sides, bilinear, four, mixed, place_at, rest_at, rounded};
 
@@ -40,6 +40,14 @@ fn is_inside(place: i64, count: usize, width: u32) -> bool
     0 <= place && ahead(place, count) <= i64::from(width)
 }
 
+/// How far a position lies behind its places across and down, each of which has 2 to the power `bits` positions.
+#[derive(Clone, Copy)]
+pub struct Rests {
+    pub bits: u32,
+    pub right: i16,
+    pub below: i16,
+}
+
 /// Two sums of two samples, one above the other, weighted by the nearness of their places, and divided.
 #[inline(always)]
 fn settle(bits: u32, below: i16, above: i16, under: i16) -> i16
@@ -67,46 +75,32 @@ fn beside_each_other(bits: u32, right: i16, a: i16, b: i16) -> i16
 
 /// The sample between four others, two above and two below.
 #[inline(always)]
-fn between_four(bits: u32, right: i16, below: i16, v00: i16, v10: i16, v01: i16, v11: i16) -> i16
-    requires bits { bits ≤ 2 }
-    requires right { IsRest bits right }
-    requires below { IsRest bits below }
+fn between_four(rests: Rests, v00: i16, v10: i16, v01: i16, v11: i16) -> i16
+    requires rests { AreRests rests }
     requires v00 { IsSample v00 }
     requires v10 { IsSample v10 }
     requires v01 { IsSample v01 }
     requires v11 { IsSample v11 }
-    ensures { result ≡ rounded (2 * bits) (four (2 ^ bits) right below v00 v10 v01 v11) }
+    ensures { result ≡ rounded (2 * rests.bits) (four (2 ^ rests.bits) rests.right rests.below v00 v10 v01 v11) }
 {
     settle(
-        bits,
-        below,
-        beside_each_other(bits, right, v00, v10),
-        beside_each_other(bits, right, v01, v11),
+        rests.bits,
+        rests.below,
+        beside_each_other(rests.bits, rests.right, v00, v10),
+        beside_each_other(rests.bits, rests.right, v01, v11),
     )
 }
 
 /// The sample between those of two rows at places `left` and `next`.
 #[inline(always)]
-fn between_rows(
-    bits: u32,
-    right: i16,
-    below: i16,
-    above: &[i8],
-    under: &[i8],
-    left: usize,
-    next: usize,
-) -> i16
-    requires bits { bits ≤ 2 }
-    requires right { IsRest bits right }
-    requires below { IsRest bits below }
+fn between_rows(rests: Rests, above: &[i8], under: &[i8], left: usize, next: usize) -> i16
+    requires rests { AreRests rests }
     requires left { (left < length above.now) × (left < length under.now) }
     requires next { (next < length above.now) × (next < length under.now) }
-    ensures { result ≡ between_sides bits right below above.now under.now left next }
+    ensures { result ≡ between_sides rests.bits rests.right rests.below above.now under.now left next }
 {
     between_four(
-        bits,
-        right,
-        below,
+        rests,
         widened(above[left]),
         widened(above[next]),
         widened(under[left]),
@@ -138,34 +132,16 @@ fn further(sides: Sides, count: usize) -> Sides
 
 /// The samples between those of two rows.
 #[inline(always)]
-fn all_between_rows(
-    bits: u32,
-    right: i16,
-    below: i16,
-    above: &[i8],
-    under: &[i8],
-    sides: Sides,
-    out: &mut [i16],
-)
-    requires bits { bits ≤ 2 }
-    requires right { IsRest bits right }
-    requires below { IsRest bits below }
+fn all_between_rows(rests: Rests, above: &[i8], under: &[i8], sides: Sides, out: &mut [i16])
+    requires rests { AreRests rests }
     requires inside { (sides.left + length out.old ≤ length above.now) × (sides.next + length out.old
         ≤ length above.now) }
     requires same { length under.now ≡ length above.now }
     ensures { (k : ℕ) → k < length out.old → slice_index_or out.new k (pos 0)
-        ≡ between_sides bits right below above.now under.now (sides.left + k) (sides.next + k) }
+        ≡ between_sides rests.bits rests.right rests.below above.now under.now (sides.left + k) (sides.next + k) }
 {
     for k in 0..out.len() {
-        out[k] = between_rows(
-            bits,
-            right,
-            below,
-            above,
-            under,
-            sides.left + k,
-            sides.next + k,
-        );
+        out[k] = between_rows(rests, above, under, sides.left + k, sides.next + k);
     }
 }
 
@@ -183,14 +159,6 @@ pub fn put(lanes: &[i16], out: &mut [i16], first: usize)
     }
 }
 
-/// How far a position lies behind its places across and down, each of which has 2 to the power `bits` positions.
-#[derive(Clone, Copy)]
-pub struct Rests {
-    pub bits: u32,
-    pub right: i16,
-    pub below: i16,
-}
-
 /// Writes as many samples between those of two rows as there are lanes, into a list from place `first` on.
 #[inline(always)]
 fn put_between(
@@ -202,9 +170,7 @@ fn put_between(
     out: &mut [i16],
     first: usize,
 )
-    requires bits { rests.bits ≤ 2 }
-    requires right { IsRest rests.bits rests.right }
-    requires below { IsRest rests.bits rests.below }
+    requires rests { AreRests rests }
     requires inside { (sides.left + length lanes.old ≤ length above.now) × (sides.next + length lanes.old
         ≤ length above.now) }
     requires same { length under.now ≡ length above.now }
@@ -212,24 +178,14 @@ fn put_between(
     ensures { PutFrom first (length lanes.old) (λ k. between_sides rests.bits rests.right rests.below above.now
         under.now (sides.left + k) (sides.next + k)) out.old out.new }
 {
-    all_between_rows(
-        rests.bits,
-        rests.right,
-        rests.below,
-        above,
-        under,
-        sides,
-        lanes,
-    );
+    all_between_rows(rests, above, under, sides, lanes);
     put(lanes, out, first);
 }
 
 /// A row of four to eight samples between those of two rows: the last four may be some that were written before.
 #[inline(always)]
 fn by_fours(rests: Rests, above: &[i8], under: &[i8], sides: Sides, out: &mut [i16])
-    requires bits { rests.bits ≤ 2 }
-    requires right { IsRest rests.bits rests.right }
-    requires below { IsRest rests.bits rests.below }
+    requires rests { AreRests rests }
     requires inside { (sides.left + length out.old ≤ length above.now) × (sides.next + length out.old
         ≤ length above.now) }
     requires same { length under.now ≡ length above.now }
@@ -256,9 +212,7 @@ fn by_fours(rests: Rests, above: &[i8], under: &[i8], sides: Sides, out: &mut [i
 /// A row of at least eight samples between those of two rows: the last eight may be some that were written before.
 #[inline(always)]
 fn by_eights(rests: Rests, above: &[i8], under: &[i8], sides: Sides, out: &mut [i16])
-    requires bits { rests.bits ≤ 2 }
-    requires right { IsRest rests.bits rests.right }
-    requires below { IsRest rests.bits rests.below }
+    requires rests { AreRests rests }
     requires inside { (sides.left + length out.old ≤ length above.now) × (sides.next + length out.old
         ≤ length above.now) }
     requires same { length under.now ≡ length above.now }
@@ -294,9 +248,7 @@ fn by_eights(rests: Rests, above: &[i8], under: &[i8], sides: Sides, out: &mut [
 /// The samples between those of two rows: eight or four side by side.
 #[inline(always)]
 fn in_lanes(rests: Rests, above: &[i8], under: &[i8], sides: Sides, out: &mut [i16])
-    requires bits { rests.bits ≤ 2 }
-    requires right { IsRest rests.bits rests.right }
-    requires below { IsRest rests.bits rests.below }
+    requires rests { AreRests rests }
     requires inside { (sides.left + length out.old ≤ length above.now) × (sides.next + length out.old
         ≤ length above.now) }
     requires same { length under.now ≡ length above.now }
@@ -308,15 +260,7 @@ fn in_lanes(rests: Rests, above: &[i8], under: &[i8], sides: Sides, out: &mut [i
     } else if out.len() >= 4 {
         by_fours(rests, above, under, sides, out);
     } else {
-        all_between_rows(
-            rests.bits,
-            rests.right,
-            rests.below,
-            above,
-            under,
-            sides,
-            out,
-        );
+        all_between_rows(rests, above, under, sides, out);
     }
 }
 
@@ -376,21 +320,18 @@ pub fn places(table: &Phases, across: i64, down: i64, out: &mut [i16])
 }
 
 /// The sample behind a place of the table that may lie outside.
-fn clamped_part(table: &Phases, bits: u32, across: i64, down: i64, right: i16, below: i16) -> i16
+fn clamped_part(table: &Phases, rests: Rests, across: i64, down: i64) -> i16
     requires samples { All IsSample table.now.values }
-    requires bits { bits ≤ 2 }
+    requires rests { AreRests rests }
     requires across { unsigned_abs across ≤ 2 ^ 35 }
     requires down { unsigned_abs down ≤ 2 ^ 35 }
-    requires right { IsRest bits right }
-    requires below { IsRest bits below }
-    ensures { result ≡ rounded (2 * bits) (bilinear table.now (2 ^ bits) across down right below) }
+    ensures { result
+        ≡ rounded (2 * rests.bits) (bilinear table.now (2 ^ rests.bits) across down rests.right rests.below) }
 {
     let next = beside(across);
     let under = beside(down);
     between_four(
-        bits,
-        right,
-        below,
+        rests,
         sample(table, across, down),
         sample(table, next, down),
         sample(table, across, under),
@@ -401,23 +342,14 @@ fn clamped_part(table: &Phases, bits: u32, across: i64, down: i64, right: i16, b
 /// The samples behind every second place of row `down`, from a place on that may lie outside.
 fn clamped_parts(table: &Phases, rests: Rests, across: i64, down: i64, out: &mut [i16])
     requires samples { All IsSample table.now.values }
-    requires bits { rests.bits ≤ 2 }
+    requires rests { AreRests rests }
     requires across { unsigned_abs across ≤ 2 ^ 34 }
     requires down { unsigned_abs down ≤ 2 ^ 35 }
-    requires right { IsRest rests.bits rests.right }
-    requires below { IsRest rests.bits rests.below }
     requires at_most_4096 { length out.old ≤ LARGEST_SIDE }
     ensures { AreParts table.now rests.bits across down rests.right rests.below out.new }
 {
     for k in 0..out.len() {
-        out[k] = clamped_part(
-            table,
-            rests.bits,
-            ahead(across, k),
-            down,
-            rests.right,
-            rests.below,
-        );
+        out[k] = clamped_part(table, rests, ahead(across, k), down);
     }
 }
 
@@ -437,11 +369,9 @@ fn sides_of(places: usize, x: usize) -> Sides
 /// The samples behind every second place of row `down`, where all lie inside the row.
 #[inline(always)]
 fn inner_parts(table: &Phases, rests: Rests, across: i64, down: i64, out: &mut [i16])
-    requires bits { rests.bits ≤ 2 }
+    requires rests { AreRests rests }
     requires inside { (pos 0 ≤ℤ across) × ((across +ℤ pos (2 * length out.old)) ≤ℤ pos table.now.width) }
     requires down { unsigned_abs down ≤ 2 ^ 35 }
-    requires right { IsRest rests.bits rests.right }
-    requires below { IsRest rests.bits rests.below }
     ensures { AreParts table.now rests.bits across down rests.right rests.below out.new }
 {
     let above = table.nearest_row(down);
@@ -459,11 +389,9 @@ fn inner_parts(table: &Phases, rests: Rests, across: i64, down: i64, out: &mut [
 #[inline(always)]
 pub fn row_parts(table: &Phases, rests: Rests, across: i64, down: i64, out: &mut [i16])
     requires samples { All IsSample table.now.values }
-    requires bits { rests.bits ≤ 2 }
+    requires rests { AreRests rests }
     requires across { unsigned_abs across ≤ 2 ^ 34 }
     requires down { unsigned_abs down ≤ 2 ^ 35 }
-    requires right { IsRest rests.bits rests.right }
-    requires below { IsRest rests.bits rests.below }
     requires at_most_4096 { length out.old ≤ LARGEST_SIDE }
     ensures { AreParts table.now rests.bits across down rests.right rests.below out.new }
 {
@@ -488,11 +416,9 @@ fn eight_columns(
     out: &mut [i16],
 )
     requires samples { All IsSample table.now.values }
-    requires bits { rests.bits ≤ 2 }
+    requires rests { AreRests rests }
     requires across { unsigned_abs across ≤ 2 ^ 34 }
     requires down { unsigned_abs down ≤ 2 ^ 34 }
-    requires right { IsRest rests.bits rests.right }
-    requires below { IsRest rests.bits rests.below }
     requires columns { first + 8 ≤ width }
     requires at_most_4096 { length out.old ≤ LARGEST_SIDE }
     ensures eight { (j k : ℕ) → j < length out.old / width → k < 8 → slice_index_or out.new (j * width + (first + k))
@@ -518,11 +444,9 @@ pub fn rows_of_parts(
     out: &mut [i16],
 )
     requires samples { All IsSample table.now.values }
-    requires bits { rests.bits ≤ 2 }
+    requires rests { AreRests rests }
     requires across { unsigned_abs across ≤ 2 ^ 33 }
     requires down { unsigned_abs down ≤ 2 ^ 34 }
-    requires right { IsRest rests.bits rests.right }
-    requires below { IsRest rests.bits rests.below }
     requires at_least_1 { 1 ≤ width }
     requires whole_rows { length out.old % width ≡ 0 }
     requires at_most_4096 { length out.old ≤ LARGEST_SIDE }
@@ -553,8 +477,7 @@ pub fn rests_of(bits: u32, x: i64, y: i64) -> Rests
     ensures bits { result.bits ≡ bits }
     ensures right { result.right ≡ rest_at x bits }
     ensures below { result.below ≡ rest_at y bits }
-    ensures right_within { IsRest bits result.right }
-    ensures below_within { IsRest bits result.below }
+    ensures within { AreRests result }
 {
     Rests {
         bits,

@@ -1,6 +1,7 @@
-ghost use Rattle.std.specs.Prelude.{◌≡◌, ◌≤◌, option_map};
+ghost use Rattle.std.specs.Prelude.{◌≡◌, ◌≤◌};
 ghost use Rattle.std.specs.Option.{ForSome};
 ghost use Rattle.dirac_vectors.specs.Neighbours.{IsShort};
+ghost use Rattle.dirac_vectors.specs.OfThree.{word_of};
 ghost use Rattle.dirac_vectors.specs.Predictions.{IsShortVector, split_of, mode_of, component_of, vector_of, dc_of};
 
 use crate::neighbours::{half_of, majority_of, median_of, third_of};
@@ -38,27 +39,44 @@ pub fn predict_mode(left: Option<bool>, above: Option<bool>, corner: Option<bool
     }
 }
 
-/// The horizontal component of a vector.
-fn x_of(v: Option<Vector>) -> Option<i32>
-    requires { ForSome v IsShortVector }
-    ensures value { result ≡ option_map (λ v. v.x) v }
-    ensures short { ForSome result IsShort }
+/// What three neighbouring values predict.
+#[derive(Clone, Copy)]
+enum OfThree {
+    Median,
+    Mean,
+}
+
+/// What these three values predict.
+fn of_three(word: OfThree, a: i32, b: i32, c: i32) -> i32
+    requires a { IsShort a }
+    requires b { IsShort b }
+    requires c { IsShort c }
+    ensures value { result ≡ word_of word a b c }
+    ensures short { IsShort result }
 {
-    match v {
-        Some(v) => Some(v.x),
-        None => None,
+    match word {
+        OfThree::Median => median_of(a, b, c),
+        OfThree::Mean => third_of(a, b, c),
     }
 }
 
-/// The vertical component of a vector.
-fn y_of(v: Option<Vector>) -> Option<i32>
-    requires { ForSome v IsShortVector }
-    ensures value { result ≡ option_map (λ v. v.y) v }
-    ensures short { ForSome result IsShort }
+/// A value from those of its neighbours that count.
+fn of_neighbours(word: OfThree, left: Option<i32>, above: Option<i32>, corner: Option<i32>) -> i32
+    requires left { ForSome left IsShort }
+    requires above { ForSome above IsShort }
+    requires corner { ForSome corner IsShort }
+    ensures value { result ≡ Rattle.dirac_vectors.specs.Predictions.of_neighbours (word_of word) left above corner }
+    ensures short { IsShort result }
 {
-    match v {
-        Some(v) => Some(v.y),
-        None => None,
+    match (left, above, corner) {
+        (None, None, None) => 0,
+        (Some(left), None, None) => left,
+        (None, Some(above), None) => above,
+        (None, None, Some(corner)) => corner,
+        (Some(left), Some(above), None) => half_of(left, above),
+        (Some(left), None, Some(corner)) => half_of(left, corner),
+        (None, Some(above), Some(corner)) => half_of(above, corner),
+        (Some(left), Some(above), Some(corner)) => of_three(word, left, above, corner),
     }
 }
 
@@ -70,16 +88,7 @@ fn predict_component(left: Option<i32>, above: Option<i32>, corner: Option<i32>)
     ensures value { result ≡ component_of left above corner }
     ensures short { IsShort result }
 {
-    match (left, above, corner) {
-        (None, None, None) => 0,
-        (Some(left), None, None) => left,
-        (None, Some(above), None) => above,
-        (None, None, Some(corner)) => corner,
-        (Some(left), Some(above), None) => half_of(left, above),
-        (Some(left), None, Some(corner)) => half_of(left, corner),
-        (None, Some(above), Some(corner)) => half_of(above, corner),
-        (Some(left), Some(above), Some(corner)) => median_of(left, above, corner),
-    }
+    of_neighbours(OfThree::Median, left, above, corner)
 }
 
 /// The vector of a block, from those of its neighbours to the left, above, and above and left;
@@ -92,8 +101,8 @@ pub fn predict_vector(left: Option<Vector>, above: Option<Vector>, corner: Optio
     ensures short { IsShortVector result }
 {
     Vector {
-        x: predict_component(x_of(left), x_of(above), x_of(corner)),
-        y: predict_component(y_of(left), y_of(above), y_of(corner)),
+        x: predict_component(left.map(|v| v.x), above.map(|v| v.x), corner.map(|v| v.x)),
+        y: predict_component(left.map(|v| v.y), above.map(|v| v.y), corner.map(|v| v.y)),
     }
 }
 
@@ -106,14 +115,5 @@ pub fn predict_dc(left: Option<i32>, above: Option<i32>, corner: Option<i32>) ->
     ensures value { result ≡ dc_of left above corner }
     ensures short { IsShort result }
 {
-    match (left, above, corner) {
-        (None, None, None) => 0,
-        (Some(left), None, None) => left,
-        (None, Some(above), None) => above,
-        (None, None, Some(corner)) => corner,
-        (Some(left), Some(above), None) => half_of(left, above),
-        (Some(left), None, Some(corner)) => half_of(left, corner),
-        (None, Some(above), Some(corner)) => half_of(above, corner),
-        (Some(left), Some(above), Some(corner)) => third_of(left, above, corner),
-    }
+    of_neighbours(OfThree::Mean, left, above, corner)
 }

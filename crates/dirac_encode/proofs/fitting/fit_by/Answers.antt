@@ -7,14 +7,14 @@ use Rattle.dirac_encode.proofs.fitting.fit_by.Goals as goal
 
 pub indices-preserved : goal.indices-preserved
 indices-preserved c =
-    let t = c.args.settings.now in
-    let j : Job = record { planned = c.args.planned.now; source = c.args.source.now } in
-    let long : c.args.budget < length_at t c.args.refs.now j c.indices.index = omega (arith, c.if-len-from.false, ap length c.in_ok-coded.ensures.payload) in
-    more_long (length_at t c.args.refs.now j) c.args.budget t.index c.indices.index c.indices.invariant long
+    let t = c.args.asked.now.settings.now in
+    let j : Job = record { planned = c.args.asked.now.planned.now; source = c.args.asked.now.source.now } in
+    let long : c.args.budget < length_at t c.args.asked.now.refs.now j c.indices.index = omega (arith, c.if-len-from.false, ap length c.in_ok-coded.ensures.payload) in
+    more_long (length_at t c.args.asked.now.refs.now j) c.args.budget t.index c.indices.index c.indices.invariant long
 
 pub returns-clause-least : goal.returns-clause-least
 returns-clause-least c =
-    let first : c.args.settings.now.index ≤ 99 = (codable c.args.settings.now c.requires.accepted).index in
+    let first : c.args.asked.now.settings.now.index ≤ 99 = (codable c.args.asked.now.settings.now c.requires.accepted).index in
     record {
       from = omega (arith, first);
       last = omega arith;
@@ -24,5 +24,5 @@ returns-clause-least c =
 
 pub overflow_step-index : goal.overflow_step-index
 overflow_step-index c =
-    let first : c.args.settings.now.index ≤ 99 = (codable c.args.settings.now c.requires.accepted).index in
+    let first : c.args.asked.now.settings.now.index ≤ 99 = (codable c.args.asked.now.settings.now c.requires.accepted).index in
     omega (arith, first)

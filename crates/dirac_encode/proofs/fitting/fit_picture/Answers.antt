@@ -3,6 +3,10 @@ use Rattle.dirac_encode_laws.proofs.Fitting.{fit_is}
 use Rattle.dirac_encode.proofs.AtIndex.{payload_at_fit, shown_at_fit}
 use Rattle.dirac_encode.proofs.fitting.fit_picture.Goals as goal
 
+pub prepare_picture-requires-after_bounds : goal.prepare_picture-requires-after_bounds
+prepare_picture-requires-after_bounds g c = λ lives bound.
+    record { accepted = c.requires.accepted; listed = c.requires.listed; source = c.requires.source; planned = c.requires.planned; found = c.requires.found }
+
 pub fit_by-requires-clause-prepared : goal.fit_by-requires-clause-prepared
 fit_by-requires-clause-prepared g c = c.in_ok-prepared.ensures.prepared
 

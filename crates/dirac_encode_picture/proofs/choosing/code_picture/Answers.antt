@@ -5,6 +5,10 @@ use Rattle.dirac_encode_picture.proofs.Choices.{chosen_motion}
 use Rattle.dirac_encode_picture.proofs.Facts.{coding_by}
 use Rattle.dirac_encode_picture.proofs.choosing.code_picture.Goals as goal
 
+pub prepare_picture-requires-after_bounds : goal.prepare_picture-requires-after_bounds
+prepare_picture-requires-after_bounds g c = λ lives bound.
+    record { accepted = c.requires.accepted; listed = c.requires.listed; source = c.requires.source; planned = c.requires.planned; found = c.requires.found }
+
 pub returns-clause-payload : goal.returns-clause-payload
 returns-clause-payload g c = ok_weaker c.code_at.result (λ x is. is.payload) (coding_by c.args.settings.now c.args.refs.now c.args.planned.now c.args.source.now _ _ c.code_at.result (ap (motion_among c.args.settings.now) c.in_ok-prepared.ensures.blocks ∙ chosen_motion c.args.settings.now c.args.refs.now c.args.planned.now c.args.source.now) c.code_at.ensures)
 

@@ -4,18 +4,18 @@ use Rattle.dirac_encode_picture.proofs.Preparing.{inter_same, left_quantisable}
 use Rattle.dirac_encode_picture.proofs.making.coded_inter.Goals as goal
 
 pub motion_of-requires-clause-blocks : goal.motion_of-requires-clause-blocks
-motion_of-requires-clause-blocks g c = let is = predicting c.args.asked.settings.now c.requires.prepared.asked.accepted in (is.some_blocks, is.most_blocks)
+motion_of-requires-clause-blocks g c = let is = predicting c.args.asked.now.settings.now c.requires.prepared.asked.accepted in (is.some_blocks, is.most_blocks)
 
 pub motion_of-requires-clause-precision : goal.motion_of-requires-clause-precision
-motion_of-requires-clause-precision g c = (predicting c.args.asked.settings.now c.requires.prepared.asked.accepted).precision
+motion_of-requires-clause-precision g c = (predicting c.args.asked.now.settings.now c.requires.prepared.asked.accepted).precision
 
-pub quantise-requires-clause-codable : goal.quantise-requires-clause-codable
-quantise-requires-clause-codable g c = codable c.args.asked.settings.now c.requires.prepared.asked.accepted
-
-pub quantise-requires-clause-fits : goal.quantise-requires-clause-fits
-quantise-requires-clause-fits g c = left_quantisable c.args.asked.settings.now c.args.asked.refs.now c.args.asked.planned.now c.args.asked.source.now _ c.args.prepared.now.left c.requires.prepared.left
+pub quantise-requires-clause-from : goal.quantise-requires-clause-from
+quantise-requires-clause-from g c = record {
+  codable = codable c.args.asked.now.settings.now c.requires.prepared.asked.accepted;
+  fits = left_quantisable c.args.asked.now.settings.now c.args.asked.now.refs.now c.args.asked.now.planned.now c.args.asked.now.source.now _ c.args.prepared.now.left c.requires.prepared.left;
+}
 
 pub returns : goal.returns
 returns g c =
-    inter_same c.args.asked.settings.now c.args.asked.refs.now c.args.asked.planned.now c.args.asked.source.now c.args.prepared.now c.args.compensated.now c.header_of.result c.in_ok-motion.motion c.in_ok-residual.residual c.unless_zero.result
+    inter_same c.args.asked.now.settings.now c.args.asked.now.refs.now c.args.asked.now.planned.now c.args.asked.now.source.now c.args.prepared.now c.args.compensated.now c.header_of.result c.in_ok-motion.motion c.in_ok-residual.residual c.unless_zero.result
     c.requires.prepared c.requires.inter c.header_of.ensures c.in_ok-motion.ensures c.in_ok-residual.ensures c.unless_zero.ensures

@@ -18,28 +18,28 @@ use Rattle.dirac_encode_picture.proofs.Finishing.{can_finish}
 use Rattle.dirac_encode_picture.proofs.picture.code_at.Goals as goal
 
 pub payload_bytes-requires-clause-index : goal.payload_bytes-requires-clause-index
-payload_bytes-requires-clause-index g c = let is = predicting c.args.settings.now c.requires.prepared.asked.accepted in (is.some_blocks, is.most_blocks)
+payload_bytes-requires-clause-index g c = let is = predicting c.args.asked.now.settings.now c.requires.prepared.asked.accepted in (is.some_blocks, is.most_blocks)
 
 pub payload_bytes-requires-clause-precision : goal.payload_bytes-requires-clause-precision
-payload_bytes-requires-clause-precision g c = (predicting c.args.settings.now c.requires.prepared.asked.accepted).precision
+payload_bytes-requires-clause-precision g c = (predicting c.args.asked.now.settings.now c.requires.prepared.asked.accepted).precision
 
 pub payload_bytes-requires-clause-written : goal.payload_bytes-requires-clause-written
 payload_bytes-requires-clause-written g c =
     let o = blocks_in c.args.prepared.now in
-    (coded_fits c.args.settings.now c.sequence_of-sequence.result c.args.refs.now c.args.planned.now c.args.source.now (motion_among c.args.settings.now o) c.in_ok-coded.coded
-    c.requires.prepared.asked (moves_of c.args.settings.now c.args.planned.now o c.requires.prepared.blocks) c.sequence_of-sequence.ensures.value c.in_ok-coded.ensures).1
+    (coded_fits c.args.asked.now.settings.now c.sequence_of-sequence.result c.args.asked.now.refs.now c.args.asked.now.planned.now c.args.asked.now.source.now (motion_among c.args.asked.now.settings.now o) c.in_ok-coded.coded
+    c.requires.prepared.asked (moves_of c.args.asked.now.settings.now c.args.asked.now.planned.now o c.requires.prepared.blocks) c.sequence_of-sequence.ensures.value c.in_ok-coded.ensures).1
 
-pub finish-requires-clause-finishing : goal.finish-requires-clause-finishing
-finish-requires-clause-finishing g c =
-    can_finish c.args.settings.now c.sequence_of-sequence.result c.args.refs.now c.args.planned.now c.args.source.now c.args.prepared.now c.in_ok-coded.coded c.requires.prepared c.sequence_of-sequence.ensures.value c.in_ok-coded.ensures
+pub finish-requires-clause-from : goal.finish-requires-clause-from
+finish-requires-clause-from g c =
+    can_finish c.args.asked.now.settings.now c.sequence_of-sequence.result c.args.asked.now.refs.now c.args.asked.now.planned.now c.args.asked.now.source.now c.args.prepared.now c.in_ok-coded.coded c.requires.prepared c.sequence_of-sequence.ensures.value c.in_ok-coded.ensures
 
 pub returns : goal.returns
 unfolding payload_by
 returns g c =
-    let t = c.args.settings.now in
-    let refs = c.args.refs.now in
-    let q = c.args.planned.now in
-    let p = c.args.source.now in
+    let t = c.args.asked.now.settings.now in
+    let refs = c.args.asked.now.refs.now in
+    let q = c.args.asked.now.planned.now in
+    let p = c.args.asked.now.source.now in
     let o = blocks_in c.args.prepared.now in
     let coded = c.in_ok-coded.coded in
     let known = moves_of t q o c.requires.prepared.blocks in

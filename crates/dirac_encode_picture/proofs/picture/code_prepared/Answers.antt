@@ -8,6 +8,6 @@ pub code_at-requires : goal.code_at-requires
 code_at-requires c = record {
   shared = tt;
   prepared =
-      subst (λ (i : ℕ). IsPrepared (at_index c.args.settings.now i) c.args.refs.now c.args.planned.now c.args.source.now c.args.prepared.now) (sym c.from.ensures)
-      (prepared_at c.args.settings.now c.args.index c.args.refs.now c.args.planned.now c.args.source.now c.args.prepared.now c.requires.prepared c.requires.index);
+      subst (λ (i : ℕ). IsPrepared (at_index c.args.asked.now.settings.now i) c.args.asked.now.refs.now c.args.asked.now.planned.now c.args.asked.now.source.now c.args.prepared.now) (sym c.from.ensures)
+      (prepared_at c.args.asked.now.settings.now c.args.index c.args.asked.now.refs.now c.args.asked.now.planned.now c.args.asked.now.source.now c.args.prepared.now c.requires.prepared c.requires.index);
 }

@@ -4,6 +4,10 @@ use Rattle.dirac_encode_laws.specs.Coded.{motion_among}
 use Rattle.dirac_encode_picture.proofs.Facts.{coding_by}
 use Rattle.dirac_encode_picture.proofs.picture.code_with_blocks.Goals as goal
 
+pub prepare-requires-clause-asked : goal.prepare-requires-clause-asked
+prepare-requires-clause-asked c =
+    record { accepted = c.requires.accepted; listed = c.requires.listed; source = c.requires.source; planned = c.requires.planned; found = c.requires.found }
+
 pub returns-clause-payload : goal.returns-clause-payload
 returns-clause-payload c = ok_weaker c.code_at.result (λ x is. is.payload) (coding_by c.args.settings.now c.args.refs.now c.args.planned.now c.args.source.now _ _ c.code_at.result (ap (motion_among c.args.settings.now) c.in_ok-prepared.ensures.blocks) c.code_at.ensures)
 

@@ -10,43 +10,43 @@ use Rattle.dirac_encode_picture.proofs.Preparing.{inter_prepared}
 use Rattle.dirac_encode_picture.proofs.prepared.prepare_inter.Goals as goal
 
 pub motion_of-requires-clause-blocks : goal.motion_of-requires-clause-blocks
-motion_of-requires-clause-blocks g c = let is = predicting c.args.settings.now c.requires.asked.accepted in (is.some_blocks, is.most_blocks)
+motion_of-requires-clause-blocks g c = let is = predicting c.args.asked.now.settings.now c.requires.asked.accepted in (is.some_blocks, is.most_blocks)
 
 pub motion_of-requires-clause-precision : goal.motion_of-requires-clause-precision
-motion_of-requires-clause-precision g c = (predicting c.args.settings.now c.requires.asked.accepted).precision
+motion_of-requires-clause-precision g c = (predicting c.args.asked.now.settings.now c.requires.asked.accepted).precision
 
-pub predict-requires-clause-sequence : goal.predict-requires-clause-sequence
-predict-requires-clause-sequence g c = ask_sequence c.args.settings.now c.sequence_of-sequence.result c.requires.asked.accepted c.sequence_of-sequence.ensures.value
+pub predict-requires-clause-from : goal.predict-requires-clause-from
+predict-requires-clause-from g c =
+    let t = c.args.asked.now.settings.now in
+    record {
+      moved = record {
+        sequence = ask_sequence t c.sequence_of-sequence.result c.requires.asked.accepted c.sequence_of-sequence.ensures.value;
+        motion =
+            ask_motion t c.args.asked.now.planned.now.code c.sequence_of-sequence.result c.args.moving.blocks.now c.in_ok-motion.motion c.requires.asked.accepted c.sequence_of-sequence.ensures.value c.in_ok-motion.ensures c.requires.blocks;
+      };
+      lent = subst (λ (x : Sequence). AreLent x c.args.moving.references.now) (sym c.sequence_of-sequence.ensures.value) c.requires.moving.lent;
+      two =
+          second_lent t c.args.asked.now.refs.now c.args.asked.now.planned.now c.args.asked.now.source.now c.in_ok-motion.motion c.args.moving.blocks.now c.args.moving.references.now c.requires.asked c.in_ok-motion.ensures
+          c.requires.blocks c.requires.moving.named;
+    }
 
-pub predict-requires-clause-motion : goal.predict-requires-clause-motion
-predict-requires-clause-motion g c =
-    ask_motion c.args.settings.now c.args.planned.now.code c.sequence_of-sequence.result c.args.moving.blocks.now c.in_ok-motion.motion c.requires.asked.accepted c.sequence_of-sequence.ensures.value c.in_ok-motion.ensures c.requires.blocks
-
-pub predict-requires-clause-lent : goal.predict-requires-clause-lent
-predict-requires-clause-lent g c = subst (λ (x : Sequence). AreLent x c.args.moving.references.now) (sym c.sequence_of-sequence.ensures.value) c.requires.moving.lent
-
-pub predict-requires-clause-two : goal.predict-requires-clause-two
-predict-requires-clause-two g c =
-    second_lent c.args.settings.now c.args.refs.now c.args.planned.now c.args.source.now c.in_ok-motion.motion c.args.moving.blocks.now c.args.moving.references.now c.requires.asked c.in_ok-motion.ensures
-    c.requires.blocks c.requires.moving.named
-
-pub analyse_rest-requires-clause-codable : goal.analyse_rest-requires-clause-codable
-analyse_rest-requires-clause-codable g c = codable c.args.settings.now c.requires.asked.accepted
-
-pub analyse_rest-requires-clause-source : goal.analyse_rest-requires-clause-source
-analyse_rest-requires-clause-source g c = source_codable c.args.settings.now c.args.source.now c.requires.asked.accepted c.requires.asked.source
-
-pub analyse_rest-requires-clause-predicted : goal.analyse_rest-requires-clause-predicted
-analyse_rest-requires-clause-predicted g c =
-    picture_asked c.args.settings.now c.sequence_of-sequence.result c.args.refs.now c.args.planned.now c.args.source.now c.in_ok-motion.motion c.args.moving.blocks.now c.in_ok-predictions.predictions
-    c.requires.asked c.requires.whole c.sequence_of-sequence.ensures.value c.in_ok-motion.ensures c.requires.blocks
-    (named_predictions c.sequence_of-sequence.result c.args.refs.now c.args.planned.now c.in_ok-motion.motion c.in_ok-predictions.predictions c.args.moving.references.now c.requires.moving.named c.in_ok-predictions.ensures)
+pub analyse-requires-clause-from : goal.analyse-requires-clause-from
+analyse-requires-clause-from g c =
+    let t = c.args.asked.now.settings.now in
+    record {
+      codable = codable t c.requires.asked.accepted;
+      source = source_codable t c.args.asked.now.source.now c.requires.asked.accepted c.requires.asked.source;
+      predicted =
+          picture_asked t c.sequence_of-sequence.result c.args.asked.now.refs.now c.args.asked.now.planned.now c.args.asked.now.source.now c.in_ok-motion.motion c.args.moving.blocks.now c.in_ok-predictions.predictions
+          c.requires.asked c.requires.whole c.sequence_of-sequence.ensures.value c.in_ok-motion.ensures c.requires.blocks
+          (named_predictions c.sequence_of-sequence.result c.args.asked.now.refs.now c.args.asked.now.planned.now c.in_ok-motion.motion c.in_ok-predictions.predictions c.args.moving.references.now c.requires.moving.named c.in_ok-predictions.ensures);
+    }
 
 pub returns-clause-prepared : goal.returns-clause-prepared
 returns-clause-prepared g c =
-    inter_prepared c.args.settings.now c.sequence_of-sequence.result c.args.refs.now c.args.planned.now c.args.source.now c.in_ok-motion.motion c.args.moving.blocks.now c.in_ok-predictions.predictions c.in_ok-left.left
+    inter_prepared c.args.asked.now.settings.now c.sequence_of-sequence.result c.args.asked.now.refs.now c.args.asked.now.planned.now c.args.asked.now.source.now c.in_ok-motion.motion c.args.moving.blocks.now c.in_ok-predictions.predictions c.in_ok-left.left
     c.requires.asked c.requires.whole c.sequence_of-sequence.ensures.value c.requires.inter c.requires.blocks c.in_ok-motion.ensures
-    (named_predictions c.sequence_of-sequence.result c.args.refs.now c.args.planned.now c.in_ok-motion.motion c.in_ok-predictions.predictions c.args.moving.references.now c.requires.moving.named c.in_ok-predictions.ensures)
+    (named_predictions c.sequence_of-sequence.result c.args.asked.now.refs.now c.args.asked.now.planned.now c.in_ok-motion.motion c.in_ok-predictions.predictions c.args.moving.references.now c.requires.moving.named c.in_ok-predictions.ensures)
     c.in_ok-left.ensures
 
 pub returns-clause-blocks : goal.returns-clause-blocks

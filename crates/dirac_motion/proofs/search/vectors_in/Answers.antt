@@ -1,4 +1,7 @@
-use Rattle.std.proofs.Common.{arith, ap, sym, subst, ◌∙◌, length}
+use Rattle.std.proofs.Common.{◌≡◌, arith, rules, ap, sym, subst, ◌∙◌, length}
+use Rattle.std.proofs.lemmas.Grind.{common_steps}
+use Rattle.dirac_common.specs.declared.picture.Picture.{Picture}
+use Rattle.dirac_pyramid.specs.Pyramid.{pyramid_of}
 use Rattle.dirac_search.proofs.Accepted.{search_accepted}
 use Rattle.dirac_decide.proofs.Accepted.{IsGrid, blocks_within, grid_within}
 use Rattle.dirac_motion.proofs.Asked.{levels_accepted, pyramid_length}
@@ -21,3 +24,9 @@ search_field-requires-after_bounds g c =
     λ lives bound. search_accepted _ c.args.settings.now c.requires.settings
     (ap length c.requires.pyramid ∙ pyramid_length c.args.source.now.y c.args.settings.now.pyramid)
     c.in_ok-other.ensures.number_of_levels grid.columns.1 grid.rows.1 c.superblocks_over.ensures.at_most_1024 c.superblocks_over-2.ensures.at_most_1024
+
+pub returns-clause-value : goal.returns-clause-value
+returns-clause-value g c =
+    let t = c.args.settings.now in
+    let levels : c.in_ok-other.other ≡ pyramid_of c.args.reference.picture.now.y t.pyramid = c.in_ok-other.ensures.value ∙ ap (λ (p : Picture). pyramid_of p.y t.pyramid) c.picture-listed.ensures in
+    first_of (search rules, grind (arith, common_steps))

@@ -6,8 +6,8 @@ use Rattle.dirac_obmc.proofs.rows.add_block.Goals as goal
 
 pub add_part-requires-clause-part : goal.add_part-requires-clause-part
 add_part-requires-clause-part c =
-    let columns = span_told c.args.i _ _ _ _ 0 c.args.motion.now.width c.args.columns.blocks c.held-across.result c.requires.columns.direction c.held-across.ensures in
-    let rows = span_told c.args.j _ _ _ _ c.args.lines.first c.args.lines.end c.args.lines.blocks c.held-down.result c.requires.lines.direction c.held-down.ensures in
+    let columns = span_told c.args.i _ _ _ _ 0 c.args.motion.now.width c.args.columns.blocks c.held-across.result c.requires.blending.columns.direction c.held-across.ensures in
+    let rows = span_told c.args.j _ _ _ _ c.args.lines.first c.args.lines.end c.args.lines.blocks c.held-down.result c.requires.blending.lines.direction c.held-down.ensures in
     record {
       across = c.requires.across;
       down = c.requires.down;
@@ -23,10 +23,10 @@ add_part-requires-clause-part c =
 
 pub returns-then-across-clause-sums : goal.returns-then-across-clause-sums
 returns-then-across-clause-sums c =
-    no_columns (given c.args.motion.now) c.args.lines.first c.args.lines.end c.args.i c.args.j c.held-across.result _ c.requires.motion
-    (span_told c.args.i _ _ _ _ 0 c.args.motion.now.width c.args.columns.blocks c.held-across.result c.requires.columns.direction c.held-across.ensures) (omega arith)
+    no_columns (given c.args.motion.now) c.args.lines.first c.args.lines.end c.args.i c.args.j c.held-across.result _ c.requires.blending.motion
+    (span_told c.args.i _ _ _ _ 0 c.args.motion.now.width c.args.columns.blocks c.held-across.result c.requires.blending.columns.direction c.held-across.ensures) (omega arith)
 
 pub returns-then-down-clause-sums : goal.returns-then-down-clause-sums
 returns-then-down-clause-sums c =
-    no_rows (given c.args.motion.now) c.args.lines.first c.args.lines.end c.args.i c.args.j c.held-down.result _ c.requires.motion
-    (span_told c.args.j _ _ _ _ c.args.lines.first c.args.lines.end c.args.lines.blocks c.held-down.result c.requires.lines.direction c.held-down.ensures) (omega arith)
+    no_rows (given c.args.motion.now) c.args.lines.first c.args.lines.end c.args.i c.args.j c.held-down.result _ c.requires.blending.motion
+    (span_told c.args.j _ _ _ _ c.args.lines.first c.args.lines.end c.args.lines.blocks c.held-down.result c.requires.blending.lines.direction c.held-down.ensures) (omega arith)

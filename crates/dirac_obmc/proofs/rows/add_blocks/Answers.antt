@@ -15,8 +15,8 @@ add_block-requires-clause-sums c =
     let m = given c.args.motion.now in
     let first = c.args.lines.first in
     adds_bounded (λ p. total (λ i. added_at m first c.args.j i p) c.loop-i.i) _ (2 ^ 21) (2 ^ 21) (2 ^ 22) _ _ c.loop-i.invariant.sums c.requires.len c.requires.sums
-    (λ p l. row_small m (p % m.width) (first + p / m.width) c.args.j c.loop-i.i c.requires.motion c.requires.sound (column_inside m p c.requires.motion)
-    (omega (arith, row_inside m first c.args.lines.end p c.requires.motion l, c.requires.lines.inside)) c.requires.down (omega (arith, c.requires.columns.direction.count_is))) (omega arith)
+    (λ p l. row_small m (p % m.width) (first + p / m.width) c.args.j c.loop-i.i c.requires.blending.motion c.requires.blending.sound (column_inside m p c.requires.blending.motion)
+    (omega (arith, row_inside m first c.args.lines.end p c.requires.blending.motion l, c.requires.blending.lines.inside)) c.requires.down (omega (arith, c.requires.blending.columns.direction.count_is))) (omega arith)
 
 pub loop-i-preserved : goal.loop-i-preserved
 loop-i-preserved c = record {
@@ -27,4 +27,4 @@ loop-i-preserved c = record {
 
 pub returns-clause-sums : goal.returns-clause-sums
 returns-clause-sums c =
-    adds_all (λ p i. added_at (given c.args.motion.now) c.args.lines.first c.args.j i p) c.loop-i.i (blocks_across (given c.args.motion.now)) _ _ _ c.loop-i.invariant.sums (omega (arith, c.requires.columns.direction.count_is))
+    adds_all (λ p i. added_at (given c.args.motion.now) c.args.lines.first c.args.j i p) c.loop-i.i (blocks_across (given c.args.motion.now)) _ _ _ c.loop-i.invariant.sums (omega (arith, c.requires.blending.columns.direction.count_is))

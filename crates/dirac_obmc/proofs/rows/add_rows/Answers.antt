@@ -13,27 +13,27 @@ loop-j-init c =
     let m = given c.args.motion.now in
     let lines = c.args.lines in
     record {
-      within = first_within m lines.blocks lines.first _ c.requires.lines.direction (omega (arith, c.requires.lines.some, c.requires.lines.inside)) c.first_row-j.ensures;
+      within = first_within m lines.blocks lines.first _ c.requires.blending.lines.direction (omega (arith, c.requires.blending.lines.some, c.requires.blending.lines.inside)) c.first_row-j.ensures;
       room_fits = c.requires.room_fits;
       sums =
           adds_none _ _ _
-          (λ p l. nothing_above m lines.blocks (lines.first + p / m.width) _ (p % m.width) c.requires.lines.direction (λ j k. omega (arith, c.first_row-j.ensures j k)));
+          (λ p l. nothing_above m lines.blocks (lines.first + p / m.width) _ (p % m.width) c.requires.blending.lines.direction (λ j k. omega (arith, c.first_row-j.ensures j k)));
     }
 
 pub add_blocks-requires-clause-down : goal.add_blocks-requires-clause-down
-add_blocks-requires-clause-down c = omega (arith, c.requires.lines.direction.count_is, c.end_row-j-end.ensures.within)
+add_blocks-requires-clause-down c = omega (arith, c.requires.blending.lines.direction.count_is, c.end_row-j-end.ensures.within)
 
 pub add_blocks-requires-clause-sums : goal.add_blocks-requires-clause-sums
 add_blocks-requires-clause-sums c =
     let m = given c.args.motion.now in
     let first = c.args.lines.first in
     adds_bounded (λ p. total (λ j. total (λ i. added_at m first j i p) (blocks_across m)) c.loop-j.j) _ 0 (2 ^ 21) (2 ^ 21) _ _ c.loop-j.invariant.sums c.requires.len (zeros_small _ c.requires.sums)
-    (λ p l. rows_small m (p % m.width) (first + p / m.width) c.loop-j.j c.requires.motion c.requires.sound (column_inside m p c.requires.motion)
-    (omega (arith, row_inside m first c.args.lines.end p c.requires.motion l, c.requires.lines.inside)) c.loop-j.invariant.within) (omega arith)
+    (λ p l. rows_small m (p % m.width) (first + p / m.width) c.loop-j.j c.requires.blending.motion c.requires.blending.sound (column_inside m p c.requires.blending.motion)
+    (omega (arith, row_inside m first c.args.lines.end p c.requires.blending.motion l, c.requires.blending.lines.inside)) c.loop-j.invariant.within) (omega arith)
 
 pub loop-j-preserved : goal.loop-j-preserved
 loop-j-preserved c = record {
-  within = omega (arith, c.requires.lines.direction.count_is, c.end_row-j-end.ensures.within);
+  within = omega (arith, c.requires.blending.lines.direction.count_is, c.end_row-j-end.ensures.within);
   room_fits = c.add_blocks.ensures.room_fits;
   sums =
       adds_more (λ p j. total (λ i. added_at (given c.args.motion.now) c.args.lines.first j i p) (blocks_across (given c.args.motion.now))) c.loop-j.j _ _ _ _ _ c.loop-j.invariant.sums c.add_blocks.ensures.sums refl;
@@ -44,13 +44,13 @@ returns-clause-value c =
     let m = given c.args.motion.now in
     let lines = c.args.lines in
     λ p l. added_alone _ _ p _ _ c.loop-j.invariant.sums (omega (arith, l, c.requires.len)) c.requires.sums
-    ∙ sym (nothing_below m lines.blocks (lines.first + p / m.width) c.loop-j.j _ (p % m.width) c.requires.lines.direction
-    (λ j a b. omega (arith, c.end_row-j-end.ensures.behind j a b, row_inside m lines.first lines.end p c.requires.motion (omega (arith, l, c.requires.len)))) (omega arith) c.loop-j.invariant.within)
+    ∙ sym (nothing_below m lines.blocks (lines.first + p / m.width) c.loop-j.j _ (p % m.width) c.requires.blending.lines.direction
+    (λ j a b. omega (arith, c.end_row-j-end.ensures.behind j a b, row_inside m lines.first lines.end p c.requires.blending.motion (omega (arith, l, c.requires.len)))) (omega arith) c.loop-j.invariant.within)
 
 pub returns-clause-magnitudes_at_most_2_21 : goal.returns-clause-magnitudes_at_most_2_21
 returns-clause-magnitudes_at_most_2_21 c =
     let m = given c.args.motion.now in
     let first = c.args.lines.first in
     adds_bounded (λ p. total (λ j. total (λ i. added_at m first j i p) (blocks_across m)) c.loop-j.j) _ 0 (2 ^ 21) (2 ^ 21) _ _ c.loop-j.invariant.sums c.requires.len (zeros_small _ c.requires.sums)
-    (λ p l. rows_small m (p % m.width) (first + p / m.width) c.loop-j.j c.requires.motion c.requires.sound (column_inside m p c.requires.motion)
-    (omega (arith, row_inside m first c.args.lines.end p c.requires.motion l, c.requires.lines.inside)) c.loop-j.invariant.within) (omega arith)
+    (λ p l. rows_small m (p % m.width) (first + p / m.width) c.loop-j.j c.requires.blending.motion c.requires.blending.sound (column_inside m p c.requires.blending.motion)
+    (omega (arith, row_inside m first c.args.lines.end p c.requires.blending.motion l, c.requires.blending.lines.inside)) c.loop-j.invariant.within) (omega arith)

@@ -11,5 +11,5 @@ pub returns : goal.returns
 unfolding best_of
 returns c =
     c.least_of.ensures
-    ∙ ap (λ (w : Window). first_least (window_cost (given c.args.search.now) c.args.settings.now.bias c.args.stage w) no_motion c.push_choice.new.list) c.window-window.ensures.value
-    ∙ c.in_ok-push_choice.ensures.chooses_as_all (cost_of (given c.args.search.now) c.args.settings.now.bias c.args.stage c.args.i c.args.j)
+    ∙ ap (λ (w : Window). first_least (window_cost (given c.args.staged.now.search.now) c.args.staged.now.settings.now.bias c.args.staged.now.stage w) no_motion c.push_choice.new.list) c.window-window.ensures.value
+    ∙ c.in_ok-push_choice.ensures.chooses_as_all (cost_of (given c.args.staged.now.search.now) c.args.staged.now.settings.now.bias c.args.staged.now.stage c.args.i c.args.j)

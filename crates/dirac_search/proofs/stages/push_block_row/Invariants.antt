@@ -5,4 +5,4 @@ use Rattle.dirac_search.specs.Given.{given}
 use Rattle.dirac_search.proofs.stages.push_block_row.Given as goal
 
 abbrev pub invariant-loop-i : goal.invariant-loop-i
-invariant-loop-i l = l.vectors.items ≡ l.initial.vectors.items ++ row_values l.i (best_of (given l.search) l.settings l.stage (option_map (λ f. f.now) l.before)) l.j
+invariant-loop-i l = l.vectors.items ≡ l.initial.vectors.items ++ row_values l.i (best_of (given l.staged.search.now) l.staged.settings.now l.staged.stage (option_map (λ f. f.now) l.before)) l.j

@@ -7,9 +7,12 @@ use Rattle.dirac_search.specs.Given.{given}
 use Rattle.dirac_search.proofs.Bounds.{all_short, sub_former, sub_bound}
 use Rattle.dirac_search.proofs.stages.search_field.Goals as goal
 
-pub search_stage-requires-clause-former : goal.search_stage-requires-clause-former
-search_stage-requires-clause-former g c κs within =
-    subst (IsFormerField (given c.args.search.now)) (sym c.loop-q.invariant) (sub_former (given c.args.search.now) c.args.settings.now c.loop-q.q c.requires (omega arith))
+pub search_stage-requires-after_bounds : goal.search_stage-requires-after_bounds
+search_stage-requires-after_bounds g c = λ lives bound. record {
+  search = c.requires;
+  stage = (omega arith, omega arith);
+  former = subst (IsFormerField (given c.args.search.now)) (sym c.loop-q.invariant) (sub_former (given c.args.search.now) c.args.settings.now c.loop-q.q c.requires (omega arith));
+}
 
 pub returns-clause-sizes : goal.returns-clause-sizes
 returns-clause-sizes g c =

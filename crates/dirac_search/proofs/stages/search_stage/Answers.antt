@@ -9,12 +9,12 @@ use Rattle.dirac_search.proofs.stages.search_stage.Goals as goal
 
 pub new-requires-clause-a_vector_for_each_block : goal.new-requires-clause-a_vector_for_each_block
 new-requires-clause-a_vector_for_each_block g c =
-    (stage_is (given c.args.search.now) c.args.settings.now c.args.stage (option_map (λ f. f.now) c.args.before) c.in_ok-rows.rows.items c.in_ok-vectors.vectors.items c.in_ok-rows.ensures
+    (stage_is (given c.args.staged.now.search.now) c.args.staged.now.settings.now c.args.staged.now.stage (option_map (λ f. f.now) c.args.before) c.in_ok-rows.rows.items c.in_ok-vectors.vectors.items c.in_ok-rows.ensures
     (c.in_ok-vectors.ensures ∙ ap (flat_map items_of) c.as_slice.ensures.value)).1
 
 pub returns : goal.returns
 unfolding stage_field
 returns g c =
-    let all = (stage_is (given c.args.search.now) c.args.settings.now c.args.stage (option_map (λ f. f.now) c.args.before) c.in_ok-rows.rows.items c.in_ok-vectors.vectors.items c.in_ok-rows.ensures
+    let all = (stage_is (given c.args.staged.now.search.now) c.args.staged.now.settings.now c.args.staged.now.stage (option_map (λ f. f.now) c.args.before) c.in_ok-rows.rows.items c.in_ok-vectors.vectors.items c.in_ok-rows.ensures
     (c.in_ok-vectors.ensures ∙ ap (flat_map items_of) c.as_slice.ensures.value)).0 in
-    c.new.ensures ∙ ap (λ (vs : List Vector). record { across = c.args.search.now.across; down = c.args.search.now.down; vectors = vs }) all
+    c.new.ensures ∙ ap (λ (vs : List Vector). record { across = c.args.staged.now.search.now.across; down = c.args.staged.now.search.now.down; vectors = vs }) all

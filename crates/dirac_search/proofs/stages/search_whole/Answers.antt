@@ -4,6 +4,9 @@ use Rattle.dirac_search.specs.Given.{given}
 use Rattle.dirac_search.proofs.Bounds.{finer_former}
 use Rattle.dirac_search.proofs.stages.search_whole.Goals as goal
 
-pub search_stage-requires-in-loop-k-clause-former : goal.search_stage-requires-in-loop-k-clause-former
-search_stage-requires-in-loop-k-clause-former g c κs within =
-    subst (IsFormerField (given c.args.search.now)) (sym c.loop-k.invariant) (finer_former (given c.args.search.now) c.args.settings.now c.loop-k.k c.requires (omega arith))
+pub search_stage-requires-in-loop-k-after_bounds : goal.search_stage-requires-in-loop-k-after_bounds
+search_stage-requires-in-loop-k-after_bounds g c = λ lives bound. record {
+  search = c.requires;
+  stage = omega arith;
+  former = subst (IsFormerField (given c.args.search.now)) (sym c.loop-k.invariant) (finer_former (given c.args.search.now) c.args.settings.now c.loop-k.k c.requires (omega arith));
+}

@@ -2,17 +2,21 @@ use Rattle.std.proofs.Common.{◌≡◌, ◌^◌, ◌*◌, to_z, of_z, refl, ap,
 use Rattle.std.specs.Int.{w16}
 use Rattle.std.proofs.lemmas.Int.{to_z-of_z}
 use Rattle.dirac_upconvert.specs.SubSamples.{mixed, rounded}
+use Rattle.dirac_upconvert.proofs.Lanes.{plain_rest}
 use Rattle.dirac_upconvert.proofs.Mixing.{four_products}
 use Rattle.dirac_upconvert.proofs.rows.between_four.Goals as goal
 
 pub returns : goal.returns
 returns c =
-    let above : to_z w16 (of_z w16 c.beside_each_other.result) ≡ mixed (2 ^ c.args.bits) c.args.right c.args.v00 c.args.v10 =
+    let r = c.args.rests in
+    let right = plain_rest r.bits r.right c.requires.rests.bits c.requires.rests.right in
+    let below = plain_rest r.bits r.below c.requires.rests.bits c.requires.rests.below in
+    let above : to_z w16 (of_z w16 c.beside_each_other.result) ≡ mixed (2 ^ r.bits) r.right c.args.v00 c.args.v10 =
     to_z-of_z w16 _ (record { sfits = c.beside_each_other.type_inv }) ∙ c.beside_each_other.ensures.value
-    ∙ rw (to_z-of_z w16 c.args.right c.ranges.right, to_z-of_z w16 c.args.v00 c.ranges.v00, to_z-of_z w16 c.args.v10 c.ranges.v10) refl in
-    let under : to_z w16 (of_z w16 c.beside_each_other-2.result) ≡ mixed (2 ^ c.args.bits) c.args.right c.args.v01 c.args.v11 =
+    ∙ rw (right, to_z-of_z w16 c.args.v00 c.ranges.v00, to_z-of_z w16 c.args.v10 c.ranges.v10) refl in
+    let under : to_z w16 (of_z w16 c.beside_each_other-2.result) ≡ mixed (2 ^ r.bits) r.right c.args.v01 c.args.v11 =
     to_z-of_z w16 _ (record { sfits = c.beside_each_other-2.type_inv }) ∙ c.beside_each_other-2.ensures.value
-    ∙ rw (to_z-of_z w16 c.args.right c.ranges.right, to_z-of_z w16 c.args.v01 c.ranges.v01, to_z-of_z w16 c.args.v11 c.ranges.v11) refl in
+    ∙ rw (right, to_z-of_z w16 c.args.v01 c.ranges.v01, to_z-of_z w16 c.args.v11 c.ranges.v11) refl in
     to_z-of_z w16 _ (record { sfits = c.settle.type_inv }) ∙ c.settle.ensures
-    ∙ rw (to_z-of_z w16 c.args.below c.ranges.below, above, under)
-    (ap (rounded (2 * c.args.bits)) (four_products (2 ^ c.args.bits) c.args.right c.args.below c.args.v00 c.args.v10 c.args.v01 c.args.v11))
+    ∙ rw (below, above, under)
+    (ap (rounded (2 * r.bits)) (four_products (2 ^ r.bits) r.right r.below c.args.v00 c.args.v10 c.args.v01 c.args.v11))

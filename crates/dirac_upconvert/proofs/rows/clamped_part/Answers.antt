@@ -18,4 +18,4 @@ returns c =
     let v11 : to_z w16 (of_z w16 c.sample-4.result) ≡ clamped_at t (c.args.across +ℤ pos 1) (c.args.down +ℤ pos 1) =
     to_z-of_z w16 _ (record { sfits = c.sample-4.type_inv }) ∙ c.sample-4.ensures.value ∙ rw (next, under) refl in
     to_z-of_z w16 _ (record { sfits = c.between_four.type_inv }) ∙ c.between_four.ensures
-    ∙ rw (to_z-of_z w16 c.args.right c.ranges.right, to_z-of_z w16 c.args.below c.ranges.below, v00, v10, v01, v11) refl
+    ∙ rw (v00, v10, v01, v11) refl

@@ -8,9 +8,9 @@ use Rattle.dirac_upconvert.proofs.rows.row_parts.Goals as goal
 pub returns-then-rests-eq0-2 : goal.returns-then-rests-eq0-2
 returns-then-rests-eq0-2 c =
     let r = c.args.rests in
-    parts_at_places c.args.table.now r.bits c.args.across c.args.down r.right r.below c.places.new.out c.requires.bits
-    (sym (plain_rest r.bits r.right c.requires.bits c.requires.right) ∙ ap (to_z w16) c.if-rests-eq0.true)
-    (sym (plain_rest r.bits r.below c.requires.bits c.requires.below) ∙ ap (to_z w16) c.if-rests-eq0-2.true)
+    parts_at_places c.args.table.now r.bits c.args.across c.args.down r.right r.below c.places.new.out c.requires.rests.bits
+    (sym (plain_rest r.bits r.right c.requires.rests.bits c.requires.rests.right) ∙ ap (to_z w16) c.if-rests-eq0.true)
+    (sym (plain_rest r.bits r.below c.requires.rests.bits c.requires.rests.below) ∙ ap (to_z w16) c.if-rests-eq0-2.true)
     (places_told c.args.table.now _ _ _ _ c.places.new.out (length c.places.new.out) c.places.ensures (omega arith) (to_z-of_z w64 c.args.across c.ranges.across) (to_z-of_z w64 c.args.down c.ranges.down))
 
 pub returns-then-is_inside : goal.returns-then-is_inside

@@ -5,11 +5,12 @@ use Rattle.dirac_upconvert.specs.SubSamples.{ArePartsByFour, Up, place_at, rest_
 use Rattle.dirac_upconvert.proofs.SampleRows.{four_rows_of_parts, four_rows_of_places}
 use Rattle.dirac_upconvert.proofs.plane.UpPlane.sub_eight_by_four.Goals as goal
 
-pub eight_by_four-requires-clause-right : goal.eight_by_four-requires-clause-right
-eight_by_four-requires-clause-right c = record { least = omega (arith, ints); most = omega (arith, ints) }
-
-pub eight_by_four-requires-clause-below : goal.eight_by_four-requires-clause-below
-eight_by_four-requires-clause-below c = record { least = omega (arith, ints); most = omega (arith, ints) }
+pub eight_by_four-requires-clause-rests : goal.eight_by_four-requires-clause-rests
+eight_by_four-requires-clause-rests c = record {
+  bits = omega arith;
+  right = record { least = omega (arith, ints); most = omega (arith, ints) };
+  below = record { least = omega (arith, ints); most = omega (arith, ints) };
+}
 
 pub returns-then-precision-eq0 : goal.returns-then-precision-eq0
 returns-then-precision-eq0 c =

@@ -5,11 +5,12 @@ use Rattle.dirac_upconvert.specs.SubSamples.{ArePartsByRows, Up, place_at, rest_
 use Rattle.dirac_upconvert.proofs.SampleRows.{rows_of_parts, rows_of_places, rows_samples}
 use Rattle.dirac_upconvert.proofs.plane.UpPlane.sub_rows.Goals as goal
 
-pub rows_of_parts-requires-clause-right : goal.rows_of_parts-requires-clause-right
-rows_of_parts-requires-clause-right c = record { least = omega (arith, ints); most = omega (arith, ints) }
-
-pub rows_of_parts-requires-clause-below : goal.rows_of_parts-requires-clause-below
-rows_of_parts-requires-clause-below c = record { least = omega (arith, ints); most = omega (arith, ints) }
+pub rows_of_parts-requires-clause-rests : goal.rows_of_parts-requires-clause-rests
+rows_of_parts-requires-clause-rests c = record {
+  bits = omega arith;
+  right = record { least = omega (arith, ints); most = omega (arith, ints) };
+  below = record { least = omega (arith, ints); most = omega (arith, ints) };
+}
 
 pub returns-then-precision-eq0-clause-value : goal.returns-then-precision-eq0-clause-value
 returns-then-precision-eq0-clause-value c =

@@ -4,7 +4,7 @@ use Rattle.dirac_common.proofs.Rows.{filled_at}
 use Rattle.dirac_obmc.specs.Compensation.{predicted_at}
 use Rattle.dirac_obmc.specs.Given.{given}
 use Rattle.dirac_obmc.proofs.Predictions.{lines_are, rows_are_small}
-use Rattle.dirac_obmc.proofs.predict.rows_between.Goals as goal
+use Rattle.dirac_obmc.proofs.predict.predict_rows_with.Goals as goal
 
 pub returns-clause-value : goal.returns-clause-value
 returns-clause-value c =
@@ -34,4 +34,4 @@ returns-clause-magnitudes_at_most_2_15 c =
     let table =
     lines_are (λ x y. predicted_at (given c.args.motion.now) x (c.args.first + y)) c.args.motion.now.width rows _ c.predict_lines.new.out c.in_ok-predicted.ensures size
     (λ p l. c.predict_lines.ensures p (omega (arith, l, size, c.predict_lines.auto.out))) in
-    rows_are_small (given c.args.motion.now) _ c.args.first c.args.end c.requires.motion c.lawful.ensures c.requires.inside table
+    rows_are_small (given c.args.motion.now) _ c.args.first c.args.end c.bounded.ensures c.lawful.ensures c.requires.inside table

@@ -1,0 +1,34 @@
+-- A vector that is tried for a window, and the sums that it comes to.
+use Rattle.std.specs.Prelude.{ℕ, pos, ◌+◌, ◌^◌, ◌≤◌, ◌+ℤ◌, ◌≤ℤ◌}
+use Rattle.dirac_common.specs.Table.{Table}
+use Rattle.dirac_upconvert.specs.SubSamples.{Up}
+use Rattle.dirac_search.specs.declared.stage.Stage.{Stage}
+use Rattle.dirac_search.specs.declared.tried.Tried.{Tried}
+use Rattle.dirac_search.specs.Candidates.{IsWithinReach}
+use Rattle.dirac_search.specs.Costs.{IsBlockWindow, distortion}
+use Rattle.dirac_search.specs.Given.{Searched}
+use Rattle.dirac_search.specs.Rows.{sub_rows, whole_rows}
+
+-- a vector and a window of the search, and no more than a vector's bits can cost
+pub record IsTried (t : Tried) : Type 0 where
+  pub window : IsBlockWindow t.window
+  pub v : IsWithinReach (2 ^ 24) t.v
+  pub at_most_66300 : t.first ≤ 66300
+
+-- one plane has all columns of the window, and the other one all to which the vector leads
+pub record HasColumns (source reference : Table) (t : Tried) : Type 0 where
+  pub x : t.window.x + t.window.columns ≤ source.width
+  pub left : pos 0 ≤ℤ (pos t.window.x +ℤ t.v.x)
+  pub right : ((pos t.window.x +ℤ t.v.x) +ℤ pos t.window.columns) ≤ℤ pos reference.width
+
+-- all that it costs on a level, where it leads to whole samples
+abbrev pub whole_sum : Table → Table → Tried → ℕ
+whole_sum source reference t = t.first + whole_rows source reference t.window t.v t.window.rows
+
+-- all that it costs where it counts parts of a sample
+abbrev pub sub_sum : Table → Up → ℕ → Tried → ℕ
+sub_sum source up precision t = t.first + sub_rows source up precision t.window t.v t.window.rows
+
+-- all that it costs at a stage
+abbrev pub stage_sum : Searched → Stage → Tried → ℕ
+stage_sum g stage t = t.first + distortion g stage t.window t.v
