@@ -1,64 +1,16 @@
-//! The program `dirac_tool`: reads its words, runs a command on standard input and output, and ends
-//! with a status. All that it promises stands on `run_on` and `run_beside`.
+//! The program `dirac_tool`: fetches its words, makes the file of the reconstructions where they name one, and runs a
+//! command on the standard streams. All that it promises stands on `answer_beside` of `dirac_commands`.
 #![tactic(auto)]
 
-mod cut;
-#[cfg(test)]
-mod cut_tests;
-mod decode;
-#[cfg(test)]
-mod device_tests;
-mod encode;
-#[cfg(test)]
-mod encode_tests;
-mod ended;
-#[cfg(test)]
-mod fault_tests;
-#[cfg(test)]
-mod field_tests;
-mod flushed;
-#[cfg(test)]
-mod flushed_tests;
-#[cfg(test)]
-mod inter_tests;
-mod join;
-#[cfg(test)]
-mod join_tests;
-mod line;
-mod list;
-mod make;
-#[cfg(test)]
-mod make_tests;
-#[cfg(test)]
-mod mode_tests;
-mod options;
-mod points;
-mod rate;
-#[cfg(test)]
-mod rate_tests;
-mod run;
-#[cfg(test)]
-mod shape_streams;
-#[cfg(test)]
-mod shape_tests;
-#[cfg(test)]
-mod tests;
-#[cfg(test)]
-mod tries;
-mod words;
+mod outlet;
 
-ghost use Rattle.std.specs.Prelude.{◌≡◌};
-ghost use Rattle.dirac_tool.specs.Words.{command_read, tells_reconstructions};
-
-use crate::ended::{Ended, ended_text, status};
-use crate::flushed::{run_beside, run_on};
-use crate::words::{Command, Words, read_words, recon_path};
+use crate::outlet::{beside, texts};
+use dirac_commands::{Ended, Words, answer_beside, status};
 use dirac_common::NoMemory;
-use dirac_io::{NullSink, ReaderSource, WriterSink};
+use dirac_io::{ReaderSource, WriterSink};
 use std::alloc::Global;
 use std::env;
 use std::env::Env;
-use std::fs::File;
 use std::io::{BufReader, ErrorKind, Write};
 use std::process::ExitCode;
 
@@ -81,53 +33,28 @@ fn main(rt: HostRuntime) -> ExitCode {
     let Ok(input) = BufReader::with_capacity(alloc, READ_AHEAD, rt.stdin()) else {
         return ExitCode::from(status(&Ended::NoMemory));
     };
-    let mut input = ReaderSource::new(input);
-    let mut output = WriterSink::new(rt.stdout());
-    let ended = match recon_path(&words) {
-        Some(path) => {
-            let Ok(file) = File::create(&rt, path) else {
-                // A text that can't be written is lost; the status tells the same.
-                let _ = writeln!(rt.stderr(), "cannot make recon file");
-                return ExitCode::from(NO_FILE);
-            };
-            let mut side = WriterSink::new(file);
-            run_beside(&rt, alloc, &words, &mut input, &mut output, &mut side)
-        }
-        None if has_recon(&words) => run_on(
-            &rt,
-            alloc,
-            &words,
-            &mut input,
-            &mut output,
-            &mut NullSink,
-        ),
-        None => {
-            let mut side = WriterSink::new(rt.stderr());
-            run_beside(&rt, alloc, &words, &mut input, &mut output, &mut side)
-        }
+    // This comes before the file is made, which would get the place of a standard stream that is closed.
+    let mut texts = WriterSink::new(texts(&rt));
+    let Ok(side) = beside(&rt, &words) else {
+        // A text that can't be written is lost; the status tells the same.
+        let _ = writeln!(rt.stderr(), "cannot make recon file");
+        return ExitCode::from(NO_FILE);
     };
-    if let Ok(text) = ended_text(alloc, &ended) {
-        if !text.is_empty() {
-            let _ = writeln!(rt.stderr(), "{text}");
-        }
-    }
-    ExitCode::from(status(&ended))
+    ExitCode::from(answer_beside(
+        &rt,
+        alloc,
+        &words,
+        &mut ReaderSource::new(input),
+        &mut WriterSink::new(rt.stdout()),
+        &mut WriterSink::new(side),
+        &mut texts,
+    ))
 }
 
 // Takes a large piece of memory and frees it untouched, so that the tables of one picture stay at hand for the next,
 // and aren't given back to the system and asked for again, page by page. Where there is no such piece, nothing is lost.
 fn keep_freed_memory(alloc: Global) {
     let _ = Vec::<u8>::with_capacity(alloc, LEARNT_PIECE);
-}
-
-// Whether the words fit a command that tells reconstructions beside it.
-fn has_recon(words: &Words) -> bool
-    ensures { result ≡ tells_reconstructions (command_read words.now) }
-{
-    matches!(
-        read_words(words),
-        Ok(Command::Encode(_) | Command::Rate(_, _))
-    )
 }
 
 // The words behind the program's name. Where they can't be fetched there is none.

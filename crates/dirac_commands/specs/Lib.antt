@@ -1,0 +1,16 @@
+pub mod Options
+pub mod Points
+pub mod Rating
+pub mod Words
+pub mod Ended
+pub mod Answering
+pub mod Line
+pub mod Listing
+pub mod Decoding
+pub mod Encoding
+pub mod Making
+pub mod Cutting
+pub mod Joining
+pub mod Running
+pub mod Flushing
+pub mod Workers

@@ -1,0 +1,109 @@
+-- What a run answers, reads and writes, command by command.
+use Rattle.std.specs.Prelude.{◌≡◌, ℕ, ◌≤◌, List, Option, None, Some, IfSome, Result, Ok, Err, []}
+use Rattle.std.specs.Io.KnownBytes.{IsAtEnd}
+use Rattle.dirac_types.specs.declared.settings.BadSetting.{BadSetting}
+use Rattle.dirac_types.specs.declared.settings.Settings.{Settings}
+use Rattle.dirac_types.specs.Settings.{first_bad, table}
+use Rattle.dirac_encode_laws.specs.Fit.{AllFitOrNone}
+use Rattle.dirac_encode_laws.specs.Standing.{jobs_in}
+use Rattle.dirac_commands.specs.declared.ended.Ended.{Ended}
+use Rattle.dirac_commands.specs.declared.ended.Ended.TheVariants as ended
+use Rattle.dirac_commands.specs.declared.words.Command.{Command}
+use Rattle.dirac_commands.specs.declared.words.Command.TheVariants as command
+use Rattle.dirac_commands.specs.declared.words.WordsStop.{WordsStop}
+use Rattle.dirac_commands.specs.declared.words.WordsStop.TheVariants.{Usage}
+use Rattle.dirac_commands.specs.Cutting.{Cuts}
+use Rattle.dirac_commands.specs.Decoding.{IsDecoded, IsDecodeAnswer, TellsFew}
+use Rattle.dirac_commands.specs.Encoding.{IsEncoded, IsEncodeAnswer}
+use Rattle.dirac_commands.specs.Joining.{Joins}
+use Rattle.dirac_commands.specs.Listing.{IsListed, IsListAnswer}
+use Rattle.dirac_commands.specs.Making.{AnswersMake, first_bad_for_make}
+use Rattle.dirac_commands.specs.Workers.{bad_workers}
+use Rattle.dirac_commands.specs.Rating.{IsRated, first_bad_for_rate}
+
+-- the bytes that the source holds and that the two sinks took, where they tell them
+pub record Held : Type 0 where
+  pub held : Option (List ℕ)
+  pub out : Option (List ℕ)
+  pub side : Option (List ℕ)
+
+-- `list`: the lines of the cut of the bytes held, and its end or fault; nothing is said beside them
+pub record Lists (old new : Held) (answer : Ended) : Type 0 where
+  pub answers : IsListAnswer answer
+  pub listed : IfSome old.held (λ bytes. IsListed bytes answer old.out new.out)
+  pub whole : answer ≡ ended.Done → IsAtEnd new.held
+  pub side : new.side ≡ old.side
+
+-- `decode`: the pictures that the bytes held show, and their tally
+pub record Decodes (old new : Held) (answer : Ended) : Type 0 where
+  pub answers : IsDecodeAnswer answer
+  pub decoded : IfSome old.held (λ bytes. IsDecoded bytes answer old.out new.out old.side new.side)
+  pub tells_at_most_8_references : IfSome old.held (TellsFew answer)
+  pub whole : answer ≡ ended.Done → IsAtEnd new.held
+
+-- `pardecode`: what `decode` leaves, or the number of workers is out of its range, is answered and nothing is read or
+-- written
+abbrev pub DecodesUnless : Option BadSetting → Held → Held → Ended → Type 0
+DecodesUnless (Some bad) old new answer = (answer ≡ ended.BadSettings bad) × (new ≡ old)
+DecodesUnless None old new answer = Decodes old new answer
+
+-- `encode` with accepted settings: the stream of the raw pictures that the bytes held are, and their reconstructions
+pub record Encodes (t : Settings) (old new : Held) (answer : Ended) : Type 0 where
+  pub answers : IsEncodeAnswer answer
+  pub encoded : IfSome old.held (λ bytes. IsEncoded t bytes answer old.out new.out old.side new.side)
+  pub whole : answer ≡ ended.Done → IsAtEnd new.held
+  pub partial : (n : ℕ) → answer ≡ ended.PartialPicture n → (1 ≤ n) × IsAtEnd new.held
+
+-- `encode`: the first setting that is out of its range is answered and nothing is read or written, or there is none
+abbrev pub EncodesUnless : Option BadSetting → Settings → Held → Held → Ended → Type 0
+EncodesUnless (Some bad) t old new answer = (answer ≡ ended.BadSettings bad) × (new ≡ old)
+EncodesUnless None t old new answer = Encodes t old new answer
+
+-- `make` with accepted settings and number of pictures: nothing is read, and nothing is said beside what comes out
+pub record Makes (t : Settings) (count : ℕ) (old new : Held) (answer : Ended) : Type 0 where
+  pub made : AnswersMake answer t count old.out new.out
+  pub unread : new.held ≡ old.held
+  pub side : new.side ≡ old.side
+
+-- `make`: the first setting that is out of its range, or else the number of pictures, is answered and nothing is
+-- written
+abbrev pub MakesUnless : Option BadSetting → Settings → ℕ → Held → Held → Ended → Type 0
+MakesUnless (Some bad) t count old new answer = (answer ≡ ended.BadSettings bad) × (new ≡ old)
+MakesUnless None t count old new answer = Makes t count old new answer
+
+-- `rate` with accepted settings and budget: as `encode`, with the least index for each picture by which its unit fits;
+-- each unit fits, or at no index from the settings' on does
+pub record Rates (t : Settings) (budget : ℕ) (old new : Held) (answer : Ended) : Type 0 where
+  pub answers : IsEncodeAnswer answer
+  pub rated : IfSome old.held (λ bytes. IsRated t budget bytes answer old.out new.out old.side new.side)
+  pub fits : (bytes : List ℕ) → AllFitOrNone budget t [] (jobs_in t bytes)
+  pub whole : answer ≡ ended.Done → IsAtEnd new.held
+  pub partial : (n : ℕ) → answer ≡ ended.PartialPicture n → (1 ≤ n) × IsAtEnd new.held
+
+-- `rate`: the first setting that is out of its range, or else the budget, is answered and nothing is read or written
+abbrev pub RatesUnless : Option BadSetting → Settings → ℕ → Held → Held → Ended → Type 0
+RatesUnless (Some bad) t budget old new answer = (answer ≡ ended.BadSettings bad) × (new ≡ old)
+RatesUnless None t budget old new answer = Rates t budget old new answer
+
+-- what the words ask for
+abbrev pub RunsTo : Result Command WordsStop → Held → Held → Ended → Type 0
+RunsTo (Err (Usage n)) old new answer = (answer ≡ ended.Usage n) × (new ≡ old)
+RunsTo (Ok command.List) old new answer = Lists old new answer
+RunsTo (Ok command.Decode) old new answer = Decodes old new answer
+RunsTo (Ok (command.Encode t)) old new answer = EncodesUnless (first_bad (table t)) t old new answer
+RunsTo (Ok (command.Make t count)) old new answer = MakesUnless (first_bad_for_make t count) t count old new answer
+RunsTo (Ok (command.Pardecode workers)) old new answer = DecodesUnless (bad_workers workers) old new answer
+RunsTo (Ok (command.Cut from to)) old new answer =
+    Cuts from to old.held new.held old.out new.out answer × (new.side ≡ old.side)
+RunsTo (Ok (command.Rate t budget)) old new answer =
+    RatesUnless (first_bad_for_rate t budget) t budget old new answer
+RunsTo (Ok command.Join) old new answer =
+    Joins old.held new.held old.out new.out answer × (new.side ≡ old.side)
+
+-- the first setting that is out of its range, where the words fit a command with settings
+abbrev pub bad_setting : Result Command WordsStop → Option BadSetting
+bad_setting (Ok (command.Encode t)) = first_bad (table t)
+bad_setting (Ok (command.Make t count)) = first_bad_for_make t count
+bad_setting (Ok (command.Pardecode workers)) = bad_workers workers
+bad_setting (Ok (command.Rate t budget)) = first_bad_for_rate t budget
+bad_setting _ = None

@@ -1,0 +1,124 @@
+ghost use Rattle.std.specs.Prelude.{◌≡◌, ◌==◌, ℕ, ◌≤◌, ◌↔◌, IfOk, IsErr, IsSome, Option, Ok, string_bytes};
+ghost use Rattle.std.specs.Io.KnownBytes.{Keeps};
+ghost use Rattle.dirac_io.specs.Faults.{Rose, clipped};
+ghost use Rattle.dirac_types.specs.declared.settings.BadSetting.{BadSetting};
+ghost use Rattle.dirac_types.specs.declared.settings.Settings.{Settings};
+ghost use Rattle.dirac_commands.specs.Answering.{Answers, Tells, line_of as line_with};
+ghost use Rattle.dirac_commands.specs.Ended.{status_of, text_of};
+ghost use Rattle.dirac_commands.specs.Words.{command_read};
+ghost use Rattle.dirac_commands.specs.Running.{bad_setting};
+
+use crate::ended::{Ended, ended_text, status};
+use crate::flushed::run_beside;
+use crate::words::{Command, Words};
+use dirac_common::NoMemory;
+use dirac_io::{ReaderSource, Sink, Took, WriterSink};
+use std::alloc::Global;
+use std::io::{Read, Write};
+use std::thread::Threads;
+
+/// Runs words from a reader to a writer and beside a second one, as `run_beside`, and tells the answer to a third: its
+/// text and a newline, where it has a text. What can't be told is lost. The exit status of the program.
+pub fn answer_beside<R: Threads + Sync, I: Read, O: Write, W: Write, T: Write>(
+    rt: &R,
+    alloc: Global,
+    words: &Words,
+    input: &mut ReaderSource<I>,
+    output: &mut WriterSink<O>,
+    side: &mut WriterSink<W>,
+    texts: &mut WriterSink<T>,
+) -> u8
+    // How the run ended, what it left, what is told of it, and that this is its status.
+    ensures answers { Answers (command_read words.now)
+        (record {
+          held = I.remaining input.old.reader;
+          out = O.contents output.old.writer;
+          side = W.contents side.old.writer;
+        })
+        (record {
+          held = I.remaining input.new.reader;
+          out = O.contents output.new.writer;
+          side = W.contents side.new.writer;
+        })
+        (output.new.faults == output.old.faults) (side.new.faults == side.old.faults)
+        (record { bytes = T.contents texts.old.writer; faults = texts.old.faults })
+        (record { bytes = T.contents texts.new.writer; faults = texts.new.faults }) result }
+    // At the status of `Done` no write and no flush was counted as failed.
+    ensures unfailed { result ≡ status_of Ended.Done
+        → (output.new.faults ≡ output.old.faults) × (side.new.faults ≡ side.old.faults) }
+
+    // Words that don't fit and settings out of their ranges are refused before anything is read or written.
+    ensures usage { (n : ℕ) → (result ≡ status_of (Ended.Usage n)) ↔ IsErr (command_read words.now) }
+    ensures untouched { (n : ℕ) → result ≡ status_of (Ended.Usage n) → (input.new ≡ input.old)
+        × Keeps (O.contents output.old.writer) (O.contents output.new.writer)
+        × Keeps (W.contents side.old.writer) (W.contents side.new.writer) }
+    ensures bad_settings { (bad : BadSetting) → (result ≡ status_of (Ended.BadSettings bad))
+        ↔ IsSome (bad_setting (command_read words.now)) }
+    ensures unread { (bad : BadSetting) → result ≡ status_of (Ended.BadSettings bad) → (input.new ≡ input.old)
+        × Keeps (O.contents output.old.writer) (O.contents output.new.writer)
+        × Keeps (W.contents side.old.writer) (W.contents side.new.writer) }
+
+    ensures list_side { command_read words.now ≡ Ok Command.List
+        → Keeps (W.contents side.old.writer) (W.contents side.new.writer) }
+    ensures make_untouched { (t : Settings) (count : ℕ) → command_read words.now ≡ Ok (Command.Make t count)
+        → (input.new ≡ input.old) × Keeps (W.contents side.old.writer) (W.contents side.new.writer) }
+    ensures cut_side { (from : ℕ) (to : Option ℕ) → command_read words.now ≡ Ok (Command.Cut from to)
+        → Keeps (W.contents side.old.writer) (W.contents side.new.writer) }
+    ensures join_side { command_read words.now ≡ Ok Command.Join
+        → Keeps (W.contents side.old.writer) (W.contents side.new.writer) }
+
+    // The status of a fault of the outside comes only where its count rose in this call.
+    ensures read { result ≡ status_of Ended.ReadFault → Rose (clipped input.old.faults) (clipped input.new.faults) }
+    ensures write { result ≡ status_of Ended.WriteFault
+        → Rose (clipped output.old.faults) (clipped output.new.faults) }
+    ensures side { result ≡ status_of Ended.SideFault → Rose (clipped side.old.faults) (clipped side.new.faults) }
+    ensures reads { clipped input.old.faults ≤ clipped input.new.faults }
+    ensures writes { clipped output.old.faults ≤ clipped output.new.faults }
+    ensures sides { clipped side.old.faults ≤ clipped side.new.faults }
+    ensures texts { clipped texts.old.faults ≤ clipped texts.new.faults }
+{
+    let ended = run_beside(rt, alloc, words, input, output, side);
+    tell(alloc, texts, &ended);
+    status(&ended)
+}
+
+// Writes what is told of an answer. What memory is wanting for, or a write fails at, is lost.
+fn tell<T: Write>(alloc: Global, texts: &mut WriterSink<T>, ended: &Ended)
+    ensures told { Tells (line_with (text_of ended.now))
+        (record { bytes = T.contents texts.old.writer; faults = texts.old.faults })
+        (record { bytes = T.contents texts.new.writer; faults = texts.new.faults }) }
+    ensures count { clipped texts.old.faults ≤ clipped texts.new.faults }
+{
+    match line_of(alloc, ended) {
+        Ok(line) => put_line(texts, line.as_bytes()),
+        Err(NoMemory) => {}
+    }
+}
+
+// The text of an answer and a newline. Nothing, where it has no text.
+fn line_of(alloc: Global, ended: &Ended) -> Result<String, NoMemory>
+    ensures { IfOk result (λ line. string_bytes line ≡ line_with (text_of ended.now)) }
+{
+    let mut line = ended_text(alloc, ended)?;
+    if !line.is_empty() {
+        line.push_str("\n")?;
+    }
+    Ok(line)
+}
+
+// Writes a line, up to the first write that fails.
+fn put_line<T: Write>(texts: &mut WriterSink<T>, line: &[u8])
+    ensures told { Tells line.now
+        (record { bytes = T.contents texts.old.writer; faults = texts.old.faults })
+        (record { bytes = T.contents texts.new.writer; faults = texts.new.faults }) }
+    ensures count { clipped texts.old.faults ≤ clipped texts.new.faults }
+{
+    let mut rest = line;
+    'writing: while !rest.is_empty() {
+        match texts.write(rest) {
+            Took::Bytes(n) => rest = &rest[n..],
+            Took::Failed => return,
+            Took::NoMemory => unreachable!(),
+        }
+    }
+}

@@ -1,0 +1,73 @@
+ghost use Rattle.std.specs.Prelude.{◌≡◌, ◌≤◌, ℕ, List, [], IfSome, OnOk};
+ghost use Rattle.std.specs.Io.KnownBytes.{IsAtEnd};
+ghost use Rattle.dirac_io.specs.Faults.{Rose};
+ghost use Rattle.dirac_types.specs.Settings.{IsAccepted, verdict};
+ghost use Rattle.dirac_encode_laws.specs.Fit.{AllFitOrNone};
+ghost use Rattle.dirac_encode_laws.specs.Standing.{jobs_in};
+ghost use Rattle.dirac_commands.specs.Encoding.{IsEncodeAnswer};
+ghost use Rattle.dirac_commands.specs.Rating.{IsRated, first_bad_for_rate};
+
+use crate::ended::Ended;
+use dirac_common::RowGate;
+use dirac_encode::Encoded;
+use dirac_io::{Sink, Source};
+use dirac_rate::rate_stream;
+use dirac_types::{BadSetting, Name, Settings};
+use std::alloc::Global;
+use std::thread::Threads;
+
+/// The least budget: a unit's parse info, and one byte of payload.
+const LEAST_BUDGET: u32 = 14;
+
+/// Whether each setting is in its range, and the budget too. An `Err` names the first that isn't.
+pub fn check_rate(settings: &Settings, budget: u32) -> Result<(), BadSetting>
+    ensures exact { result ≡ verdict (first_bad_for_rate settings.now budget) }
+    ensures accepted { OnOk result (IsAccepted settings.now) }
+{
+    match settings.check() {
+        Ok(()) if LEAST_BUDGET <= budget => Ok(()),
+        Ok(()) => Err(BadSetting {
+            name: Name::Budget,
+            value: u64::from(budget),
+        }),
+        Err(bad) => Err(bad),
+    }
+}
+
+/// Encodes raw pictures, each with the least quantiser index by which its unit fits the budget: the stream goes to
+/// `out`, the reconstructions as raw pictures to the side.
+pub fn rate<R: Threads + Sync, S: Source, K: Sink, N: Sink, G: RowGate>(
+    rt: &R,
+    alloc: Global,
+    source: &mut S,
+    out: &mut K,
+    side: &mut N,
+    settings: &Settings,
+    budget: u32,
+    gate: &G,
+) -> Ended
+    requires { IsAccepted settings.now }
+    ensures answer { IsEncodeAnswer result }
+    ensures rated { IfSome (S.held source.old) (λ bytes. IsRated settings.now budget bytes result
+        (K.taken out.old) (K.taken out.new) (N.taken side.old) (N.taken side.new)) }
+    ensures fits { (bytes : List ℕ) → AllFitOrNone budget settings.now [] (jobs_in settings.now bytes) }
+    ensures whole { result ≡ Ended.Done → IsAtEnd (S.held source.new) }
+    ensures partial { (n : ℕ) → result ≡ Ended.PartialPicture n → (1 ≤ n) × IsAtEnd (S.held source.new) }
+    ensures read { result ≡ Ended.ReadFault → Rose (S.faults source.old) (S.faults source.new) }
+    ensures write { result ≡ Ended.WriteFault → Rose (K.faults out.old) (K.faults out.new) }
+    ensures side { result ≡ Ended.SideFault → Rose (N.faults side.old) (N.faults side.new) }
+    ensures reads { S.faults source.old ≤ S.faults source.new }
+    ensures writes { K.faults out.old ≤ K.faults out.new }
+    ensures sides { N.faults side.old ≤ N.faults side.new }
+{
+    match rate_stream(rt, alloc, source, out, side, settings, budget, gate) {
+        Encoded::Done => Ended::Done,
+        Encoded::PartialPicture(bytes) => Ended::PartialPicture(bytes),
+        Encoded::UnitTooLong(number) => Ended::UnitTooLong(number),
+        Encoded::TooManyPictures => Ended::TooManyPictures,
+        Encoded::ReadFault => Ended::ReadFault,
+        Encoded::WriteFault => Ended::WriteFault,
+        Encoded::SideFault => Ended::SideFault,
+        Encoded::NoMemory => Ended::NoMemory,
+    }
+}
