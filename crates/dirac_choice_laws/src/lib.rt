@@ -3,4 +3,4 @@
 
 mod laws;
 
-pub use laws::workers_change_nothing;
+pub use laws::{inter_pictures_cost_least, workers_change_nothing};
