@@ -1,5 +1,5 @@
 -- Streams that stop before a picture whose unit is too long.
-use Rattle.std.specs.Prelude.{◌≡◌, ℕ, List, [], ◌∷◌, ◌++◌, length, Some}
+use Rattle.std.specs.Prelude.{◌≡◌, ℕ, ◌<◌, ◌^◌, List, [], ◌∷◌, ◌++◌, length, Some}
 use Rattle.std.specs.List.{AllByRecursion}
 use Rattle.dirac_common.specs.declared.faults.Cause.TheVariants.{MissingEnd}
 use Rattle.dirac_common.specs.declared.faults.Fault.{Fault}
@@ -8,9 +8,10 @@ use Rattle.dirac_types.specs.Settings.{IsAccepted}
 use Rattle.dirac_units.specs.Cut.{UnitText, IsCut, start}
 use Rattle.dirac_refs.specs.Delivery.{flush}
 use Rattle.dirac_decode.specs.Shown.{IsShown, Outcome}
-use Rattle.dirac_encode_laws.specs.Coding.{Made, pushed}
-use Rattle.dirac_encode_laws.specs.Encoding.{stream_before}
-use Rattle.dirac_encode_laws.specs.Laws.{AreMade, Begins}
+use Rattle.dirac_sources.specs.Sources.{sources}
+use Rattle.dirac_encode_laws.specs.Coding.{IndexRule, Made, coding_under, pushed}
+use Rattle.dirac_encode_laws.specs.Encoding.{before_long, encoding_under, first_long, stream_before}
+use Rattle.dirac_encode_laws.specs.Laws.{AreMade, Begins, GivesIndices}
 use Rattle.dirac_encode_laws.specs.Stream.{IsUnit, header_texts, last_length, picture_length, picture_text}
 
 -- the units of pictures behind a unit of this length
@@ -34,9 +35,20 @@ StoppedStreamsAreCut =
     (t : Settings) (ms : List Made) (m : Made) → AllByRecursion IsUnit ms
     → IsCut start (stream_before t ms m) (texts_before t ms m) (Some (end_missing t ms m))
 
--- it shows the pictures before it in the order of delivery, all that waited among them
+-- these bytes show the pictures in the order of delivery, all that waited among them, up to the missing end unit
+abbrev pub ShowsAllBefore : Settings → List Made → Made → List ℕ → Type 0
+ShowsAllBefore t ms m bytes =
+    (o : Outcome) × IsShown bytes o × (o.shown ≡ flush (pushed ms)) × (o.end ≡ Some (end_missing t ms m))
+
+-- so does the stream before a picture
 abbrev pub StoppedStreamsShowTheirPictures : Type 0
 StoppedStreamsShowTheirPictures =
     (t : Settings) (ms : List Made) (m : Made) → IsAccepted t → AreMade t [] ms → Begins ms
-    → (o : Outcome) × IsShown (stream_before t ms m) o × (o.shown ≡ flush (pushed ms))
-    × (o.end ≡ Some (end_missing t ms m))
+    → ShowsAllBefore t ms m (stream_before t ms m)
+
+-- so does what an encoding of raw pictures writes that stops before a picture whose unit is too long
+abbrev pub StoppedEncodingsShowTheirPictures : Type 0
+StoppedEncodingsShowTheirPictures =
+    (f : IndexRule) → GivesIndices f → (t : Settings) (bytes : List ℕ) (m : Made)
+    → IsAccepted t → AllByRecursion (λ b. b < 2 ^ 8) bytes → first_long t (coding_under f t (sources t bytes)) ≡ Some m
+    → ShowsAllBefore t (before_long t (coding_under f t (sources t bytes))) m (encoding_under f t bytes).stream
