@@ -1,0 +1,5 @@
+mod Examples
+pub mod Fields
+pub mod Least
+pub mod Rows
+pub mod Workers

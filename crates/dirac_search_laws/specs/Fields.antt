@@ -1,0 +1,33 @@
+-- What the fields of a search are, in words.
+use Rattle.std.specs.Prelude.{◌≡◌, ℕ, suc, ◌-◌, ◌*◌, ◌<◌, Option, None, Some}
+use Rattle.dirac_types.specs.declared.settings.Settings.{Settings}
+use Rattle.dirac_search.specs.declared.stage.Stage.{Stage}
+use Rattle.dirac_search.specs.declared.stage.Stage.TheVariants as stage
+use Rattle.dirac_search.specs.Candidates.{Vectors, candidates_of, vector_at}
+use Rattle.dirac_search.specs.Costs.{cost_of}
+use Rattle.dirac_search.specs.Fields.{after_finer, after_sub, field}
+use Rattle.dirac_search.specs.Given.{Searched}
+use Rattle.dirac_search_laws.specs.Least.{IsFirstOfLeastCost}
+
+-- after a stage the vector of each block is the first of least cost among the block's candidates at this stage
+abbrev pub AreLeastVectors : Searched → Settings → Stage → Option Vectors → Vectors → Type 0
+AreLeastVectors g s stage before after =
+    (i j : ℕ) → i < 4 * g.across → j < 4 * g.down
+    → IsFirstOfLeastCost (cost_of g s.bias stage i j) (candidates_of stage s.range before i j) (vector_at after i j)
+
+-- this holds after the coarse stage, after each finer one, and after each in parts of a sample: the field is what
+-- stands after the last of them
+pub record IsLeastField (g : Searched) (s : Settings) : Type 0 where
+  pub coarse : AreLeastVectors g s (stage.Coarse s.pyramid) None (after_finer g s 0)
+  pub finer : (k : ℕ)
+      → AreLeastVectors g s (stage.Finer (s.pyramid - suc k)) (Some (after_finer g s k)) (after_finer g s (suc k))
+  pub sub : (q : ℕ) → AreLeastVectors g s (stage.Sub (suc q)) (Some (after_sub g s q)) (after_sub g s (suc q))
+
+-- it holds of every search
+abbrev pub VectorsCostLeast : Type 0
+VectorsCostLeast = (g : Searched) (s : Settings) → IsLeastField g s
+
+-- settings that differ in the number of workers alone have the same field
+abbrev pub WorkersChangeNoField : Type 0
+WorkersChangeNoField =
+    (g : Searched) (s : Settings) (workers : ℕ) → field g (record s { workers = workers }) ≡ field g s

@@ -1,0 +1,6 @@
+//! What the search's definitions mean: laws alone, no code.
+#![tactic(auto)]
+
+mod laws;
+
+pub use laws::{the_first_of_least_cost_is_least, vectors_cost_least, workers_change_no_field};
