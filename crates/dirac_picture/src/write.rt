@@ -48,7 +48,8 @@ fn write_residual(
     Ok(())
 }
 
-/// Writes the prediction parameters of this block index and precision, and a block table (picture prediction, Dirac specification).
+/// Writes the prediction parameters of this block index and precision, and a block table (picture prediction, Dirac
+/// specification).
 fn write_table(
     alloc: Global,
     w: &mut BitWriter,
@@ -59,7 +60,8 @@ fn write_table(
     requires index { (2 ≤ index) × (index ≤ 4) }
     requires precision { precision ≤ 3 }
     ensures value { OnOk result (w.new ≡ with_table index precision blocks.now w.old) }
-    ensures spelled { OnOk result (HasSpelledTable index precision (Some (motion_by index precision blocks.now)) w.old) }
+    ensures spelled { OnOk result (HasSpelledTable index precision (Some (motion_by index precision blocks.now))
+        w.old) }
 {
     write_prediction(w, index, precision)?;
     w.align()?;
@@ -166,7 +168,8 @@ pub fn payload_bytes(
     requires retires { MayRetire (is_reference coded.now.code) coded.now.header.number coded.now.header.retire }
     requires written { IfSome coded.now.residual (IsWritten sequence.now) }
     requires texts { IfSome coded.now.residual (λ r. AreTexts sequence.now r texts.now) }
-    ensures value { IfOk result (λ v. bits_of v.items ≡ up_to_byte (with_coded sequence.now index precision coded.now [])) }
+    ensures value { IfOk result (λ v. bits_of v.items
+        ≡ up_to_byte (with_coded sequence.now index precision coded.now [])) }
     ensures spelled { IfOk result (λ v. HasSpelledTable index precision coded.now.motion
         (header_bits [] coded.now.code coded.now.header)) }
 {
