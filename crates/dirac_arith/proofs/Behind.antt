@@ -73,8 +73,3 @@ pub zero_is_read : (follow : List ℕ) (bits sign : ℕ) (r s : Reading) → dec
     → signed_read follow bits sign r ≡ Ok (pos 0, s)
 unfolding signed_read sign_read number_read
 zero_is_read follow bits sign r s ends = rw (number_ends follow bits 0 38 1 r s ends) refl
-
-pub signed_shut_first : (follow : List ℕ) (bits sign : ℕ) (r : Reading) (e : Cause) → decided (follow_at follow 0) r ≡ Err e
-    → signed_read follow bits sign r ≡ Err e
-unfolding signed_read number_read
-signed_shut_first follow bits sign r e shut = rw (number_shut_at follow bits 0 38 1 r e shut) refl

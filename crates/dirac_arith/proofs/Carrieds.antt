@@ -1,5 +1,5 @@
 -- Behind decisions that a block carries it carries more; and what is read is what it carries.
-use Rattle.std.proofs.Common.{◌≡◌, ◌≢◌, ℕ, ℤ, pos, negsuc, zero, suc, ◌+◌, ◌-◌, ◌*◌, ◌^◌, ◌<◌, ◌≤◌, ◌⊎◌, inl, inr, ◌↔◌, Bool, true, false, List, [], ◌∷◌, ◌++◌, length, nat_abs, Result, Ok, Err, IfOk, IfErr, OnErr, refl, sym, ap, ◌∙◌, arith, subst, length-append, true≢false}
+use Rattle.std.proofs.Common.{◌≡◌, ◌≢◌, ℕ, ℤ, pos, negsuc, zero, suc, ◌+◌, ◌-◌, ◌*◌, ◌^◌, ◌<◌, ◌≤◌, ◌⊎◌, inl, inr, ◌↔◌, Bool, true, false, List, [], ◌∷◌, ◌++◌, length, nat_abs, Result, Ok, Err, IfOk, IfErr, refl, sym, ap, ◌∙◌, arith, subst, length-append, true≢false}
 use Rattle.std.proofs.lemmas.Bool.{cases_Bool, cases_eq, eq-eqb, ne_eqb}
 use Rattle.std.proofs.Math.Pow.{pow_mono}
 use Rattle.dirac_common.specs.Bits.{bit_value, number_from}
@@ -421,16 +421,6 @@ pub ones_read_to_nothing : OnesReadToNothing
 ones_read_to_nothing r follow context bits sign = (decision_shut r context, number_shuts r follow bits, signed_shuts r follow bits sign)
 
 -- a decoder's answers, whose clauses tell what was read
-pub decision_gives : (x : Result Bool Cause) (a b : Reading) (context : ℕ)
-    → IfOk x (λ t. b ≡ record { block = a.block; at = narrowed a.at (context, t) }) → IfOk x (λ t. Lies a.block (narrowed a.at (context, t)))
-    → ((x ≡ Err cause.CodeWord) ↔ (front a.block 16 ≡ 0xFFFF)) → OnErr x (x ≡ Err cause.CodeWord) → Gives x b (decided context a)
-decision_gives (Ok t) a b context moves lies refused only =
-    let some : front a.block 16 ≢ 0xFFFF = λ ones. no_answer (Ok t) t cause.CodeWord refl (refused.1 ones) in
-    decided_is context t a some lies ∙ ap (λ (s : Reading). let y : Result (Bool × Reading) Cause = Ok (t, s) in y) (sym moves)
-decision_gives (Err e) a b context moves lies refused only =
-    let is : e ≡ cause.CodeWord = cc in
-    decided_shut context a (refused.0 only) ∙ ap Err (sym is)
-
 pub number_gives : (x : Result ℕ Cause) (a b : Reading) (follow : List ℕ) (bits : ℕ) → IsTame a.at
     → IfOk x (λ w. Reads a (spelling follow bits w) b) → IfOk x (λ w. w < 2 ^ 39 - 1)
     → (x ≡ Err cause.NumberTooLong → (digits : List Bool) × (length digits ≡ 38) × Reads a (spelt follow bits digits false) b)

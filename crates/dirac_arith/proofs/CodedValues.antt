@@ -1,20 +1,20 @@
 -- A coded value is read exactly where the block carries decisions that spell it, and refused where it breaks off.
-use Rattle.std.proofs.Common.{◌≡◌, ◌≢◌, ℕ, suc, zero, ◌+◌, ◌<◌, false, List, [], ◌∷◌, ◌++◌, inl, inr, ◌⊎◌, Result, Ok, Err, refl, sym, ap, ◌∙◌, arith, subst}
+use Rattle.std.proofs.Common.{◌≡◌, ◌≢◌, ℕ, suc, zero, ◌+◌, ◌<◌, false, List, [], ◌++◌, inl, inr, ◌⊎◌, Result, Ok, Err, refl, sym, ap, ◌∙◌, arith, subst}
 use Rattle.std.proofs.lemmas.Bool.{cases_eq}
 use native.Mathlib.Numerals.{unary_clauses}
 use Rattle.dirac_common.specs.Chain.{◌>>=◌}
 use Rattle.dirac_common.specs.declared.faults.Cause.{Cause}
 use Rattle.dirac_common.specs.declared.faults.Cause.TheVariants as cause
 use Rattle.dirac_arith.specs.Carried.{Carries}
-use Rattle.dirac_arith.specs.Coded.{Coded, done, decide, number, signed, refuse, read, and_then, repeated, Spells, Breaks}
+use Rattle.dirac_arith.specs.Coded.{Coded, Question, one_decision, one_number, one_signed, Answer, Fits, TooLong, answer, telling, done, ask, refuse, read, and_then, repeated, Spells, Breaks}
 use Rattle.dirac_arith.specs.CodedLaws.{SpelledIsRead, OneIsSpelled, BrokenIsRefused, OnesAreRefused}
-use Rattle.dirac_arith.specs.Deciding.{begin, after, after_all, truth_of, decided, number_read, signed_read}
+use Rattle.dirac_arith.specs.Deciding.{begin, after, after_all, truth_of}
 use Rattle.dirac_arith.specs.Front.{front}
 use Rattle.dirac_arith.specs.Interval.{Decision}
 use Rattle.dirac_arith.specs.Reading.{Reading, Reads}
 use Rattle.dirac_arith.specs.Spelling.{spelt, spelling, signed_spelling}
 use Rattle.dirac_arith.proofs.Carrieds.{IsLed, one_answer, some_number, some_signed, reads_of}
-use Rattle.dirac_arith.proofs.Decidings.{decided_open, decided_shut, number_is, number_is_long, number_is_shut, signed_is_read, signed_is_long, signed_is_shut}
+use Rattle.dirac_arith.proofs.Decidings.{decided_open, decided_shut, number_is_shut, signed_is_shut}
 use Rattle.dirac_arith.proofs.Led.{reads_nothing, led_begin, led_more, reads_parted, carried_reads, reads_carried, decision_led, number_led, number_long_led, signed_led, signed_long_led, decision_leads, number_leads, signed_leads}
 use Rattle.dirac_arith.proofs.Spellings.{reads_more}
 
@@ -27,6 +27,50 @@ then_read r k v m y first second = rw first second
 same_reads : (r s : Reading) (ds es : List Decision) → ds ≡ es → Reads r ds s → Reads r es s
 same_reads r s ds es e reads = subst (λ (l : List Decision). Reads r l s) e reads
 
+-- ---- answers
+
+answer_led : (q : Question) (a : Answer q) (r s : Reading) → IsLed r → Fits q a → Reads r (telling q a) s → answer q r ≡ Ok (a, s)
+answer_led (one_decision context) b r s led fits reads = decision_led r s context b led reads
+answer_led (one_number follow bits) n r s led fits reads = number_led r s follow bits n led fits reads
+answer_led (one_signed follow bits sign) z r s led fits reads = signed_led r s follow bits sign z led fits reads
+
+answer_leads : (q : Question) (a : Answer q) (r s : Reading) → IsLed r → answer q r ≡ Ok (a, s) → Fits q a × Reads r (telling q a) s
+answer_leads (one_decision context) b r s led e = (tt, decision_leads r s context b led e)
+answer_leads (one_number follow bits) n r s led e = number_leads r s follow bits n led e
+answer_leads (one_signed follow bits sign) z r s led e = signed_leads r s follow bits sign z led e
+
+long_led : (q : Question) (e : Cause) (ds : List Decision) (r s : Reading) → IsLed r → TooLong q e ds → Reads r ds s → answer q r ≡ Err e
+long_led (one_decision context) e ds r s led long reads = absurd long
+long_led (one_number follow bits) e ds r s led long reads =
+    number_long_led r s follow bits long.0 led long.1 (same_reads r s ds (spelt follow bits long.0 false) long.3 reads) ∙ ap Err (sym long.2)
+long_led (one_signed follow bits sign) e ds r s led long reads =
+    signed_long_led r s follow bits sign long.0 led long.1 (same_reads r s ds (spelt follow bits long.0 false) long.3 reads) ∙ ap Err (sym long.2)
+
+-- an answer, or digits that are too many
+abbrev SomeAnswer : Question → Reading → Type 0
+SomeAnswer q r = ((a : Answer q) × Fits q a × Reads r (telling q a) (after_all r (telling q a))) ⊎ ((ds : List Decision) × TooLong q cause.NumberTooLong ds × Reads r ds (after_all r ds))
+
+some_answer : (q : Question) (r : Reading) → IsLed r → front r.block 16 ≢ 0xFFFF → SomeAnswer q r
+some_answer (one_decision context) r led some =
+    inl (truth_of context r, tt, decision_leads r (after r (context, truth_of context r)) context (truth_of context r) led (decided_open context r some))
+some_answer (one_number follow bits) r led some = elim (some_number r.block r.at follow bits (led.lies some)) [
+  | inl found ↦ inl (found.0, found.1, reads_of r (after_all r (spelling follow bits found.0)) (spelling follow bits found.0) refl found.2)
+  | inr long ↦
+      let ds = spelt follow bits long.0 false in
+      inr (ds, (long.0, long.1, refl, refl), reads_of r (after_all r ds) ds refl long.2)
+]
+some_answer (one_signed follow bits sign) r led some = elim (some_signed r.block r.at follow bits sign (led.lies some)) [
+  | inl found ↦ inl (found.0, found.1, reads_of r (after_all r (signed_spelling follow bits sign found.0)) (signed_spelling follow bits sign found.0) refl found.2)
+  | inr long ↦
+      let ds = spelt follow bits long.0 false in
+      inr (ds, (long.0, long.1, refl, refl), reads_of r (after_all r ds) ds refl long.2)
+]
+
+answer_shut : (q : Question) (r : Reading) → front r.block 16 ≡ 0xFFFF → answer q r ≡ Err cause.CodeWord
+answer_shut (one_decision context) r ones = decided_shut context r ones
+answer_shut (one_number follow bits) r ones = number_is_shut follow bits r ones
+answer_shut (one_signed follow bits sign) r ones = signed_is_shut follow bits sign r ones
+
 -- ---- what is spelled is read, and what breaks off is refused
 
 pub spelled_read : {A : Type 0} (s : Coded A) (x : A) (ds : List Decision) (r m : Reading) → IsLed r → Spells s x ds → Reads r ds m → read s r ≡ Ok (x, m)
@@ -34,47 +78,24 @@ spelled_read (done y) x ds r m led e reads =
     let none = same_reads r m ds [] e.1 reads in
     let moved : m ≡ r = none.moved in
     rw (e.0, moved) refl
-spelled_read (decide context f) x ds r m led e reads =
-    let d : Decision = (context, e.0) in
-    let p = reads_parted r m (d ∷ []) e.1 led (same_reads r m ds (d ∷ e.1) e.2 reads) in
-    then_read (decided context r) (λ b. read (f b.0) b.1) e.0 p.mid (Ok (x, m)) (decision_led r p.mid context e.0 led p.first)
-    (spelled_read (f e.0) x e.1 p.mid m (led_more r p.mid (d ∷ []) led p.first) e.3 p.then)
-spelled_read (number follow bits f) x ds r m led e reads =
-    let first = spelling follow bits e.0 in
+spelled_read (ask q f) x ds r m led e reads =
+    let first = telling q e.0 in
     let p = reads_parted r m first e.1 led (same_reads r m ds (first ++ e.1) e.3 reads) in
-    then_read (number_read follow bits r) (λ n. read (f n.0) n.1) e.0 p.mid (Ok (x, m)) (number_led r p.mid follow bits e.0 led e.2 p.first)
-    (spelled_read (f e.0) x e.1 p.mid m (led_more r p.mid first led p.first) e.4 p.then)
-spelled_read (signed follow bits sign f) x ds r m led e reads =
-    let first = signed_spelling follow bits sign e.0 in
-    let p = reads_parted r m first e.1 led (same_reads r m ds (first ++ e.1) e.3 reads) in
-    then_read (signed_read follow bits sign r) (λ z. read (f z.0) z.1) e.0 p.mid (Ok (x, m)) (signed_led r p.mid follow bits sign e.0 led e.2 p.first)
+    then_read (answer q r) (λ a. read (f a.0) a.1) e.0 p.mid (Ok (x, m)) (answer_led q e.0 r p.mid led e.2 p.first)
     (spelled_read (f e.0) x e.1 p.mid m (led_more r p.mid first led p.first) e.4 p.then)
 spelled_read (refuse cause) x ds r m led e reads = absurd e
 
 pub broken_refused : {A : Type 0} (s : Coded A) (e : Cause) (ds : List Decision) (r m : Reading) → IsLed r → Breaks s e ds → Reads r ds m → read s r ≡ Err e
 broken_refused (done y) e ds r m led b reads = absurd b
-broken_refused (decide context f) e ds r m led b reads =
-    let d : Decision = (context, b.0) in
-    let p = reads_parted r m (d ∷ []) b.1 led (same_reads r m ds (d ∷ b.1) b.2 reads) in
-    then_read (decided context r) (λ c. read (f c.0) c.1) b.0 p.mid (Err e) (decision_led r p.mid context b.0 led p.first)
-    (broken_refused (f b.0) e b.1 p.mid m (led_more r p.mid (d ∷ []) led p.first) b.3 p.then)
-broken_refused (number follow bits f) e ds r m led (inl long) reads =
-    rw (number_long_led r m follow bits long.0 led long.1 (same_reads r m ds (spelt follow bits long.0 false) long.3 reads), long.2) refl
-broken_refused (number follow bits f) e ds r m led (inr b) reads =
-    let first = spelling follow bits b.0 in
+broken_refused (ask q f) e ds r m led (inl long) reads = rw (long_led q e ds r m led long reads) refl
+broken_refused (ask q f) e ds r m led (inr b) reads =
+    let first = telling q b.0 in
     let p = reads_parted r m first b.1 led (same_reads r m ds (first ++ b.1) b.3 reads) in
-    then_read (number_read follow bits r) (λ n. read (f n.0) n.1) b.0 p.mid (Err e) (number_led r p.mid follow bits b.0 led b.2 p.first)
-    (broken_refused (f b.0) e b.1 p.mid m (led_more r p.mid first led p.first) b.4 p.then)
-broken_refused (signed follow bits sign f) e ds r m led (inl long) reads =
-    rw (signed_long_led r m follow bits sign long.0 led long.1 (same_reads r m ds (spelt follow bits long.0 false) long.3 reads), long.2) refl
-broken_refused (signed follow bits sign f) e ds r m led (inr b) reads =
-    let first = signed_spelling follow bits sign b.0 in
-    let p = reads_parted r m first b.1 led (same_reads r m ds (first ++ b.1) b.3 reads) in
-    then_read (signed_read follow bits sign r) (λ z. read (f z.0) z.1) b.0 p.mid (Err e) (signed_led r p.mid follow bits sign b.0 led b.2 p.first)
+    then_read (answer q r) (λ a. read (f a.0) a.1) b.0 p.mid (Err e) (answer_led q b.0 r p.mid led b.2 p.first)
     (broken_refused (f b.0) e b.1 p.mid m (led_more r p.mid first led p.first) b.4 p.then)
 broken_refused (refuse reason) e ds r m led b reads = ap Err (sym b.0)
 
--- ---- what is read is spelled
+-- ---- what is read is spelled, and what is refused breaks off
 
 -- a part that was read, and what is behind it
 record Then {X Y : Type 0} (r : Result (X × Reading) Cause) (k : X × Reading → Result Y Cause) (y : Y) : Type 0 where
@@ -99,27 +120,13 @@ read_spelled (done y) x r m led e =
     let value : y ≡ x = ap (λ p. p.0) one in
     let place : r ≡ m = ap (λ p. p.1) one in
     record { ds = []; spells = (value, refl); reads = subst (λ (n : Reading). Reads r [] n) place (reads_nothing r) }
-read_spelled (decide context f) x r m led e =
-    let t = was_read (decided context r) (λ b. read (f b.0) b.1) (x, m) e in
-    let d : Decision = (context, t.value) in
-    let here = decision_leads r t.behind context t.value led t.first in
-    let more = read_spelled (f t.value) x t.behind m (led_more r t.behind (d ∷ []) led here) t.second in
-    record { ds = d ∷ more.ds; spells = (t.value, more.ds, refl, more.spells); reads = reads_more r t.behind m (d ∷ []) more.ds here more.reads }
-read_spelled (number follow bits f) x r m led e =
-    let t = was_read (number_read follow bits r) (λ n. read (f n.0) n.1) (x, m) e in
-    let first = spelling follow bits t.value in
-    let here = number_leads r t.behind follow bits t.value led t.first in
-    let more = read_spelled (f t.value) x t.behind m (led_more r t.behind first led here.1) t.second in
-    record { ds = first ++ more.ds; spells = (t.value, more.ds, here.0, refl, more.spells); reads = reads_more r t.behind m first more.ds here.1 more.reads }
-read_spelled (signed follow bits sign f) x r m led e =
-    let t = was_read (signed_read follow bits sign r) (λ z. read (f z.0) z.1) (x, m) e in
-    let first = signed_spelling follow bits sign t.value in
-    let here = signed_leads r t.behind follow bits sign t.value led t.first in
+read_spelled (ask q f) x r m led e =
+    let t = was_read (answer q r) (λ a. read (f a.0) a.1) (x, m) e in
+    let first = telling q t.value in
+    let here = answer_leads q t.value r t.behind led t.first in
     let more = read_spelled (f t.value) x t.behind m (led_more r t.behind first led here.1) t.second in
     record { ds = first ++ more.ds; spells = (t.value, more.ds, here.0, refl, more.spells); reads = reads_more r t.behind m first more.ds here.1 more.reads }
 read_spelled (refuse cause) x r m led e = absurd cc
-
--- ---- what is refused breaks off
 
 -- decisions that lead to where a value breaks off and were read
 pub record Broken {A : Type 0} (s : Coded A) (e : Cause) (r : Reading) : Type 0 where
@@ -130,46 +137,17 @@ pub record Broken {A : Type 0} (s : Coded A) (e : Cause) (r : Reading) : Type 0 
 
 pub refused_breaks : {A : Type 0} (s : Coded A) (e : Cause) (r : Reading) → IsLed r → front r.block 16 ≢ 0xFFFF → read s r ≡ Err e → Broken s e r
 refused_breaks (done y) e r led some shut = absurd cc
-refused_breaks (decide context f) e r led some shut =
-    let t = decided_open context r some in
-    let u = truth_of context r in
-    let d : Decision = (context, u) in
-    let m = after r d in
-    let here = decision_leads r m context u led t in
-    let more = refused_breaks (f u) e m (led_more r m (d ∷ []) led here) some (rw t at shut) in
-    record { ds = d ∷ more.ds; behind = more.behind; breaks = (u, more.ds, refl, more.breaks); reads = reads_more r m more.behind (d ∷ []) more.ds here more.reads }
-refused_breaks (number follow bits f) e r led some shut =
-    elim (some_number r.block r.at follow bits (led.lies some)) as (λ _. Broken (number follow bits f) e r) [
-      | inl found ↦
-          let n = found.0 in
-          let first = spelling follow bits n in
-          let m = after_all r first in
-          let here = reads_of r m first refl found.2 in
-          let is = number_is follow bits n r led.tame some found.1 found.2 in
-          let more = refused_breaks (f n) e m (led_more r m first led here) some (rw is at shut) in
-          record { ds = first ++ more.ds; behind = more.behind; breaks = inr (n, more.ds, found.1, refl, more.breaks); reads = reads_more r m more.behind first more.ds here more.reads }
-      | inr long ↦
-          let ds = spelt follow bits long.0 false in
-          let is = number_is_long follow bits long.0 r led.tame some long.1 long.2 in
-          let same : e ≡ cause.NumberTooLong = let f = rw is at shut in cc in
-          record { ds = ds; behind = after_all r ds; breaks = inl (long.0, long.1, same, refl); reads = reads_of r (after_all r ds) ds refl long.2 }
-    ]
-refused_breaks (signed follow bits sign f) e r led some shut =
-    elim (some_signed r.block r.at follow bits sign (led.lies some)) as (λ _. Broken (signed follow bits sign f) e r) [
-      | inl found ↦
-          let z = found.0 in
-          let first = signed_spelling follow bits sign z in
-          let m = after_all r first in
-          let here = reads_of r m first refl found.2 in
-          let is = signed_is_read follow bits sign z r led.tame some found.1 found.2 in
-          let more = refused_breaks (f z) e m (led_more r m first led here) some (rw is at shut) in
-          record { ds = first ++ more.ds; behind = more.behind; breaks = inr (z, more.ds, found.1, refl, more.breaks); reads = reads_more r m more.behind first more.ds here more.reads }
-      | inr long ↦
-          let ds = spelt follow bits long.0 false in
-          let is = signed_is_long follow bits sign long.0 r led.tame some long.1 long.2 in
-          let same : e ≡ cause.NumberTooLong = let f = rw is at shut in cc in
-          record { ds = ds; behind = after_all r ds; breaks = inl (long.0, long.1, same, refl); reads = reads_of r (after_all r ds) ds refl long.2 }
-    ]
+refused_breaks (ask q f) e r led some shut = elim (some_answer q r led some) as (λ _. Broken (ask q f) e r) [
+  | inl found ↦
+      let a = found.0 in
+      let first = telling q a in
+      let m = after_all r first in
+      let more = refused_breaks (f a) e m (led_more r m first led found.2) some (rw (answer_led q a r m led found.1 found.2) at shut) in
+      record { ds = first ++ more.ds; behind = more.behind; breaks = inr (a, more.ds, found.1, refl, more.breaks); reads = reads_more r m more.behind first more.ds found.2 more.reads }
+  | inr long ↦
+      let same : e ≡ cause.NumberTooLong = let f = rw (long_led q cause.NumberTooLong long.0 r (after_all r long.0) led long.1 long.2) at shut in cc in
+      record { ds = long.0; behind = after_all r long.0; breaks = inl (subst (λ c. TooLong q c long.0) (sym same) long.1); reads = long.2 }
+]
 refused_breaks (refuse reason) e r led some shut =
     let same : e ≡ reason = cc in
     record { ds = []; behind = r; breaks = (same, refl); reads = reads_nothing r }
@@ -197,9 +175,7 @@ broken_is_refused {A} s e block some = (
 
 pub ones_are_refused : {A : Type 0} → OnesAreRefused A
 ones_are_refused {A} (done x) block ones = inr (inl (x, (refl, refl)))
-ones_are_refused {A} (decide context f) block ones = inl (rw (decided_shut context (begin block) ones) refl)
-ones_are_refused {A} (number follow bits f) block ones = inl (rw (number_is_shut follow bits (begin block) ones) refl)
-ones_are_refused {A} (signed follow bits sign f) block ones = inl (rw (signed_is_shut follow bits sign (begin block) ones) refl)
+ones_are_refused {A} (ask q f) block ones = inl (rw (answer_shut q (begin block) ones) refl)
 ones_are_refused {A} (refuse cause) block ones = inr (inr (cause, (refl, refl)))
 
 -- ---- steps one after another
@@ -215,15 +191,9 @@ chained (Err e) k l = refl
 
 pub then_is_read : {A B : Type 0} (s : Coded A) (g : A → Coded B) (r : Reading) → read (and_then s g) r ≡ (read s r >>= λ x. read (g x.0) x.1)
 then_is_read (done x) g r = refl
-then_is_read (decide context f) g r =
-    same_behind (decided context r) (λ b. read (and_then (f b.0) g) b.1) (λ b. read (f b.0) b.1 >>= λ x. read (g x.0) x.1) (λ b. then_is_read (f b.0) g b.1)
-    ∙ sym (chained (decided context r) (λ b. read (f b.0) b.1) (λ x. read (g x.0) x.1))
-then_is_read (number follow bits f) g r =
-    same_behind (number_read follow bits r) (λ n. read (and_then (f n.0) g) n.1) (λ n. read (f n.0) n.1 >>= λ x. read (g x.0) x.1) (λ n. then_is_read (f n.0) g n.1)
-    ∙ sym (chained (number_read follow bits r) (λ n. read (f n.0) n.1) (λ x. read (g x.0) x.1))
-then_is_read (signed follow bits sign f) g r =
-    same_behind (signed_read follow bits sign r) (λ z. read (and_then (f z.0) g) z.1) (λ z. read (f z.0) z.1 >>= λ x. read (g x.0) x.1) (λ z. then_is_read (f z.0) g z.1)
-    ∙ sym (chained (signed_read follow bits sign r) (λ z. read (f z.0) z.1) (λ x. read (g x.0) x.1))
+then_is_read (ask q f) g r =
+    same_behind (answer q r) (λ a. read (and_then (f a.0) g) a.1) (λ a. read (f a.0) a.1 >>= λ x. read (g x.0) x.1) (λ a. then_is_read (f a.0) g a.1)
+    ∙ sym (chained (answer q r) (λ a. read (f a.0) a.1) (λ x. read (g x.0) x.1))
 then_is_read (refuse cause) g r = refl
 
 -- no step
@@ -256,17 +226,13 @@ repeated_stops {A = A} step n (suc m) x r y s e less before here =
 -- a value isn't refused before anything is read
 abbrev pub Open : {A : Type 0} → Coded A → Type 0
 Open (done x) = Unit {0}
-Open (decide context f) = Unit {0}
-Open (number follow bits f) = Unit {0}
-Open (signed follow bits sign f) = Unit {0}
+Open (ask q f) = Unit {0}
 Open (refuse cause) = ⊥
 
 pub then_open : {A B : Type 0} (s : Coded A) (g : A → Coded B) → Open s → ((x : A) → Open (g x)) → Open (and_then s g)
-then_open (done x) g p q = q x
-then_open (decide context f) g p q = tt
-then_open (number follow bits f) g p q = tt
-then_open (signed follow bits sign f) g p q = tt
-then_open (refuse cause) g p q = absurd p
+then_open (done x) g p each = each x
+then_open (ask q f) g p each = tt
+then_open (refuse cause) g p each = absurd p
 
 pub repeated_open : {A : Type 0} (step : ℕ → A → Coded A) (n : ℕ) (x : A) → ((k : ℕ) (y : A) → Open (step k y)) → Open (repeated step n x)
 unfolding repeated
@@ -276,7 +242,5 @@ repeated_open step (suc n) x each = then_open (repeated step n x) (step n) (repe
 -- so ones refuse it, where it needs a decision
 pub open_shut : {A : Type 0} (s : Coded A) (block : List ℕ) → Open s → front block 16 ≡ 0xFFFF → (read s (begin block) ≡ Err cause.CodeWord) ⊎ ((x : A) × Spells s x [])
 open_shut (done x) block p ones = inr (x, (refl, refl))
-open_shut (decide context f) block p ones = inl (rw (decided_shut context (begin block) ones) refl)
-open_shut (number follow bits f) block p ones = inl (rw (number_is_shut follow bits (begin block) ones) refl)
-open_shut (signed follow bits sign f) block p ones = inl (rw (signed_is_shut follow bits sign (begin block) ones) refl)
+open_shut (ask q f) block p ones = inl (rw (answer_shut q (begin block) ones) refl)
 open_shut (refuse cause) block p ones = absurd p

@@ -1,6 +1,10 @@
 -- The definitions, computed on small cases.
-use Rattle.std.proofs.Common.{◌≡◌, true, false, [], ◌∷◌, pos, replicate, refl}
+use Rattle.std.proofs.Common.{◌≡◌, ◌+◌, ℕ, true, false, [], ◌∷◌, pos, replicate, refl, Err, inr, lit<}
+use Rattle.std.specs.Prelude.{if◌then◌else◌}
 use Rattle.dirac_common.specs.Numbers.{digits_of, digits_within}
+use Rattle.dirac_common.specs.declared.faults.Cause.TheVariants as cause
+use Rattle.dirac_arith.specs.Coded.{Coded, done, decide, number, refuse, read, Spells, Breaks}
+use Rattle.dirac_arith.specs.Deciding.{begin, decided}
 use Rattle.dirac_arith.specs.StepTable.{step_table, step_of}
 use Rattle.dirac_arith.specs.Front.{first_bits, front}
 use Rattle.dirac_arith.specs.Interval.{Decision, doublings_for, interval_of}
@@ -49,3 +53,22 @@ block_of_true_false = refl
 block_of_one : flush (signed_spelling (0 ∷ 4 ∷ 5 ∷ 6 ∷ 7 ∷ 8 ∷ []) 14 15 (pos 1)) ≡ 0x2E ∷ []
 unfolding signed_spelling spelling digits_of digits_within flushed bytes_of doublings_for step_of step_table
 block_of_one = refl
+
+-- a decision, and behind it a number where it is true, else a refusal
+maybe_number : Coded ℕ
+maybe_number = decide 3 (λ b. if b then number (0 ∷ 4 ∷ []) 14 (λ n. done (n + 1)) else refuse cause.QuantIndex)
+
+-- it is 1 behind a true decision and the number 0, which one more true decision spells
+spells_one : Spells maybe_number 1 ((3, true) ∷ (0, true) ∷ [])
+unfolding maybe_number spelling digits_of digits_within
+spells_one = (true, (0, true) ∷ [], tt, refl, (0, [], lit< tt, refl, (refl, refl)))
+
+-- and breaks off behind a false one
+breaks_off : Breaks maybe_number cause.QuantIndex ((3, false) ∷ [])
+unfolding maybe_number
+breaks_off = inr (false, [], tt, refl, (refl, refl))
+
+-- a block of ones holds neither
+ones_are_shut : read maybe_number (begin (0xFF ∷ 0xFF ∷ [])) ≡ Err cause.CodeWord
+unfolding maybe_number decided front first_bits
+ones_are_shut = refl

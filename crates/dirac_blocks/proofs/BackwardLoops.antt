@@ -25,7 +25,7 @@ use Rattle.dirac_blocks.proofs.Fills.{filled_inside, filled_outside, unit_lawful
 use Rattle.dirac_blocks.proofs.Putting.{IsOutside}
 use Rattle.dirac_blocks.proofs.ForwardLoops.{unit_of_superblock, units_fill}
 use Rattle.dirac_blocks.proofs.Nearby.{Near, SameWithin, near_within}
-use Rattle.dirac_blocks.proofs.Repeating.{shape_join, shape_refl, split_same, unit_same}
+use Rattle.dirac_blocks.proofs.Shapes.{shape_join, shape_refl, split_same, unit_same}
 
 -- steps came from one table to another, and read the decisions of a rectangle
 pub record Came (part : ListKind) (m : BlockTable) (r : Reading) (t : BlockTable) (s : Reading) (left right top bottom : ℕ) (decisions : BlockTable → List Decision) : Type 0 where

@@ -21,7 +21,7 @@ use Rattle.dirac_blocks.proofs.Fills.{filled_inside, unit_lawful, split_few, uni
 use Rattle.dirac_blocks.proofs.Forwards.{Meets, unit_forward}
 use Rattle.dirac_blocks.proofs.Going.{Goes, nothing_goes, beside_goes, below_goes, kept, grown, none_left, none_above}
 use Rattle.dirac_blocks.proofs.Nearby.{SameWithin, near_within, block_lawful}
-use Rattle.dirac_blocks.proofs.Repeating.{repeated_sizes, split_same, unit_same}
+use Rattle.dirac_blocks.proofs.Shapes.{repeated_sizes, split_same, unit_same}
 use Rattle.dirac_blocks.proofs.Units.{of_splits, size_some}
 use Rattle.dirac_blocks.proofs.Valued.{part_again}
 

@@ -13,7 +13,7 @@ mod Narrowing
 pub mod Nearby
 mod Ones
 mod Putting
-mod Repeating
+mod Shapes
 mod SplitBackwards
 mod SplitForwards
 mod UnitValues

@@ -20,7 +20,7 @@ use Rattle.dirac_blocks.specs.Tables.{BlockTable, IsBlockTable, split_at}
 use Rattle.dirac_blocks.proofs.Backwards.{passed, moved_to}
 use Rattle.dirac_blocks.proofs.Fills.{split_lawful}
 use Rattle.dirac_blocks.proofs.Putting.{split_inside}
-use Rattle.dirac_blocks.proofs.Repeating.{blocks_join, blocks_refl}
+use Rattle.dirac_blocks.proofs.Shapes.{blocks_join, blocks_refl}
 use Rattle.dirac_blocks.proofs.SplitForwards.{SameSplits, split_near, split_here, split_there}
 
 -- lists of numbers that are the same

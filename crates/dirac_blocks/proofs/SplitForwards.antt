@@ -18,7 +18,7 @@ use Rattle.dirac_blocks.specs.Reached.{SameBlocks}
 use Rattle.dirac_blocks.specs.Tables.{BlockTable, IsBlockTable, split_at}
 use Rattle.dirac_blocks.proofs.Filled.{same_places, same_table}
 use Rattle.dirac_blocks.proofs.Going.{Same, Goes, nothing_goes, beside_goes, below_goes, kept, grown, none_left, none_above}
-use Rattle.dirac_blocks.proofs.Repeating.{repeated_sizes}
+use Rattle.dirac_blocks.proofs.Shapes.{repeated_sizes}
 use Rattle.dirac_blocks.proofs.Nearby.{predicted_same}
 
 -- the same splits left of column `right` and above row `bottom`

@@ -2,7 +2,7 @@ use Rattle.std.proofs.Common.{arith}
 use Rattle.std.proofs.lemmas.Result.{err_from_is_err_and}
 use Rattle.dirac_blocks.specs.Grammar.{split_step}
 use Rattle.dirac_arith.proofs.CodedValues.{repeated_none, repeated_next, repeated_stops}
-use Rattle.dirac_blocks.proofs.Repeating.{blocks_refl, blocks_join}
+use Rattle.dirac_blocks.proofs.Shapes.{blocks_refl, blocks_join}
 use Rattle.dirac_blocks.proofs.split_reader.read_split_row.Goals as goal
 
 pub superblocks-init : goal.superblocks-init

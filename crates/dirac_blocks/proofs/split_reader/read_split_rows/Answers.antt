@@ -3,7 +3,7 @@ use Rattle.std.proofs.lemmas.Result.{err_from_is_err_and}
 use Rattle.dirac_arith.specs.Coded.{repeated}
 use Rattle.dirac_blocks.specs.Grammar.{split_step}
 use Rattle.dirac_arith.proofs.CodedValues.{repeated_none, repeated_next, repeated_stops}
-use Rattle.dirac_blocks.proofs.Repeating.{blocks_refl, blocks_join}
+use Rattle.dirac_blocks.proofs.Shapes.{blocks_refl, blocks_join}
 use Rattle.dirac_blocks.proofs.split_reader.read_split_rows.Goals as goal
 
 pub rows-init : goal.rows-init

@@ -3,7 +3,7 @@ use Rattle.std.proofs.lemmas.Result.{err_from_is_err_and}
 use Rattle.dirac_arith.specs.Coded.{repeated}
 use Rattle.dirac_blocks.specs.Grammar.{superblock_step}
 use Rattle.dirac_arith.proofs.CodedValues.{repeated_none, repeated_next, repeated_stops}
-use Rattle.dirac_blocks.proofs.Repeating.{shape_refl, shape_join}
+use Rattle.dirac_blocks.proofs.Shapes.{shape_refl, shape_join}
 use Rattle.dirac_blocks.proofs.unit_reading.read_superblock_rows.Goals as goal
 
 pub rows-init : goal.rows-init

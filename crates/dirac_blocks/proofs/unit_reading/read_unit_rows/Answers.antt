@@ -2,7 +2,7 @@ use Rattle.std.proofs.Common.{◌+◌, ◌*◌, arith}
 use Rattle.std.proofs.lemmas.Result.{err_from_is_err_and}
 use Rattle.dirac_blocks.specs.Grammar.{unit_row_step}
 use Rattle.dirac_arith.proofs.CodedValues.{repeated_none, repeated_next, repeated_stops}
-use Rattle.dirac_blocks.proofs.Repeating.{shape_refl, shape_join, unit_same, unit_within}
+use Rattle.dirac_blocks.proofs.Shapes.{shape_refl, shape_join, unit_same, unit_within}
 use Rattle.dirac_blocks.proofs.unit_reading.read_unit_rows.Goals as goal
 
 pub rows-init : goal.rows-init
