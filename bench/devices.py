@@ -97,6 +97,8 @@ def rows(folder):
             yield Row(f"`{command[0]}`, standard output is {device}", command, source, device, 9, "write fault\n")
     words = [*encode, f"--recon={folder / 'beside'}"]
     yield Row("`encode --recon`, standard output is closed", words, two, "closed", 9, "write fault\n")
+    words = [*encode, f"--recon={folder / 'over'}"]
+    yield Row("`encode --recon`, standard error is closed", words, two + b"two", STREAM, 5, err="closed")
     yield Row("`list` of one line, full", ["list"], END, "full", 9, "write fault\n")
     yield Row("`make`, standard output is full", ["make", *SIZES, "--count=1"], b"", "full", 9, "write fault\n")
     yield Row("the file of `--recon` is full", [*encode, "--recon=/dev/full"], two, STREAM, 10, "side fault\n")
@@ -188,6 +190,9 @@ def try_rows(program):
         beside = folder / "beside"
         if beside.exists() and not (192 * GREY).startswith(beside.read_bytes()):
             print("DIFFERS: the file of --recon, where standard output is closed, holds something else")
+            differing += 1
+        if (folder / "over").read_bytes() != 192 * GREY:
+            print("DIFFERS: the file of --recon, where standard error is closed")
             differing += 1
     return differing
 
