@@ -4,13 +4,14 @@
 prove_kept.py FOLDER [CRATE...]     a folder with crates.txt, HANDLES and crates/, which nothing else works in; of these
                                     crates the edits of must-fail/ are tried, too
 
-`rt ci` proves everything from nothing each time, so one that is broken off leaves nothing to go on from. This loads the
-command `rt`, and calls for each crate what the gate calls for it, in the gate's own lanes: as many crates at a time as
-there are processors and as it reckons that memory has room for. A crate that is proved is kept with a sum of all that
-went into it, and isn't proved again while that sum and those below it stay. Tests are left to the gate.
+The `rt ci` of some kits proves everything from nothing each time, so one that is broken off leaves nothing to go on
+from. This loads the command `rt`, and calls for each crate what the gate calls for it, in the gate's own lanes: as many
+crates at a time as there are processors and as it reckons that memory has room for. A crate that is proved is kept with
+a sum of all that went into it, and isn't proved again while that sum and those below it stay. Tests are left to the
+gate. Where `rt ci` keeps each proved crate by itself, it is the better way, and nothing is done here.
 
-It prints the lines of `rt ci`. Ends with 0 where all crates are proved and no edit is, 1 where not so, and 3 where this
-`rt` has no such steps.
+It prints the lines of `rt ci`. Ends with 0 where all crates are proved and no edit is, 1 where not so, 3 where this
+`rt` has no such steps, and 4 where its `rt ci` keeps what it proved.
 """
 import copy
 import hashlib
@@ -28,14 +29,14 @@ import time
 import crate_list
 
 PARTS = ("src", "specs", "proofs")
-NO_STEPS = 3
+NO_STEPS, KEEPS_ITSELF = 3, 4
 # What is taken of rt, and of the library that it stands on.
 OF_RT = "Crate edits_of handles_of in_lanes must_fail_all need stop rtlib".split()
 OF_LIBRARY = "Crate crates_below guarded".split()
 
 
 def load_rt():
-    """The command rt as a module, or None where it has no such steps."""
+    """The command rt as a module, or None where it is none of Python."""
     path = os.path.realpath(shutil.which("rt") or "")
     try:
         loader = importlib.machinery.SourceFileLoader("rt", path)
@@ -43,8 +44,18 @@ def load_rt():
         loader.exec_module(module)
     except (OSError, SyntaxError, ValueError, ImportError):
         return None
-    has_all = all(hasattr(module, name) for name in OF_RT) and hasattr(module.Crate, "ci")
-    return module if has_all and all(hasattr(module.rtlib, name) for name in OF_LIBRARY) else None
+    return module
+
+
+def keeps_itself(rt):
+    """Whether the gate of this rt keeps each crate that it proved, on this machine."""
+    return rt is not None and hasattr(rt, "Kept")
+
+
+def has_steps(rt):
+    """Whether this rt has the steps that are called here."""
+    has_all = rt is not None and all(hasattr(rt, name) for name in OF_RT) and hasattr(rt.Crate, "ci")
+    return has_all and all(hasattr(rt.rtlib, name) for name in OF_LIBRARY)
 
 
 def sum_around(folder):
@@ -198,7 +209,10 @@ def main():
         print("usage: prove_kept.py FOLDER [CRATE...]", file=sys.stderr)
         sys.exit(2)
     rt = load_rt()
-    if not rt:
+    if keeps_itself(rt):
+        print("prove_kept.py: rt ci keeps what it proved", file=sys.stderr)
+        sys.exit(KEEPS_ITSELF)
+    if not has_steps(rt):
         print("prove_kept.py: this rt has no steps to take apart", file=sys.stderr)
         sys.exit(NO_STEPS)
     folder = os.path.realpath(sys.argv[1])

@@ -18,6 +18,11 @@ import process_table
 import prove_kept
 import time_left
 
+# What is said where a plain rt ci proves the crates, by the status of prove_kept.py.
+BY_RT_CI = {
+    prove_kept.NO_STEPS: "this rt has no steps that can be kept, so a plain rt ci proves all from nothing",
+    prove_kept.KEEPS_ITSELF: "rt ci proves them, and keeps each that is proved",
+}
 # Seconds between two lines, at most.
 PERIOD = 25
 LEFT_OUT = shutil.ignore_patterns("out", "must-fail", "more-edits")
@@ -116,6 +121,8 @@ class Proving:
         name, _, end = line[4:].strip().partition(" ") if line.startswith("rt: ") else ("", "", "")
         if line.startswith("kept: "):
             self.proved.append(line[6:].strip())
+        if end.startswith("is kept: ") and name in self.names:
+            self.proved.append(name)
         if line.startswith("== "):
             block.clear()
         block.append(line)
@@ -163,8 +170,8 @@ class Proving:
     def prove(self, edited=()):
         """Proves all crates in the folder, builds what is a program, and tries the edits of some; the status."""
         status = self.run([sys.executable, str(KEEPING), str(self.folder), *edited], "w")
-        if status == prove_kept.NO_STEPS:
-            self.tell("this rt has no steps that can be kept, so a plain rt ci proves all from nothing")
+        if status in BY_RT_CI:
+            self.tell(BY_RT_CI[status])
             status = self.run(["rt", "ci"], "a")
         return status
 

@@ -98,6 +98,9 @@ if __name__ == "__main__":
     made.write_text("#!/bin/sh\\necho answer\\n")
     made.chmod(0o755)
 '''
+# An rt that keeps what it proved by itself, and the first crate of an earlier run.
+KEEPING = "class Kept: pass\n" + WHOLE.replace(
+    "{path.name} proved", "{path.name} {'is kept: an earlier run' if path.name == 'low' else 'proved'}")
 
 
 class Repository(unittest.TestCase):

@@ -13,7 +13,7 @@ import time
 import unittest
 import unittest.mock
 
-from small_repository import STEPS, TOOLS, WHOLE, Repository
+from small_repository import KEEPING, STEPS, TOOLS, WHOLE, Repository
 
 import process_table
 import prove_kept
@@ -95,6 +95,14 @@ class BuildsProgram(Builds):
         self.assertEqual(self.proved(), ["whole"])
         self.assertIn("a plain rt ci", said)
         self.assertTrue((self.top / "crates/tool/out/tool").is_file())
+
+    def test_takes_the_gate_where_rt_keeps_what_it_proved(self):
+        self.make_rt(KEEPING)
+        status, said = self.build()
+        self.assertEqual(status, 0, said)
+        self.assertEqual(self.proved(), ["whole"])
+        self.assertIn("keeps each that is proved", said)
+        self.assertIn("3 of 3 crates proved: tool", said)
 
     def test_says_that_there_is_no_rt(self):
         status, said = self.build(path=str(self.room / "nowhere"))
