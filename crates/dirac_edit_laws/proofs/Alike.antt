@@ -124,7 +124,7 @@ listed_behind : (whole inside : List Picture) (r : Option ℕ) → IsRestricted 
 listed_behind whole inside None w is = refl
 listed_behind whole inside (Some n) w is = let same : listed inside n ≡ listed whole n = named_alike whole inside (Some n) w is in sym (ap (λ (o : Option Picture). is_some o) same) ∙ is
 
-all_listed : (whole inside : List Picture) (head : PictureHeader) → IsRestricted whole inside → are_listed inside head ≡ true → are_listed whole head ≡ true
+pub all_listed : (whole inside : List Picture) (head : PictureHeader) → IsRestricted whole inside → are_listed inside head ≡ true → are_listed whole head ≡ true
 all_listed whole inside head w is =
     let both = and_parts (is_listed inside head.ref1) (is_listed inside head.ref2) is in
     and_from (is_listed whole head.ref1) (is_listed whole head.ref2) (listed_behind whole inside head.ref1 w both.0) (listed_behind whole inside head.ref2 w both.1)

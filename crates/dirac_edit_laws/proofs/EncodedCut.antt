@@ -64,12 +64,12 @@ use Rattle.dirac_encode_laws.proofs.InBytes.{bit_small}
 
 -- ---- the stream is one sequence
 
-record IsPictureUnit (code : ℕ) : Type 0 where
+pub record IsPictureUnit (code : ℕ) : Type 0 where
   pub header : (code == 0x00) ≡ false
   pub end : (code == 0x10) ≡ false
   pub is : is_picture code ≡ true
 
-picture_unit : (code : ℕ) → IsPictureCode code → IsPictureUnit code
+pub picture_unit : (code : ℕ) → IsPictureCode code → IsPictureUnit code
 picture_unit code known = elim (kind_of code) [
   | of_header e ↦ let bad : (code == 0x00) ≡ true = ap (λ n. n == 0x00) e in absurd (let good = known.other in cc)
   | of_end e ↦ let bad : fields_are_read code ≡ false = ap fields_are_read e in absurd (let good = known.read in cc)
@@ -88,7 +88,7 @@ unit_one t T previous index points u rest false is = behind_picture index points
 abbrev with_texts : SequenceText → List PictureText → SequenceText
 with_texts T ps = record { header = T.header; pictures = T.pictures ++ ps }
 
-abbrev Codes : List Made → Type 0
+abbrev pub Codes : List Made → Type 0
 Codes ms = AllByRecursion (λ (m : Made). IsPictureCode m.coded.code) ms
 
 texts_from : (ms : List Made) (t : Settings) (T : SequenceText) (previous index points : ℕ) → Codes ms → sequences_from index points (Some T) (units_from t previous ms) ≡ with_texts T (texts_made index points ms) ∷ []
@@ -322,7 +322,7 @@ bytes_small zero bits = tt
 bytes_small (suc n) bits = (byte_small bits, bytes_small n (drop 8 bits))
 
 -- the units of coded pictures fit
-texts_fit_made : (t : Settings) (pictures refs : List Picture) (qs : List Planned) (index points : ℕ) → AllByRecursion (λ m. picture_length m < 2 ^ 32) (coded_from t refs (map (job_of pictures) qs)) → Codes (coded_from t refs (map (job_of pictures) qs))
+pub texts_fit_made : (t : Settings) (pictures refs : List Picture) (qs : List Planned) (index points : ℕ) → AllByRecursion (λ m. picture_length m < 2 ^ 32) (coded_from t refs (map (job_of pictures) qs)) → Codes (coded_from t refs (map (job_of pictures) qs))
     → AllByRecursion FitsPicture (texts_made index points (coded_from t refs (map (job_of pictures) qs)))
 unfolding coded_under payload_by
 texts_fit_made t pictures refs [] index points short codes = tt
@@ -339,7 +339,7 @@ header_fits t =
     let bits = up_to_byte (sequence_bits t) in
     record { short = header_short t; below = bytes_small (length bits / 8) bits }
 
-codes_of : (t : Settings) (ms : List Made) (refs : List Picture) → AreMade t refs ms → Codes ms
+pub codes_of : (t : Settings) (ms : List Made) (refs : List Picture) → AreMade t refs ms → Codes ms
 codes_of t [] refs all = tt
 codes_of t (m ∷ ms) refs all = (all.0.fits.code, codes_of t ms (refs_after refs m) all.1)
 
@@ -487,7 +487,7 @@ rebuilt_length (m ∷ ms) index points = ap suc (rebuilt_length ms (suc (index_u
 
 -- ---- the law
 
-stream_is : (t : Settings) (ms : List Made) → 0 < length ms → Begins ms → Codes ms → sequences (units_in t ms) ≡ stream_text t ms ∷ []
+pub stream_is : (t : Settings) (ms : List Made) → 0 < length ms → Begins ms → Codes ms → sequences (units_in t ms) ≡ stream_text t ms ∷ []
 stream_is t [] some begins codes = absurd (omega arith)
 stream_is t (m ∷ ms) some begins codes = stream_sequences t m ms begins.0 codes
 

@@ -395,7 +395,7 @@ one_sound g bytes gs more i read fits shown = record {
   some = omega arith;
 }
 
-groups_sound : (ts : List SequenceText) (now : Group) (bytes : List ℕ) → IsSound now bytes → AllByRecursion IsFull ts → AreSound (groups_behind now (map group_of ts)) (bytes ++ raws (all_shown ts))
+pub groups_sound : (ts : List SequenceText) (now : Group) (bytes : List ℕ) → IsSound now bytes → AllByRecursion IsFull ts → AreSound (groups_behind now (map group_of ts)) (bytes ++ raws (all_shown ts))
 unfolding groups_behind
 groups_sound [] now bytes i all = one_sound now bytes [] [] i tt tt refl
 groups_sound (t ∷ ts) now bytes i all =
@@ -413,7 +413,7 @@ groups_sound (t ∷ ts) now bytes i all =
 
 -- ---- the whole stream
 
-each_full : (ts : List SequenceText) → AllByRecursion IsRead ts → AllByRecursion FitsSequence ts → AllByRecursion IsFull (with_pictures ts)
+pub each_full : (ts : List SequenceText) → AllByRecursion IsRead ts → AllByRecursion FitsSequence ts → AllByRecursion IsFull (with_pictures ts)
 each_full [] read fits = tt
 each_full (t ∷ ts) read fits =
     elim (nat_lt 0 (length t.pictures)) as (λ b. nat_lt 0 (length t.pictures) ≡ b → AllByRecursion IsFull (if b then t ∷ with_pictures ts else with_pictures ts)) [

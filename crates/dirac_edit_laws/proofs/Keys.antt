@@ -23,7 +23,7 @@ abbrev pub way : ℕ → ℕ → ℕ → ℕ
 way former later by = former + by + (2 ^ 32 - later)
 
 -- the two halves of the numbers below 2 ^ 32, read as signed
-signed_high : (n : ℕ) → 2 ^ 31 ≤ n → n < 2 ^ 32 → cast_signed w32 n ≡ negsuc (2 ^ 32 - suc n)
+pub signed_high : (n : ℕ) → 2 ^ 31 ≤ n → n < 2 ^ 32 → cast_signed w32 n ≡ negsuc (2 ^ 32 - suc n)
 signed_high n high small =
     let k = 2 ^ 32 - suc n in
     let same : n ≡ 2 ^ 32 - suc k = omega arith in
@@ -51,7 +51,7 @@ high_moves m by high small less = elim (cases_lt (m + by) (2 ^ 32)) [
       ap (cast_signed w32) same ∙ to_z_pos w32 (m + by - 2 ^ 32) (omega arith) ∙ comes_above m by small many
 ]
 
-key_moves : (m by : ℕ) → m < 2 ^ 32 → by < 2 ^ 31 → (cast_signed w32 m +ℤ pos by) ≤ℤ pos (2 ^ 31 - 1) → cast_signed w32 ((m + by) % 2 ^ 32) ≡ cast_signed w32 m +ℤ pos by
+pub key_moves : (m by : ℕ) → m < 2 ^ 32 → by < 2 ^ 31 → (cast_signed w32 m +ℤ pos by) ≤ℤ pos (2 ^ 31 - 1) → cast_signed w32 ((m + by) % 2 ^ 32) ≡ cast_signed w32 m +ℤ pos by
 key_moves m by small less inside = elim (cases_lt m (2 ^ 31)) [
   | inl low ↦
       let here : cast_signed w32 m ≡ pos m = to_z_pos w32 m low in

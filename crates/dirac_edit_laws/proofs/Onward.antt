@@ -97,16 +97,16 @@ retirement_as true n d f g K L x x' same k bits e =
     (z, e.1, e.2, e.3, subst (λ (o : Option ℕ). Spells (g o >>= L) x' place e.1) (sym (retired_onward n d z)) here)
 
 -- the fields behind the number
-abbrev last_field : ℕ → ℕ → Option ℕ → Option ℕ → Option ℕ → Syntax PictureHeader
+abbrev pub last_field : ℕ → ℕ → Option ℕ → Option ℕ → Option ℕ → Syntax PictureHeader
 last_field code number first second retire = done (record { number = number; ref1 = first; ref2 = second; retire = retire })
 
-abbrev third_field : ℕ → ℕ → Option ℕ → Option ℕ → Syntax PictureHeader
+abbrev pub third_field : ℕ → ℕ → Option ℕ → Option ℕ → Syntax PictureHeader
 third_field code number first second = retirement (is_reference code) number >>= λ retire. last_field code number first second retire
 
-abbrev second_field : ℕ → ℕ → Option ℕ → Syntax PictureHeader
+abbrev pub second_field : ℕ → ℕ → Option ℕ → Syntax PictureHeader
 second_field code number first = reference (nat_le 2 (references_of code)) number >>= λ second. third_field code number first second
 
-abbrev behind_number : ℕ → ℕ → Syntax PictureHeader
+abbrev pub behind_number : ℕ → ℕ → Syntax PictureHeader
 behind_number code number = reference (nat_le 1 (references_of code)) number >>= λ first. second_field code number first
 
 header_as : {B : Type 0} (code n d : ℕ) (K L : PictureHeader → Syntax B) (x x' : B) → ((h : PictureHeader) → SpellsAs (K h) (L (header_onward d h)) x x')

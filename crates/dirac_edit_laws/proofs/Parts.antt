@@ -27,7 +27,7 @@ unfoldable pub Rises : ℕ → ℕ → List PictureText → Type 0
 Rises low high [] = low ≤ high
 Rises low high (p ∷ pictures) = (low ≤ p.points) × Rises p.points high pictures
 
-rises_on : (pictures : List PictureText) (low high : ℕ) (p : PictureText) → high ≤ p.points → Rises low high pictures → Rises low p.points (pictures ++ p ∷ [])
+pub rises_on : (pictures : List PictureText) (low high : ℕ) (p : PictureText) → high ≤ p.points → Rises low high pictures → Rises low p.points (pictures ++ p ∷ [])
 unfolding Rises
 rises_on [] low high p more all = (omega arith, omega arith)
 rises_on (q ∷ pictures) low high p more all = (all.0, rises_on pictures q.points high p more all.1)

@@ -143,7 +143,7 @@ reference_below code p small =
 -- ---- one picture
 
 -- the reference that a header names
-named_onward : (d : ℕ) (inside whole : List Picture) (o : Option ℕ) → AreBelow inside → IsRestricted whole (map (picture_onward d) inside) → is_listed inside o ≡ true
+pub named_onward : (d : ℕ) (inside whole : List Picture) (o : Option ℕ) → AreBelow inside → IsRestricted whole (map (picture_onward d) inside) → is_listed inside o ≡ true
     → named whole (onward_of d o) ≡ reference_onward d (named inside o)
 named_onward d inside whole None all r is = refl
 named_onward d inside whole (Some n) all r is =
@@ -165,7 +165,7 @@ lists_onward d inside whole all r h is =
     let both = and_parts (is_listed inside h.ref1) (is_listed inside h.ref2) is in
     and_from (is_listed whole (onward_of d h.ref1)) (is_listed whole (onward_of d h.ref2)) (listed_onward d inside whole h.ref1 all r both.0) (listed_onward d inside whole h.ref2 all r both.1)
 
-predicted_onward : (s : Sequence) (m : CodedMotion) (d : ℕ) (a b : Option Picture) (c : Component) → predicted_among s m (reference_onward d a) (reference_onward d b) c ≡ predicted_among s m a b c
+pub predicted_onward : (s : Sequence) (m : CodedMotion) (d : ℕ) (a b : Option Picture) (c : Component) → predicted_among s m (reference_onward d a) (reference_onward d b) c ≡ predicted_among s m a b c
 predicted_onward s m d None b c = refl
 predicted_onward s m d (Some p) None component.Y = refl
 predicted_onward s m d (Some p) None component.U = refl
@@ -210,7 +210,7 @@ pub record IsNumbered (r : RebuiltText) : Type 0 where
   pub small : number_of r.text.payload < 2 ^ 32
   pub long : 4 ≤ length r.text.payload
 
-record OneOnward (s : Sequence) (d : ℕ) (inside whole : List Picture) (p : PictureText) (coded : CodedPicture) : Type 0 where
+pub record OneOnward (s : Sequence) (d : ℕ) (inside whole : List Picture) (p : PictureText) (coded : CodedPicture) : Type 0 where
   pub read : picture_read p.code s whole (payload_onward d p.payload) ≡ Ok (coded_onward d coded)
   pub same : rebuilt_text s whole (text_onward d p) (coded_onward d coded) ≡ rebuilt_text_onward d (rebuilt_text s inside p coded)
   pub behind : IsRestricted (list_behind whole (rebuilt_text_onward d (rebuilt_text s inside p coded))) (map (picture_onward d) (list_behind inside (rebuilt_text s inside p coded)))
@@ -229,7 +229,7 @@ closed_header s inside p coded is =
     let itself : IsRestricted inside inside = record { outside = []; split = refl; apart = λ number q e. refl } in
     (parts_of_whole s inside inside p.code p.payload coded itself is).closed
 
-one_onward : (s : Sequence) (d : ℕ) (inside whole : List Picture) (p : PictureText) (coded : CodedPicture) → IsRestricted whole (map (picture_onward d) inside) → length whole ≤ 8 → AreBelow inside → Fits p.payload
+pub one_onward : (s : Sequence) (d : ℕ) (inside whole : List Picture) (p : PictureText) (coded : CodedPicture) → IsRestricted whole (map (picture_onward d) inside) → length whole ≤ 8 → AreBelow inside → Fits p.payload
     → picture_read p.code s inside p.payload ≡ Ok coded → OneOnward s d inside whole p coded
 one_onward s d inside whole p coded r few all fits is =
     let f = picture_onward d in

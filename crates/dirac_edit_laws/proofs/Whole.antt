@@ -26,14 +26,14 @@ use Rattle.dirac_encode_laws.proofs.Sourcing.{all_filtered}
 
 -- ---- the part has pictures
 
-abbrev in_part : ℕ → ℕ → List SequenceText → List SequenceText
+abbrev pub in_part : ℕ → ℕ → List SequenceText → List SequenceText
 in_part a b ts = with_pictures (map (restricted a b) ts)
 
 part_append : (a b : ℕ) (xs ys : List SequenceText) → in_part a b (xs ++ ys) ≡ in_part a b xs ++ in_part a b ys
 part_append a b xs ys = ap with_pictures (map-append (restricted a b) xs ys) ∙ filter-append (λ (s : SequenceText). nat_lt 0 (length s.pictures)) (map (restricted a b) xs) (map (restricted a b) ys)
 
 -- some sequence has pictures of the part
-record HasPart (a b : ℕ) (ts : List SequenceText) : Type 0 where
+pub record HasPart (a b : ℕ) (ts : List SequenceText) : Type 0 where
   pub some : 0 < length (in_part a b ts)
 
 has_first : (a b : ℕ) (xs ys : List SequenceText) → HasPart a b xs → HasPart a b (xs ++ ys)
@@ -101,7 +101,7 @@ not_intra code is =
     let front = or_parts ((code == 0x08 || code == 0x0C) || (code == 0x09 || code == 0x0D)) (code == 0x0A || code == 0x0E) is in
     (or_parts (code == 0x08 || code == 0x0C) (code == 0x09 || code == 0x0D) front.0).0
 
-some_part : (units : List UnitText) (a b : ℕ) (state : StreamState) (unit_place : UnitPlace) (index points : ℕ) (now : Option SequenceText) → IsAt now state → (outcome state unit_place units None).end ≡ None → points ≤ a
+pub some_part : (units : List UnitText) (a b : ℕ) (state : StreamState) (unit_place : UnitPlace) (index points : ℕ) (now : Option SequenceText) → IsAt now state → (outcome state unit_place units None).end ≡ None → points ≤ a
     → a < points + points_of units → a < b → HasPart a b (sequences_from index points now units)
 some_part [] a b state unit_place index points now i none before there less = absurd (omega (arith, no_points))
 some_part (u ∷ units) a b state unit_place index points now i none before there less =

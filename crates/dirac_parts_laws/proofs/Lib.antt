@@ -1,0 +1,5 @@
+pub mod Behind
+pub mod CodedBehind
+pub mod Parts
+pub mod Payloads
+pub mod Plans
