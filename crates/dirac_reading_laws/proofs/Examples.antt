@@ -1,12 +1,16 @@
--- Headers that break, worked out.
-use Rattle.std.proofs.Common.{ℕ, true, false, [], ◌∷◌, List, ℤ, replicate, refl, inl, inr, arith}
+-- Headers that break, and where no fault lies, worked out.
+use Rattle.std.proofs.Common.{◌≡◌, ℕ, true, false, [], ◌∷◌, List, length, ℤ, replicate, refl, inl, inr, arith, Option, Some, Result, Ok, Err}
 use Rattle.dirac_common.specs.declared.faults.Cause.{Cause}
-use Rattle.dirac_common.specs.declared.faults.Cause.TheVariants.{BlockSize, NumberTooLong, UnitShort}
+use Rattle.dirac_common.specs.declared.faults.Cause.TheVariants.{BlockSize, MissingEnd, NumberTooLong, UnitShort}
+use Rattle.dirac_common.specs.declared.faults.Fault.{Fault}
 use Rattle.dirac_common.specs.declared.faults.Refusal.{Refusal}
 use Rattle.dirac_common.specs.Numbers.{digits_of, digits_within}
 use Rattle.dirac_bits.specs.Cursor.{Cursor, bits_left, start}
 use Rattle.dirac_bits.specs.Syntax.{Syntax, done, flag_then, uint_then, sint_then, align_then, here_then, refuse, uint}
+use Rattle.dirac_units.specs.declared.info.ParseInfo.{ParseInfo}
+use Rattle.dirac_units.specs.Cut.{IsCut, UnitText, start as first_place}
 use Rattle.dirac_reading_laws.specs.Broken.{Breaks, EndsBadly}
+use Rattle.dirac_reading_laws.specs.Places.{LiesIn}
 
 -- refused at this byte, for this cause
 abbrev refusal : ℕ → Cause → Refusal
@@ -152,3 +156,17 @@ later_rule =
         ),
       ),
     )
+
+-- no fault lies behind the end of the bytes, nor is one of a unit that isn't there
+no_place_behind : LiesIn [] (record { unit = 0; at = 1; cause = UnitShort }) → ⊥
+no_place_behind lies = omega (arith, lies.at)
+
+none_there : (units : List UnitText) (end : Option Fault) → IsCut first_place [] units end → length units ≡ 0
+none_there [] end cut = refl
+none_there (unit ∷ units) end cut =
+    let front : Result ParseInfo (Option Fault) = Err (Some (record { unit = 0; at = 0; cause = MissingEnd })) in
+    let none : front ≡ Ok unit.info = cut.0 in
+    absurd cc
+
+no_unit_behind : LiesIn [] (record { unit = 1; at = 0; cause = UnitShort }) → ⊥
+no_unit_behind lies = omega (arith, lies.unit, none_there lies.units lies.end lies.cut)
