@@ -1,7 +1,7 @@
 -- What a block reads to is the band that it carries, and it is refused where it breaks off.
-use Rattle.std.proofs.Common.{◌≡◌, ◌≢◌, ℕ, ℤ, pos, ◌+◌, ◌*◌, ◌-◌, ◌^◌, ◌<◌, List, [], ◌++◌, length, take, drop, replicate, unsigned_abs, Result, Ok, Err, IfOk, sym, ap, ap₂, ◌∙◌, subst, arith, inl, inr, append-nil, lit<, drop_of_length-le, eq-eqb, ne_eqb, refl, ext_get_or, ◌/◌, ◌%◌, mod-lt, div-lt_iff_lt-mul, div-add-mod', get_or}
+use Rattle.std.proofs.Common.{◌≡◌, ◌≢◌, ℕ, ℤ, pos, ◌+◌, ◌*◌, ◌-◌, ◌^◌, ◌<◌, List, length, replicate, unsigned_abs, Result, Ok, Err, IfOk, sym, ap, ap₂, ◌∙◌, subst, arith, inl, inr, lit<, eq-eqb, ne_eqb, refl, ext_get_or, ◌/◌, ◌%◌, mod-lt, div-lt_iff_lt-mul, div-add-mod', get_or}
 use Rattle.std.proofs.lemmas.Bool.{cases_lt, cases_eq}
-use Rattle.std.proofs.lemmas.List.{get_or-replicate, get_or_past, take_all, length-replicate}
+use Rattle.std.proofs.lemmas.List.{get_or-replicate, get_or_past, length-replicate}
 use Rattle.std.proofs.lemmas.List.Elements.{All-replicate}
 use Rattle.dirac_common.specs.Chain.{◌>>=◌}
 use Rattle.dirac_common.specs.Limits.{IsIndex}

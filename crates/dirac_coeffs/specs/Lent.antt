@@ -1,5 +1,5 @@
 -- Numbers that are lent, and the values of a band while it is read.
-use Rattle.std.specs.Prelude.{ℕ, ℤ, pos, List, replicate}
+use Rattle.std.specs.Prelude.{ℤ, pos, List, replicate}
 use Rattle.dirac_coeffs.specs.declared.numbers.Numbers.{Numbers}
 use Rattle.dirac_coeffs.specs.declared.numbers.Numbers.TheVariants as lent
 use Rattle.dirac_coeffs.specs.declared.store.Values.{Values}

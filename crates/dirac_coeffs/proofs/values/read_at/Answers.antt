@@ -1,4 +1,4 @@
-use Rattle.std.proofs.Common.{◌≡◌, ℤ, rules, sym, ◌∙◌, to_z, of_z, w64}
+use Rattle.std.proofs.Common.{rules, sym}
 use Rattle.dirac_arith.specs.Decoding.{reading_at}
 use Rattle.dirac_coeffs.specs.Decisions.{frame_of}
 use Rattle.dirac_coeffs.proofs.Carrying.{value_put}
