@@ -1,8 +1,12 @@
 -- The neighbours of a value that is read next, carried along a row.
-use Rattle.std.proofs.Common.{◌≡◌, ◌≢◌, ℕ, ℤ, pos, ◌+◌, ◌-◌, ◌*◌, ◌<◌, List, length, get_or, set, arith, inl, inr, ap, sym, ◌∙◌, eq-eqb}
+use Rattle.std.proofs.Common.{◌≡◌, ◌≢◌, ℕ, ℤ, pos, ◌+◌, ◌-◌, ◌*◌, ◌<◌, List, length, get_or, set, slice_set, Ok, refl, arith, inl, inr, ap, sym, ◌∙◌, eq-eqb}
 use Rattle.std.proofs.lemmas.Bool.{cases_eq, ne_eqb}
 use Rattle.std.proofs.lemmas.List.{get_or-set_same, get_or-set_other}
-use Rattle.dirac_coeffs.specs.Contexts.{above_of, corner_of, left_of}
+use Rattle.dirac_arith.specs.Deciding.{signed_read}
+use Rattle.dirac_arith.specs.Reading.{Reading}
+use Rattle.dirac_coeffs.specs.BandRead.{progress, value_step}
+use Rattle.dirac_coeffs.specs.Contexts.{above_of, bits_context, corner_of, left_of}
+use Rattle.dirac_coeffs.specs.Decisions.{Frame, follow_here, sign_here}
 
 -- what was read is to the left of what is read next
 pub left_next : (w : ℕ) (xs : List ℤ) (x y n : ℕ) (v : ℤ) → y * w + x < length xs → n ≡ x + 1 → v ≡ left_of w (set xs (y * w + x) v) n y
@@ -28,3 +32,9 @@ corner_next w xs x y n v above fits h e = elim (cases_eq y 0) [
   where
     more : (m k : ℕ) → (m + 1) * k ≡ m * k + k
     more m k = omega arith
+
+-- a value that was read, put in its place
+pub value_put : (f : Frame) (x y : ℕ) (xs ys : List ℤ) (v : ℤ) (old new : Reading) → signed_read (follow_here f xs x y) bits_context (sign_here f xs x y) old ≡ Ok (v, new) → ys ≡ slice_set xs (y * f.width + x) v
+    → value_step f x y (progress xs old) ≡ Ok (progress ys new)
+unfolding value_step
+value_put f x y xs ys v old new read put = rw (read, put) refl

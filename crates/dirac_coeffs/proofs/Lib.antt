@@ -21,5 +21,6 @@ pub mod BlockLengths
 pub mod SpelledBand
 pub mod Examples
 mod Fronts
+pub mod NoParent
 pub mod Going
 pub mod Largest

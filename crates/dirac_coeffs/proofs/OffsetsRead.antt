@@ -7,8 +7,10 @@ use Rattle.dirac_common.specs.declared.faults.Cause.{Cause}
 use Rattle.dirac_common.specs.declared.faults.Cause.TheVariants.{QuantIndex}
 use Rattle.dirac_arith.specs.Deciding.{signed_read}
 use Rattle.dirac_arith.specs.Reading.{Reading}
+use Rattle.dirac_coeffs.specs.declared.store.Unread.{Unread}
+use Rattle.dirac_coeffs.specs.declared.store.Unread.TheVariants as unread
 use Rattle.dirac_coeffs.specs.declared.layout.BandLayout.{BandLayout}
-use Rattle.dirac_coeffs.specs.Answers.{Moves}
+use Rattle.dirac_coeffs.specs.Answers.{Goes}
 use Rattle.dirac_coeffs.specs.BandRead.{Progress, BandProgress, progress, band_progress, filled_step, values_step, offset_step, unskipped_step}
 use Rattle.dirac_coeffs.specs.Indices.{place_of, is_index, index_read}
 
@@ -44,10 +46,11 @@ unfolding values_step
 values_step_stops layout parent cy cx p e stops = ap (λ (a : Result Progress Cause). a >>= (λ q. let b : Result BandProgress Cause = Ok (band_progress q.values p.indices q.reading) in b)) stops
 
 -- the values behind an offset that was read
-pub unskipped_moves : {A : Type 0} (r : Result A Cause) (layout : BandLayout) (parent : List ℤ) (index cy cx : ℕ) (xs zs : List ℤ) (is ks : List ℕ) (old mid new : Reading)
-    → offset_step layout.mode index (place_of layout cy cx) (band_progress xs is old) ≡ Ok (band_progress xs ks mid) → Moves r (progress zs new) (filled_step layout parent cy cx (progress xs mid))
-    → Moves r (band_progress zs ks new) (unskipped_step layout parent index cy cx (band_progress xs is old))
+pub unskipped_moves : {A : Type 0} (r : Result A Unread) (layout : BandLayout) (parent : List ℤ) (index cy cx : ℕ) (xs zs : List ℤ) (is ks : List ℕ) (old mid new : Reading)
+    → offset_step layout.mode index (place_of layout cy cx) (band_progress xs is old) ≡ Ok (band_progress xs ks mid) → Goes r (progress zs new) (filled_step layout parent cy cx (progress xs mid))
+    → Goes r (band_progress zs ks new) (unskipped_step layout parent index cy cx (band_progress xs is old))
 unskipped_moves (Ok x) layout parent index cy cx xs zs is ks old mid new before here =
     ap (λ (a : Result BandProgress Cause). a >>= values_step layout parent cy cx) before ∙ values_step_is layout parent cy cx xs zs ks mid new here
-unskipped_moves (Err e) layout parent index cy cx xs zs is ks old mid new before here =
+unskipped_moves (Err (unread.Refused e)) layout parent index cy cx xs zs is ks old mid new before here =
     ap (λ (a : Result BandProgress Cause). a >>= values_step layout parent cy cx) before ∙ values_step_stops layout parent cy cx (band_progress xs ks mid) e here
+unskipped_moves (Err unread.TooWide) layout parent index cy cx xs zs is ks old mid new before here = tt

@@ -1,24 +1,26 @@
 -- What a block reads to is the band that it carries, and it is refused where it breaks off.
-use Rattle.std.proofs.Common.{◌≡◌, ◌≢◌, ℕ, ℤ, pos, ◌+◌, ◌*◌, ◌-◌, ◌^◌, ◌<◌, List, [], ◌++◌, length, take, drop, replicate, unsigned_abs, Result, Ok, Err, sym, ap, ap₂, ◌∙◌, subst, arith, inl, inr, append-nil, lit<, drop_of_length-le, eq-eqb, ne_eqb, refl, ext_get_or, ◌/◌, ◌%◌, mod-lt, div-lt_iff_lt-mul, div-add-mod', get_or}
+use Rattle.std.proofs.Common.{◌≡◌, ◌≢◌, ℕ, ℤ, pos, ◌+◌, ◌*◌, ◌-◌, ◌^◌, ◌<◌, List, length, replicate, unsigned_abs, Result, Ok, Err, IfOk, sym, ap, ap₂, ◌∙◌, subst, arith, inl, inr, lit<, eq-eqb, ne_eqb, refl, ext_get_or, ◌/◌, ◌%◌, mod-lt, div-lt_iff_lt-mul, div-add-mod', get_or}
 use Rattle.std.proofs.lemmas.Bool.{cases_lt, cases_eq}
-use Rattle.std.proofs.lemmas.List.{get_or-replicate, get_or_past, take_all, length-replicate}
+use Rattle.std.proofs.lemmas.List.{get_or-replicate, get_or_past, length-replicate}
 use Rattle.std.proofs.lemmas.List.Elements.{All-replicate}
 use Rattle.dirac_common.specs.Chain.{◌>>=◌}
 use Rattle.dirac_common.specs.Limits.{IsIndex}
-use Rattle.dirac_common.specs.Table.{Table, with_values}
 use Rattle.dirac_common.specs.declared.faults.Cause.{Cause}
 use Rattle.dirac_common.specs.declared.faults.Cause.TheVariants.{CodeWord, NumberTooLong, QuantIndex}
+use Rattle.dirac_common.specs.declared.faults.Stop.{Stop}
+use Rattle.dirac_common.specs.declared.faults.Stop.TheVariants as stop
 use Rattle.dirac_arith.specs.Deciding.{begin, after_all}
 use Rattle.dirac_arith.specs.Front.{front}
 use Rattle.dirac_arith.specs.Reading.{Reading}
 use Rattle.dirac_arith.proofs.Carrieds.{no_answer, one_answer}
 use Rattle.dirac_arith.proofs.Led.{carried_reads}
 use Rattle.dirac_bands.specs.Geometry.{edge_of}
+use Rattle.dirac_coeffs.specs.declared.layout.BandBlock.{BandBlock}
 use Rattle.dirac_coeffs.specs.declared.layout.BandLayout.{BandLayout}
+use Rattle.dirac_coeffs.specs.Answers.{GivesBlock}
 use Rattle.dirac_coeffs.specs.BandRead.{BandProgress, Content, band_progress, content, block_rows_step, unread, band_read}
-use Rattle.dirac_coeffs.specs.Carried.{AreLawful, AreSmall, CarriesBand, CarriesBreak, band_until}
+use Rattle.dirac_coeffs.specs.Carried.{AreLawful, AreSmall, CarriesBand, CarriesBreak, CarriesLong, CarriesNoIndex, band_until}
 use Rattle.dirac_coeffs.specs.Decisions.{Marks, band_decisions}
-use Rattle.dirac_coeffs.specs.Grammar.{band_table}
 use Rattle.dirac_coeffs.specs.Indices.{all_equal}
 use Rattle.dirac_coeffs.specs.Laws.{BandIsRead, PlainIsEqual, LongIsRefused, NoIndexIsRefused, OnesAreRefused, OneBandIsCarried, NoBandBesideLong, NoBandBesideNoIndex, NotLongAndNoIndex, OnesCarryNothing}
 use Rattle.dirac_coeffs.specs.Layouts.{IsBandLayout}
@@ -242,23 +244,38 @@ not_long_and_no_index layout parent index block lawful a b =
     absurd cc
 
 -- what the steps of a block come to, from a table of zeros and the band's index on, the block reads to
-pub steps_answer : (layout : BandLayout) (parent : List ℤ) (index : ℕ) (block : List ℕ) (t : Table) (vs : List ℤ) (is : List ℕ) (old : Reading) (r : Result BandProgress Cause) → IsBandLayout layout → IsIndex index
-    → t ≡ band_table layout (replicate (layout.width * layout.height) (pos 0)) → vs ≡ t.values → is ≡ all_equal layout index → old ≡ begin block → block_rows_step layout parent index layout.down (band_progress vs is old) ≡ r
+pub steps_answer : (layout : BandLayout) (parent : List ℤ) (index : ℕ) (block : List ℕ) (vs : List ℤ) (is : List ℕ) (old : Reading) (r : Result BandProgress Cause) → IsBandLayout layout → IsIndex index
+    → vs ≡ replicate (layout.width * layout.height) (pos 0) → is ≡ all_equal layout index → old ≡ begin block → block_rows_step layout parent index layout.down (band_progress vs is old) ≡ r
     → band_read layout parent index block ≡ content_of r
-steps_answer layout parent index block t vs is old r lawful few made same equal first e =
-    let values = sym (same ∙ ap (λ (u : Table). u.values) made) in
+steps_answer layout parent index block vs is old r lawful few made equal first e =
     let start : unread layout index block ≡ band_progress vs is old =
-    ap₂ (λ (xs : List ℤ) (q : Reading). band_progress xs (all_equal layout index) q) values (sym first) ∙ ap (λ (ks : List ℕ). band_progress vs ks old) (sym equal) in
+    ap₂ (λ (xs : List ℤ) (q : Reading). band_progress xs (all_equal layout index) q) (sym made) (sym first) ∙ ap (λ (ks : List ℕ). band_progress vs ks old) (sym equal) in
     steps_read layout parent index block lawful few ∙ ap content_of (ap (block_rows_step layout parent index layout.down) start ∙ e)
 
--- all values written over
-pub written_over : (xs ys : List ℤ) → length ys ≡ length xs → take (length xs) (ys ++ drop (length ys) xs) ≡ ys
-written_over xs ys len =
-    let none : drop (length ys) xs ≡ [] = drop_of_length-le xs {i = length ys} (omega arith) in
-    ap (λ l. take (length xs) (ys ++ l)) none ∙ ap (λ l. take (length xs) l) (append-nil ys) ∙ ap (λ n. take n ys) (sym len) ∙ take_all (length ys) ys (omega arith)
+-- the cause of a refusal
+abbrev cause_in : Result BandBlock Stop → Cause
+cause_in (Ok x) = CodeWord
+cause_in (Err (stop.Refused q)) = q.cause
+cause_in (Err stop.NoMemory) = CodeWord
 
--- a band's table whose values are written over
-pub table_written : (layout : BandLayout) (t : Table) (zs ws : List ℤ) → t ≡ band_table layout zs → with_values t ws ≡ band_table layout (take (length t.values) (ws ++ drop (length ws) t.values))
-table_written layout t zs ws e =
-    let all = take (length t.values) (ws ++ drop (length ws) t.values) in
-    ap (λ (u : Table). let r : Table = record { width = u.width; height = u.height; values = all } in r) e
+pub block_lawful : (layout : BandLayout) (at : ℕ) (parent : List ℤ) (index : ℕ) (block : List ℕ) (r : Result BandBlock Stop) → IsBandLayout layout → IsIndex index → GivesBlock layout at r (band_read layout parent index block) → IfOk r (λ b. AreLawful layout index b.table.values b.indices)
+block_lawful layout at parent index block (Ok b) lawful few given = (band_carried layout parent index block b.table.values b.indices lawful few given.1).1.lawful
+block_lawful layout at parent index block (Err e) lawful few given = tt
+
+pub block_plain : (layout : BandLayout) (at : ℕ) (parent : List ℤ) (index : ℕ) (block : List ℕ) (r : Result BandBlock Stop) → IsBandLayout layout → IsIndex index → GivesBlock layout at r (band_read layout parent index block) → IfOk r (λ b. layout.mode ≡ 0 → b.indices ≡ all_equal layout index)
+block_plain layout at parent index block (Ok b) lawful few given = λ mode. plain_is_equal layout parent index block b.table.values b.indices lawful few mode given.1
+block_plain layout at parent index block (Err e) lawful few given = tt
+
+-- a refusal has the cause that the block breaks off by
+block_stops : (layout : BandLayout) (at : ℕ) (parent : List ℤ) (index : ℕ) (block : List ℕ) (r : Result BandBlock Stop) (cause : Cause) → r ≡ Err (stop.Refused (record { at = at; cause = cause })) → GivesBlock layout at r (band_read layout parent index block) → band_read layout parent index block ≡ Err cause
+block_stops layout at parent index block (Ok b) cause e given = absurd cc
+block_stops layout at parent index block (Err (stop.Refused q)) cause e given = given.1 ∙ ap (λ (k : Cause). let x : Result Content Cause = Err k in x) (ap cause_in e)
+block_stops layout at parent index block (Err stop.NoMemory) cause e given = absurd cc
+
+pub block_long : (layout : BandLayout) (at : ℕ) (parent : List ℤ) (index : ℕ) (block : List ℕ) (r : Result BandBlock Stop) → IsBandLayout layout → IsIndex index → GivesBlock layout at r (band_read layout parent index block) → r ≡ Err (stop.Refused (record { at = at; cause = NumberTooLong })) → CarriesLong layout parent index block
+block_long layout at parent index block r lawful few given e =
+    break_carried layout parent index block NumberTooLong lawful few (λ k. absurd cc) (block_stops layout at parent index block r NumberTooLong e given)
+
+pub block_no_index : (layout : BandLayout) (at : ℕ) (parent : List ℤ) (index : ℕ) (block : List ℕ) (r : Result BandBlock Stop) → IsBandLayout layout → IsIndex index → GivesBlock layout at r (band_read layout parent index block) → r ≡ Err (stop.Refused (record { at = at; cause = QuantIndex })) → CarriesNoIndex layout parent index block
+block_no_index layout at parent index block r lawful few given e =
+    break_carried layout parent index block QuantIndex lawful few (λ k. absurd cc) (block_stops layout at parent index block r QuantIndex e given)

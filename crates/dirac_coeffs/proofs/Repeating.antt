@@ -4,6 +4,9 @@ use Rattle.std.proofs.lemmas.Bool.{cases_eq}
 use Rattle.std.proofs.Math.Numerals.{unary_clauses}
 use Rattle.dirac_common.specs.declared.faults.Cause.{Cause}
 use Rattle.dirac_common.specs.Chain.{◌>>=◌}
+use Rattle.dirac_coeffs.specs.declared.store.Unread.{Unread}
+use Rattle.dirac_coeffs.specs.declared.store.Unread.TheVariants as unread
+use Rattle.dirac_coeffs.specs.Answers.{RefusedBy}
 use Rattle.dirac_coeffs.specs.BandRead.{Step, repeated}
 
 pub repeated_none : {A : Type 0} (step : ℕ → Step A) (p : A) → repeated step 0 p ≡ Ok p
@@ -30,3 +33,8 @@ repeated_stops {A = A} step n (suc m) p q e less before here =
           ap (λ (x : Result A Cause). x >>= step m) before' ∙ here'
       | inr other ↦ ap (λ (x : Result A Cause). x >>= step m) (repeated_stops step n m p q e (omega arith) before here)
     ]
+
+-- a step where reading stops ends them all
+pub repeated_unread : {A : Type 0} (step : ℕ → Step A) (n m : ℕ) (p q : A) (e : Unread) → n < m → repeated step n p ≡ Ok q → RefusedBy e (step n q) → RefusedBy e (repeated step m p)
+repeated_unread step n m p q (unread.Refused cause) less before here = repeated_stops step n m p q cause less before here
+repeated_unread step n m p q unread.TooWide less before here = tt

@@ -1,10 +1,12 @@
 -- What the answers of readers say.
-use Rattle.std.specs.Prelude.{◌≡◌, ⊤, ℕ, Result, Ok, Err}
+use Rattle.std.specs.Prelude.{◌≡◌, ⊤, ℕ, Option, Some, None, Result, Ok, Err}
 use Rattle.dirac_common.specs.declared.faults.Cause.{Cause}
 use Rattle.dirac_common.specs.declared.faults.Stop.{Stop}
 use Rattle.dirac_common.specs.declared.faults.Stop.TheVariants as stop
 use Rattle.dirac_coeffs.specs.declared.layout.BandLayout.{BandLayout}
 use Rattle.dirac_coeffs.specs.declared.layout.BandBlock.{BandBlock}
+use Rattle.dirac_coeffs.specs.declared.store.Unread.{Unread}
+use Rattle.dirac_coeffs.specs.declared.store.Unread.TheVariants as unread
 use Rattle.dirac_coeffs.specs.BandRead.{Content, content}
 use Rattle.dirac_coeffs.specs.Grammar.{band_table}
 
@@ -13,9 +15,25 @@ abbrev pub Moves : {A P : Type 0} → Result A Cause → P → Result P Cause �
 Moves (Ok x) p step = step ≡ Ok p
 Moves (Err cause) p step = step ≡ Err cause
 
+-- the same of a reading that may stop at a value that doesn't fit, of which then nothing is said
+abbrev pub RefusedBy : {P : Type 0} → Unread → Result P Cause → Type 0
+RefusedBy (unread.Refused cause) step = step ≡ Err cause
+RefusedBy unread.TooWide step = ⊤
+
+-- the same of a reading that may stop at a value that doesn't fit
+abbrev pub Goes : {A P : Type 0} → Result A Unread → P → Result P Cause → Type 0
+Goes (Ok x) p step = step ≡ Ok p
+Goes (Err e) p step = RefusedBy e step
+
 -- the answer is what the block at this place reads to; want of memory says nothing of the input
 abbrev pub GivesBlock : BandLayout → ℕ → Result BandBlock Stop → Result Content Cause → Type 0
 GivesBlock layout at (Ok b) read =
     (b.table ≡ band_table layout b.table.values) × (read ≡ Ok (content b.table.values b.indices))
 GivesBlock layout at (Err (stop.Refused r)) read = (r.at ≡ at) × (read ≡ Err r.cause)
 GivesBlock layout at (Err stop.NoMemory) read = ⊤
+
+-- the same of a reading that finds none where a value doesn't fit, of which then nothing is said
+abbrev pub GivesNarrow : BandLayout → ℕ → Result (Option BandBlock) Stop → Result Content Cause → Type 0
+GivesNarrow layout at (Ok (Some b)) read = GivesBlock layout at (Ok b) read
+GivesNarrow layout at (Ok None) read = ⊤
+GivesNarrow layout at (Err e) read = GivesBlock layout at (Err e) read

@@ -4,11 +4,13 @@ ghost use Rattle.dirac_bits.specs.Syntax.{read};
 ghost use Rattle.dirac_bits.specs.Answers.{ReadsOrStops, IsEarly};
 ghost use Rattle.dirac_coeffs.specs.Grammar.{band, coded_band, values_of_parent, IsParentOf, IsCodedBand};
 ghost use Rattle.dirac_coeffs.specs.Layouts.{IsBandLayout};
+ghost use Rattle.dirac_coeffs.specs.Lent.{numbers_in};
 
-use crate::block::read_block;
+use crate::block::read_below;
 use crate::coefficients::Coefficients;
 use crate::indices::equal_indices;
 use crate::layout::{BandLayout, CodedBand};
+use crate::numbers::Numbers;
 use dirac_bits::BitReader;
 use dirac_common::{Cause, LARGEST_INDEX, Refusal, Stop};
 use std::alloc::Global;
@@ -20,10 +22,10 @@ fn read_coded(
     r: &mut BitReader<'_>,
     len: u64,
     layout: BandLayout,
-    parent: &[i64],
+    parent: Numbers<'_>,
 ) -> Result<CodedBand, Stop>
     requires { IsBandLayout layout }
-    ensures value { ReadsOrStops result r.new (read (coded_band layout parent.now len) r.old) }
+    ensures value { ReadsOrStops result r.new (read (coded_band layout (numbers_in parent.entry) len) r.old) }
     ensures place_inside { IfErr result (IsEarly (length r.old.bytes)) }
     ensures kept { r.new.bytes ≡ r.old.bytes }
     ensures lawful { IfOk result (IsCodedBand layout) }
@@ -39,7 +41,7 @@ fn read_coded(
     r.align();
     let at = r.place();
     let block = r.block(len)?;
-    let read = read_block(alloc, block, at, layout, parent, index as u8)?;
+    let read = read_below(alloc, block, at, layout, parent, index as u8)?;
     Ok(CodedBand {
         index: index as u8,
         indices: read.indices,
@@ -77,10 +79,7 @@ pub fn read_band(
         });
     }
     match parent {
-        Some(table) => {
-            let wide = table.try_wide(alloc)?;
-            read_coded(alloc, r, len, layout, wide.values())
-        }
-        None => read_coded(alloc, r, len, layout, &[]),
+        Some(table) => read_coded(alloc, r, len, layout, table.numbers()),
+        None => read_coded(alloc, r, len, layout, Numbers::Zeros(0)),
     }
 }

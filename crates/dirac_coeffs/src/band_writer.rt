@@ -6,11 +6,13 @@ ghost use Rattle.dirac_bits.specs.Spelling.{SpelledBehind};
 ghost use Rattle.dirac_coeffs.specs.Grammar.{band as band_grammar, values_of_parent, IsParentOf, IsCodedBand};
 ghost use Rattle.dirac_coeffs.specs.Indices.{all_equal};
 ghost use Rattle.dirac_coeffs.specs.Layouts.{IsBandLayout};
+ghost use Rattle.dirac_coeffs.specs.Lent.{numbers_in};
 ghost use Rattle.dirac_coeffs.specs.Written.{AreIndicesOf, block_of, is_zero_band, with_block, with_band};
 
-use crate::block_writer::write_block;
+use crate::block_writer::write_below;
 use crate::coefficients::Coefficients;
 use crate::layout::{BandLayout, CodedBand};
+use crate::numbers::Numbers;
 use dirac_bits::BitWriter;
 use dirac_common::NoMemory;
 use std::alloc::Global;
@@ -21,20 +23,22 @@ fn write_coded(
     alloc: Global,
     w: &mut BitWriter,
     layout: BandLayout,
-    parent: &[i64],
+    parent: Numbers<'_>,
     band: &CodedBand,
 ) -> Result<(), NoMemory>
     requires layout { IsBandLayout layout }
     requires band { IsCodedBand layout band.now }
     requires indices { AreIndicesOf layout band.now.index band.now.table.values band.now.indices }
-    ensures exact { OnOk result (w.new ≡ with_block band.now.index (block_of layout parent.now band.now.index
+    ensures exact { OnOk result (w.new ≡ with_block band.now.index (block_of layout (numbers_in parent.entry)
+        band.now.index
         band.now.table.values band.now.indices) w.old) }
-    ensures front { OnErr result (HoldsFront w.old w.new (with_block band.now.index (block_of layout parent.now
+    ensures front { OnErr result (HoldsFront w.old w.new (with_block band.now.index (block_of layout
+        (numbers_in parent.entry)
         band.now.index band.now.table.values band.now.indices) w.old)) }
 {
     let index = band.index;
-    let table = band.table.try_wide(alloc)?;
-    let block = write_block(alloc, table.values(), &band.indices, layout, parent, index)?;
+    let values = band.table.numbers();
+    let block = write_below(alloc, values, &band.indices, layout, parent, index)?;
     w.uint(block.len() as u64)?;
     w.uint(u64::from(index))?;
     w.align()?;
@@ -68,10 +72,7 @@ pub fn write_band(
         return w.uint(0);
     }
     match parent {
-        Some(table) => {
-            let wide = table.try_wide(alloc)?;
-            write_coded(alloc, w, layout, wide.values(), band)
-        }
-        None => write_coded(alloc, w, layout, &[], band),
+        Some(table) => write_coded(alloc, w, layout, table.numbers(), band),
+        None => write_coded(alloc, w, layout, Numbers::Zeros(0), band),
     }
 }

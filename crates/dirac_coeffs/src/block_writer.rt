@@ -2,14 +2,38 @@ ghost use Rattle.std.specs.Prelude.{◌≡◌, IfOk, Ok};
 ghost use Rattle.dirac_coeffs.specs.BandRead.{band_read, content};
 ghost use Rattle.dirac_coeffs.specs.Carried.{AreLawful};
 ghost use Rattle.dirac_coeffs.specs.Layouts.{IsBandLayout};
+ghost use Rattle.dirac_coeffs.specs.Lent.{numbers_in};
 ghost use Rattle.dirac_coeffs.specs.Written.{AreIndicesOf, block_of};
 
 use crate::codeblock_writer::write_all;
 use crate::indices::Indices;
 use crate::layout::BandLayout;
+use crate::numbers::Numbers;
 use dirac_arith::Encoder;
 use dirac_common::NoMemory;
 use std::alloc::Global;
+
+/// The same of values that are lent, and of a parent whose values are.
+pub fn write_below(
+    alloc: Global,
+    values: Numbers<'_>,
+    indices: &Indices,
+    layout: BandLayout,
+    parent: Numbers<'_>,
+    index: u8,
+) -> Result<Vec<u8>, NoMemory>
+    requires layout { IsBandLayout layout }
+    requires lawful { AreLawful layout index (numbers_in values) indices.now }
+    requires indices { AreIndicesOf layout index (numbers_in values) indices.now }
+    ensures exact { IfOk result (λ block. block.items ≡ block_of layout (numbers_in parent.entry) index
+        (numbers_in values.entry) indices.now) }
+    ensures read_back { IfOk result (λ block. band_read layout (numbers_in parent.entry) index block.items
+        ≡ Ok (content (numbers_in values.entry) indices.now)) }
+{
+    let mut encoder = Encoder::new(alloc);
+    write_all(&mut encoder, values, indices, layout, parent, index)?;
+    encoder.finish()
+}
 
 /// The arithmetic block of a subband's coefficients, whose zero flags are true for codeblocks of zeros, and in
 /// codeblock mode 1 of the quantiser indices of its codeblocks, where the band's is `index`. `parent` holds the values
@@ -29,7 +53,6 @@ pub fn write_block(
     ensures read_back { IfOk result (λ block. band_read layout parent.now index block.items
         ≡ Ok (content values.now indices.now)) }
 {
-    let mut encoder = Encoder::new(alloc);
-    write_all(&mut encoder, values, indices, layout, parent, index)?;
-    encoder.finish()
+    let values = Numbers::Wide(values);
+    write_below(alloc, values, indices, layout, Numbers::Wide(parent), index)
 }

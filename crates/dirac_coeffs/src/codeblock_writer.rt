@@ -6,9 +6,11 @@ ghost use Rattle.dirac_coeffs.specs.Decisions.{frame_of, rows_part, block_part, 
 ghost use Rattle.dirac_coeffs.specs.Indices.{offset_part};
 ghost use Rattle.dirac_coeffs.specs.Layouts.{IsBandLayout, span_of};
 ghost use Rattle.dirac_coeffs.specs.Written.{marks_of};
+ghost use Rattle.dirac_coeffs.specs.Lent.{numbers_in};
 
 use crate::indices::Indices;
 use crate::layout::BandLayout;
+use crate::numbers::Numbers;
 use crate::offset_writer::write_offset;
 use crate::spans::{Codeblock, codeblock_span, has_flags};
 use crate::value_writer::write_rows;
@@ -19,18 +21,19 @@ use dirac_common::NoMemory;
 /// Writes the values of a codeblock.
 fn write_block_values(
     encoder: &mut Encoder,
-    values: &[i64],
+    values: Numbers<'_>,
     layout: BandLayout,
-    parent: &[i64],
+    parent: Numbers<'_>,
     codeblock: Codeblock,
 ) -> Result<(), NoMemory>
     requires layout { IsBandLayout layout }
     requires row { codeblock.row < layout.down }
     requires column { codeblock.column < layout.across }
-    requires len { length values.now ≡ layout.width * layout.height }
-    requires magnitudes_bounded { AreSmall values.now }
+    requires len { length (numbers_in values) ≡ layout.width * layout.height }
+    requires magnitudes_bounded { AreSmall (numbers_in values) }
     ensures { OnOk result (encoder.new ≡ narrowed_by encoder.old
-        (rows_part (frame_of layout parent.now) values.now (edge_of layout.width layout.across codeblock.column)
+        (rows_part (frame_of layout (numbers_in parent.entry)) (numbers_in values.entry)
+        (edge_of layout.width layout.across codeblock.column)
         (span_of layout.width layout.across codeblock.column) (edge_of layout.height layout.down codeblock.row)
         (span_of layout.height layout.down codeblock.row))) }
 {
@@ -42,22 +45,24 @@ fn write_block_values(
 /// Writes a codeblock that isn't skipped: in mode 1 the offset of its index, and its values.
 fn write_unskipped(
     encoder: &mut Encoder,
-    values: &[i64],
+    values: Numbers<'_>,
     indices: &Indices,
     layout: BandLayout,
-    parent: &[i64],
+    parent: Numbers<'_>,
     index: u8,
     codeblock: Codeblock,
 ) -> Result<(), NoMemory>
     requires layout { IsBandLayout layout }
     requires row { codeblock.row < layout.down }
     requires column { codeblock.column < layout.across }
-    requires len { length values.now ≡ layout.width * layout.height }
-    requires magnitudes_bounded { AreSmall values.now }
+    requires len { length (numbers_in values) ≡ layout.width * layout.height }
+    requires magnitudes_bounded { AreSmall (numbers_in values) }
     requires count { length indices.now ≡ layout.across * layout.down }
     ensures { OnOk result (encoder.new ≡ narrowed_by encoder.old
-        (offset_part layout.mode (marks_of layout index values.now indices.now codeblock.row codeblock.column).offset
-        ++ rows_part (frame_of layout parent.now) values.now (edge_of layout.width layout.across codeblock.column)
+        (offset_part layout.mode (marks_of layout index (numbers_in values.entry) indices.now codeblock.row
+        codeblock.column).offset
+        ++ rows_part (frame_of layout (numbers_in parent.entry)) (numbers_in values.entry)
+        (edge_of layout.width layout.across codeblock.column)
         (span_of layout.width layout.across codeblock.column) (edge_of layout.height layout.down codeblock.row)
         (span_of layout.height layout.down codeblock.row))) }
 {
@@ -70,22 +75,22 @@ fn write_unskipped(
 /// Writes a codeblock behind its zero flag, where it has one.
 fn write_codeblock(
     encoder: &mut Encoder,
-    values: &[i64],
+    values: Numbers<'_>,
     indices: &Indices,
     layout: BandLayout,
-    parent: &[i64],
+    parent: Numbers<'_>,
     index: u8,
     codeblock: Codeblock,
 ) -> Result<(), NoMemory>
     requires layout { IsBandLayout layout }
     requires row { codeblock.row < layout.down }
     requires column { codeblock.column < layout.across }
-    requires len { length values.now ≡ layout.width * layout.height }
-    requires magnitudes_bounded { AreSmall values.now }
+    requires len { length (numbers_in values) ≡ layout.width * layout.height }
+    requires magnitudes_bounded { AreSmall (numbers_in values) }
     requires count { length indices.now ≡ layout.across * layout.down }
     ensures { OnOk result (encoder.new ≡ narrowed_by encoder.old
-        (block_part layout parent.now values.now codeblock.row codeblock.column
-        (marks_of layout index values.now indices.now codeblock.row codeblock.column))) }
+        (block_part layout (numbers_in parent.entry) (numbers_in values.entry) codeblock.row codeblock.column
+        (marks_of layout index (numbers_in values.entry) indices.now codeblock.row codeblock.column))) }
 {
     if !has_flags(layout) {
         return write_unskipped(encoder, values, indices, layout, parent, index, codeblock);
@@ -102,20 +107,21 @@ fn write_codeblock(
 /// Writes row `cy` of codeblocks.
 fn write_codeblocks(
     encoder: &mut Encoder,
-    values: &[i64],
+    values: Numbers<'_>,
     indices: &Indices,
     layout: BandLayout,
-    parent: &[i64],
+    parent: Numbers<'_>,
     index: u8,
     cy: u32,
 ) -> Result<(), NoMemory>
     requires layout { IsBandLayout layout }
     requires row { cy < layout.down }
-    requires len { length values.now ≡ layout.width * layout.height }
-    requires magnitudes_bounded { AreSmall values.now }
+    requires len { length (numbers_in values) ≡ layout.width * layout.height }
+    requires magnitudes_bounded { AreSmall (numbers_in values) }
     requires count { length indices.now ≡ layout.across * layout.down }
     ensures { OnOk result (encoder.new ≡ narrowed_by encoder.old
-        (blocks_part layout parent.now values.now (marks_of layout index values.now indices.now cy) cy layout.across)) }
+        (blocks_part layout (numbers_in parent.entry) (numbers_in values.entry) (marks_of layout index
+        (numbers_in values.entry) indices.now cy) cy layout.across)) }
 {
     'across: for cx in 0..layout.across {
         let codeblock = Codeblock {
@@ -130,18 +136,19 @@ fn write_codeblocks(
 /// Writes all codeblocks of a band of this index.
 pub fn write_all(
     encoder: &mut Encoder,
-    values: &[i64],
+    values: Numbers<'_>,
     indices: &Indices,
     layout: BandLayout,
-    parent: &[i64],
+    parent: Numbers<'_>,
     index: u8,
 ) -> Result<(), NoMemory>
     requires layout { IsBandLayout layout }
-    requires len { length values.now ≡ layout.width * layout.height }
-    requires magnitudes_bounded { AreSmall values.now }
+    requires len { length (numbers_in values) ≡ layout.width * layout.height }
+    requires magnitudes_bounded { AreSmall (numbers_in values) }
     requires count { length indices.now ≡ layout.across * layout.down }
     ensures { OnOk result (encoder.new ≡ narrowed_by encoder.old
-        (band_decisions layout parent.now values.now (marks_of layout index values.now indices.now))) }
+        (band_decisions layout (numbers_in parent.entry) (numbers_in values.entry) (marks_of layout index
+        (numbers_in values.entry) indices.now))) }
 {
     'down: for cy in 0..layout.down {
         write_codeblocks(encoder, values, indices, layout, parent, index, cy)?;

@@ -3,8 +3,11 @@ ghost use Rattle.std.specs.Prelude.{slice_set, unsigned_abs, List, [], ◌++◌,
 ghost use Rattle.std.specs.List.{All};
 ghost use Rattle.dirac_common.specs.Table.{row_of, table_at};
 ghost use Rattle.dirac_coeffs.specs.Held.{IsLargest, zeros_of};
+ghost use Rattle.dirac_coeffs.specs.Lent.{numbers_in, values_in};
 ghost use Rattle.dirac_coeffs.specs.Written.{is_zero_band};
 
+use crate::numbers::Numbers;
+use crate::store::Values;
 use dirac_common::{BandTable, LARGEST_TABLE_SIDE, NoMemory};
 use std::alloc::Global;
 use std::marker::Model;
@@ -93,6 +96,58 @@ impl Coefficients {
             held: Held::Narrow(rows),
             largest: u64::from(narrowed.largest),
         })
+    }
+
+    /// The coefficients that were read into these values, by rows.
+    pub(crate) fn of_values(
+        alloc: Global,
+        width: u32,
+        height: u32,
+        values: Values,
+    ) -> Result<Coefficients, NoMemory>
+        requires across { (1 ≤ width) × (width ≤ LARGEST_TABLE_SIDE) }
+        requires down { (1 ≤ height) × (height ≤ LARGEST_TABLE_SIDE) }
+        requires len { length (values_in values) ≡ width * height }
+        ensures { IfOk result (λ c. c ≡ record { width = width; height = height; values = values_in values }) }
+    {
+        match values {
+            Values::Narrow(list) => Ok(Coefficients::of_narrow(width, height, list)),
+            Values::Wide(list) => {
+                let mut table = BandTable::try_new(alloc, width, height, 0)?;
+                table.values_mut().copy_from_slice(list.as_slice());
+                Coefficients::try_of(alloc, table)
+            }
+        }
+    }
+
+    /// The coefficients that stand in this list, by rows.
+    fn of_narrow(width: u32, height: u32, values: Vec<i32>) -> Coefficients
+        requires across { (1 ≤ width) × (width ≤ LARGEST_TABLE_SIDE) }
+        requires down { (1 ≤ height) × (height ≤ LARGEST_TABLE_SIDE) }
+        requires len { length values.items ≡ width * height }
+        ensures { result ≡ record { width = width; height = height; values = values.items } }
+    {
+        let largest = largest_narrow(values.as_slice());
+        if largest == 0 {
+            return Coefficients::zeros(width, height);
+        }
+        let size = BandSize { width, height };
+        let rows = NarrowRows { size, values };
+        Coefficients {
+            held: Held::Narrow(rows),
+            largest: u64::from(largest),
+        }
+    }
+
+    /// Lends all of them, by rows.
+    pub(crate) fn numbers(&self) -> Numbers<'_>
+        ensures { numbers_in result ≡ self.now.values }
+    {
+        match &self.held {
+            Held::Zeros(size) => Numbers::Zeros(size.width as usize * size.height as usize),
+            Held::Narrow(rows) => Numbers::Narrow(rows.values.as_slice()),
+            Held::Wide(table) => Numbers::Wide(table.values()),
+        }
     }
 
     /// The number of columns.
@@ -195,7 +250,7 @@ struct Narrowed {
 
 /// The lower 32 bits of a number, which are the number where its magnitude is below 2^31.
 #[inline(always)]
-fn lower_half(value: i64) -> i32
+pub fn lower_half(value: i64) -> i32
     ensures { unsigned_abs value < 2 ^ 31 → result ≡ value }
 {
     ((value.cast_unsigned() % 4_294_967_296) as u32).cast_signed()
@@ -282,6 +337,17 @@ fn largest_of(values: &[i64]) -> u64
     ensures { IsLargest result values.now }
 {
     let mut largest = 0u64;
+    for n in 0..values.len() {
+        largest = largest.max(values[n].unsigned_abs());
+    }
+    largest
+}
+
+/// The largest magnitude of numbers in 32 bits.
+fn largest_narrow(values: &[i32]) -> u32
+    ensures { IsLargest result values.now }
+{
+    let mut largest = 0u32;
     for n in 0..values.len() {
         largest = largest.max(values[n].unsigned_abs());
     }

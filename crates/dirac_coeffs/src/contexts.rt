@@ -2,7 +2,9 @@ ghost use Rattle.std.specs.Prelude.{◌≡◌, ◌+◌, ◌*◌, ◌<◌, ◌≤
 ghost use Rattle.dirac_arith.specs.Spelling.{AreContexts, follow_at};
 ghost use Rattle.dirac_coeffs.specs.Contexts.{left_of, above_of, corner_of, parent_of, is_zero, follow_of, sign_of};
 ghost use Rattle.dirac_coeffs.specs.Contexts.{sign_neighbour};
+ghost use Rattle.dirac_coeffs.specs.Lent.{numbers_in};
 
+use crate::numbers::{Numbers, number_at, number_or_zero};
 use dirac_arith::{
     CONTEXTS, PARENT_VALUES, PARENT_ZEROS, SIGN_OF_NEGATIVE, SIGN_OF_POSITIVE, SIGN_OF_ZERO,
     ZERO_PARENT_VALUES, ZERO_PARENT_ZEROS,
@@ -11,64 +13,64 @@ use dirac_common::{Band, LARGEST_TABLE_SIDE};
 
 /// The value to the left, 0 in the first column.
 #[inline(always)]
-pub fn left_value(values: &[i64], width: usize, x: usize, y: usize) -> i64
+pub fn left_value(values: Numbers<'_>, width: usize, x: usize, y: usize) -> i64
     requires column { x ≤ width }
     requires width { width ≤ LARGEST_TABLE_SIDE }
     requires row { y < LARGEST_TABLE_SIDE }
-    requires inside { (y + 1) * width ≤ length values.now }
-    ensures { result ≡ left_of width values.now x y }
+    requires inside { (y + 1) * width ≤ length (numbers_in values) }
+    ensures { result ≡ left_of width (numbers_in values.entry) x y }
 {
     if x == 0 {
         0
     } else {
-        values[y * width + (x - 1)]
+        number_at(values, y * width + (x - 1))
     }
 }
 
 /// The value above, 0 in the first row.
 #[inline(always)]
-pub fn above_value(values: &[i64], width: usize, x: usize, y: usize) -> i64
+pub fn above_value(values: Numbers<'_>, width: usize, x: usize, y: usize) -> i64
     requires column { x < width }
     requires width { width ≤ LARGEST_TABLE_SIDE }
     requires row { y < LARGEST_TABLE_SIDE }
-    requires inside { (y + 1) * width ≤ length values.now }
-    ensures { result ≡ above_of width values.now x y }
+    requires inside { (y + 1) * width ≤ length (numbers_in values) }
+    ensures { result ≡ above_of width (numbers_in values.entry) x y }
 {
     if y == 0 {
         0
     } else {
-        values[(y - 1) * width + x]
+        number_at(values, (y - 1) * width + x)
     }
 }
 
 /// The value above and to the left, 0 in the first column and in the first row.
 #[inline(always)]
-pub fn corner_value(values: &[i64], width: usize, x: usize, y: usize) -> i64
+pub fn corner_value(values: Numbers<'_>, width: usize, x: usize, y: usize) -> i64
     requires column { x ≤ width }
     requires width { width ≤ LARGEST_TABLE_SIDE }
     requires row { y < LARGEST_TABLE_SIDE }
-    requires inside { (y + 1) * width ≤ length values.now }
-    ensures { result ≡ corner_of width values.now x y }
+    requires inside { (y + 1) * width ≤ length (numbers_in values) }
+    ensures { result ≡ corner_of width (numbers_in values.entry) x y }
 {
     if x == 0 {
         0
     } else if y == 0 {
         0
     } else {
-        values[(y - 1) * width + (x - 1)]
+        number_at(values, (y - 1) * width + (x - 1))
     }
 }
 
 /// The value of the parent band, 0 where there is none.
 #[inline(always)]
-pub fn parent_value(parent: &[i64], width: usize, x: usize, y: usize) -> i64
+pub fn parent_value(parent: Numbers<'_>, width: usize, x: usize, y: usize) -> i64
     requires column { x < width }
     requires width { width ≤ LARGEST_TABLE_SIDE }
     requires row { y < LARGEST_TABLE_SIDE }
-    ensures { result ≡ parent_of width parent.now x y }
+    ensures { result ≡ parent_of width (numbers_in parent.entry) x y }
 {
     let at = y / 2 * (width / 2) + x / 2;
-    if at < parent.len() { parent[at] } else { 0 }
+    number_or_zero(parent, at)
 }
 
 /// Whether a value is 0.

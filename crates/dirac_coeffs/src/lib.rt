@@ -13,12 +13,16 @@ mod contexts;
 mod indices;
 mod laws;
 mod layout;
+mod numbers;
 mod offset_writer;
 mod offsets;
+mod rows;
 mod shared;
 mod spans;
+mod store;
 mod value_writer;
 mod values;
+mod wide_values;
 mod zeros;
 
 pub use band::read_band;

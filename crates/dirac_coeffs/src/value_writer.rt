@@ -3,9 +3,11 @@ ghost use Rattle.dirac_arith.specs.Interval.{narrowed_by};
 ghost use Rattle.dirac_coeffs.specs.Carried.{AreSmall};
 ghost use Rattle.dirac_coeffs.specs.Contexts.{value_spelling};
 ghost use Rattle.dirac_coeffs.specs.Decisions.{frame_of, value_part, row_part, rows_part};
+ghost use Rattle.dirac_coeffs.specs.Lent.{numbers_in};
 
 use crate::contexts;
 use crate::layout::BandLayout;
+use crate::numbers::{Numbers, number_at};
 use crate::spans::Span;
 use dirac_arith::{COEFFICIENT_DIGITS, Encoder};
 use dirac_common::{Band, LARGEST_TABLE_SIDE, NoMemory};
@@ -33,19 +35,19 @@ fn write_value(
 #[inline(always)]
 fn write_at(
     encoder: &mut Encoder,
-    values: &[i64],
+    values: Numbers<'_>,
     layout: BandLayout,
-    parent: &[i64],
+    parent: Numbers<'_>,
     x: usize,
     y: usize,
 ) -> Result<(), NoMemory>
     requires column { x < layout.width }
     requires width { layout.width ≤ LARGEST_TABLE_SIDE }
     requires row { y < LARGEST_TABLE_SIDE }
-    requires inside { (y + 1) * layout.width ≤ length values.now }
-    requires magnitudes_bounded { AreSmall values.now }
+    requires inside { (y + 1) * layout.width ≤ length (numbers_in values) }
+    requires magnitudes_bounded { AreSmall (numbers_in values) }
     ensures { OnOk result (encoder.new ≡ narrowed_by encoder.old
-        (value_part (frame_of layout parent.now) values.now x y)) }
+        (value_part (frame_of layout (numbers_in parent.entry)) (numbers_in values.entry) x y)) }
 {
     let width = layout.width as usize;
     let left = contexts::left_value(values, width, x, y);
@@ -59,26 +61,29 @@ fn write_at(
         above,
         corner,
         parent,
-        values[y * width + x],
+        number_at(values, y * width + x),
     )
 }
 
-/// Writes the values of these columns of row `y`.
-fn write_row(
+/// Writes the values of these columns of row `y`, as one piece of code with each caller, in which it is known how the
+/// numbers are lent.
+#[inline(always)]
+fn write_part(
     encoder: &mut Encoder,
-    values: &[i64],
+    values: Numbers<'_>,
     layout: BandLayout,
-    parent: &[i64],
+    parent: Numbers<'_>,
     y: usize,
     columns: Span,
 ) -> Result<(), NoMemory>
     requires columns { columns.start + columns.length ≤ layout.width }
     requires width { layout.width ≤ LARGEST_TABLE_SIDE }
     requires row { y < LARGEST_TABLE_SIDE }
-    requires inside { (y + 1) * layout.width ≤ length values.now }
-    requires magnitudes_bounded { AreSmall values.now }
+    requires inside { (y + 1) * layout.width ≤ length (numbers_in values) }
+    requires magnitudes_bounded { AreSmall (numbers_in values) }
     ensures { OnOk result (encoder.new ≡ narrowed_by encoder.old
-        (row_part (frame_of layout parent.now) values.now y columns.start columns.length)) }
+        (row_part (frame_of layout (numbers_in parent.entry)) (numbers_in values.entry) y columns.start
+        columns.length)) }
 {
     'values: for i in 0..columns.length {
         write_at(encoder, values, layout, parent, columns.start + i, y)?;
@@ -86,21 +91,77 @@ fn write_row(
     Ok(())
 }
 
+/// The same as `write_row` where the parent may be in 32 bits.
+#[inline(always)]
+fn write_below(
+    encoder: &mut Encoder,
+    values: Numbers<'_>,
+    layout: BandLayout,
+    parent: Numbers<'_>,
+    y: usize,
+    columns: Span,
+) -> Result<(), NoMemory>
+    requires columns { columns.start + columns.length ≤ layout.width }
+    requires width { layout.width ≤ LARGEST_TABLE_SIDE }
+    requires row { y < LARGEST_TABLE_SIDE }
+    requires inside { (y + 1) * layout.width ≤ length (numbers_in values) }
+    requires magnitudes_bounded { AreSmall (numbers_in values) }
+    ensures { OnOk result (encoder.new ≡ narrowed_by encoder.old
+        (row_part (frame_of layout (numbers_in parent.entry)) (numbers_in values.entry) y columns.start
+        columns.length)) }
+{
+    match parent {
+        Numbers::Narrow(list) => {
+            write_part(encoder, values, layout, Numbers::Narrow(list), y, columns)
+        }
+        Numbers::Zeros(_count) => write_part(encoder, values, layout, parent, y, columns),
+        Numbers::Wide(_list) => write_part(encoder, values, layout, parent, y, columns),
+    }
+}
+
+/// Writes the values of these columns of row `y`.
+fn write_row(
+    encoder: &mut Encoder,
+    values: Numbers<'_>,
+    layout: BandLayout,
+    parent: Numbers<'_>,
+    y: usize,
+    columns: Span,
+) -> Result<(), NoMemory>
+    requires columns { columns.start + columns.length ≤ layout.width }
+    requires width { layout.width ≤ LARGEST_TABLE_SIDE }
+    requires row { y < LARGEST_TABLE_SIDE }
+    requires inside { (y + 1) * layout.width ≤ length (numbers_in values) }
+    requires magnitudes_bounded { AreSmall (numbers_in values) }
+    ensures { OnOk result (encoder.new ≡ narrowed_by encoder.old
+        (row_part (frame_of layout (numbers_in parent.entry)) (numbers_in values.entry) y columns.start
+        columns.length)) }
+{
+    match values {
+        Numbers::Narrow(list) => {
+            write_below(encoder, Numbers::Narrow(list), layout, parent, y, columns)
+        }
+        Numbers::Zeros(_count) => write_part(encoder, values, layout, parent, y, columns),
+        Numbers::Wide(_list) => write_part(encoder, values, layout, parent, y, columns),
+    }
+}
+
 /// Writes the values of these columns of these rows.
 pub fn write_rows(
     encoder: &mut Encoder,
-    values: &[i64],
+    values: Numbers<'_>,
     layout: BandLayout,
-    parent: &[i64],
+    parent: Numbers<'_>,
     rows: Span,
     columns: Span,
 ) -> Result<(), NoMemory>
     requires columns { columns.start + columns.length ≤ layout.width }
     requires width { layout.width ≤ LARGEST_TABLE_SIDE }
     requires rows { rows.start + rows.length ≤ LARGEST_TABLE_SIDE }
-    requires inside { (rows.start + rows.length) * layout.width ≤ length values.now }
-    requires magnitudes_bounded { AreSmall values.now }
-    ensures { OnOk result (encoder.new ≡ narrowed_by encoder.old (rows_part (frame_of layout parent.now) values.now
+    requires inside { (rows.start + rows.length) * layout.width ≤ length (numbers_in values) }
+    requires magnitudes_bounded { AreSmall (numbers_in values) }
+    ensures { OnOk result (encoder.new ≡ narrowed_by encoder.old (rows_part (frame_of layout (numbers_in parent.entry))
+        (numbers_in values.entry)
         columns.start columns.length rows.start rows.length)) }
 {
     'rows: for j in 0..rows.length {

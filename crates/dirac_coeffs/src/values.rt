@@ -1,20 +1,24 @@
-ghost use Rattle.std.specs.Prelude.{◌≡◌, ◌+◌, ◌*◌, ◌^◌, ◌<◌, ◌≤◌, Bool, false, length, slice_set, IfOk, IfErr, OnErr};
+ghost use Rattle.std.specs.Prelude.{◌≡◌, ◌+◌, ◌*◌, ◌^◌, ◌<◌, ◌≤◌, Bool, true, false, length, slice_set, IfOk};
+ghost use Rattle.std.specs.Prelude.{IfErr, OnErr};
 ghost use Rattle.std.specs.Prelude.{Ok, Err};
 ghost use Rattle.dirac_arith.specs.Deciding.{Gives, decided, signed_read};
 ghost use Rattle.dirac_arith.specs.Decoding.{reading_at};
 ghost use Rattle.dirac_arith.specs.Reading.{Reading};
 ghost use Rattle.dirac_arith.specs.Registers.{Runs, doublings_of};
 ghost use Rattle.dirac_arith.specs.Spelling.{follow_at};
-ghost use Rattle.dirac_coeffs.specs.Answers.{Moves};
-ghost use Rattle.dirac_coeffs.specs.BandRead.{progress, value_step, row_step, rows_step};
+ghost use Rattle.dirac_coeffs.specs.Answers.{Goes, RefusedBy};
+ghost use Rattle.dirac_coeffs.specs.BandRead.{progress, value_step, row_step};
 ghost use Rattle.dirac_coeffs.specs.Contexts.{above_of, follow_among, follow_of, bits_context, corner_of, left_of};
 ghost use Rattle.dirac_coeffs.specs.Contexts.{sign_of};
 ghost use Rattle.dirac_coeffs.specs.Contexts.{sign_neighbour};
 ghost use Rattle.dirac_coeffs.specs.Decisions.{frame_of};
 
+use crate::coefficients::lower_half;
 use crate::contexts;
 use crate::layout::BandLayout;
+use crate::numbers::Numbers;
 use crate::spans::Span;
+use crate::store::Unread;
 use dirac_arith::{COEFFICIENT_DIGITS, Decoder, Registers};
 use dirac_common::{Band, Cause, LARGEST_TABLE_SIDE};
 
@@ -107,18 +111,30 @@ fn read_value(
     }
 }
 
+/// Writes a value in 32 bits; false where it doesn't fit.
+#[inline(always)]
+fn put_narrow(values: &mut [i32], place: usize, value: i64) -> bool
+    requires { place < length values.old }
+    ensures written { result ≡ true → values.new ≡ slice_set values.old place value }
+    ensures len { length values.new ≡ length values.old }
+{
+    let half = lower_half(value);
+    values[place] = half;
+    i64::from(half) == value
+}
+
 /// Reads the value in column `x` of row `y` among these neighbours of it, from these registers on.
 #[tactic(auto, unfolding(crate::specs::BandRead::value_step))]
 #[inline(always)]
 fn read_at(
     decoder: &mut Decoder<'_>,
     registers: Registers,
-    values: &mut [i64],
+    values: &mut [i32],
     layout: BandLayout,
-    parent: &[i64],
+    parent: &[i32],
     at: Spot,
     neighbours: Neighbours,
-) -> Result<ValueRead, Cause>
+) -> Result<ValueRead, Unread>
     requires runs { Runs decoder.old.block registers }
     requires column { at.column < layout.width }
     requires width { layout.width ≤ LARGEST_TABLE_SIDE }
@@ -135,37 +151,41 @@ fn read_at(
     ensures few_doublings { IfOk result (λ v. doublings_of v.registers ≤ doublings_of registers + 702) }
     ensures written { IfOk result (λ v. values.new ≡ slice_set values.old (at.row * layout.width + at.column) v.value) }
     ensures len { length values.new ≡ length values.old }
-    ensures refused { IfErr result (λ cause. value_step (frame_of layout parent.now) at.column at.row
-        (progress values.old (reading_at decoder.old registers)) ≡ Err cause) }
+    ensures refused { IfErr result (λ e. RefusedBy e (value_step (frame_of layout parent.now) at.column
+        at.row (progress values.old (reading_at decoder.old registers)))) }
     ensures few_then { OnErr result (decoder.new.at.doublings ≤ doublings_of registers + 702) }
 {
     let width = layout.width as usize;
-    let parent = contexts::parent_value(parent, width, at.column, at.row);
+    let parent = contexts::parent_value(Numbers::Narrow(parent), width, at.column, at.row);
     match read_value(decoder, registers, layout.band, neighbours, parent) {
         Ok(read) => {
-            values[at.row * width + at.column] = read.value;
+            if !put_narrow(values, at.row * width + at.column, read.value) {
+                decoder.resume(read.registers);
+                return Err(Unread::TooWide);
+            }
             Ok(read)
         }
-        Err(cause) => Err(cause),
+        Err(cause) => Err(Unread::Refused(cause)),
     }
 }
 
-/// Reads the values of these columns of row `y`. The registers are kept by value: what is written to the table then
-/// doesn't make them go through memory.
-fn read_row(
+/// Reads the values of these columns of row `y` in 32 bits. The registers are kept by value: what is written to the
+/// table then doesn't make them go through memory.
+#[inline(never)]
+pub fn read_narrow_row(
     decoder: &mut Decoder<'_>,
-    values: &mut [i64],
+    values: &mut [i32],
     layout: BandLayout,
-    parent: &[i64],
+    parent: &[i32],
     y: usize,
     columns: Span,
-) -> Result<(), Cause>
+) -> Result<(), Unread>
     requires columns { columns.start + columns.length ≤ layout.width }
     requires width { layout.width ≤ LARGEST_TABLE_SIDE }
     requires row { y < LARGEST_TABLE_SIDE }
     requires inside { (y + 1) * layout.width ≤ length values.old }
     requires no_overflow { decoder.old.at.doublings < 2 ^ 60 }
-    ensures value { Moves result (progress values.new decoder.new) (row_step (frame_of layout parent.now) y
+    ensures value { Goes result (progress values.new decoder.new) (row_step (frame_of layout parent.now) y
         columns.start columns.length (progress values.old decoder.old)) }
     ensures len { length values.new ≡ length values.old }
     ensures few_doublings { decoder.new.at.doublings ≤ decoder.old.at.doublings + 702 * columns.length }
@@ -174,18 +194,18 @@ fn read_row(
         return Ok(());
     }
     if decoder.is_refused() {
-        return Err(Cause::CodeWord);
+        return Err(Unread::Refused(Cause::CodeWord));
     }
     let width = layout.width as usize;
-    let mut left = contexts::left_value(values, width, columns.start, y);
-    let mut corner = contexts::corner_value(values, width, columns.start, y);
+    let mut left = contexts::left_value(Numbers::Narrow(values), width, columns.start, y);
+    let mut corner = contexts::corner_value(Numbers::Narrow(values), width, columns.start, y);
     let mut registers = decoder.registers();
     'values: for i in 0..columns.length {
         let at = Spot {
             column: columns.start + i,
             row: y,
         };
-        let above = contexts::above_value(values, width, at.column, y);
+        let above = contexts::above_value(Numbers::Narrow(values), width, at.column, y);
         let neighbours = Neighbours {
             left,
             above,
@@ -197,35 +217,9 @@ fn read_row(
                 corner = above;
                 registers = read.registers;
             }
-            Err(cause) => return Err(cause),
+            Err(e) => return Err(e),
         }
     }
     decoder.resume(registers);
-    Ok(())
-}
-
-/// Reads the values of these columns of these rows.
-pub fn read_rows(
-    decoder: &mut Decoder<'_>,
-    values: &mut [i64],
-    layout: BandLayout,
-    parent: &[i64],
-    rows: Span,
-    columns: Span,
-) -> Result<(), Cause>
-    requires columns { columns.start + columns.length ≤ layout.width }
-    requires width { layout.width ≤ LARGEST_TABLE_SIDE }
-    requires rows { rows.start + rows.length ≤ LARGEST_TABLE_SIDE }
-    requires inside { (rows.start + rows.length) * layout.width ≤ length values.old }
-    requires no_overflow { decoder.old.at.doublings < 2 ^ 59 }
-    ensures value { Moves result (progress values.new decoder.new) (rows_step (frame_of layout parent.now)
-        columns.start columns.length rows.start rows.length (progress values.old decoder.old)) }
-    ensures len { length values.new ≡ length values.old }
-    ensures few_doublings { decoder.new.at.doublings ≤ decoder.old.at.doublings + 702 * LARGEST_TABLE_SIDE
-        * columns.length }
-{
-    'rows: for j in 0..rows.length {
-        read_row(decoder, values, layout, parent, rows.start + j, columns)?;
-    }
     Ok(())
 }

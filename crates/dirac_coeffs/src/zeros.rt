@@ -3,23 +3,27 @@ ghost use Rattle.dirac_bands.specs.Geometry.{edge_of};
 ghost use Rattle.dirac_coeffs.specs.Written.{is_zero_block};
 ghost use Rattle.dirac_coeffs.specs.Contexts.{value_at};
 ghost use Rattle.dirac_coeffs.specs.Layouts.{IsBandLayout, span_of};
+ghost use Rattle.dirac_coeffs.specs.Lent.{numbers_in};
 
 use crate::contexts::is_zero_value;
 use crate::layout::BandLayout;
+use crate::numbers::{Numbers, number_at};
 use crate::spans::{Codeblock, Span, codeblock_span};
 use dirac_common::LARGEST_TABLE_SIDE;
 
 /// Whether `count` values of row `y` from column `from` on are zeros.
-fn is_zero_row(values: &[i64], width: usize, y: usize, from: usize, count: usize) -> bool
+fn is_zero_row(values: Numbers<'_>, width: usize, y: usize, from: usize, count: usize) -> bool
     requires columns { from + count ≤ width }
     requires width { width ≤ LARGEST_TABLE_SIDE }
     requires row { y < LARGEST_TABLE_SIDE }
-    requires inside { (y + 1) * width ≤ length values.now }
-    ensures zeros { result ≡ true → (i : ℕ) → i < count → value_at width values.now (from + i) y ≡ pos 0 }
-    ensures others { result ≡ false → ((i : ℕ) → i < count → value_at width values.now (from + i) y ≡ pos 0) → ⊥ }
+    requires inside { (y + 1) * width ≤ length (numbers_in values) }
+    ensures zeros { result ≡ true → (i : ℕ) → i < count
+        → value_at width (numbers_in values.entry) (from + i) y ≡ pos 0 }
+    ensures others { result ≡ false → ((i : ℕ) → i < count → value_at width (numbers_in values.entry) (from + i) y ≡
+        pos 0) → ⊥ }
 {
     'values: for i in 0..count {
-        if !is_zero_value(values[y * width + (from + i)]) {
+        if !is_zero_value(number_at(values, y * width + (from + i))) {
             return false;
         }
     }
@@ -27,15 +31,15 @@ fn is_zero_row(values: &[i64], width: usize, y: usize, from: usize, count: usize
 }
 
 /// Whether the values of these columns of these rows are zeros.
-fn are_zero_rows(values: &[i64], width: usize, rows: Span, columns: Span) -> bool
+fn are_zero_rows(values: Numbers<'_>, width: usize, rows: Span, columns: Span) -> bool
     requires columns { columns.start + columns.length ≤ width }
     requires width { width ≤ LARGEST_TABLE_SIDE }
     requires rows { rows.start + rows.length ≤ LARGEST_TABLE_SIDE }
-    requires inside { (rows.start + rows.length) * width ≤ length values.now }
+    requires inside { (rows.start + rows.length) * width ≤ length (numbers_in values) }
     ensures zeros { result ≡ true → (i j : ℕ) → i < columns.length → j < rows.length
-        → value_at width values.now (columns.start + i) (rows.start + j) ≡ pos 0 }
+        → value_at width (numbers_in values.entry) (columns.start + i) (rows.start + j) ≡ pos 0 }
     ensures others { result ≡ false → ((i j : ℕ) → i < columns.length → j < rows.length
-        → value_at width values.now (columns.start + i) (rows.start + j) ≡ pos 0) → ⊥ }
+        → value_at width (numbers_in values.entry) (columns.start + i) (rows.start + j) ≡ pos 0) → ⊥ }
 {
     'rows: for j in 0..rows.length {
         if !is_zero_row(values, width, rows.start + j, columns.start, columns.length) {
@@ -46,12 +50,12 @@ fn are_zero_rows(values: &[i64], width: usize, rows: Span, columns: Span) -> boo
 }
 
 /// Whether a codeblock has zeros alone, or no values.
-pub fn has_zeros_alone(values: &[i64], layout: BandLayout, codeblock: Codeblock) -> bool
+pub fn has_zeros_alone(values: Numbers<'_>, layout: BandLayout, codeblock: Codeblock) -> bool
     requires layout { IsBandLayout layout }
     requires row { codeblock.row < layout.down }
     requires column { codeblock.column < layout.across }
-    requires len { length values.now ≡ layout.width * layout.height }
-    ensures { result ≡ is_zero_block layout values.now codeblock.row codeblock.column }
+    requires len { length (numbers_in values) ≡ layout.width * layout.height }
+    ensures { result ≡ is_zero_block layout (numbers_in values.entry) codeblock.row codeblock.column }
 {
     let columns = codeblock_span(layout.width, layout.across, codeblock.column);
     let rows = codeblock_span(layout.height, layout.down, codeblock.row);

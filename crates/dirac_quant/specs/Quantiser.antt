@@ -1,5 +1,5 @@
 -- The quantiser of wavelet coefficients: factors, offsets, and what a coded number stands for.
-use Rattle.std.specs.Prelude.{ℕ, ℤ, pos, negsuc, neg_ℤ, unsigned_abs, ◌+◌, ◌*◌, ◌/◌, ◌%◌, ◌^◌, ◌==◌, if◌then◌else◌}
+use Rattle.std.specs.Prelude.{ℕ, ℤ, pos, negsuc, neg_ℤ, unsigned_abs, ◌+◌, ◌-◌, ◌*◌, ◌/◌, ◌%◌, ◌^◌, ◌==◌, if◌then◌else◌}
 use Rattle.dirac_common.specs.declared.formats.Kind.{Kind}
 use Rattle.dirac_common.specs.declared.formats.Kind.TheVariants.{Intra, Inter}
 
@@ -27,6 +27,10 @@ general_offset factor Inter = (3 * factor + 4) / 8
 abbrev pub offset_of : ℕ → Kind → ℕ
 offset_of index kind =
     if index == 0 then 1 else if index == 1 then 2 else general_offset (factor_of index) kind
+
+-- 2^64 over a factor, rounded up
+abbrev pub reciprocal_of : ℕ → ℕ
+reciprocal_of factor = (2 ^ 64 - 1) / factor + 1
 
 -- a magnitude with the sign of a number
 abbrev pub with_sign_of : ℤ → ℕ → ℤ

@@ -5,5 +5,6 @@
 mod quantiser;
 
 pub use quantiser::{
-    MOST_QUARTERS, factor, narrow_limit, offset, reduce, reduce_by, restore, restore_narrow,
+    MOST_QUARTERS, factor, narrow_limit, offset, reciprocal, reduce, reduce_at, reduce_by, restore,
+    restore_narrow,
 };

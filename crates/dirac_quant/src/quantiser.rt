@@ -1,7 +1,7 @@
 ghost use Rattle.std.specs.Prelude.{◌≡◌, ℕ, ◌^◌, ◌*◌, ◌/◌, ◌+◌, ◌<◌, ◌≤◌, ◌-◌, unsigned_abs};
 ghost use Rattle.dirac_common.specs.Limits.{IsIndex};
 ghost use Rattle.dirac_quant.specs.Quantiser.{factor_of, offset_of, restored, restored_magnitude, reduced, scaled};
-ghost use Rattle.dirac_quant.specs.Quantiser.{with_sign_of};
+ghost use Rattle.dirac_quant.specs.Quantiser.{reciprocal_of, with_sign_of};
 
 use dirac_common::{Kind, LARGEST_NARROW};
 
@@ -83,6 +83,46 @@ pub fn narrow_limit(index: u8, kind: Kind) -> u64
 {
     let taken = offset(index, kind) + 2;
     MOST_QUARTERS.saturating_sub(taken) / factor(index)
+}
+
+/// By what one multiplies to divide by a factor: the whole part of 2^64 over it, one more where something is left.
+#[inline(always)]
+pub fn reciprocal(factor: u64) -> u64
+    requires { 4 ≤ factor }
+    ensures { result ≡ reciprocal_of factor }
+{
+    u64::MAX / factor + 1
+}
+
+/// A number over a factor, without a division.
+#[tactic(auto, using(crate::proofs::Reciprocals::quotient_is))]
+#[inline(always)]
+fn quotient(number: u64, factor: u64, reciprocal: u64) -> u64
+    requires factor { 4 ≤ factor }
+    requires reciprocal { reciprocal ≡ reciprocal_of factor }
+    requires exact { number * factor < 2 ^ 64 }
+    ensures { result ≡ number / factor }
+{
+    let product = u128::from(number) * u128::from(reciprocal);
+    (product / 18_446_744_073_709_551_616) as u64
+}
+
+/// The number that codes a coefficient, by the factor of an index and its reciprocal. A magnitude below 2^35, as most
+/// are, is divided by a multiplication.
+#[inline(always)]
+pub fn reduce_at(value: i64, factor: u64, reciprocal: u64) -> i64
+    requires value { unsigned_abs value ≤ 2 ^ 39 - 2 }
+    requires factor { 4 ≤ factor }
+    requires below { factor < 2 ^ 27 }
+    requires reciprocal { reciprocal ≡ reciprocal_of factor }
+    ensures { result ≡ with_sign_of value (4 * unsigned_abs value / factor) }
+{
+    let magnitude = value.unsigned_abs();
+    if magnitude >= 34_359_738_368 {
+        return reduce_by(value, factor);
+    }
+    let steps = quotient(4 * magnitude, factor, reciprocal) as i64;
+    if value < 0 { -steps } else { steps }
 }
 
 /// The number that codes a coefficient, by the factor of an index: its magnitude in steps, rounded towards zero, with

@@ -22,8 +22,8 @@ pub returns-then-are_zeros-clause-spelled : goal.returns-then-are_zeros-clause-s
 returns-then-are_zeros-clause-spelled c =
     written_spells c.args.layout (values_of_parent c.args.parent) c.args.band.now c.args.w.now c.uint.new.self c.requires.layout c.requires.band c.requires.indices c.requires.zeros c.requires.zero_indices c.uint.result (search rules)
 
-pub returns-in_ok-wide-in-Some-clause-spelled : goal.returns-in_ok-wide-in-Some-clause-spelled
-returns-in_ok-wide-in-Some-clause-spelled c =
+pub returns-in-Some-clause-spelled : goal.returns-in-Some-clause-spelled
+returns-in-Some-clause-spelled c =
     written_spells c.args.layout (values_of_parent c.args.parent) c.args.band.now c.args.w.now c.write_coded.new.w c.requires.layout c.requires.band c.requires.indices c.requires.zeros c.requires.zero_indices c.write_coded.result (search rules)
 
 pub returns-in-None-clause-spelled : goal.returns-in-None-clause-spelled

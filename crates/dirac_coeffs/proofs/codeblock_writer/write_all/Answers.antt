@@ -2,6 +2,7 @@ use Rattle.std.proofs.Common.{refl}
 use Rattle.dirac_arith.proofs.Spellings.{narrowed_more}
 use Rattle.dirac_coeffs.specs.Decisions.{blocks_part, bands_part}
 use Rattle.dirac_coeffs.specs.Written.{marks_of}
+use Rattle.dirac_coeffs.specs.Lent.{numbers_in}
 use Rattle.dirac_coeffs.proofs.AgreementOfBlocks.{bands_next}
 use Rattle.dirac_coeffs.proofs.codeblock_writer.write_all.Goals as goal
 
@@ -12,8 +13,8 @@ down-init c = refl
 pub down-preserved : goal.down-preserved
 down-preserved c =
     let layout = c.args.layout in
-    let parent = c.args.parent.now in
-    let xs = c.args.values.now in
+    let parent = (numbers_in c.args.parent) in
+    let xs = (numbers_in c.args.values) in
     let marks = marks_of layout c.args.index xs c.args.indices.now in
     let n = c.down.cy in
     narrowed_more _ _ _ (bands_part layout parent xs marks n) (blocks_part layout parent xs (marks n) n layout.across) _ c.down.invariant c.in_ok-write_codeblocks.ensures (bands_next layout parent xs marks n)

@@ -2,6 +2,7 @@ use Rattle.std.proofs.Common.{refl}
 use Rattle.dirac_arith.proofs.Spellings.{narrowed_more}
 use Rattle.dirac_coeffs.specs.Decisions.{block_part, blocks_part}
 use Rattle.dirac_coeffs.specs.Written.{marks_of}
+use Rattle.dirac_coeffs.specs.Lent.{numbers_in}
 use Rattle.dirac_coeffs.proofs.AgreementOfBlocks.{blocks_next}
 use Rattle.dirac_coeffs.proofs.codeblock_writer.write_codeblocks.Goals as goal
 
@@ -12,8 +13,8 @@ across-init c = refl
 pub across-preserved : goal.across-preserved
 across-preserved c =
     let layout = c.args.layout in
-    let parent = c.args.parent.now in
-    let xs = c.args.values.now in
+    let parent = (numbers_in c.args.parent) in
+    let xs = (numbers_in c.args.values) in
     let cy = c.args.cy in
     let marks = marks_of layout c.args.index xs c.args.indices.now cy in
     let n = c.across.cx in

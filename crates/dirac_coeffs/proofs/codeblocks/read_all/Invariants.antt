@@ -1,12 +1,13 @@
 use Rattle.std.proofs.Common.{◌≡◌, ◌+◌, ◌*◌, ◌≤◌, length, Ok}
 use Rattle.dirac_coeffs.specs.BandRead.{band_progress, block_rows_step}
+use Rattle.dirac_coeffs.specs.Lent.{numbers_in, values_in}
 use Rattle.dirac_coeffs.proofs.codeblocks.read_all.Given as goal
 
 abbrev pub invariant-down : goal.invariant-down
 invariant-down l =
     record {
-      value : block_rows_step l.layout l.parent l.index l.cy (band_progress l.fn.values l.fn.indices l.fn.decoder) ≡ Ok (band_progress l.values l.indices l.decoder);
-      len : length l.values ≡ length l.fn.values;
+      value : block_rows_step l.layout (numbers_in l.parent) l.index l.cy (band_progress (values_in l.fn.values) l.fn.indices l.fn.decoder) ≡ Ok (band_progress (values_in l.values) l.indices l.decoder);
+      len : length (values_in l.values) ≡ length (values_in l.fn.values);
       count : length l.indices ≡ length l.fn.indices;
       few_doublings : l.decoder.at.doublings ≤ (711 * 8192 + 702 * 8192 * 8192) * l.cy;
     }

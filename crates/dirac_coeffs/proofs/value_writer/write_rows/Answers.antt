@@ -1,6 +1,7 @@
 use Rattle.std.proofs.Common.{◌+◌, refl}
 use Rattle.dirac_arith.proofs.Spellings.{narrowed_more}
 use Rattle.dirac_coeffs.specs.Decisions.{frame_of, row_part, rows_part}
+use Rattle.dirac_coeffs.specs.Lent.{numbers_in}
 use Rattle.dirac_coeffs.proofs.Agreement.{rows_next}
 use Rattle.dirac_coeffs.proofs.value_writer.write_rows.Goals as goal
 
@@ -10,8 +11,8 @@ rows-init c = refl
 
 pub rows-preserved : goal.rows-preserved
 rows-preserved c =
-    let f = frame_of c.args.layout c.args.parent.now in
-    let xs = c.args.values.now in
+    let f = frame_of c.args.layout (numbers_in c.args.parent) in
+    let xs = (numbers_in c.args.values) in
     let top = c.args.rows.start in
     let from = c.args.columns.start in
     let count = c.args.columns.length in

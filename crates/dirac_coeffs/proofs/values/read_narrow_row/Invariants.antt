@@ -4,7 +4,7 @@ use Rattle.dirac_arith.specs.Registers.{Runs, doublings_of}
 use Rattle.dirac_coeffs.specs.BandRead.{progress, row_step}
 use Rattle.dirac_coeffs.specs.Contexts.{corner_of, left_of}
 use Rattle.dirac_coeffs.specs.Decisions.{frame_of}
-use Rattle.dirac_coeffs.proofs.values.read_row.Given as goal
+use Rattle.dirac_coeffs.proofs.values.read_narrow_row.Given as goal
 
 abbrev pub invariant-values : goal.invariant-values
 invariant-values l =

@@ -11,8 +11,8 @@ use Rattle.dirac_coeffs.specs.BandRead.{Progress, Step, progress, value_step, ro
 use Rattle.dirac_coeffs.specs.Contexts.{bits_context, corner_of, left_of}
 use Rattle.dirac_coeffs.specs.Decisions.{Frame, frame_of, follow_here, sign_here}
 use Rattle.dirac_coeffs.proofs.Carrying.{corner_next, left_next}
-use Rattle.dirac_coeffs.proofs.Repeating.{repeated_none, repeated_next, repeated_stops}
-use Rattle.dirac_coeffs.proofs.values.read_row.Goals as goal
+use Rattle.dirac_coeffs.proofs.Repeating.{repeated_none, repeated_next, repeated_stops, repeated_unread}
+use Rattle.dirac_coeffs.proofs.values.read_narrow_row.Goals as goal
 
 -- a block that begins with sixteen ones has no value
 value_refused : (f : Frame) (x y : ℕ) (p : Progress) → front p.reading.block 16 ≡ 0xFFFF → value_step f x y p ≡ Err cause.CodeWord
@@ -70,7 +70,7 @@ values-preserved c =
 
 pub returns-in-Err-clause-value : goal.returns-in-Err-clause-value
 returns-in-Err-clause-value c =
-    repeated_stops (λ i. value_step (frame_of c.args.layout c.args.parent.now) (c.args.columns.start + i) c.args.y) c.values.i c.args.columns.length (progress c.args.values.now c.args.decoder.now) (progress c.values.values (reading_at c.values.decoder c.values.registers)) c.in-Err.cause (omega arith) c.values.invariant.value c.in-Err.ensures.refused
+    repeated_unread (λ i. value_step (frame_of c.args.layout c.args.parent.now) (c.args.columns.start + i) c.args.y) c.values.i c.args.columns.length (progress c.args.values.now c.args.decoder.now) (progress c.values.values (reading_at c.values.decoder c.values.registers)) c.in-Err.e (omega arith) c.values.invariant.value c.in-Err.ensures.refused
 
 pub returns-in-Err-clause-few_doublings : goal.returns-in-Err-clause-few_doublings
 returns-in-Err-clause-few_doublings c = omega (arith, c.values.invariant.few_doublings, c.in-Err.ensures.few_then)

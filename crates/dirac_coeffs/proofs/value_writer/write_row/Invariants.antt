@@ -1,7 +1,0 @@
-use Rattle.std.proofs.Common.{◌≡◌}
-use Rattle.dirac_arith.specs.Interval.{narrowed_by}
-use Rattle.dirac_coeffs.specs.Decisions.{frame_of, row_part}
-use Rattle.dirac_coeffs.proofs.value_writer.write_row.Given as goal
-
-abbrev pub invariant-values : goal.invariant-values
-invariant-values l = l.encoder ≡ narrowed_by l.fn.encoder (row_part (frame_of l.layout l.parent) l.values l.y l.columns.start l.i)

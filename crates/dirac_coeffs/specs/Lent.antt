@@ -1,0 +1,17 @@
+-- Numbers that are lent, and the values of a band while it is read.
+use Rattle.std.specs.Prelude.{ℤ, pos, List, replicate}
+use Rattle.dirac_coeffs.specs.declared.numbers.Numbers.{Numbers}
+use Rattle.dirac_coeffs.specs.declared.numbers.Numbers.TheVariants as lent
+use Rattle.dirac_coeffs.specs.declared.store.Values.{Values}
+use Rattle.dirac_coeffs.specs.declared.store.Values.TheVariants as held
+
+-- the numbers that are lent
+abbrev pub numbers_in : Numbers → List ℤ
+numbers_in (lent.Zeros count) = replicate count (pos 0)
+numbers_in (lent.Narrow list) = list.now
+numbers_in (lent.Wide list) = list.now
+
+-- the values so far
+abbrev pub values_in : Values → List ℤ
+values_in (held.Narrow list) = list.items
+values_in (held.Wide list) = list.items

@@ -1,0 +1,103 @@
+ghost use Rattle.std.specs.Prelude.{◌≡◌, ℕ, pos, replicate, ◌+◌, ◌*◌, ◌^◌, ◌<◌, ◌≤◌, length};
+ghost use Rattle.dirac_coeffs.specs.Answers.{Goes};
+ghost use Rattle.dirac_coeffs.specs.BandRead.{progress, row_step, rows_step};
+ghost use Rattle.dirac_coeffs.specs.Decisions.{frame_of};
+ghost use Rattle.dirac_coeffs.specs.Lent.{numbers_in, values_in};
+
+use crate::layout::BandLayout;
+use crate::numbers::Numbers;
+use crate::spans::Span;
+use crate::store::{Unread, Values};
+use crate::values::read_narrow_row;
+use crate::wide_values::read_wide_row;
+use dirac_arith::Decoder;
+use dirac_common::LARGEST_TABLE_SIDE;
+
+/// Reads the values of these columns of row `y` in 32 bits below a parent of zeros, which contexts see as they do none.
+fn read_row_below_zeros(
+    decoder: &mut Decoder<'_>,
+    values: &mut [i32],
+    layout: BandLayout,
+    y: usize,
+    columns: Span,
+) -> Result<(), Unread>
+    requires columns { columns.start + columns.length ≤ layout.width }
+    requires width { layout.width ≤ LARGEST_TABLE_SIDE }
+    requires row { y < LARGEST_TABLE_SIDE }
+    requires inside { (y + 1) * layout.width ≤ length values.old }
+    requires no_overflow { decoder.old.at.doublings < 2 ^ 60 }
+    ensures value { (count : ℕ) → Goes result (progress values.new decoder.new) (row_step
+        (frame_of layout (replicate count (pos 0))) y columns.start columns.length
+        (progress values.old decoder.old)) }
+    ensures len { length values.new ≡ length values.old }
+    ensures few_doublings { decoder.new.at.doublings ≤ decoder.old.at.doublings + 702 * columns.length }
+{
+    read_narrow_row(decoder, values, layout, &[], y, columns)
+}
+
+/// Reads the values of these columns of row `y`.
+fn read_row(
+    decoder: &mut Decoder<'_>,
+    values: &mut Values,
+    layout: BandLayout,
+    parent: Numbers<'_>,
+    y: usize,
+    columns: Span,
+) -> Result<(), Unread>
+    requires columns { columns.start + columns.length ≤ layout.width }
+    requires width { layout.width ≤ LARGEST_TABLE_SIDE }
+    requires row { y < LARGEST_TABLE_SIDE }
+    requires inside { (y + 1) * layout.width ≤ length (values_in values.old) }
+    requires no_overflow { decoder.old.at.doublings < 2 ^ 60 }
+    ensures value { Goes result (progress (values_in values.new) decoder.new) (row_step
+        (frame_of layout (numbers_in parent.entry)) y columns.start columns.length
+        (progress (values_in values.old) decoder.old)) }
+    ensures len { length (values_in values.new) ≡ length (values_in values.old) }
+    ensures few_doublings { decoder.new.at.doublings ≤ decoder.old.at.doublings + 702 * columns.length }
+{
+    match values {
+        Values::Narrow(list) => {
+            let list = list.as_mut_slice();
+            match parent {
+                Numbers::Zeros(_count) => read_row_below_zeros(decoder, list, layout, y, columns),
+                Numbers::Narrow(parent) => {
+                    read_narrow_row(decoder, list, layout, parent, y, columns)
+                }
+                Numbers::Wide(_parent) => Err(Unread::TooWide),
+            }
+        }
+        Values::Wide(list) => {
+            match read_wide_row(decoder, list.as_mut_slice(), layout, parent, y, columns) {
+                Ok(()) => Ok(()),
+                Err(cause) => Err(Unread::Refused(cause)),
+            }
+        }
+    }
+}
+
+/// Reads the values of these columns of these rows.
+pub fn read_rows(
+    decoder: &mut Decoder<'_>,
+    values: &mut Values,
+    layout: BandLayout,
+    parent: Numbers<'_>,
+    rows: Span,
+    columns: Span,
+) -> Result<(), Unread>
+    requires columns { columns.start + columns.length ≤ layout.width }
+    requires width { layout.width ≤ LARGEST_TABLE_SIDE }
+    requires rows { rows.start + rows.length ≤ LARGEST_TABLE_SIDE }
+    requires inside { (rows.start + rows.length) * layout.width ≤ length (values_in values.old) }
+    requires no_overflow { decoder.old.at.doublings < 2 ^ 59 }
+    ensures value { Goes result (progress (values_in values.new) decoder.new) (rows_step
+        (frame_of layout (numbers_in parent.entry)) columns.start columns.length rows.start rows.length
+        (progress (values_in values.old) decoder.old)) }
+    ensures len { length (values_in values.new) ≡ length (values_in values.old) }
+    ensures few_doublings { decoder.new.at.doublings ≤ decoder.old.at.doublings + 702 * LARGEST_TABLE_SIDE
+        * columns.length }
+{
+    'rows: for j in 0..rows.length {
+        read_row(decoder, values, layout, parent, rows.start + j, columns)?;
+    }
+    Ok(())
+}

@@ -1,0 +1,74 @@
+ghost use Rattle.std.specs.Prelude.{◌≡◌, ◌+◌, ◌*◌, ◌^◌, ◌<◌, ◌≤◌, length};
+ghost use Rattle.dirac_coeffs.specs.Answers.{Moves};
+ghost use Rattle.dirac_coeffs.specs.BandRead.{progress, value_step, row_step};
+ghost use Rattle.dirac_coeffs.specs.Decisions.{frame_of};
+ghost use Rattle.dirac_coeffs.specs.Lent.{numbers_in};
+
+use crate::contexts;
+use crate::layout::BandLayout;
+use crate::numbers::Numbers;
+use crate::spans::Span;
+use dirac_arith::{COEFFICIENT_DIGITS, Decoder};
+use dirac_common::{Cause, LARGEST_TABLE_SIDE};
+
+/// Reads the value in column `x` of row `y`.
+#[tactic(auto, unfolding(crate::specs::BandRead::value_step))]
+fn read_wide_value(
+    decoder: &mut Decoder<'_>,
+    values: &mut [i64],
+    layout: BandLayout,
+    parent: Numbers<'_>,
+    x: usize,
+    y: usize,
+) -> Result<(), Cause>
+    requires column { x < layout.width }
+    requires width { layout.width ≤ LARGEST_TABLE_SIDE }
+    requires row { y < LARGEST_TABLE_SIDE }
+    requires inside { (y + 1) * layout.width ≤ length values.old }
+    requires no_overflow { decoder.old.at.doublings < 2 ^ 61 }
+    ensures value { Moves result (progress values.new decoder.new) (value_step
+        (frame_of layout (numbers_in parent.entry)) x y (progress values.old decoder.old)) }
+    ensures len { length values.new ≡ length values.old }
+    ensures few_doublings { decoder.new.at.doublings ≤ decoder.old.at.doublings + 702 }
+{
+    let width = layout.width as usize;
+    let left = contexts::left_value(Numbers::Wide(values), width, x, y);
+    let above = contexts::above_value(Numbers::Wide(values), width, x, y);
+    let corner = contexts::corner_value(Numbers::Wide(values), width, x, y);
+    let parent = contexts::parent_value(parent, width, x, y);
+    let follow = contexts::follow_among(left, above, corner, parent);
+    let sign = contexts::sign_context(layout.band, left, above);
+    match decoder.signed(follow, COEFFICIENT_DIGITS, sign) {
+        Ok(value) => {
+            values[y * width + x] = value;
+            Ok(())
+        }
+        Err(cause) => Err(cause),
+    }
+}
+
+/// Reads the values of these columns of row `y` in 64 bits, which hold every value that a block can.
+pub fn read_wide_row(
+    decoder: &mut Decoder<'_>,
+    values: &mut [i64],
+    layout: BandLayout,
+    parent: Numbers<'_>,
+    y: usize,
+    columns: Span,
+) -> Result<(), Cause>
+    requires columns { columns.start + columns.length ≤ layout.width }
+    requires width { layout.width ≤ LARGEST_TABLE_SIDE }
+    requires row { y < LARGEST_TABLE_SIDE }
+    requires inside { (y + 1) * layout.width ≤ length values.old }
+    requires no_overflow { decoder.old.at.doublings < 2 ^ 60 }
+    ensures value { Moves result (progress values.new decoder.new) (row_step
+        (frame_of layout (numbers_in parent.entry)) y columns.start columns.length
+        (progress values.old decoder.old)) }
+    ensures len { length values.new ≡ length values.old }
+    ensures few_doublings { decoder.new.at.doublings ≤ decoder.old.at.doublings + 702 * columns.length }
+{
+    'values: for i in 0..columns.length {
+        read_wide_value(decoder, values, layout, parent, columns.start + i, y)?;
+    }
+    Ok(())
+}
