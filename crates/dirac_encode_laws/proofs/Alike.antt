@@ -16,8 +16,7 @@ pub pictures_shown_alike : PicturesAreShownAlike
 pictures_shown_alike f t refs [] alike = tt
 pictures_shown_alike f t refs (j ∷ jobs) alike =
     let u = at_index t (f t refs j) in
-    let m = motion_of u refs j.planned j.source in
-    (
+    let m = motion_of u refs j.planned j.source in (
       record { residual = λ inter. has_residual u m (residual_of u refs (header_of j.planned) m j.source) alike },
       pictures_shown_alike f t (refs_after refs (made_under f t refs j)) jobs alike,
     )

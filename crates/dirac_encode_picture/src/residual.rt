@@ -236,10 +236,7 @@ fn are_bands_of_zeros(bands: &PlaneBands) -> bool
 
 /// The residual of an inter picture, which is left out exactly where all its bands have zeros alone and the stream need
 /// not be shown alike.
-pub(crate) fn unless_left_out(
-    settings: &Settings,
-    residual: CodedResidual,
-) -> Option<CodedResidual>
+pub(crate) fn unless_left_out(settings: &Settings, residual: CodedResidual) -> Option<CodedResidual>
     ensures { result ≡ (if coding.is_left_out settings.now residual then None else Some residual) }
 {
     if settings.alike == 0
