@@ -110,7 +110,8 @@ class Encode(InFolder):
 
     def expected(self, raw, **values):
         """The stream of the plain encoder for the words that are to be given."""
-        settings = encoder.default_settings(values.get("base", 0)) | SETTINGS | {"rate": 3, "signal": 2} | values
+        settings = encoder.default_settings(values.get("base", 0)) | SETTINGS
+        settings |= {"rate": 3, "signal": 2, "alike": 1} | values
         return encoder.encode(settings, raw).stream
 
     def test_y4m_becomes_what_its_header_says(self):

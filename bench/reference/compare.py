@@ -381,6 +381,7 @@ SEARCH_RANGES = [
     ("precision", 0, 3),
     ("references", 1, 2),
     ("between", 0, 3),
+    ("alike", 0, 1),
     ("range", 0, 2),
     ("pyramid", 0, 4),
     ("bias", 0, 255),

@@ -47,6 +47,7 @@ SETTING_RANGES = [
     ("workers", 1, 64),
     ("pictures", 1, 2147483647),
     ("unit_bytes", 14, 4294967295),
+    ("alike", 0, 1),
 ]
 
 SETTING_DEFAULTS = {
@@ -69,6 +70,7 @@ SETTING_DEFAULTS = {
     "workers": 1,
     "pictures": 2147483647,
     "unit_bytes": 4294967295,
+    "alike": 0,
 }
 
 
@@ -288,16 +290,29 @@ def anchor_offsets(length, between):
     return offsets
 
 
+def left_by_group_before(first, settings):
+    """The frames that the group before this frame left, oldest first, where the stream is to be shown alike."""
+    if settings["alike"] == 0 or first == 0:
+        return []
+    start = first - settings["gop"]
+    anchors = [start + offset for offset in anchor_offsets(settings["gop"], settings["between"])]
+    return anchors[:1] + anchors[1:][-2:]
+
+
 def plan_group(first, length, settings):
     """The frames of a group in coding order."""
     anchors = [first + offset for offset in anchor_offsets(length, settings["between"])]
     has_two = settings["references"] == 2
-    planned = [Planned(first, INTRA_REFERENCE_PICTURE, [], None)]
+    left = left_by_group_before(first, settings)
+    planned = [Planned(first, INTRA_REFERENCE_PICTURE, [], left.pop(0) if left else None)]
     for k in range(1, len(anchors)):
         references = [anchors[k - 1]]
         if has_two and k >= 2:
             references.append(anchors[0])
-        retired = anchors[k - 2] if k >= 3 else None
+        if k >= 3:
+            retired = anchors[k - 2]
+        else:
+            retired = left.pop(0) if left else None
         planned.append(Planned(anchors[k], INTER_REFERENCE_PICTURES[len(references)], references, retired))
         references = [anchors[k - 1], anchors[k]] if has_two else [anchors[k - 1]]
         for number in range(anchors[k - 1] + 1, anchors[k]):
@@ -407,6 +422,38 @@ def twice(vector):
     return 2 * vector[0], 2 * vector[1]
 
 
+def keeps_inside_along(positions, vector, precision, length):
+    """Whether a component of a vector takes no sample outside of a line from these positions in it."""
+    for position in positions:
+        place = (position << precision) + vector
+        if precision == 0:
+            if not 0 <= place <= length - 1:
+                return False
+        else:
+            one = 2 ** (precision - 1)
+            half, rest = place // one, place % one
+            if half < 0 or half + (rest != 0) > 2 * length - 2:
+                return False
+    return True
+
+
+def keeps_inside(settings, place, vector, precision):
+    """Whether a vector takes no sample outside of any plane for a block."""
+    length, separation = decoder.BLOCK_PRESETS[settings["blocks"]]
+    for n, size in enumerate(decoder.plane_sizes(sequence_of(settings))):
+        ratios = decoder.CHROMA_RATIOS[settings["chroma"]] if n > 0 else (1, 1)
+        lines = []
+        for block, ratio, limit in zip(place, ratios, size):
+            first = block * (separation // ratio) - (length - separation) // ratio // 2
+            lines.append(range(max(first, 0), min(first + length // ratio, limit)))
+        if any(len(line) == 0 for line in lines):
+            continue
+        for line, component, ratio, limit in zip(lines, vector, ratios, size):
+            if not keeps_inside_along(line, component // ratio, precision, limit):
+                return False
+    return True
+
+
 class Search:
     """The search for the vectors of all blocks to one reference, stage by stage."""
 
@@ -440,11 +487,24 @@ class Search:
         distortion = window_distortion(self.sources[0], self.grid.window(*place), sample)
         return distortion + self.settings["bias"] * vector_bits(vector)
 
+    def counting(self, candidates, place, precision, level=0):
+        """Those of the candidates of a block that count."""
+        if self.settings["alike"] == 0:
+            return candidates
+        one = 2**level
+        inside = {
+            vector: keeps_inside(self.settings, place, (one * vector[0], one * vector[1]), precision)
+            for vector in set(candidates)
+        }
+        return [vector for vector in candidates if inside[vector]]
+
     def coarse(self):
         candidates = [(0, 0)] + around((0, 0), self.settings["range"])
         level = self.settings["pyramid"]
         return {
-            place: first_of_least(candidates, lambda vector: self.whole_cost(level, place, vector))[0]
+            place: first_of_least(
+                self.counting(candidates, place, 0, level), lambda vector: self.whole_cost(level, place, vector)
+            )[0]
             for place in self.grid.places()
         }
 
@@ -455,6 +515,7 @@ class Search:
             for place in ((i, j), (i - 1, j), (i + 1, j), (i, j - 1), (i, j + 1)):
                 if place in before:
                     candidates += around(twice(before[place]), 1)
+            candidates = self.counting(candidates, (i, j), 0, level)
             vectors[i, j], _ = first_of_least(candidates, lambda vector: self.whole_cost(level, (i, j), vector))
         return vectors
 
@@ -462,7 +523,7 @@ class Search:
         vectors = {}
         for place in self.grid.places():
             centre = twice(before[place])
-            candidates = [(0, 0), centre] + around(centre, 1)
+            candidates = self.counting([(0, 0), centre] + around(centre, 1), place, precision)
             vectors[place], _ = first_of_least(candidates, lambda vector: self.sub_cost(precision, place, vector))
         return vectors
 
@@ -512,7 +573,15 @@ class Decision:
             distortion = self.distortion(unit, lambda x, y: search.sub_sample(precision, vector, x, y))
             return distortion + self.settings["bias"] * vector_bits(vector)
 
-        return first_of_least([self.fields[reference][place] for place in self.blocks_of(unit)], cost)
+        places = self.blocks_of(unit)
+        candidates = [self.fields[reference][place] for place in places]
+        if self.settings["alike"] == 1:
+            candidates = [
+                vector
+                for vector in candidates
+                if all(keeps_inside(self.settings, place, vector, precision) for place in places)
+            ] or [(0, 0)]
+        return first_of_least(candidates, cost)
 
     def dc_value(self, unit, plane):
         across, down = decoder.CHROMA_RATIOS[self.settings["chroma"]] if plane > 0 else (1, 1)
@@ -712,7 +781,7 @@ def write_residual(writer, settings, planes, is_intra):
     """Transform parameters and subbands; in an inter picture behind the zero residual flag."""
     subbands = [plane_subbands(plane, settings, is_intra) for plane in planes]
     if not is_intra:
-        is_zero = not any(any(band.values) for bands in subbands for band in bands)
+        is_zero = settings["alike"] == 0 and not any(any(band.values) for bands in subbands for band in bands)
         writer.flag(is_zero)
         if is_zero:
             return

@@ -34,7 +34,7 @@ small and coarse.
 """
 # settings that go to the program as they are
 PASSED = ["base", "profile", "level", "wavelet", "depth", "index", "codeblocks", "finer", "blocks", "precision"]
-PASSED += ["references", "gop", "between", "range", "pyramid", "bias", "workers", "unit_bytes"]
+PASSED += ["references", "gop", "between", "range", "pyramid", "bias", "workers", "unit_bytes", "alike"]
 BASES = {PROGRESSIVE: 0, TOP_FIRST: 8, BOTTOM_FIRST: 7}
 SIGNALS = {"full": FULL_RANGE, "limited": LIMITED_RANGE}
 MOST_WORKERS = 64
@@ -76,7 +76,8 @@ def add_to(commands):
 
 def help_of(name):
     lowest, highest = next(row[1:] for row in encoder.SETTING_RANGES if row[0] == name)
-    usual = "as many as processors" if name == "workers" else encoder.SETTING_DEFAULTS.get(name, "by the clip's scan")
+    own = {"workers": "as many as processors", "alike": 1}
+    usual = own.get(name, encoder.SETTING_DEFAULTS.get(name, "by the clip's scan"))
     return f"{lowest} to {highest}; {usual} where it isn't given"
 
 
@@ -104,6 +105,7 @@ def settings_of(video, words):
         rate=index or RATE_IN_BETWEEN, signal=1 if video.signal == FULL_RANGE else 2, fields=int(words.fields)
     )
     settings["workers"] = min(MOST_WORKERS, os.cpu_count() or 1)
+    settings["alike"] = 1
     settings.update({name: getattr(words, name) for name in PASSED if getattr(words, name) is not None})
     check_order(video, settings["base"])
     command = "encode" if words.budget is None else "rate"

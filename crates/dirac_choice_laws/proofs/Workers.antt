@@ -10,7 +10,7 @@ use Rattle.dirac_sequence.specs.Written.{sequence_of, sequence_payload}
 use Rattle.dirac_picture.specs.Grammar.{is_intra}
 use Rattle.dirac_picture.specs.declared.coded.CodedMotion.{CodedMotion}
 use Rattle.dirac_picture.specs.declared.coded.CodedPicture.{CodedPicture}
-use Rattle.dirac_plan.specs.Plan.{frames_plan, plan}
+use Rattle.dirac_plan.specs.Plan.{frames_plan, plan, retired_of_former}
 use Rattle.dirac_plan.specs.declared.planned.Planned.{Planned}
 use Rattle.dirac_decide.specs.Deciding.{View}
 use Rattle.dirac_decide.specs.Splits.{decided_by}
@@ -95,7 +95,7 @@ coded_under_same budget t w refs (j ∷ jobs) =
     ∙ ap (λ (ms : List Made). made_under (rule_of budget) t refs j ∷ ms) (coded_under_same budget t w (refs_after refs (made_under (rule_of budget) t refs j)) jobs)
 
 plan_same : (t : Settings) (w n : ℕ) → plan n (with_workers t w) ≡ plan n t
-unfolding plan frames_plan
+unfolding plan frames_plan retired_of_former
 plan_same t w n = refl
 
 sources_same : (t : Settings) (w : ℕ) (bytes : List ℕ) → sources (with_workers t w) bytes ≡ sources t bytes

@@ -10,7 +10,7 @@ use Rattle.dirac_common.specs.declared.picture.Picture.{Picture}
 use Rattle.dirac_types.specs.declared.settings.Settings.{Settings}
 use Rattle.dirac_common.specs.declared.codes.TheConstants.{INTRA_REFERENCE}
 use Rattle.dirac_plan.specs.declared.planned.Planned.{Planned}
-use Rattle.dirac_plan.specs.Plan.{anchor_of, anchor_offset, anchors_behind, between_of, field_of, field_or_first, fields_of, frames_plan, group, group_at, group_count, opening, plan, retired_of, second_of, step}
+use Rattle.dirac_plan.specs.Plan.{anchor_of, anchor_offset, anchors_behind, between_of, field_of, field_or_first, fields_of, frames_plan, group, group_at, group_count, opening_of, plan, retired_of, second_of, step}
 use Rattle.dirac_plan.specs.Planning.{group_pictures}
 use Rattle.dirac_plan.proofs.Anchors.{uncovered}
 use Rattle.dirac_plan.proofs.Lists.{range_split}
@@ -225,7 +225,7 @@ part_first s n i m = first_by (s.fields == 0) s n i m
 -- ---- their intra pictures
 
 field_inter : (n p : ℕ) (f : Planned) → IsInter f → IsInter (field_of n p f)
-field_inter n p f is = either (f.code == INTRA_REFERENCE && p == 1) IsInter (anchor_of (2 * f.number + 1) (2 * f.number) None None) _ refl is
+field_inter n p f is = either (f.code == INTRA_REFERENCE && p == 1) IsInter (anchor_of (2 * f.number + 1) (2 * f.number) None (option_map (λ t. 2 * t + p) f.retire)) _ refl is
 
 -- the first field of a group is an intra picture, the others aren't
 fields_points : (s : Settings) (n len first points : ℕ) → planned_points points (flat_map (fields_of n) (group s len first)) ≡ suc points
@@ -234,8 +234,8 @@ fields_points s n len first points =
     let later = fields_each n IsInter IsInter steps (λ f is. field_inter n 0 f is) (λ f is there. field_inter n 1 f is) (steps_inter s len first) in
     by_test (nat_lt (2 * first + 1) n) (flat_map (fields_of n) steps) later
   where
-    by_test : (b : Bool) (rest : List Planned) → AllByRecursion IsInter rest → planned_points points ((field_of n 0 (opening first) ∷ (if b then field_of n 1 (opening first) ∷ [] else [])) ++ rest) ≡ suc points
-    by_test true rest later = points_inter (field_of n 1 (opening first) ∷ rest) (suc points) (refl, later)
+    by_test : (b : Bool) (rest : List Planned) → AllByRecursion IsInter rest → planned_points points ((field_of n 0 (opening_of s first) ∷ (if b then field_of n 1 (opening_of s first) ∷ [] else [])) ++ rest) ≡ suc points
+    by_test true rest later = points_inter (field_of n 1 (opening_of s first) ∷ rest) (suc points) (refl, later)
     by_test false rest later = points_inter rest (suc points) later
 
 points_by : (b : Bool) (s : Settings) (n m i points : ℕ) → planned_points points (part_by b s n i m) ≡ points + m
@@ -301,7 +301,7 @@ referred_from n p low (Some r) is = either (nat_lt (2 * r + p) n) (λ m. 2 * low
 
 field_from : (n p low : ℕ) (f : Planned) → IsFrom low f → IsFrom (2 * low) (field_of n p f)
 field_from n p low f is =
-    either (f.code == INTRA_REFERENCE && p == 1) (IsFrom (2 * low)) (anchor_of (2 * f.number + 1) (2 * f.number) None None) _
+    either (f.code == INTRA_REFERENCE && p == 1) (IsFrom (2 * low)) (anchor_of (2 * f.number + 1) (2 * f.number) None (option_map (λ t. 2 * t + p) f.retire)) _
     (record { number = omega (arith, is.number); ref1 = omega (arith, is.number); ref2 = tt })
     (record { number = omega (arith, is.number); ref1 = referred_from n p low f.ref1 is.ref1; ref2 = referred_from n p low f.ref2 is.ref2 })
 

@@ -1,18 +1,21 @@
 //! A stream, encoded.
 
-ghost use Rattle.std.specs.Prelude.{◌≡◌, ◌≤◌, ℕ, length, IfSome, IfOk};
+ghost use Rattle.std.specs.Prelude.{◌≡◌, ◌≤◌, ℕ, List, [], length, IfSome, IfOk};
 ghost use Rattle.std.specs.Io.KnownBytes.{IsAtEnd};
 ghost use Rattle.dirac_io.specs.Faults.{Rose};
 ghost use Rattle.dirac_types.specs.Settings.{IsAccepted};
+ghost use Rattle.dirac_encode_laws.specs.Alike.{AreShownAlike};
+ghost use Rattle.dirac_encode_laws.specs.Coding.{own_index};
 ghost use Rattle.dirac_encode_laws.specs.Encoding.{AnswersEncode, EndsStream, IsRecovered, IsRecoveredUnder, encoding};
 ghost use Rattle.dirac_encode_laws.specs.Encoding.{encoding_under};
 ghost use Rattle.dirac_encode_laws.specs.Fit.{rule_of};
+ghost use Rattle.dirac_encode_laws.specs.Standing.{jobs_in};
 
 use crate::coder::Coder;
 use crate::pictures::put_pictures;
 use crate::progress::Progress;
 use dirac_common::{NoMemory, RowGate};
-use dirac_encode_laws::Encoded;
+use dirac_encode_laws::{Encoded, streams_show_their_pictures};
 use dirac_io::{Sink, Source};
 use dirac_plan::Planner;
 use dirac_sequence::write_sequence;
@@ -39,6 +42,9 @@ pub fn encode_stream<R: Threads + Sync, S: Source, K: Sink, N: Sink, G: RowGate>
         (K.taken out.old) (K.taken out.new) (N.taken side.old) (N.taken side.new)) }
     // A whole stream is decoded to what the side got, and at index 0 to the input.
     ensures recovered { IfSome (S.held source.old) (λ bytes. EndsStream result → IsRecovered settings.now bytes) }
+    // Where the settings ask for it, other decoders find in each picture what they need to show it alike.
+    ensures alike { (bytes : List ℕ) → settings.now.alike ≡ 1
+        → AreShownAlike own_index settings.now [] (jobs_in settings.now bytes) }
     ensures whole { result ≡ Encoded.Done → IsAtEnd (S.held source.new) }
     ensures partial { (n : ℕ) → result ≡ Encoded.PartialPicture n → (1 ≤ n) × IsAtEnd (S.held source.new) }
 
@@ -50,6 +56,7 @@ pub fn encode_stream<R: Threads + Sync, S: Source, K: Sink, N: Sink, G: RowGate>
     ensures writes { K.faults out.old ≤ K.faults out.new }
     ensures sides { N.faults side.old ≤ N.faults side.new }
 {
+    streams_show_their_pictures();
     encode_by(
         &StreamCoder {
             rt,

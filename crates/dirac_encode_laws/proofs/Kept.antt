@@ -1,5 +1,5 @@
 -- At index 0 nothing is lost: what decoders show for a source is the source, whether it is predicted or not.
-use Rattle.std.proofs.Common.{◌≡◌, ℕ, zero, suc, ℤ, ◌+◌, ◌*◌, ◌<◌, ◌≤◌, ◌+ℤ◌, ◌-ℤ◌, if◌then◌else◌, Bool, true, false, List, [], ◌∷◌, ◌++◌, length, map, take, Option, None, Some, refl, sym, ap, ap₂, ◌∙◌, arith, ne_eqb, eq-eqb, inl, inr}
+use Rattle.std.proofs.Common.{◌==◌, ◌≡◌, ℕ, zero, suc, ℤ, ◌+◌, ◌*◌, ◌<◌, ◌≤◌, ◌+ℤ◌, ◌-ℤ◌, if◌then◌else◌, Bool, true, false, List, [], ◌∷◌, ◌++◌, length, map, take, Option, None, Some, refl, sym, ap, ap₂, ◌∙◌, arith, ne_eqb, eq-eqb, inl, inr}
 use Rattle.std.specs.Prelude.{slice_get, slice_index_or, ◌&&◌}
 use Rattle.std.specs.List.{AllByRecursion}
 use Rattle.std.specs.Option.{option_to_list}
@@ -26,7 +26,7 @@ use Rattle.dirac_analysis.specs.Analysis.{plane_bands}
 use Rattle.dirac_analysis.proofs.Undone.{planes_kept}
 use Rattle.dirac_decode.specs.Content.{bands_of as bands_in, compensation, height_of, named, plane_of, predicted_among, rebuilt, residual_among, samples_from, width_of}
 use Rattle.dirac_plan.specs.declared.planned.Planned.{Planned}
-use Rattle.dirac_encode_laws.specs.Coded.{IsSource, are_zero_bands, bands_of, coded_of, coded_with, is_zero_residual, kind_of, left_of, less_prediction, motion_of, residual_of, residual_unless_zero, transform_of}
+use Rattle.dirac_encode_laws.specs.Coded.{IsSource, are_zero_bands, bands_of, coded_of, coded_with, is_left_out, is_zero_residual, kind_of, left_of, less_prediction, motion_of, residual_of, residual_unless_left_out, transform_of}
 use Rattle.dirac_encode_laws.specs.Coding.{AreAtIndexZero, IndexRule, Job, blank, coded_under, job_of, jobs_of, made_under, own_index, refs_after, shown_of}
 use Rattle.dirac_encode_laws.specs.Laws.{AreMade, AreNumbered, GivesIndices, IsWhole, JobsAreKept, SourcesAreKept, SourcesAreKeptUnder}
 use Rattle.dirac_encode_laws.specs.Tables.{TablesAreChosen}
@@ -87,9 +87,9 @@ zero_part r component.U e = (and_parts (are_zero_bands r.y) (are_zero_bands r.u)
 zero_part r component.V e = (and_parts (are_zero_bands r.y && are_zero_bands r.u) (are_zero_bands r.v) e).1
 
 -- a residual that is left out, being zero, is the same as one that is written
-left_out_again : (s : Sequence) (r : CodedResidual) (o : Component) (b : Bool) → is_zero_residual r ≡ b
+left_out_again : (s : Sequence) (r : CodedResidual) (o : Component) (b : Bool) → (b ≡ true → is_zero_residual r ≡ true)
     → residual_among s Inter o (if b then None else Some r) ≡ residual r.transform Inter (bands_in r o) (width_of s o) (height_of s o)
-left_out_again s r o true e = sym (zeros_stand r.transform (bands_in r o) (width_of s o) (height_of s o) (zero_part r o e))
+left_out_again s r o true e = sym (zeros_stand r.transform (bands_in r o) (width_of s o) (height_of s o) (zero_part r o (e refl)))
 left_out_again s r o false e = refl
 
 length-predicted : (s : Sequence) (m : CodedMotion) (first second : Option Picture) (o : Component) → (first ≡ None → ⊥) → length (predicted_among s m first second o) ≡ width_of s o * height_of s o
@@ -104,7 +104,7 @@ part_bands t refs q m p component.V = refl
 -- a plane of a source
 plane_kept : (t : Settings) (refs : List Picture) (q : Planned) (p : Picture) (m : Option CodedMotion) (o : Component) → IsCodable t → IsSource t p → IsWhole p → (is_intra q.code ≡ false → named refs q.ref1 ≡ None → ⊥) → t.index ≡ 0
     → (m ≡ None → is_intra q.code ≡ true) → ((x : CodedMotion) → m ≡ Some x → is_intra q.code ≡ false)
-    → samples_from (sequence_of t) refs (header_of q) m (residual_unless_zero m (residual_of t refs (header_of q) m p)) o ≡ plane_of p o
+    → samples_from (sequence_of t) refs (header_of q) m (residual_unless_left_out t m (residual_of t refs (header_of q) m p)) o ≡ plane_of p o
 plane_kept t refs q p None o codes source whole found none stays moves =
     let s = sequence_of t in
     let plane = source_plane t p o source in
@@ -123,8 +123,8 @@ plane_kept t refs q p (Some m) o codes source whole found none stays moves =
     let count : length (plane_of p o).values ≡ width_of s o * height_of s o = whole_plane p o whole ∙ ap₂ (λ (w h : ℕ). w * h) plane.across plane.down in
     let few : length (plane_of p o).values ≤ length ps = omega (arith, len, count) in
     let size : length left.values ≡ left.width * left.height = length-zip (plane_of p o).values ps few ∙ whole_plane p o whole in
-    let again : residual_among s Inter o (residual_unless_zero (Some m) r) ≡ left =
-    left_out_again s r o (is_zero_residual r) refl
+    let again : residual_among s Inter o (residual_unless_left_out t (Some m) r) ≡ left =
+    left_out_again s r o (is_left_out t r) (λ e. (and_parts (t.alike == 0) (is_zero_residual r) e).1)
     ∙ ap (λ bands. residual (transform_of t) Inter bands (width_of s o) (height_of s o)) (part_bands t refs q (Some m) p o)
     ∙ bands_at_zero t left (width_of s o) (height_of s o) codes none plane.across plane.down size in
     ap (λ x. clipped (with_prediction x ps)) again ∙ ap clipped (added_again (plane_of p o) ps few) ∙ clipped_again (plane_of p o) plane.samples
@@ -147,7 +147,7 @@ pub kept_with : (t : Settings) (refs : List Picture) (q : Planned) (p : Picture)
     → (m ≡ None → is_intra q.code ≡ true) → ((x : CodedMotion) → m ≡ Some x → is_intra q.code ≡ false) → p.number ≡ q.number → t.index ≡ 0 → rebuilt (sequence_of t) refs (coded_with t refs q p m) ≡ p
 kept_with t refs q p m accepted source whole planned found stays moves number none =
     let codes = codable t accepted in
-    let kept : (o : Component) → samples_from (sequence_of t) refs (header_of q) m (residual_unless_zero m (residual_of t refs (header_of q) m p)) o ≡ plane_of p o =
+    let kept : (o : Component) → samples_from (sequence_of t) refs (header_of q) m (residual_unless_left_out t m (residual_of t refs (header_of q) m p)) o ≡ plane_of p o =
     λ o. plane_kept t refs q p m o codes source whole (first_found refs q planned found) none stays moves in
     parts_same q.number p.number _ p.y _ p.u _ p.v (sym number) (kept component.Y) (kept component.U) (kept component.V)
 

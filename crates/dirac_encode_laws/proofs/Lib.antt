@@ -15,4 +15,5 @@ pub mod Sources
 pub mod Streams
 pub mod Accepted
 pub mod Recovered
+pub mod Alike
 pub mod OldCase

@@ -49,7 +49,7 @@ use Rattle.dirac_analysis.specs.Fits.{AreDifferences, AreLevelBands}
 use Rattle.dirac_analysis.proofs.Fitting.{planes_fit, samples_small}
 use Rattle.dirac_decode.specs.Content.{IsPicture, height_of, named, plane_of, width_of}
 use Rattle.dirac_plan.specs.declared.planned.Planned.{Planned}
-use Rattle.dirac_encode_laws.specs.Coded.{IsPlane, IsSource, bands_of, coded_with, is_zero_residual, kind_of, left_of, motion_with, residual_of, residual_unless_zero, transform_of}
+use Rattle.dirac_encode_laws.specs.Coded.{IsPlane, IsSource, bands_of, coded_with, is_left_out, kind_of, left_of, motion_with, residual_of, residual_unless_left_out, transform_of}
 use Rattle.dirac_encode_laws.specs.Laws.{JobsAreRead, JobsAreSmall}
 use Rattle.dirac_encode_laws.specs.Tables.{TablesAreChosen}
 use Rattle.dirac_motion.specs.Chosen.{ChosenTablesFit, IsChosen, chosen}
@@ -187,20 +187,20 @@ pub record Coefficients (code : ℕ) (s : Sequence) (r : Option CodedResidual) (
   pub flag : SpelledBehind (zero_residual code) none old mid
   pub rest : SpelledBehind (residual_unless none s) r mid new
 
-unless_zero : (code : ℕ) (s : Sequence) (r : CodedResidual) (b : Bool) (old : List Bool) → is_intra code ≡ false → ((start : List Bool) → SpelledBehind (residual s) r start (with_residual s r start))
+unless_left_out : (code : ℕ) (s : Sequence) (r : CodedResidual) (b : Bool) (old : List Bool) → is_intra code ≡ false → ((start : List Bool) → SpelledBehind (residual s) r start (with_residual s r start))
     → Coefficients code s (if b then None else Some r) old (with_coefficients s code (if b then None else Some r) old)
-unless_zero code s r true old inter written =
+unless_left_out code s r true old inter written =
     let flagged = old ++ true ∷ [] in
     let whole : with_flag code true old ≡ flagged = ap (λ (i : Bool). if i then old else flagged) inter in
     subst (λ (l : List Bool). Coefficients code s None old l) (sym whole) (record { none = true; mid = flagged; flag = flag_spelled code true old inter; rest = left_out s flagged })
-unless_zero code s r false old inter written =
+unless_left_out code s r false old inter written =
     let flagged = old ++ false ∷ [] in
     let whole : with_flag code false old ≡ flagged = ap (λ (i : Bool). if i then old else flagged) inter in
     subst (λ (l : List Bool). Coefficients code s (Some r) old (with_residual s r l)) (sym whole)
     (record { none = false; mid = flagged; flag = flag_spelled code false old inter; rest = not_left_out s r flagged (with_residual s r flagged) (written flagged) })
 
 coefficients_written : (t : Settings) (refs : List Picture) (q : Planned) (p : Picture) (m : Option CodedMotion) (old : List Bool) → IsPredicting t → Moves t q m → IsWritten (sequence_of t) (residual_of t refs (header_of q) m p)
-    → Coefficients q.code (sequence_of t) (residual_unless_zero m (residual_of t refs (header_of q) m p)) old (with_coefficients (sequence_of t) q.code (residual_unless_zero m (residual_of t refs (header_of q) m p)) old)
+    → Coefficients q.code (sequence_of t) (residual_unless_left_out t m (residual_of t refs (header_of q) m p)) old (with_coefficients (sequence_of t) q.code (residual_unless_left_out t m (residual_of t refs (header_of q) m p)) old)
 coefficients_written t refs q p None old is (stays intra) fits =
     let s = sequence_of t in
     let r = residual_of t refs (header_of q) None p in
@@ -211,7 +211,7 @@ coefficients_written t refs q p (Some m) old is (moves b inter chose) fits =
     let s = sequence_of t in
     let mm = motion_with t b in
     let r = residual_of t refs (header_of q) (Some mm) p in
-    unless_zero q.code s r (is_zero_residual r) old inter (λ start. residual_written s r start is.lawful fits)
+    unless_left_out q.code s r (is_left_out t r) old inter (λ start. residual_written s r start is.lawful fits)
 
 -- what is behind other bits is no shorter
 spelled_longer : {A : Type 0} (s : Syntax A) (x : A) (old new : List Bool) → SpelledBehind s x old new → length old ≤ length new

@@ -102,10 +102,15 @@ residual_of t refs head m p = record {
 abbrev pub is_zero_residual : CodedResidual → Bool
 is_zero_residual r = are_zero_bands r.y && are_zero_bands r.u && are_zero_bands r.v
 
--- the residual that is written: an inter picture leaves it out exactly where all its bands are zero
-abbrev pub residual_unless_zero : Option CodedMotion → CodedResidual → Option CodedResidual
-residual_unless_zero None r = Some r
-residual_unless_zero (Some m) r = if is_zero_residual r then None else Some r
+-- whether an inter picture leaves out this residual: all its bands are zero, and the stream need not be shown alike by
+-- decoders that add what they kept where a residual is left out
+abbrev pub is_left_out : Settings → CodedResidual → Bool
+is_left_out t r = t.alike == 0 && is_zero_residual r
+
+-- the residual that is written
+abbrev pub residual_unless_left_out : Settings → Option CodedMotion → CodedResidual → Option CodedResidual
+residual_unless_left_out t None r = Some r
+residual_unless_left_out t (Some m) r = if is_left_out t r then None else Some r
 
 -- the coded picture of a planned source with this motion
 abbrev pub coded_with : Settings → List Picture → Planned → Picture → Option CodedMotion → CodedPicture
@@ -113,7 +118,7 @@ coded_with t refs q p m = record {
   code = q.code;
   header = header_of q;
   motion = m;
-  residual = residual_unless_zero m (residual_of t refs (header_of q) m p);
+  residual = residual_unless_left_out t m (residual_of t refs (header_of q) m p);
 }
 
 -- the coded picture of a planned source, with these pictures listed

@@ -7,5 +7,6 @@ pub mod Encoding
 pub mod Codable
 pub mod Tables
 pub mod Laws
+pub mod Alike
 pub mod Steps
 pub mod Standing

@@ -1,5 +1,6 @@
 //! What holds of every stream, as the contract of a function that does nothing.
 
+ghost use Rattle.dirac_encode_laws.specs.Alike.{PicturesAreShownAlike};
 ghost use Rattle.dirac_encode_laws.specs.Stream.{HeadersAreRead, StreamsAreCut};
 ghost use Rattle.dirac_encode_laws.specs.Fit.{BudgetsAreKept};
 ghost use Rattle.dirac_encode_laws.specs.Laws.{JobsAreKept, JobsAreRead, JobsAreReadUnder, JobsAreSmall};
@@ -49,6 +50,8 @@ pub fn streams_show_their_pictures()
     ensures recovered_under { RawPicturesAreRecoveredUnder }
     // With the least index whose unit fits a budget, each unit fits it, or no index from the settings' on does.
     ensures budgets { BudgetsAreKept }
+    // Where the settings ask for streams that are shown alike, each inter picture has a residual, under every rule.
+    ensures alike { PicturesAreShownAlike }
 {
     infos_are_read_as_written();
     plans_can_be_coded();

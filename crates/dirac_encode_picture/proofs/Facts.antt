@@ -18,7 +18,7 @@ use Rattle.dirac_picture.specs.Writable.{IsWritten}
 use Rattle.dirac_decode.specs.Content.{rebuilt}
 use Rattle.dirac_plan.specs.declared.planned.Planned.{Planned}
 use Rattle.dirac_plan_laws.specs.Headers.{header_of}
-use Rattle.dirac_encode_laws.specs.Coded.{coded_with, is_zero_residual, motion_among, motion_with, residual_of}
+use Rattle.dirac_encode_laws.specs.Coded.{coded_with, is_left_out, motion_among, motion_with, residual_of}
 use Rattle.dirac_encode_laws.specs.Laws.{IsWhole}
 use Rattle.dirac_encode_laws.specs.Codable.{AreSmall}
 use Rattle.dirac_encode_laws.proofs.Kept.{kept_with}
@@ -55,9 +55,9 @@ facts t refs q p (Some m) is (moves b inter chose) =
         same_code = refl;
         header = record { first = is.planned.references.first; second = is.planned.references.second };
         motion = (inter, motion_fits t q.code b (predicting t is.accepted) chose);
-        residual = residual_had q.code s r (is_zero_residual r) inter fits;
+        residual = residual_had q.code s r (is_left_out t r) inter fits;
       },
-      residual_written s r (is_zero_residual r) fits,
+      residual_written s r (is_left_out t r) fits,
     )
 
 pub coded_fits : (t : Settings) (s : Sequence) (refs : List Picture) (q : Planned) (p : Picture) (m : Option CodedMotion) (c : CodedPicture) → IsAsked t refs q p → Moves t q m → s ≡ sequence_of t → c ≡ coded_with t refs q p m

@@ -22,7 +22,7 @@ use Rattle.dirac_plan.specs.declared.planned.Planned.{Planned}
 use Rattle.dirac_plan_laws.specs.Headers.{header_of}
 use Rattle.dirac_analysis.specs.Analysis.{Analysis, quantised}
 use Rattle.dirac_analysis.proofs.Analysing.{plane_quantised}
-use Rattle.dirac_encode_laws.specs.Coded.{bands_of, coded_with, is_zero_residual, kind_of, less_prediction, motion_among, motion_with, residual_of, transform_of}
+use Rattle.dirac_encode_laws.specs.Coded.{bands_of, coded_with, is_left_out, kind_of, less_prediction, motion_among, motion_with, residual_of, transform_of}
 use Rattle.dirac_encode_laws.specs.Laws.{IsWhole}
 use Rattle.dirac_motion.specs.Chosen.{IsChosen, at_index}
 use Rattle.dirac_encode_picture.specs.declared.prepared.Compensated.{Compensated}
@@ -116,11 +116,11 @@ intra_same t refs q p x head r is none eh er =
 
 -- the coded picture of an inter picture
 pub inter_same : (t : Settings) (refs : List Picture) (q : Planned) (p : Picture) (x : Prepared) (y : Compensated) (head : PictureHeader) (m : CodedMotion) (r : CodedResidual) (o : Option CodedResidual) → IsPrepared t refs q p x
-    → x.compensated ≡ Some y → head ≡ header_of q → m ≡ motion_with t y.motion.blocks → r ≡ quantised_planes t Inter x.left → o ≡ (if is_zero_residual r then None else Some r)
+    → x.compensated ≡ Some y → head ≡ header_of q → m ≡ motion_with t y.motion.blocks → r ≡ quantised_planes t Inter x.left → o ≡ (if is_left_out t r then None else Some r)
     → let c : CodedPicture = record { code = q.code; header = head; motion = Some m; residual = o } in c ≡ coded_by t refs q p (Some y.motion.blocks)
 inter_same t refs q p x y head m r o is some eh em er eo =
     let of : PictureHeader → CodedMotion → Option CodedResidual → CodedPicture = λ h z w. record { code = q.code; header = h; motion = Some z; residual = w } in
-    let unless : CodedResidual → Option CodedResidual = λ z. if is_zero_residual z then None else Some z in
+    let unless : CodedResidual → Option CodedResidual = λ z. if is_left_out t z then None else Some z in
     let same = residual_same t refs q p (Some (motion_with t y.motion.blocks)) x.left (left_at t refs q p x (Some y.motion.blocks) is (some_in x y some)) in
     ap₂ (λ (h : PictureHeader) (z : CodedMotion). of h z o) eh em ∙ ap (of (header_of q) (motion_with t y.motion.blocks)) (eo ∙ ap unless (er ∙ same))
 

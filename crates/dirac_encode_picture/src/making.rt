@@ -7,7 +7,7 @@ ghost use Rattle.dirac_encode_picture.specs.Prepared.{IsPreparedFor, blocks_in, 
 use crate::asked::Asked;
 use crate::motion::motion_of;
 use crate::prepared::{Compensated, Prepared};
-use crate::residual::{Quantising, unless_zero};
+use crate::residual::{Quantising, unless_left_out};
 use crate::workers::Workers;
 use dirac_common::{Kind, NoMemory};
 use dirac_header::PictureHeader;
@@ -77,7 +77,7 @@ fn coded_inter<W: Workers>(
         code: asked.planned.code,
         header: header_of(asked.planned),
         motion: Some(motion),
-        residual: unless_zero(residual),
+        residual: unless_left_out(asked.settings, residual),
     })
 }
 

@@ -234,11 +234,13 @@ fn are_bands_of_zeros(bands: &PlaneBands) -> bool
     bands.bands().iter().all(|band| is_band_of_zeros(band))
 }
 
-/// The residual of an inter picture, which is left out exactly where all its bands have zeros alone.
-pub(crate) fn unless_zero(residual: CodedResidual) -> Option<CodedResidual>
-    ensures { result ≡ (if coding.is_zero_residual residual then None else Some residual) }
+/// The residual of an inter picture, which is left out exactly where all its bands have zeros alone and the stream need
+/// not be shown alike.
+pub(crate) fn unless_left_out(settings: &Settings, residual: CodedResidual) -> Option<CodedResidual>
+    ensures { result ≡ (if coding.is_left_out settings.now residual then None else Some residual) }
 {
-    if are_bands_of_zeros(&residual.y)
+    if settings.alike == 0
+        && are_bands_of_zeros(&residual.y)
         && are_bands_of_zeros(&residual.u)
         && are_bands_of_zeros(&residual.v)
     {

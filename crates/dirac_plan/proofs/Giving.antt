@@ -3,7 +3,7 @@ use Rattle.std.proofs.Common.{◌≡◌, ℕ, zero, suc, ◌+◌, ◌-◌, ◌*�
 use Rattle.std.proofs.lemmas.Bool.{cases_eq}
 use Rattle.dirac_types.specs.declared.settings.Settings.{Settings}
 use Rattle.dirac_plan.specs.declared.planned.Planned.{Planned}
-use Rattle.dirac_plan.specs.Plan.{opening, anchor_of, between_of, second_of, plan}
+use Rattle.dirac_plan.specs.Plan.{opening_of, anchor_of, between_of, second_of, plan}
 use Rattle.dirac_plan.specs.Planning.{frame_pictures, group_offset, group_pictures, must_be_taken_first, refers_elsewhere, stands_between, step_pictures}
 use Rattle.dirac_plan.specs.Waiting.{anchor_at, step_anchor, step_offset, whole_anchor_at, whole_frames}
 use Rattle.dirac_plan.proofs.Numbers.{anchor_number, between_number, either}
@@ -108,10 +108,10 @@ frame_opening : (n : ℕ) (s : Settings) (g : ℕ) → s.fields ≡ 0 → g < n 
 frame_opening n s g frames within some opening_place =
     let early : group_offset s g < frame_pictures s = omega (arith, one_offset s g frames, one_picture s frames) in
     record {
-      item = opening g;
+      item = opening_of s g;
       at = ap (λ l. slice_get l g) (plan_of_frames n s frames) ∙ opening_item n s g within some opening_place;
       number = at_opening early refl;
-      kind = left_frames s (opening g) frames ∙ sym (ap (nat_lt 0) (step_opens s g early));
+      kind = left_frames s (opening_of s g) frames ∙ sym (ap (nat_lt 0) (step_opens s g early));
     }
 
 -- what stands at a place of a step

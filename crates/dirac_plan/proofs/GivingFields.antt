@@ -6,7 +6,7 @@ use Rattle.dirac_types.specs.declared.settings.Settings.{Settings}
 use Rattle.dirac_common.specs.declared.codes.TheConstants.{INTRA_REFERENCE}
 use Rattle.dirac_plan.specs.declared.planned.Planned.{Planned}
 use Rattle.dirac_plan.specs.Frames.{IsBelow}
-use Rattle.dirac_plan.specs.Plan.{opening, anchor_of, between_of, field_of, field_or_first, second_of, plan}
+use Rattle.dirac_plan.specs.Plan.{opening_of, anchor_of, between_of, field_of, field_or_first, second_of, plan}
 use Rattle.dirac_plan.specs.Planning.{frame_pictures, group_offset, group_pictures, must_be_taken_first, refers_elsewhere, step_pictures}
 use Rattle.dirac_plan.specs.Waiting.{anchor_at, step_offset, whole_anchor_at, whole_frames}
 use Rattle.dirac_plan.proofs.Numbers.{either}
@@ -22,7 +22,7 @@ pub is_last : (frames : ℕ) (s : Settings) → 0 < frames → 0 < s.gop → IsL
 is_last frames s some group = elim (cases_eq ((frames - 1) % s.gop) 0) [
   | inl e ↦
       let at : last_place frames s ≡ frames - 1 = ap (λ (b : Bool). if b then frames - 1 else inside) (eq-eqb ((frames - 1) % s.gop) 0 e) in
-      subst (IsLast frames s) (sym at) (record { item = opening (frames - 1); at = opening_item frames s (frames - 1) (omega arith) group e; number = refl })
+      subst (IsLast frames s) (sym at) (record { item = opening_of s (frames - 1); at = opening_item frames s (frames - 1) (omega arith) group e; number = refl })
   | inr other ↦
       let at : last_place frames s ≡ inside = ap (λ (b : Bool). if b then frames - 1 else inside) (ne_eqb ((frames - 1) % s.gop) 0 other) in
       subst (IsLast frames s) (sym at) (last_from frames s inside (last_is frames s some group (omega (arith, other))))
@@ -111,7 +111,7 @@ second_kind s t ref fields =
     let odd : (2 * t + 1) % 2 ≡ 1 = omega arith in
     ap₂ (λ (a b : Bool). not a && b && refers_elsewhere (2 * t + 1) ref) (ne_eqb s.fields 0 fields) (eq-eqb ((2 * t + 1) % 2) 1 odd)
 
-opening_field_kind : (n : ℕ) (s : Settings) (p t : ℕ) → (s.fields ≡ 0 → ⊥) → p ≤ 1 → must_be_taken_first s (Some (field_of n p (opening t))) ≡ false
+opening_field_kind : (n : ℕ) (s : Settings) (p t : ℕ) → (s.fields ≡ 0 → ⊥) → p ≤ 1 → must_be_taken_first s (Some (field_of n p (opening_of s t))) ≡ false
 opening_field_kind n s zero t fields few = first_kind s t None
 opening_field_kind n s (suc zero) t fields few =
     second_kind s t (Some (2 * t)) fields ∙ ap not (eq-eqb (2 * t + 1) (2 * t + 1) refl)
@@ -138,10 +138,10 @@ between_field_kind n s p references before after number =
 
 -- ---- their numbers
 
-opening_field_number : (n p t : ℕ) → p ≤ 1 → (field_of n p (opening t)).number ≡ 2 * t + p
-opening_field_number n zero t few = refl
-opening_field_number n (suc zero) t few = refl
-opening_field_number n (suc (suc p)) t few = absurd (omega arith)
+opening_field_number : (n : ℕ) (s : Settings) (p t : ℕ) → p ≤ 1 → (field_of n p (opening_of s t)).number ≡ 2 * t + p
+opening_field_number n s zero t few = refl
+opening_field_number n s (suc zero) t few = refl
+opening_field_number n s (suc (suc p)) t few = absurd (omega arith)
 
 anchor_field_number : (n p number before : ℕ) (second retired : Option ℕ) → (field_of n p (anchor_of number before second retired)).number ≡ 2 * number + p
 anchor_field_number n p number before None retired = refl
@@ -299,7 +299,7 @@ field_between n s g first k r t fields some is behind_anchor =
         either (references == 2) P _ _ refl refl
 
 -- field p of a frame that opens a group
-field_opening : (n : ℕ) (s : Settings) (g i p : ℕ) → (s.fields ≡ 0 → ⊥) → 0 < s.gop → p ≤ 1 → 2 * (i * s.gop) + p ≡ g → g < n → slice_get (plan n s) g ≡ Some (field_of n p (opening (i * s.gop)))
+field_opening : (n : ℕ) (s : Settings) (g i p : ℕ) → (s.fields ≡ 0 → ⊥) → 0 < s.gop → p ≤ 1 → 2 * (i * s.gop) + p ≡ g → g < n → slice_get (plan n s) g ≡ Some (field_of n p (opening_of s (i * s.gop)))
 field_opening n s g i p fields some few place within =
     let frames : ℕ = (n + 1) / 2 in
     let t : ℕ = i * s.gop in
@@ -312,10 +312,10 @@ field_opening n s g i p fields some few place within =
       | inl even ↦ even_before n s t some even
       | inr odd ↦ odd_before n s t (last_place frames s) some (omega (arith, odd)) last (omega (arith, last_in_group frames s))
     ] in
-    field_item n s t p g (opening t) fields at few (omega arith) (omega arith)
+    field_item n s t p g (opening_of s t) fields at few (omega arith) (omega arith)
 
 opening_place : (n : ℕ) (s : Settings) (g : ℕ) → (s.fields ≡ 0 → ⊥) → 0 < s.gop → g < n → group_offset s g < frame_pictures s
-    → slice_get (plan n s) g ≡ Some (field_of n (group_offset s g) (opening (g / group_pictures s * s.gop)))
+    → slice_get (plan n s) g ≡ Some (field_of n (group_offset s g) (opening_of s (g / group_pictures s * s.gop)))
 opening_place n s g fields some within early =
     let two = two_pictures s fields in
     let groups = div-add-mod' g (group_pictures s) in
@@ -332,9 +332,9 @@ next_opening n s g fields some within early =
     let group : group_pictures s ≡ 2 * s.gop = ap (λ m. m * s.gop) two in
     let first_two : g / group_pictures s * group_pictures s ≡ g / group_pictures s * (2 * s.gop) = ap (λ m. g / group_pictures s * m) group in
     record {
-      item = field_of n p (opening t);
+      item = field_of n p (opening_of s t);
       at = opening_place n s g fields some within early;
-      number = at_opening early (opening_field_number n p t (omega arith) ∙ omega arith);
+      number = at_opening early (opening_field_number n s p t (omega arith) ∙ omega arith);
       kind = opening_field_kind n s p t fields (omega arith) ∙ sym (ap (nat_lt 0) (step_opens s g early));
     }
 
@@ -415,7 +415,7 @@ same_fields n m h p (Some t) more there few below = ap Some (same_field n m h p 
 field_same : (n m h p : ℕ) (f : Planned) → n ≤ m → 2 * h ≤ n → p ≤ 1 → IsBelow h f → field_of n p f ≡ field_of m p f
 field_same n m h p f more there few is =
     let of : Option ℕ → Option ℕ → Planned = λ a b.
-    if f.code == INTRA_REFERENCE && p == 1 then anchor_of (2 * f.number + 1) (2 * f.number) None None
+    if f.code == INTRA_REFERENCE && p == 1 then anchor_of (2 * f.number + 1) (2 * f.number) None (option_map (λ t. 2 * t + p) f.retire)
     else record { number = 2 * f.number + p; code = f.code; ref1 = a; ref2 = b; retire = option_map (λ t. 2 * t + p) f.retire } in
     ap₂ of (same_fields n m h p f.ref1 more there few is.ref1) (same_fields n m h p f.ref2 more there few is.ref2)
 
@@ -434,7 +434,7 @@ lasting_step n m s g first k r fields some more here there ready =
           ∙ sym (
           field_anchor n s g first k r fields some here (omega (arith, now, ready, inside))
           ∙ ap (λ x. Some (field_of n r (anchor_here s first k x))) now
-          ∙ ap Some (field_same n m (b + 1) r (anchor_here s first k b) more (omega (arith, ready)) (omega arith) (anchor_here_below (b + 1) s first k b (omega arith) before)))
+          ∙ ap Some (field_same n m (b + 1) r (anchor_here s first k b) more (omega (arith, ready)) (omega arith) (anchor_here_below (b + 1) s first k b some (omega arith) before)))
       | inr outside ↦
           let t : ℕ = r - 2 in
           let q : ℕ = first + 1 + k * (s.between + 1) + (t / 2 + 1) in
@@ -463,7 +463,7 @@ lasting_field n m s g fields some within more ready = elim (cases_lt (group_offs
   ]
 ]
   where
-    same_opening : (p t : ℕ) → p ≤ 1 → field_of n p (opening t) ≡ field_of m p (opening t)
+    same_opening : (p t : ℕ) → p ≤ 1 → field_of n p (opening_of s t) ≡ field_of m p (opening_of s t)
     same_opening zero t few = refl
     same_opening (suc zero) t few = refl
     same_opening (suc (suc p)) t few = absurd (omega arith)

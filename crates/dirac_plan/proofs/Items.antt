@@ -1,12 +1,13 @@
 -- What stands at each place of a plan of frames.
-use Rattle.std.proofs.Common.{◌≡◌, ℕ, zero, suc, ◌+◌, ◌-◌, ◌*◌, ◌/◌, ◌%◌, ◌<◌, ◌≤◌, min, List, [], ◌∷◌, Option, None, Some, length, slice_get, refl, ap, ap₂, subst, nat_le, if◌then◌else◌, ◌∙◌, sym, arith, sum_by, le-leb, div-add-mod', mul-le-mul_right}
+use Rattle.std.proofs.Common.{◌≡◌, ℕ, zero, suc, ◌+◌, ◌-◌, ◌*◌, ◌/◌, ◌%◌, ◌<◌, ◌≤◌, min, List, [], ◌∷◌, Option, None, Some, length, slice_get, refl, ap, ap₂, subst, nat_le, nat_lt, ◌==◌, ◌||◌, Bool, true, false, if◌then◌else◌, ◌∙◌, sym, arith, inl, inr, IfSome, sum_by, le-leb, div-add-mod', div-mul-le_self, mul-le-mul_right}
 use Rattle.std.specs.List.{range_with_len}
+use Rattle.std.proofs.lemmas.Bool.{cases_lt, eq-eqb, le-ltb, lt-ltb, ne_eqb}
 use Rattle.std.proofs.lemmas.Nat.{le-div, mod_below}
 use Rattle.std.proofs.lemmas.List.Sums.{sum_by-cons}
 use Rattle.std.proofs.lemmas.List.FromFn.{length-range_with_len, length-map-range_with_len}
 use Rattle.dirac_types.specs.declared.settings.Settings.{Settings}
 use Rattle.dirac_plan.specs.declared.planned.Planned.{Planned}
-use Rattle.dirac_plan.specs.Plan.{opening, anchor_of, between_of, anchor_offset, anchors_behind, second_of, retired_of, step, group, group_at, group_count, frames_plan}
+use Rattle.dirac_plan.specs.Plan.{opening_of, anchor_of, between_of, anchor_offset, anchors_behind, left_anchor, second_of, retired_of, retired_of_former, step, group, group_at, group_count, frames_plan}
 use Rattle.dirac_plan.proofs.Lists.{get_joined, get_mapped}
 use Rattle.dirac_plan.proofs.Anchors.{anchor_is}
 use Rattle.dirac_plan.proofs.Numbers.{of_number, sum_group, sum_frames}
@@ -89,11 +90,11 @@ place_of n s g len h some opens long =
       in_group = omega arith;
     }
 
-pub opening_item : (n : ℕ) (s : Settings) (g : ℕ) → g < n → 0 < s.gop → g % s.gop ≡ 0 → slice_get (frames_plan n s) g ≡ Some (opening g)
+pub opening_item : (n : ℕ) (s : Settings) (g : ℕ) → g < n → 0 < s.gop → g % s.gop ≡ 0 → slice_get (frames_plan n s) g ≡ Some (opening_of s g)
 opening_item n s g h some opens =
     let whole = div-add-mod' g s.gop in
     let same : g / s.gop * s.gop ≡ g = omega arith in
-    plan_item s n (g / s.gop) 0 g (opening g) some (omega arith) h (ap (λ m. Some (opening m)) same)
+    plan_item s n (g / s.gop) 0 g (opening_of s g) some (omega arith) h (ap (λ m. Some (opening_of s m)) same)
 
 -- the anchors before and behind a place
 pub before_place : (n : ℕ) (s : Settings) (g first len k j : ℕ) → IsPlace n s g first len k j → first + anchor_offset s len k ≡ first + k * (s.between + 1)
@@ -131,8 +132,54 @@ between_item n s g first len k (suc j) is some =
     in_step n s g first len k (suc j) (between (g - 1)) is
     (get_mapped between (a + 1) (b - a - 1) j (g - 1) (omega (arith, is.in_plan, is.len_is, is.in_step, is.place, is.in_group)) (omega (arith, is.place)))
 
+-- what a group retires of the group before it: nothing where that isn't asked for or none is before it
+pub none_asked : (s : Settings) (first j : ℕ) → s.alike ≡ 0 → retired_of_former s first j ≡ None
+unfolding retired_of_former
+none_asked s first j e =
+    ap (λ (b : Bool). if b || nat_lt first s.gop then None else Some (first - s.gop + anchor_offset s s.gop (left_anchor (anchors_behind s s.gop) j))) (eq-eqb s.alike 0 e)
+
+or_true : (b : Bool) → (b || true) ≡ true
+or_true true = refl
+or_true false = refl
+
+pub none_before : (s : Settings) (first j : ℕ) → first < s.gop → retired_of_former s first j ≡ None
+unfolding retired_of_former
+none_before s first j less =
+    let of : Bool → Option ℕ = λ b. if b then None else Some (first - s.gop + anchor_offset s s.gop (left_anchor (anchors_behind s s.gop) j)) in
+    ap (λ (b : Bool). of (s.alike == 0 || b)) (lt-ltb first s.gop less) ∙ ap of (or_true (s.alike == 0))
+
+pub some_before : (s : Settings) (first j : ℕ) → (s.alike ≡ 0 → ⊥) → s.gop ≤ first
+    → retired_of_former s first j ≡ Some (first - s.gop + anchor_offset s s.gop (left_anchor (anchors_behind s s.gop) j))
+unfolding retired_of_former
+some_before s first j asked behind =
+    ap₂ (λ (a b : Bool). if a || b then None else Some (first - s.gop + anchor_offset s s.gop (left_anchor (anchors_behind s s.gop) j))) (ne_eqb s.alike 0 asked) (le-ltb first s.gop behind)
+
+-- no anchor of a group stands far behind it, as if no group ended
+left_most : (m j : ℕ) → left_anchor m j ≤ m + 1
+left_most m zero = omega arith
+left_most m (suc zero) = omega arith
+left_most m (suc (suc j)) = omega arith
+
+pub left_within : (s : Settings) (j : ℕ) → left_anchor (anchors_behind s s.gop) j * (s.between + 1) ≤ s.gop + 2 * s.between + 1
+left_within s j =
+    let m : ℕ = anchors_behind s s.gop in
+    let most = mul-le-mul_right (s.between + 1) (left_most m j) in
+    let all = div-mul-le_self (s.gop - 1 + s.between) (s.between + 1) in
+    omega arith
+
+-- it stands before its first frame
+pub former_below : (s : Settings) (first j : ℕ) → 0 < s.gop → IfSome (retired_of_former s first j) (λ r. r < first)
+unfolding retired_of_former
+former_below s first j some = elim (s.alike == 0) as (λ b. IfSome (if b || nat_lt first s.gop then None else Some (first - s.gop + anchor_offset s s.gop (left_anchor (anchors_behind s s.gop) j))) (λ r. r < first)) [
+  | true ↦ tt
+  | false ↦ elim (cases_lt first s.gop) [
+    | inl none ↦ rw (lt-ltb first s.gop none) tt
+    | inr former ↦ rw (le-ltb first s.gop former) (let is = anchor_is s s.gop (left_anchor (anchors_behind s s.gop) j) in omega arith)
+  ]
+]
+
 retired_is : (s : Settings) (len first k : ℕ) → k * (s.between + 1) ≤ len - 1
-    → retired_of s len first k ≡ (if nat_le 2 k then Some (first + k * (s.between + 1) - (s.between + 1)) else None)
+    → retired_of s len first k ≡ (if nat_le 2 k then Some (first + k * (s.between + 1) - (s.between + 1)) else retired_of_former s first (k + 1))
 retired_is s len first zero h = refl
 retired_is s len first (suc zero) h = refl
 retired_is s len first (suc (suc k)) h =
@@ -143,7 +190,7 @@ retired_is s len first (suc (suc k)) h =
 -- the anchor at a place, by numbers alone
 pub coded_anchor : (n : ℕ) (s : Settings) (g first len k : ℕ) → IsPlace n s g first len k 0
     → slice_get (frames_plan n s) g ≡ Some (anchor_of (first + min (k * (s.between + 1) + (s.between + 1)) (len - 1)) (first + k * (s.between + 1)) (second_of s first k)
-    (if nat_le 2 k then Some (first + k * (s.between + 1) - (s.between + 1)) else None))
+    (if nat_le 2 k then Some (first + k * (s.between + 1) - (s.between + 1)) else retired_of_former s first (k + 1)))
 coded_anchor n s g first len k is =
     let before = before_place n s g first len k 0 is in
     let after = after_place n s g first len k 0 is in

@@ -5,7 +5,7 @@ use Rattle.std.proofs.lemmas.List.Sums.{sum_by-append, sum_by-cons}
 use Rattle.std.proofs.lemmas.Bool.{cases_lt}
 use Rattle.dirac_types.specs.declared.settings.Settings.{Settings}
 use Rattle.dirac_plan.specs.declared.planned.Planned.{Planned}
-use Rattle.dirac_plan.specs.Plan.{opening, anchor_of, between_of, anchor_offset, anchors_behind, second_of, retired_of, step, group, group_at, group_count, frames_plan}
+use Rattle.dirac_plan.specs.Plan.{opening_of, anchor_of, between_of, anchor_offset, anchors_behind, second_of, retired_of, step, group, group_at, group_count, frames_plan}
 use Rattle.dirac_plan.proofs.Lists.{sum_ranges}
 use Rattle.dirac_plan.proofs.Anchors.{anchor_rises, last_anchor, covered, uncovered}
 
@@ -78,7 +78,7 @@ sum_group f s len first some =
     let steps = sum_steps f s len first 0 (anchors_behind s len) (omega arith) in
     let far : anchor_offset s len (0 + anchors_behind s len) ≡ anchor_offset s len (anchors_behind s len) = ap (anchor_offset s len) (omega arith) in
     let last = last_anchor s len in
-    let whole = sum_by-cons (of_number f) (opening first) (flat_map (step s len first) (range_with_len 0 (anchors_behind s len))) in
+    let whole = sum_by-cons (of_number f) (opening_of s first) (flat_map (step s len first) (range_with_len 0 (anchors_behind s len))) in
     let one = sum_one f first in
     let count : anchor_offset s len (0 + anchors_behind s len) - anchor_offset s len 0 ≡ len - 1 = omega arith in
     let place : first + anchor_offset s len 0 + 1 ≡ first + 1 = omega arith in

@@ -5,16 +5,16 @@ use Rattle.std.proofs.lemmas.Option.{IfSome_then, slice_get_within}
 use Rattle.dirac_types.specs.declared.settings.Settings.{Settings}
 use Rattle.dirac_plan.specs.declared.planned.Planned.{Planned}
 use Rattle.dirac_plan.specs.Frames.{IsBelow}
-use Rattle.dirac_plan.specs.Plan.{opening, anchor_of, between_of, frames_plan, second_of}
+use Rattle.dirac_plan.specs.Plan.{opening_of, anchor_of, between_of, frames_plan, retired_of_former, second_of}
 use Rattle.dirac_plan.proofs.Numbers.{either}
-use Rattle.dirac_plan.proofs.Items.{IsPlace, place_of, length_frames, opening_item, coded_anchor, coded_between}
+use Rattle.dirac_plan.proofs.Items.{IsPlace, place_of, length_frames, opening_item, coded_anchor, coded_between, former_below}
 
 -- the anchor behind a place
 abbrev pub behind : Settings → ℕ → ℕ → ℕ → ℕ
 behind s first len k = first + min (k * (s.between + 1) + (s.between + 1)) (len - 1)
 
 unfoldable pub retirement : Settings → ℕ → ℕ → Option ℕ
-retirement s first k = if nat_le 2 k then Some (first + k * (s.between + 1) - (s.between + 1)) else None
+retirement s first k = if nat_le 2 k then Some (first + k * (s.between + 1) - (s.between + 1)) else retired_of_former s first (k + 1)
 
 unfoldable pub anchor_here : Settings → ℕ → ℕ → ℕ → Planned
 anchor_here s first k b = anchor_of b (first + k * (s.between + 1)) (second_of s first k) (retirement s first k)
@@ -74,10 +74,18 @@ some_if : (n t : ℕ) (b : Bool) → t < n → IfSome (if b then Some t else Non
 some_if n t true h = h
 some_if n t false h = tt
 
-pub anchor_here_below : (n : ℕ) (s : Settings) (first k b : ℕ) → b < n → first + k * (s.between + 1) < n → IsBelow n (anchor_here s first k b)
+some_else : (n t : ℕ) (b : Bool) (o : Option ℕ) → t < n → IfSome o (λ t. t < n) → IfSome (if b then Some t else o) (λ t. t < n)
+some_else n t true o h other = h
+some_else n t false o h other = other
+
+-- what a group retires of the group before it
+pub former_within : (n : ℕ) (s : Settings) (first j : ℕ) → 0 < s.gop → first ≤ n → IfSome (retired_of_former s first j) (λ t. t < n)
+former_within n s first j some within = IfSome_then (retired_of_former s first j) (former_below s first j some) (λ t below. omega arith)
+
+pub anchor_here_below : (n : ℕ) (s : Settings) (first k b : ℕ) → 0 < s.gop → b < n → first + k * (s.between + 1) < n → IsBelow n (anchor_here s first k b)
 unfolding anchor_here retirement
-anchor_here_below n s first k b here before =
-    anchor_below n b (first + k * (s.between + 1)) (second_of s first k) _ here before (some_if n first _ (omega arith)) (some_if n (first + k * (s.between + 1) - (s.between + 1)) (nat_le 2 k) (omega arith))
+anchor_here_below n s first k b some here before =
+    anchor_below n b (first + k * (s.between + 1)) (second_of s first k) _ here before (some_if n first _ (omega arith)) (some_else n (first + k * (s.between + 1) - (s.between + 1)) (nat_le 2 k) (retired_of_former s first (k + 1)) (omega arith) (former_within n s first (k + 1) some (omega arith)))
 
 pub between_here_below : (n : ℕ) (s : Settings) (g first k b : ℕ) → b < n → first + k * (s.between + 1) < n → g - 1 < n → IsBelow n (between_here s g first k b)
 unfolding between_here
@@ -97,11 +105,11 @@ frames_below n s g x some at =
     let long = length_frames n s some in
     let within : g < n = omega (arith, slice_get_within (frames_plan n s) g x at) in
     elim (kind_of n s g within some) [
-      | opens e ↦ same (opening g) (opening_item n s g within some e) (record { number = within; ref1 = tt; ref2 = tt; retire = tt })
+      | opens e ↦ same (opening_of s g) (opening_item n s g within some e) (record { number = within; ref1 = tt; ref2 = tt; retire = former_within n s g 0 some (omega arith) })
       | anchors first len k is _ ↦
           let b : ℕ = behind s first len k in
           same (anchor_here s first k b) (anchor_is_at n s g first len k is)
-          (anchor_here_below n s first k b (omega (arith, is.in_plan, is.place, is.len_is, is.in_group)) (omega (arith, is.in_plan, is.place)))
+          (anchor_here_below n s first k b some (omega (arith, is.in_plan, is.place, is.len_is, is.in_group)) (omega (arith, is.in_plan, is.place)))
       | betweens first len k j is odd ↦
           let b : ℕ = behind s first len k in
           same (between_here s g first k b) (between_is_at n s g first len k j is odd)

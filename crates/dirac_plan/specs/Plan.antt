@@ -1,14 +1,14 @@
 -- Which pictures are coded, in which order, and what each of them refers to. Groups and anchors count frames. Where
 -- pictures are frames, frame t is picture t; where they are fields, its fields are pictures 2 t and 2 t + 1.
-use Rattle.std.specs.Prelude.{ℕ, zero, suc, ◌+◌, ◌-◌, ◌*◌, ◌/◌, ◌==◌, min, nat_le, nat_lt, ◌&&◌, if◌then◌else◌, List}
-use Rattle.std.specs.Prelude.{[], ◌∷◌, map, Option, None, Some, option_map}
+use Rattle.std.specs.Prelude.{ℕ, zero, suc, ◌+◌, ◌-◌, ◌*◌, ◌/◌, ◌==◌, min, max, nat_le, nat_lt, ◌&&◌, ◌||◌}
+use Rattle.std.specs.Prelude.{if◌then◌else◌, List, [], ◌∷◌, map, Option, None, Some, option_map}
 use Rattle.std.specs.List.{flat_map, range_with_len}
 use Rattle.dirac_types.specs.declared.settings.Settings.{Settings}
 use Rattle.dirac_common.specs.declared.codes.TheConstants.{INTER_NON_REFERENCE_1, INTER_NON_REFERENCE_2}
 use Rattle.dirac_common.specs.declared.codes.TheConstants.{INTER_REFERENCE_1, INTER_REFERENCE_2, INTRA_REFERENCE}
 use Rattle.dirac_plan.specs.declared.planned.Planned.{Planned}
 
--- the frame that opens a group: an intra frame to which others may refer, which retires none
+-- an intra frame to which others may refer, which retires none
 abbrev pub opening : ℕ → Planned
 opening number = record { number = number; code = INTRA_REFERENCE; ref1 = None; ref2 = None; retire = None }
 
@@ -42,11 +42,36 @@ anchors_behind s len = (len - 1 + s.between) / (s.between + 1)
 abbrev pub second_of : Settings → ℕ → ℕ → Option ℕ
 second_of s first k = if s.references == 2 && nat_le 1 k then Some first else None
 
--- what the anchor behind anchor k retires: the anchor before anchor k, if that isn't the group's first frame
+-- behind a group, of which anchor m is the last, these of its anchors are listed, oldest first: the first one, the one
+-- before the last, and the last, so far as these are others
+abbrev pub left_anchor : ℕ → ℕ → ℕ
+left_anchor m zero = 0
+left_anchor m (suc zero) = max 1 (m - 1)
+left_anchor m (suc (suc j)) = m
+
+-- what anchor j of a group, 0 to 2, retires of the group before it, of s.gop frames: only where the stream is to be
+-- shown alike, and then each the next of those that are listed
+unfoldable pub retired_of_former : Settings → ℕ → ℕ → Option ℕ
+retired_of_former s first j =
+    if s.alike == 0 || nat_lt first s.gop then None
+    else Some (first - s.gop + anchor_offset s s.gop (left_anchor (anchors_behind s s.gop) j))
+
+-- what the anchor behind anchor k retires: the anchor before anchor k, if that isn't the group's first frame; else one
+-- of the group before
 abbrev pub retired_of : Settings → ℕ → ℕ → ℕ → Option ℕ
-retired_of s len first zero = None
-retired_of s len first (suc zero) = None
+retired_of s len first zero = retired_of_former s first 1
+retired_of s len first (suc zero) = retired_of_former s first 2
 retired_of s len first (suc (suc k)) = Some (first + anchor_offset s len (suc k))
+
+-- the frame that opens a group
+abbrev pub opening_of : Settings → ℕ → Planned
+opening_of s first = record {
+  number = first;
+  code = INTRA_REFERENCE;
+  ref1 = None;
+  ref2 = None;
+  retire = retired_of_former s first 0;
+}
 
 -- the step from anchor k to the next anchor: the next anchor is coded first, then the frames between them
 abbrev pub step : Settings → ℕ → ℕ → ℕ → List Planned
@@ -58,7 +83,7 @@ step s len first k =
 
 -- a group of len frames, of which the first has this number
 abbrev pub group : Settings → ℕ → ℕ → List Planned
-group s len first = opening first ∷ flat_map (step s len first) (range_with_len 0 (anchors_behind s len))
+group s len first = opening_of s first ∷ flat_map (step s len first) (range_with_len 0 (anchors_behind s len))
 
 -- group number i of n frames; the last group may be shorter
 abbrev pub group_at : Settings → ℕ → ℕ → List Planned
@@ -81,7 +106,7 @@ field_or_first n p t = if nat_lt (2 * t + p) n then 2 * t + p else 2 * t
 abbrev pub field_of : ℕ → ℕ → Planned → Planned
 field_of n p f =
     if f.code == INTRA_REFERENCE && p == 1
-    then anchor_of (2 * f.number + 1) (2 * f.number) None None
+    then anchor_of (2 * f.number + 1) (2 * f.number) None (option_map (λ t. 2 * t + p) f.retire)
     else record {
       number = 2 * f.number + p;
       code = f.code;

@@ -70,13 +70,62 @@ fn second_of(settings: &Settings, first: u32, k: u32) -> Option<u32>
     }
 }
 
-/// What the anchor behind anchor `k` of a group retires: the anchor `gap` frames before anchor `k`, if that isn't the
-/// group's first frame. Anchor `k` has the number `before`.
-fn retired_of(before: u32, gap: u32, k: u32) -> Option<u32>
-    requires { 2 ≤ k → gap ≤ before }
-    ensures { result ≡ if nat_le 2 k then Some (before - gap) else None }
+/// Which anchor of a group, whose last one is anchor `last`, is listed behind it as number `j`, oldest first.
+fn left_anchor(last: u32, j: u32) -> u32
+    ensures { result ≡ plans.left_anchor last j }
 {
-    if 2 <= k { Some(before - gap) } else { None }
+    match j {
+        0 => 0,
+        1 => last.saturating_sub(1).max(1),
+        _ => last,
+    }
+}
+
+/// What anchor `j` of the group from frame `first` on, 0 to 2, retires of the group before it, if there is one: only
+/// where the stream is to be shown alike.
+fn retired_of_former(settings: &Settings, first: u32, j: u32) -> Option<u32>
+    requires settings { IsAccepted settings.now }
+    requires in_range { first ≤ 2147483647 }
+    ensures { result ≡ plans.retired_of_former settings.now first j }
+{
+    if settings.alike == 0 {
+        return None;
+    }
+    if first < settings.gop {
+        return None;
+    }
+    let gap = settings.between + 1;
+    let last = (settings.gop - 1 + settings.between) / gap;
+    let offset = (left_anchor(last, j) * gap).min(settings.gop - 1);
+    Some(first - settings.gop + offset)
+}
+
+/// What the anchor behind anchor `k` of a group retires: the anchor `gap` frames before anchor `k`, if that isn't the
+/// group's first frame, else one of the group before. Anchor `k` has the number `before`.
+fn retired_of(settings: &Settings, first: u32, before: u32, k: u32) -> Option<u32>
+    requires settings { IsAccepted settings.now }
+    requires in_range { first ≤ 2147483647 }
+    requires gap { 2 ≤ k → settings.now.between + 1 ≤ before }
+    ensures { result ≡ if nat_le 2 k then Some (before - (settings.now.between + 1))
+        else plans.retired_of_former settings.now first (k + 1) }
+{
+    if 2 <= k {
+        Some(before - (settings.between + 1))
+    } else {
+        retired_of_former(settings, first, k + 1)
+    }
+}
+
+/// The frame that opens a group.
+fn opening(settings: &Settings, first: u32) -> Planned
+    requires settings { IsAccepted settings.now }
+    requires in_range { first ≤ 2147483647 }
+    ensures { result ≡ plans.opening_of settings.now first }
+{
+    Planned {
+        retire: retired_of_former(settings, first, 0),
+        ..Planned::opening(first)
+    }
 }
 
 /// The frame that is coded as number `place` of `count` frames.
@@ -88,7 +137,7 @@ fn frame_item(count: u32, settings: &Settings, place: u32) -> Planned
 {
     let offset = place % settings.gop;
     if offset == 0 {
-        return Planned::opening(place);
+        return opening(settings, place);
     }
     let gap = settings.between + 1;
     let first = place - offset;
@@ -101,7 +150,7 @@ fn frame_item(count: u32, settings: &Settings, place: u32) -> Planned
             after,
             before,
             second_of(settings, first, k),
-            retired_of(before, gap, k),
+            retired_of(settings, first, before, k),
         )
     } else {
         between(settings.references, before, after, place - 1)
@@ -192,7 +241,12 @@ fn field_of(count: u32, parity: u32, frame: &Planned) -> Planned
     ensures { result ≡ plans.field_of count parity frame.now }
 {
     if frame.code == INTRA_REFERENCE && parity == 1 {
-        return anchor(2 * frame.number + 1, 2 * frame.number, None, None);
+        return anchor(
+            2 * frame.number + 1,
+            2 * frame.number,
+            None,
+            retired(parity, frame.retire),
+        );
     }
     Planned {
         number: 2 * frame.number + parity,

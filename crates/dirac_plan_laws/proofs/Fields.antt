@@ -31,7 +31,7 @@ never true = refl
 never false = refl
 
 pub first_field : (n : ℕ) (f : Planned) → field_of n 0 f ≡ plain_field n 0 f
-first_field n f = cond-false (f.code == INTRA_REFERENCE && 0 == 1) (anchor_of (2 * f.number + 1) (2 * f.number) None None) (plain_field n 0 f) (never (f.code == INTRA_REFERENCE))
+first_field n f = cond-false (f.code == INTRA_REFERENCE && 0 == 1) (anchor_of (2 * f.number + 1) (2 * f.number) None (option_map (λ t. 2 * t + 0) f.retire)) (plain_field n 0 f) (never (f.code == INTRA_REFERENCE))
 
 pub first_number : (n : ℕ) (f : Planned) → (field_of n 0 f).number ≡ 2 * f.number
 first_number n f = let is : (field_of n 0 f).number ≡ 2 * f.number + 0 = ap (λ (p : Planned). p.number) (first_field n f) in omega (arith, is)

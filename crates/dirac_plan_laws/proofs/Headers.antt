@@ -4,14 +4,16 @@ use Rattle.std.specs.Prelude.{IfSome}
 use Rattle.std.specs.List.{AllByRecursion, flat_map}
 use Rattle.std.proofs.lemmas.Bool.{cases_lt, cond-false, cond-true, le-ltb, lt-ltb}
 use Rattle.std.proofs.lemmas.Nat.{mod_below}
+use Rattle.std.proofs.lemmas.Option.{IfSome_then}
 use Rattle.dirac_types.specs.declared.settings.Settings.{Settings}
 use Rattle.dirac_common.specs.declared.codes.TheConstants.{INTRA_REFERENCE}
 use Rattle.dirac_common.specs.Codes.{is_reference}
 use Rattle.dirac_header.specs.Written.{MayRetire}
 use Rattle.dirac_plan.specs.declared.planned.Planned.{Planned}
 use Rattle.dirac_plan.specs.Frames.{IsBelow}
-use Rattle.dirac_plan.specs.Plan.{anchor_of, anchor_offset, anchors_behind, between_of, field_of, field_or_first, fields_of, frames_plan, group, group_at, group_count, opening, plan, retired_of, second_of, step}
+use Rattle.dirac_plan.specs.Plan.{anchor_of, anchor_offset, anchors_behind, between_of, field_of, field_or_first, fields_of, frames_plan, group, group_at, group_count, opening_of, plan, retired_of, retired_of_former, second_of, step}
 use Rattle.dirac_plan.proofs.Anchors.{anchor_is, anchor_rises, uncovered}
+use Rattle.dirac_plan.proofs.Items.{former_below}
 use Rattle.dirac_plan.proofs.Numbers.{either}
 use Rattle.dirac_plan.proofs.Places.{frames_below}
 use Rattle.dirac_plan_laws.specs.Headers.{IsPlanned}
@@ -23,8 +25,13 @@ pub record IsPlannedOf (n : ℕ) (p : Planned) : Type 0 where
   pub planned : IsPlanned p
   pub below : p.number < n
 
-opening_planned : (n number : ℕ) → n ≤ 2 ^ 32 → number < n → IsPlannedOf n (opening number)
-opening_planned n number few below = record {
+-- what a reference picture retires is another picture of the n
+abbrev Retires : ℕ → ℕ → Option ℕ → Type 0
+Retires n number retired = IfSome retired (λ r. (r < n) × (r ≢ number))
+
+intra_planned : (n number : ℕ) (retired : Option ℕ) → n ≤ 2 ^ 32 → number < n → Retires n number retired
+    → IsPlannedOf n (record { number = number; code = INTRA_REFERENCE; ref1 = None; ref2 = None; retire = retired })
+intra_planned n number None few below r = record {
   planned = record {
     code = record { read = refl; other = refl; kind = refl };
     range = record { number = omega arith; first = tt; second = tt; retired = tt };
@@ -34,6 +41,25 @@ opening_planned n number few below = record {
   };
   below = below;
 }
+intra_planned n number (Some retired) few below r = record {
+  planned = record {
+    code = record { read = refl; other = refl; kind = refl };
+    range = record { number = omega arith; first = tt; second = tt; retired = omega (arith, r.0) };
+    references = record { first = refl; second = refl };
+    retires = (refl, r.1);
+    predicted = λ e. absurd (cc);
+  };
+  below = below;
+}
+
+-- a group retires pictures before it
+retires_former : (s : Settings) (n first number j : ℕ) → 0 < s.gop → first ≤ number → number < n → Retires n number (retired_of_former s first j)
+retires_former s n first number j some behind within =
+    IfSome_then (retired_of_former s first j) (former_below s first j some) (λ r below. (omega arith, λ same. omega arith))
+
+opening_planned : (s : Settings) (n first : ℕ) → 0 < s.gop → n ≤ 2 ^ 32 → first < n → IsPlannedOf n (opening_of s first)
+opening_planned s n first some few below =
+    intra_planned n first (retired_of_former s first 0) few below (retires_former s n first first 0 some (omega arith) below)
 
 between_planned : (n references before after number : ℕ) → n ≤ 2 ^ 32 → before < n → after < n → number < n → IsPlannedOf n (between_of references before after number)
 between_planned n references before after number few b a below =
@@ -58,10 +84,6 @@ between_planned n references before after number few b a below =
       };
       below = below;
     })
-
--- what an anchor retires is another picture of the n
-abbrev Retires : ℕ → ℕ → Option ℕ → Type 0
-Retires n number retired = IfSome retired (λ r. (r < n) × (r ≢ number))
 
 anchor_planned : (n number before : ℕ) (second retired : Option ℕ) → n ≤ 2 ^ 32 → number < n → before < n → IfSome second (λ m. m < n) → Retires n number retired
     → IsPlannedOf n (anchor_of number before second retired)
@@ -110,17 +132,21 @@ anchor_planned n number before (Some second) (Some retired) few below b s r = re
 anchor_inside : (s : Settings) (len k : ℕ) → 0 < len → anchor_offset s len k < len
 anchor_inside s len k some = omega (arith, anchor_is s len k)
 
-retires_other : (s : Settings) (n len first k : ℕ) → 0 < len → first + len ≤ n → k < anchors_behind s len → Retires n (first + anchor_offset s len (suc k)) (retired_of s len first k)
-retires_other s n len first zero some within h = tt
-retires_other s n len first (suc zero) some within h = tt
-retires_other s n len first (suc (suc k)) some within h =
+retires_other : (s : Settings) (n len first k : ℕ) → 0 < s.gop → 0 < len → first + len ≤ n → k < anchors_behind s len → Retires n (first + anchor_offset s len (suc k)) (retired_of s len first k)
+retires_other s n len first zero gop some within h =
+    let inside = anchor_inside s len 1 some in
+    retires_former s n first (first + anchor_offset s len 1) 1 gop (omega arith) (omega arith)
+retires_other s n len first (suc zero) gop some within h =
+    let inside = anchor_inside s len 2 some in
+    retires_former s n first (first + anchor_offset s len 2) 2 gop (omega arith) (omega arith)
+retires_other s n len first (suc (suc k)) gop some within h =
     let inside = anchor_inside s len (suc k) some in
     let one = anchor_rises s len (suc k) (omega arith) in
     let two = anchor_rises s len (suc (suc k)) h in
     (omega arith, λ same. omega arith)
 
-step_planned : (s : Settings) (n len first k : ℕ) → n ≤ 2 ^ 32 → 0 < len → first + len ≤ n → k < anchors_behind s len → AllByRecursion (IsPlannedOf n) (step s len first k)
-step_planned s n len first k few some within h =
+step_planned : (s : Settings) (n len first k : ℕ) → 0 < s.gop → n ≤ 2 ^ 32 → 0 < len → first + len ≤ n → k < anchors_behind s len → AllByRecursion (IsPlannedOf n) (step s len first k)
+step_planned s n len first k gop few some within h =
     let a : ℕ = first + anchor_offset s len k in
     let b : ℕ = first + anchor_offset s len (suc k) in
     let rises = anchor_rises s len k h in
@@ -129,14 +155,14 @@ step_planned s n len first k few some within h =
     let P : Option ℕ → Type 0 = λ o. IfSome o (λ m. m < n) in
     let second : P (second_of s first k) = either (s.references == 2 && nat_le 1 k) P (Some first) None (omega arith) tt in
     let between : ℕ → Planned = between_of s.references a b in (
-      anchor_planned n b a (second_of s first k) (retired_of s len first k) few (omega arith) (omega arith) second (retires_other s n len first k some within h),
+      anchor_planned n b a (second_of s first k) (retired_of s len first k) few (omega arith) (omega arith) second (retires_other s n len first k gop some within h),
       each_mapped (IsPlannedOf n) between (a + 1) (b - a - 1) (λ m low high. between_planned n s.references a b m few (omega arith) (omega arith) (omega arith)),
     )
 
-group_planned : (s : Settings) (n len first : ℕ) → n ≤ 2 ^ 32 → 0 < len → first + len ≤ n → AllByRecursion (IsPlannedOf n) (group s len first)
-group_planned s n len first few some within = (
-  opening_planned n first few (omega arith),
-  each_joined (IsPlannedOf n) (step s len first) 0 (anchors_behind s len) (λ k _ h. step_planned s n len first k few some within (omega arith)),
+group_planned : (s : Settings) (n len first : ℕ) → 0 < s.gop → n ≤ 2 ^ 32 → 0 < len → first + len ≤ n → AllByRecursion (IsPlannedOf n) (group s len first)
+group_planned s n len first gop few some within = (
+  opening_planned s n first gop few (omega arith),
+  each_joined (IsPlannedOf n) (step s len first) 0 (anchors_behind s len) (λ k _ h. step_planned s n len first k gop few some within (omega arith)),
 )
 
 frames_planned : (s : Settings) (n : ℕ) → 0 < s.gop → n ≤ 2 ^ 32 → AllByRecursion (IsPlannedOf n) (frames_plan n s)
@@ -145,7 +171,7 @@ frames_planned s n some few =
     each_joined (IsPlannedOf n) (group_at s n) 0 (group_count s n)
     (λ i _ h.
     let more = uncovered n s.gop i some (omega arith) in
-    group_planned s n (min s.gop (n - i * s.gop)) (i * s.gop) few (omega arith) (omega arith))
+    group_planned s n (min s.gop (n - i * s.gop)) (i * s.gop) some few (omega arith) (omega arith))
 
 -- ---- their fields
 
@@ -193,15 +219,26 @@ plain_planned n frames p f few all small there is below = record {
 }
 
 -- the second field of an intra frame refers to the first one
-second_planned : (n number : ℕ) → n ≤ 2 ^ 32 → 2 * number + 1 < n → IsPlannedOf n (anchor_of (2 * number + 1) (2 * number) None None)
-second_planned n number few there = anchor_planned n (2 * number + 1) (2 * number) None None few there (omega arith) tt tt
+second_planned : (n frames number : ℕ) (reference : Bool) (retired : Option ℕ) → n ≤ 2 ^ 32 → 2 * frames ≤ n + 1 → 2 * number + 1 < n → IfSome retired (λ r. r < frames) → MayRetire reference number retired
+    → IsPlannedOf n (anchor_of (2 * number + 1) (2 * number) None (option_map (λ t. 2 * t + 1) retired))
+second_planned n frames number reference None few all there below may = anchor_planned n (2 * number + 1) (2 * number) None None few there (omega arith) tt tt
+second_planned n frames number reference (Some r) few all there below may = record {
+  planned = record {
+    code = record { read = refl; other = refl; kind = refl };
+    range = record { number = omega arith; first = omega arith; second = tt; retired = omega (arith, below) };
+    references = record { first = refl; second = refl };
+    retires = (refl, λ same. may.1 (omega arith));
+    predicted = λ _. refl;
+  };
+  below = there;
+}
 
 fields_planned : (n frames : ℕ) (f : Planned) → n ≤ 2 ^ 32 → 2 * frames ≤ n + 1 → IsPlanned f → IsBelow frames f → AllByRecursion (IsPlannedOf n) (fields_of n f)
 fields_planned n frames f few all is below = (
   subst (IsPlannedOf n) (sym (first_field n f)) (plain_planned n frames 0 f few all (omega arith) (omega (arith, below.number)) is below),
   elim (cases_lt (2 * f.number + 1) n) [
     | inl there ↦
-        let second : IsPlannedOf n (field_of n 1 f) = either (f.code == INTRA_REFERENCE && 1 == 1) (IsPlannedOf n) _ _ (second_planned n f.number few there) (plain_planned n frames 1 f few all (omega arith) there is below) in
+        let second : IsPlannedOf n (field_of n 1 f) = either (f.code == INTRA_REFERENCE && 1 == 1) (IsPlannedOf n) _ _ (second_planned n frames f.number (is_reference f.code) f.retire few all there below.retire is.retires) (plain_planned n frames 1 f few all (omega arith) there is below) in
         subst (AllByRecursion (IsPlannedOf n)) (sym (cond-true (nat_lt (2 * f.number + 1) n) (field_of n 1 f ∷ []) [] (lt-ltb (2 * f.number + 1) n there))) (second, tt)
     | inr missing ↦
         subst (AllByRecursion (IsPlannedOf n)) (sym (cond-false (nat_lt (2 * f.number + 1) n) (field_of n 1 f ∷ []) [] (le-ltb (2 * f.number + 1) n missing))) tt

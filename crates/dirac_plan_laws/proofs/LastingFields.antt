@@ -8,7 +8,7 @@ use Rattle.dirac_types.specs.declared.settings.Settings.{Settings}
 use Rattle.dirac_common.specs.declared.codes.TheConstants.{INTRA_REFERENCE}
 use Rattle.dirac_plan.specs.declared.planned.Planned.{Planned}
 use Rattle.dirac_plan.specs.Frames.{IsBelow}
-use Rattle.dirac_plan.specs.Plan.{anchor_of, field_of, field_or_first, fields_of, frames_plan, opening}
+use Rattle.dirac_plan.specs.Plan.{anchor_of, field_of, field_or_first, fields_of, frames_plan, opening_of}
 use Rattle.dirac_plan.proofs.Items.{length_frames, opening_item}
 use Rattle.dirac_plan.proofs.Places.{frames_below}
 use Rattle.dirac_plan_laws.proofs.Delivering.{there_is}
@@ -30,7 +30,7 @@ same_reference n m p end (Some r) small one two below =
 same_field : (n m p end : ℕ) (f : Planned) → p ≤ 1 → 2 * end ≤ n → 2 * end ≤ m → IsBelow end f → field_of n p f ≡ field_of m p f
 same_field n m p end f small one two is =
     let of : Option ℕ → Option ℕ → Planned =
-    λ a b. if f.code == INTRA_REFERENCE && p == 1 then anchor_of (2 * f.number + 1) (2 * f.number) None None
+    λ a b. if f.code == INTRA_REFERENCE && p == 1 then anchor_of (2 * f.number + 1) (2 * f.number) None (option_map (λ t. 2 * t + p) f.retire)
     else record { number = 2 * f.number + p; code = f.code; ref1 = a; ref2 = b; retire = option_map (λ t. 2 * t + p) f.retire } in
     ap₂ of (same_reference n m p end f.ref1 small one two is.ref1) (same_reference n m p end f.ref2 small one two is.ref2)
 
@@ -44,13 +44,13 @@ field_item n xs q (suc (suc p)) f small there before at = absurd (omega arith)
 
 -- the fields of a group's first frame
 pub opening_field : (n : ℕ) (s : Settings) (q p : ℕ) → 0 < s.gop → q % s.gop ≡ 0 → p ≤ 1 → 2 * q + p < n
-    → slice_get (flat_map (fields_of n) (frames_plan ((n + 1) / 2) s)) (2 * q + p) ≡ Some (field_of n p (opening q))
+    → slice_get (flat_map (fields_of n) (frames_plan ((n + 1) / 2) s)) (2 * q + p) ≡ Some (field_of n p (opening_of s q))
 opening_field n s q p some opens small there =
     let frames : ℕ = (n + 1) / 2 in
     let half = div-add-mod' (n + 1) 2 in
     let rest = mod_below (n + 1) 2 (omega arith) in
     let groups = div-add-mod' q s.gop in
-    field_item n (frames_plan frames s) q p (opening q) small there
+    field_item n (frames_plan frames s) q p (opening_of s q) small there
     (λ i y before at.
     let end : step_end s i ≤ q = ends_before s i q some opens before in
     let within = frame_within s frames q i y some end (omega arith) at in

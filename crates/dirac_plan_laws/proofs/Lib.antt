@@ -2,6 +2,7 @@ pub mod Coding
 pub mod Counts
 pub mod Delivering
 pub mod Each
+pub mod Few
 pub mod Fields
 pub mod Headers
 pub mod Lasting

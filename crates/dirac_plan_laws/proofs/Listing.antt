@@ -32,7 +32,7 @@ abbrev pub has : ℕ → List ℕ → Bool
 has n [] = false
 has n (m ∷ numbers) = if m == n then true else has n numbers
 
-numbers_without : (n : ℕ) (list : List Picture) → map number_of (without n list) ≡ other_numbers n (map number_of list)
+pub numbers_without : (n : ℕ) (list : List Picture) → map number_of (without n list) ≡ other_numbers n (map number_of list)
 numbers_without n [] = refl
 numbers_without n (p ∷ list) = by_test (not (p.number == n)) (numbers_without n list)
   where

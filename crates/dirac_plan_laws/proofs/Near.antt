@@ -7,7 +7,7 @@ use Rattle.std.proofs.lemmas.Option.{slice_get_within}
 use Rattle.std.proofs.lemmas.List.Sums.{sum_by-cons}
 use Rattle.dirac_types.specs.declared.settings.Settings.{Settings}
 use Rattle.dirac_plan.specs.declared.planned.Planned.{Planned}
-use Rattle.dirac_plan.specs.Plan.{opening, anchor_of, between_of, anchor_offset, second_of, retired_of, fields_of, frames_plan}
+use Rattle.dirac_plan.specs.Plan.{opening_of, anchor_of, between_of, anchor_offset, second_of, retired_of, fields_of, frames_plan}
 use Rattle.dirac_plan.proofs.Accepted.{paced}
 use Rattle.dirac_plan.proofs.Numbers.{of_number, sum_frames, anchor_number, between_number}
 use Rattle.dirac_plan.proofs.Items.{IsPlace, each_of, place_of, length_frames, opening_item, anchor_item, between_item, after_place}
@@ -38,7 +38,7 @@ near_step n s g first len k (suc j) is =
 
 near_item : (n : ℕ) (s : Settings) (g : ℕ) → g < n → 0 < s.gop → NearItem n s g
 near_item n s g h some = elim (cases_eq (g % s.gop) 0) [
-  | inl opens ↦ record { item = opening g; at = opening_item n s g h some opens; near = omega arith }
+  | inl opens ↦ record { item = opening_of s g; at = opening_item n s g h some opens; near = omega arith }
   | inr other ↦
       near_step n s g (g - g % s.gop) (min s.gop (n - (g - g % s.gop))) ((g % s.gop - 1) / (s.between + 1)) ((g % s.gop - 1) % (s.between + 1))
       (place_of n s g (min s.gop (n - (g - g % s.gop))) h some (omega (arith, other)) refl)

@@ -1,11 +1,12 @@
 -- What an encoder relies on in every plan.
-use Rattle.std.proofs.Common.{◌≡◌, ℕ, ◌<◌, List, [], ◌∷◌, Some, map, length, slice_get, refl, ap, sym, ◌∙◌, arith, sum_by}
+use Rattle.std.proofs.Common.{◌≡◌, ℕ, true, ◌<◌, List, [], ◌∷◌, Some, map, length, slice_get, refl, ap, sym, ◌∙◌, arith, sum_by}
 use Rattle.std.specs.List.{range_with_len}
 use Rattle.std.proofs.lemmas.List.{length-map}
 use Rattle.dirac_refs.specs.Delivery.{LeastLeavesFirst}
 use Rattle.dirac_types.specs.declared.settings.Settings.{Settings}
+use Rattle.dirac_common.specs.Codes.{is_intra}
 use Rattle.dirac_plan.specs.declared.planned.Planned.{Planned}
-use Rattle.dirac_plan.specs.Plan.{opening, plan}
+use Rattle.dirac_plan.specs.Plan.{field_of, opening_of, plan}
 use Rattle.dirac_plan.specs.Waiting.{number_of}
 use Rattle.dirac_plan.proofs.Accepted.{paced}
 use Rattle.dirac_plan.proofs.Fields.{length_plan}
@@ -36,16 +37,19 @@ number_stands planned n k count weights below =
     let item = item_at planned place.0 k place.1 in
     (place.0, item.0, item.1, item.2)
 
-begins_so : (planned : List Planned) → (0 < length planned → slice_get planned 0 ≡ Some (opening 0)) → BeginsPlan planned
+begins_so : (planned : List Planned) → (0 < length planned → (x : Planned) × (slice_get planned 0 ≡ Some x) × (is_intra x.code ≡ true) × (x.number ≡ 0)) → BeginsPlan planned
 begins_so [] first = tt
 begins_so (p ∷ planned) first =
-    let e : Some p ≡ Some (opening 0) = first (omega arith) in
-    let same : p ≡ opening 0 = cc in
-    rw same (refl, refl)
+    let is = first (omega arith) in
+    let e : Some p ≡ Some is.0 = is.1 in
+    let same : p ≡ is.0 = cc in
+    rw same (is.2, is.3)
 
-first_item : (s : Settings) (n : ℕ) → 0 < n → 0 < s.gop → slice_get (plan n s) 0 ≡ Some (opening 0)
+first_item : (s : Settings) (n : ℕ) → 0 < n → 0 < s.gop → (x : Planned) × (slice_get (plan n s) 0 ≡ Some x) × (is_intra x.code ≡ true) × (x.number ≡ 0)
 first_item s n more some =
-    of_plan (λ xs. slice_get xs 0 ≡ Some (opening 0)) n s (opening_item n s 0 more some (omega arith)) (opening_field n s 0 0 some (omega arith) (omega arith) (omega arith))
+    of_plan (λ xs. (x : Planned) × (slice_get xs 0 ≡ Some x) × (is_intra x.code ≡ true) × (x.number ≡ 0)) n s
+    (opening_of s 0, opening_item n s 0 more some (omega arith), refl, refl)
+    (field_of n 0 (opening_of s 0), opening_field n s 0 0 some (omega arith) (omega arith) (omega arith), refl, refl)
 
 pub plans_coded : LeastLeavesFirst → PlansCanBeCoded
 plans_coded law s n accepted few =

@@ -6,7 +6,7 @@ use Rattle.dirac_types.specs.declared.settings.Settings.{Settings}
 use Rattle.dirac_types.specs.Settings.{of_base}
 use Rattle.dirac_refs.specs.Delivery.{deliver, flush, least_among}
 use Rattle.dirac_refs.specs.References.{refs_of}
-use Rattle.dirac_plan.specs.Plan.{frames_plan, plan}
+use Rattle.dirac_plan.specs.Plan.{frames_plan, plan, retired_of_former}
 use Rattle.dirac_plan.specs.Waiting.{number_of}
 use Rattle.dirac_plan_laws.specs.Lasting.{step_place}
 use Rattle.dirac_plan_laws.specs.Order.{as_waiting, by_number}
@@ -20,7 +20,7 @@ picture plane number = record { number = number; y = plane; u = plane; v = plane
 
 -- the list behind a group of 14 with anchors 0, 4, 8, 12, 13, of which 4 and 8 are retired
 kept : (plane : Table) → map number_of (refs_of (commits (plan 14 (settings 14 3 2)) (map (λ p. picture plane p.number) (plan 14 (settings 14 3 2))))) ≡ 0 ∷ 12 ∷ 13 ∷ []
-unfolding plan frames_plan settings picture
+unfolding plan frames_plan retired_of_former settings picture
 kept plane = refl
 
 -- six pictures in coding order leave by rising number, the first two of them before the end
@@ -48,5 +48,17 @@ field_steps = refl
 
 -- the list behind the fields of a group of 14 frames, the last of one field
 kept_fields : (plane : Table) → map number_of (refs_of (commits (plan 27 (record (settings 14 3 2) { fields = 1 })) (map (λ p. picture plane p.number) (plan 27 (record (settings 14 3 2) { fields = 1 }))))) ≡ 0 ∷ 1 ∷ 17 ∷ 24 ∷ 25 ∷ 26 ∷ []
-unfolding plan frames_plan settings picture
+unfolding plan frames_plan retired_of_former settings picture
 kept_fields plane = refl
+
+-- where streams are to be shown alike, the second group of 14 has retired what the first one left
+alike_settings : ℕ → Settings
+alike_settings n = record (settings 14 3 2) { fields = n; alike = 1 }
+
+kept_alike : (plane : Table) → map number_of (refs_of (commits (plan 24 (alike_settings 0)) (map (λ p. picture plane p.number) (plan 24 (alike_settings 0))))) ≡ 14 ∷ 22 ∷ 23 ∷ []
+unfolding plan frames_plan retired_of_former settings picture alike_settings
+kept_alike plane = refl
+
+kept_alike_fields : (plane : Table) → map number_of (refs_of (commits (plan 30 (alike_settings 1)) (map (λ p. picture plane p.number) (plan 30 (alike_settings 1))))) ≡ 24 ∷ 25 ∷ 26 ∷ 27 ∷ 28 ∷ 29 ∷ []
+unfolding plan frames_plan retired_of_former settings picture alike_settings
+kept_alike_fields plane = refl

@@ -1,13 +1,14 @@
 -- Plans of frames are served.
 use Rattle.std.proofs.Common.{◌≡◌, ℕ, zero, suc, ◌+◌, ◌-◌, ◌*◌, ◌<◌, ◌≤◌, ◌==◌, ◌&&◌, Bool, true, nat_le, List, [], ◌∷◌, ◌++◌, Option, None, Some, map, length, min, refl, ap, ap₂, subst, ◌∙◌, arith}
-use Rattle.std.specs.Prelude.{⊤}
-use Rattle.std.specs.List.{flat_map, range_with_len}
+use Rattle.std.specs.Prelude.{IfSome, ⊤}
+use Rattle.std.specs.List.{AllByRecursion, flat_map, range_with_len}
 use Rattle.dirac_common.specs.declared.picture.Picture.{Picture}
 use Rattle.dirac_types.specs.declared.settings.Settings.{Settings}
 use Rattle.dirac_refs.specs.References.{committed}
 use Rattle.dirac_plan.specs.declared.planned.Planned.{Planned}
-use Rattle.dirac_plan.specs.Plan.{anchor_of, between_of, anchor_offset, anchors_behind, second_of, retired_of, step, group, group_at, group_count, frames_plan}
-use Rattle.dirac_plan.proofs.Anchors.{anchor_rises}
+use Rattle.dirac_plan.specs.Plan.{anchor_of, between_of, anchor_offset, anchors_behind, second_of, retired_of, retired_of_former, step, group, group_at, group_count, frames_plan}
+use Rattle.dirac_plan.proofs.Anchors.{anchor_is, anchor_rises}
+use Rattle.dirac_plan.proofs.Items.{former_below}
 use Rattle.dirac_plan.proofs.Numbers.{either}
 use Rattle.dirac_picture.specs.Grammar.{is_listed}
 use Rattle.dirac_plan_laws.specs.References.{AreListed, AreServed, list_with}
@@ -89,26 +90,41 @@ few_kept s len first (suc zero) = omega arith
 few_kept s len first (suc (suc k)) = omega arith
 
 -- the anchors behind the first one stand behind it
-behind_first : (s : Settings) (len k : ℕ) → k < anchors_behind s len → anchor_offset s len 0 < anchor_offset s len (suc k)
+pub behind_first : (s : Settings) (len k : ℕ) → k < anchors_behind s len → anchor_offset s len 0 < anchor_offset s len (suc k)
 behind_first s len zero h = anchor_rises s len 0 h
 behind_first s len (suc k) h =
     let before = behind_first s len k (omega arith) in
     let rises = anchor_rises s len (suc k) h in
     omega arith
 
+-- a group in which an anchor follows has frames
+pub has_frames : (s : Settings) (len k : ℕ) → k < anchors_behind s len → len ≤ s.gop → 0 < s.gop
+has_frames s len k h within =
+    let behind = behind_first s len k h in
+    let is = anchor_is s len (suc k) in
+    omega arith
+
+-- a number below these leaves them
+left_above : (r : Option ℕ) (first : ℕ) (numbers : List ℕ) → IfSome r (λ n. n < first) → AllByRecursion (λ m. first ≤ m) numbers → left_numbers r numbers ≡ numbers
+left_above None first numbers below all = refl
+left_above (Some n) first [] below all = refl
+left_above (Some n) first (m ∷ numbers) below all = keeps n m numbers numbers (λ e. omega (arith, below, all.0)) (left_above (Some n) first numbers below all.1)
+
 -- what is kept of them when the next one is coded
-pub next_kept : (s : Settings) (len first k : ℕ) → k < anchors_behind s len
+pub next_kept : (s : Settings) (len first k : ℕ) → 0 < s.gop → k < anchors_behind s len
     → other_numbers (number s len first (suc k)) (left_numbers (retired_of s len first k) (kept s len first k)) ++ number s len first (suc k) ∷ [] ≡ kept s len first (suc k)
-next_kept s len first zero h =
+next_kept s len first zero some h =
     let a : ℕ = number s len first 1 in
     let far = behind_first s len 0 h in
-    ap (λ l. l ++ a ∷ []) (keeps a (number s len first 0) [] [] (λ e. omega arith) refl)
-next_kept s len first (suc zero) h =
+    ap (λ l. other_numbers a l ++ a ∷ []) (left_above (retired_of_former s first 1) first (number s len first 0 ∷ []) (former_below s first 1 some) (omega arith, tt))
+    ∙ ap (λ l. l ++ a ∷ []) (keeps a (number s len first 0) [] [] (λ e. omega arith) refl)
+next_kept s len first (suc zero) some h =
     let a : ℕ = number s len first 2 in
     let far = behind_first s len 1 h in
     let near = anchor_rises s len 1 h in
-    ap (λ l. l ++ a ∷ []) (keeps a (number s len first 0) (number s len first 1 ∷ []) (number s len first 1 ∷ []) (λ e. omega arith) (keeps a (number s len first 1) [] [] (λ e. omega arith) refl))
-next_kept s len first (suc (suc k)) h =
+    ap (λ l. other_numbers a l ++ a ∷ []) (left_above (retired_of_former s first 2) first (number s len first 0 ∷ number s len first 1 ∷ []) (former_below s first 2 some) (omega arith, (omega arith, tt)))
+    ∙ ap (λ l. l ++ a ∷ []) (keeps a (number s len first 0) (number s len first 1 ∷ []) (number s len first 1 ∷ []) (λ e. omega arith) (keeps a (number s len first 1) [] [] (λ e. omega arith) refl))
+next_kept s len first (suc (suc k)) some h =
     let a : ℕ = number s len first (suc (suc (suc k))) in
     let r : ℕ = number s len first (suc k) in
     let b : ℕ = number s len first (suc (suc k)) in
@@ -120,9 +136,9 @@ next_kept s len first (suc (suc k)) h =
     (keeps r (number s len first 0) (r ∷ b ∷ []) (b ∷ []) (λ e. omega arith) (leaves r (b ∷ []) (b ∷ []) (keeps r b [] [] (λ e. omega arith) refl)))
     ∙ ap (λ l. l ++ a ∷ []) (keeps a (number s len first 0) (b ∷ []) (b ∷ []) (λ e. omega arith) (keeps a b [] [] (λ e. omega arith) refl))
 
-served_step : (s : Settings) (len first k : ℕ) (list : List Picture) (K : List Picture → Type 0) → k < anchors_behind s len → EndsWith list (kept s len first k)
+served_step : (s : Settings) (len first k : ℕ) (list : List Picture) (K : List Picture → Type 0) → len ≤ s.gop → k < anchors_behind s len → EndsWith list (kept s len first k)
     → ((l : List Picture) → EndsWith l (kept s len first (suc k)) → K l) → ServedThen list (step s len first k) K
-served_step s len first k list K h ends more =
+served_step s len first k list K within h ends more =
     let a : ℕ = number s len first k in
     let b : ℕ = number s len first (suc k) in
     let P : Option ℕ → Type 0 = λ o. is_listed list o ≡ true in
@@ -133,30 +149,38 @@ served_step s len first k list K h ends more =
     let l = committed list (retired_of s len first k) (Some coded) in
     let numbers : ℕ → List ℕ = λ n. other_numbers n (left_numbers (retired_of s len first k) (kept s len first k)) ++ n ∷ [] in
     let now : EndsWith l (kept s len first (suc k)) =
-    subst (EndsWith l) (ap numbers e ∙ next_kept s len first k h) (ends_committed (retired_of s len first k) coded list (kept s len first k) (few_kept s len first k) ends) in
+    subst (EndsWith l) (ap numbers e ∙ next_kept s len first k (has_frames s len k h within) h) (ends_committed (retired_of s len first k) coded list (kept s len first k) (few_kept s len first k) ends) in
     served_between s.references a b l K _
     (found a l (kept s len first (suc k)) now (has_before s len first k))
     (found b l (kept s len first (suc k)) now (has_last s len first (suc k)))
     (more l now))
 
-served_steps : (s : Settings) (len first m k : ℕ) (list : List Picture) (K : List Picture → Type 0) → k + m ≤ anchors_behind s len → EndsWith list (kept s len first k)
+served_steps : (s : Settings) (len first m k : ℕ) (list : List Picture) (K : List Picture → Type 0) → len ≤ s.gop → k + m ≤ anchors_behind s len → EndsWith list (kept s len first k)
     → ((l : List Picture) → K l) → ServedThen list (flat_map (step s len first) (range_with_len k m)) K
-served_steps s len first zero k list K h ends more = more list
-served_steps s len first (suc m) k list K h ends more =
+served_steps s len first zero k list K within h ends more = more list
+served_steps s len first (suc m) k list K within h ends more =
     let one : suc k ≡ k + 1 = omega arith in
     let rest = flat_map (step s len first) (range_with_len (k + 1) m) in
     served_append (step s len first k) rest list K
-    (served_step s len first k list (λ l. ServedThen l rest K) (omega arith) ends
-    (λ l now. served_steps s len first m (k + 1) l K (omega arith) (subst (λ j. EndsWith l (kept s len first j)) one now) more))
+    (served_step s len first k list (λ l. ServedThen l rest K) within (omega arith) ends
+    (λ l now. served_steps s len first m (k + 1) l K within (omega arith) (subst (λ j. EndsWith l (kept s len first j)) one now) more))
 
-served_group : (s : Settings) (len first : ℕ) (list : List Picture) (K : List Picture → Type 0) → ((l : List Picture) → K l) → ServedThen list (group s len first) K
-served_group s len first list K more = (
+-- of no number none is left
+pub none_left : (r : Option ℕ) → left_numbers r [] ≡ []
+none_left None = refl
+none_left (Some n) = refl
+
+served_group : (s : Settings) (len first : ℕ) (list : List Picture) (K : List Picture → Type 0) → len ≤ s.gop → ((l : List Picture) → K l) → ServedThen list (group s len first) K
+served_group s len first list K within more = (
   refl,
   λ coded e.
-      let l = committed list None (Some coded) in
+      let retired = retired_of_former s first 0 in
+      let l = committed list retired (Some coded) in
       let same : coded.number ≡ number s len first 0 = e ∙ omega arith in
-      let now : EndsWith l (kept s len first 0) = subst (λ n. EndsWith l (n ∷ [])) same (ends_committed None coded list [] (omega arith) (anything list)) in
-      served_steps s len first (anchors_behind s len) 0 l K (omega arith) now more,
+      let now : EndsWith l (kept s len first 0) =
+      subst (λ n. EndsWith l (n ∷ [])) same
+      (subst (λ (ns : List ℕ). EndsWith l (other_numbers coded.number ns ++ coded.number ∷ [])) (none_left retired) (ends_committed retired coded list [] (omega arith) (anything list))) in
+      served_steps s len first (anchors_behind s len) 0 l K within (omega arith) now more,
 )
 
 pub served_groups : (s : Settings) (n m i : ℕ) (list : List Picture) → ServedThen list (flat_map (group_at s n) (range_with_len i m)) (λ _. ⊤)
@@ -164,7 +188,7 @@ served_groups s n zero i list = tt
 served_groups s n (suc m) i list =
     let rest = flat_map (group_at s n) (range_with_len (i + 1) m) in
     served_append (group_at s n i) rest list (λ _. ⊤)
-    (served_group s (min s.gop (n - i * s.gop)) (i * s.gop) list (λ l. ServedThen l rest (λ _. ⊤)) (λ l. served_groups s n m (i + 1) l))
+    (served_group s (min s.gop (n - i * s.gop)) (i * s.gop) list (λ l. ServedThen l rest (λ _. ⊤)) (omega arith) (λ l. served_groups s n m (i + 1) l))
 
 -- each plan of frames is served
 pub frames_plan_served : (s : Settings) (n : ℕ) → AreServed [] (frames_plan n s)

@@ -5,19 +5,21 @@ use Rattle.std.specs.List.{flat_map, range_with_len}
 use Rattle.std.proofs.lemmas.Bool.{cases_lt, cond-false, cond-true, le-ltb, lt-ltb}
 use Rattle.std.proofs.lemmas.Nat.{mod_below}
 use Rattle.std.proofs.lemmas.List.Concat.{flat_map-append}
+use Rattle.std.proofs.lemmas.Option.{IfSome_then}
 use Rattle.dirac_common.specs.declared.picture.Picture.{Picture}
 use Rattle.dirac_types.specs.declared.settings.Settings.{Settings}
 use Rattle.dirac_refs.specs.References.{committed, is_listed, refs_from}
 use Rattle.dirac_plan.specs.declared.planned.Planned.{Planned}
-use Rattle.dirac_plan.specs.Plan.{anchor_of, between_of, anchors_behind, field_of, field_or_first, fields_of, opening, second_of, retired_of, step, group, group_at, group_count, frames_plan, plan}
+use Rattle.dirac_plan.specs.Plan.{anchor_of, between_of, anchors_behind, field_of, field_or_first, fields_of, opening_of, second_of, retired_of, retired_of_former, step, group, group_at, group_count, frames_plan, plan}
 use Rattle.dirac_plan.proofs.Anchors.{anchor_is, anchor_rises}
+use Rattle.dirac_plan.proofs.Items.{former_below}
 use Rattle.dirac_plan.proofs.Numbers.{either}
 use Rattle.dirac_plan.specs.Waiting.{number_of}
 use Rattle.dirac_plan_laws.specs.References.{AreFound, AreListed, ArePlanned, AreServed, ReferencesAreKept, ReferencesAreListed, commits, list_with, planned_number}
 use Rattle.dirac_plan_laws.proofs.Fields.{of_plan}
 use Rattle.dirac_plan_laws.proofs.Listing.{EndsWith, anything, found, has, has_first, keeps, left_numbers, other_numbers}
 use Rattle.dirac_plan_laws.proofs.ListingFields.{both_fields, ends_with, frame_appended, has_appended, has_fields, has_still, length-both_fields, length-numbers_with, numbers_with}
-use Rattle.dirac_plan_laws.proofs.Serving.{ServedThen, both_listed, has_before, has_last, has_opening, frames_plan_served, kept, next_kept, number, served_all, served_append}
+use Rattle.dirac_plan_laws.proofs.Serving.{ServedThen, both_listed, has_before, has_frames, has_last, has_opening, frames_plan_served, kept, next_kept, none_left, number, served_all, served_append}
 
 none_more : (t : ℕ) → 2 * t + 0 ≡ 2 * t
 none_more t = omega arith
@@ -104,29 +106,39 @@ anchor_fields_served n t before (Some second) retired list K b s there missing =
           (missing coded (e ∙ none_more t)),
     )
 
+-- a second field that goes leaves a first one
+other_left : (r : Option ℕ) (t : ℕ) → left_numbers (option_map (λ n. 2 * n + 1) r) (2 * t ∷ []) ≡ 2 * t ∷ []
+other_left None t = refl
+other_left (Some n) t = keeps (2 * n + 1) (2 * t) [] [] (λ e. omega arith) refl
+
 -- the fields of a group's first frame do too
-opening_fields_served : (n first : ℕ) (list : List Picture) (K : List Picture → Type 0)
-    → ((l : List Picture) → (2 * first + 1 < n → EndsWith l (both_fields (first ∷ []))) → K l) → ServedThen list (fields_of n (opening first)) K
-opening_fields_served n first list K more = (
+opening_fields_served : (s : Settings) (n first : ℕ) (list : List Picture) (K : List Picture → Type 0)
+    → ((l : List Picture) → (2 * first + 1 < n → EndsWith l (both_fields (first ∷ []))) → K l) → ServedThen list (fields_of n (opening_of s first)) K
+opening_fields_served s n first list K more = (
   refl,
   λ coded e.
-      let l = committed list None (Some coded) in
-      let now : EndsWith l (2 * first ∷ []) = ends_with None (2 * first) coded list [] (e ∙ none_more first) (omega arith) (anything list) in
-      second_served n first (field_of n 1 (opening first)) l K
+      let retired = option_map (λ t. 2 * t + 0) (retired_of_former s first 0) in
+      let l = committed list retired (Some coded) in
+      let now : EndsWith l (2 * first ∷ []) =
+      subst (λ (ns : List ℕ). EndsWith l (other_numbers (2 * first) ns ++ 2 * first ∷ [])) (none_left retired) (ends_with retired (2 * first) coded list [] (e ∙ none_more first) (omega arith) (anything list)) in
+      second_served n first (field_of n 1 (opening_of s first)) l K
       (λ two. (
-        both_listed l (field_of n 1 (opening first)) (found (2 * first) l (2 * first ∷ []) now (has_first (2 * first) [])) refl,
+        both_listed l (field_of n 1 (opening_of s first)) (found (2 * first) l (2 * first ∷ []) now (has_first (2 * first) [])) refl,
         λ second same.
-            let numbers : numbers_with None (2 * first + 1) (2 * first ∷ []) ≡ both_fields (first ∷ []) = ap (λ m. m ++ (2 * first + 1) ∷ []) (keeps (2 * first + 1) (2 * first) [] [] (λ e. omega arith) refl) in
-            more (committed l None (Some second)) (λ _. subst (EndsWith (committed l None (Some second))) numbers (ends_with None (2 * first + 1) second l (2 * first ∷ []) same (omega arith) now)),
+            let other = option_map (λ t. 2 * t + 1) (retired_of_former s first 0) in
+            let numbers : numbers_with other (2 * first + 1) (2 * first ∷ []) ≡ both_fields (first ∷ []) =
+            ap (λ m. other_numbers (2 * first + 1) m ++ (2 * first + 1) ∷ []) (other_left (retired_of_former s first 0) first)
+            ∙ ap (λ m. m ++ (2 * first + 1) ∷ []) (keeps (2 * first + 1) (2 * first) [] [] (λ e. omega arith) refl) in
+            more (committed l other (Some second)) (λ _. subst (EndsWith (committed l other (Some second))) numbers (ends_with other (2 * first + 1) second l (2 * first ∷ []) same (omega arith) now)),
       ))
       (λ one. more l (λ two. absurd (omega arith))),
 )
 
 -- an anchor retires one that was coded before the anchor that it refers to
-retired_before : (s : Settings) (len first k : ℕ) → k < anchors_behind s len → IfSome (retired_of s len first k) (λ r. r < number s len first k)
-retired_before s len first zero h = tt
-retired_before s len first (suc zero) h = tt
-retired_before s len first (suc (suc k)) h = let rises = anchor_rises s len (suc k) (omega arith) in omega arith
+retired_before : (s : Settings) (len first k : ℕ) → 0 < s.gop → k < anchors_behind s len → IfSome (retired_of s len first k) (λ r. r < number s len first k)
+retired_before s len first zero some h = IfSome_then (retired_of_former s first 1) (former_below s first 1 some) (λ r below. omega arith)
+retired_before s len first (suc zero) some h = IfSome_then (retired_of_former s first 2) (former_below s first 2 some) (λ r below. omega arith)
+retired_before s len first (suc (suc k)) some h = let rises = anchor_rises s len (suc k) (omega arith) in omega arith
 
 other_first : (retired : Option ℕ) (a : ℕ) → IfSome retired (λ r. r < a) → IfSome (option_map (λ r. 2 * r + 0) retired) (λ m. 2 * a ≡ m → ⊥)
 other_first None a h = tt
@@ -198,17 +210,18 @@ few_frames s len first (suc (suc k)) = omega arith
 opens_before : (s : Settings) (len first k : ℕ) → first ≤ number s len first k
 opens_before s len first k = omega arith
 
-step_fields_served : (s : Settings) (n len first k : ℕ) (list : List Picture) (K : List Picture → Type 0) → k < anchors_behind s len → 2 * number s len first (suc k) < n
+step_fields_served : (s : Settings) (n len first k : ℕ) (list : List Picture) (K : List Picture → Type 0) → len ≤ s.gop → k < anchors_behind s len → 2 * number s len first (suc k) < n
     → EndsWith list (both_fields (kept s len first k))
     → ((l : List Picture) → (2 * number s len first (suc k) + 1 < n → EndsWith l (both_fields (kept s len first (suc k)))) → K l)
     → ServedThen list (flat_map (fields_of n) (step s len first k)) K
-step_fields_served s n len first k list K h inside ends more =
+step_fields_served s n len first k list K short h inside ends more =
     let a : ℕ = number s len first k in
     let b : ℕ = number s len first (suc k) in
     let ns : List ℕ = kept s len first k in
     let retired : Option ℕ = retired_of s len first k in
     let rest : List Planned = flat_map (fields_of n) (map (between_of s.references a b) (range_with_len (a + 1) (b - a - 1))) in
     let rises = anchor_rises s len k h in
+    let some = has_frames s len k h short in
     let opens = opens_before s len first k in
     let few = few_frames s len first k in
     let last = has_last s len first k in
@@ -227,7 +240,7 @@ step_fields_served s n len first k list K h inside ends more =
       second_listed = either (s.references == 2 && nat_le 1 k) (P 1 l) (Some first) None (second_listed n b first retired ns l (omega arith) start now) refl;
       goes_on = λ second same.
           let m = with_second l retired second in
-          let both : EndsWith m (both_fields (kept s len first (suc k))) = ends_with_second retired b ns (kept s len first (suc k)) l second few same (next_kept s len first k h) now in
+          let both : EndsWith m (both_fields (kept s len first (suc k))) = ends_with_second retired b ns (kept s len first (suc k)) l second few same (next_kept s len first k some h) now in
           between_fields_served n s.references a b m K (range_with_len (a + 1) (b - a - 1))
           (referred_whole n a m (kept s len first (suc k)) (omega arith) both (has_before s len first k))
           (referred_whole n b m (kept s len first (suc k)) two both (has_last s len first (suc k)))
@@ -237,7 +250,7 @@ step_fields_served s n len first k list K h inside ends more =
     let l = with_first list retired coded in
     let now = ends_with_first retired b ns list coded few e ends in
     between_fields_served n s.references a b l K (range_with_len (a + 1) (b - a - 1))
-    (referred_still n a b retired ns l (omega arith) (omega arith) (retired_before s len first k h) last now)
+    (referred_still n a b retired ns l (omega arith) (omega arith) (retired_before s len first k some h) last now)
     (referred_alone n b retired ns l one now)
     (more l (λ two. absurd (omega arith)))))
 
@@ -248,11 +261,11 @@ anchor_within s len first k h =
     let here = anchor_is s len (suc k) in
     omega arith
 
-steps_fields_served : (s : Settings) (n len first m k : ℕ) (list : List Picture) (K : List Picture → Type 0) → k + m ≤ anchors_behind s len → 2 * (first + len) ≤ n + 1
+steps_fields_served : (s : Settings) (n len first m k : ℕ) (list : List Picture) (K : List Picture → Type 0) → len ≤ s.gop → k + m ≤ anchors_behind s len → 2 * (first + len) ≤ n + 1
     → (2 * number s len first k + 1 < n → EndsWith list (both_fields (kept s len first k))) → ((l : List Picture) → K l)
     → ServedThen list (flat_map (fields_of n) (flat_map (step s len first) (range_with_len k m))) K
-steps_fields_served s n len first zero k list K h within ends more = more list
-steps_fields_served s n len first (suc m) k list K h within ends more =
+steps_fields_served s n len first zero k list K short h within ends more = more list
+steps_fields_served s n len first (suc m) k list K short h within ends more =
     let one : suc k ≡ k + 1 = omega arith in
     let rises = anchor_rises s len k (omega arith) in
     let inside = anchor_within s len first k (omega arith) in
@@ -261,18 +274,18 @@ steps_fields_served s n len first (suc m) k list K h within ends more =
     let Then : List Picture → ℕ → Type 0 = λ l j. 2 * number s len first j + 1 < n → EndsWith l (both_fields (kept s len first j)) in
     subst (λ xs. ServedThen list xs K) (sym (flat_map-append (fields_of n) (step s len first k) steps))
     (served_append (flat_map (fields_of n) (step s len first k)) rest list K
-    (step_fields_served s n len first k list (λ l. ServedThen l rest K) (omega arith) (omega arith) (ends (omega arith))
-    (λ l now. steps_fields_served s n len first m (k + 1) l K (omega arith) within (subst (Then l) one now) more)))
+    (step_fields_served s n len first k list (λ l. ServedThen l rest K) short (omega arith) (omega arith) (ends (omega arith))
+    (λ l now. steps_fields_served s n len first m (k + 1) l K short (omega arith) within (subst (Then l) one now) more)))
 
-group_fields_served : (s : Settings) (n len first : ℕ) (list : List Picture) (K : List Picture → Type 0) → 2 * (first + len) ≤ n + 1 → ((l : List Picture) → K l)
+group_fields_served : (s : Settings) (n len first : ℕ) (list : List Picture) (K : List Picture → Type 0) → len ≤ s.gop → 2 * (first + len) ≤ n + 1 → ((l : List Picture) → K l)
     → ServedThen list (flat_map (fields_of n) (group s len first)) K
-group_fields_served s n len first list K within more =
+group_fields_served s n len first list K short within more =
     let same : first ≡ number s len first 0 = omega arith in
     let rest = flat_map (fields_of n) (flat_map (step s len first) (range_with_len 0 (anchors_behind s len))) in
     let Then : List Picture → ℕ → Type 0 = λ l t. 2 * t + 1 < n → EndsWith l (both_fields (t ∷ [])) in
-    served_append (fields_of n (opening first)) rest list K
-    (opening_fields_served n first list (λ l. ServedThen l rest K)
-    (λ l now. steps_fields_served s n len first (anchors_behind s len) 0 l K (omega arith) within (subst (Then l) same now) more))
+    served_append (fields_of n (opening_of s first)) rest list K
+    (opening_fields_served s n first list (λ l. ServedThen l rest K)
+    (λ l now. steps_fields_served s n len first (anchors_behind s len) 0 l K short (omega arith) within (subst (Then l) same now) more))
 
 -- no group begins behind the last frame
 group_begins : (s : Settings) (frames i : ℕ) → i < group_count s frames → i * s.gop ≤ frames
@@ -290,7 +303,7 @@ groups_fields_served s n frames (suc m) i list all h =
     let rest = flat_map (fields_of n) groups in
     subst (λ xs. ServedThen list xs (λ _. ⊤)) (sym (flat_map-append (fields_of n) (group_at s frames i) groups))
     (served_append (flat_map (fields_of n) (group_at s frames i)) rest list (λ _. ⊤)
-    (group_fields_served s n (min s.gop (frames - i * s.gop)) (i * s.gop) list (λ l. ServedThen l rest (λ _. ⊤)) (omega arith)
+    (group_fields_served s n (min s.gop (frames - i * s.gop)) (i * s.gop) list (λ l. ServedThen l rest (λ _. ⊤)) (omega arith) (omega arith)
     (λ l. groups_fields_served s n frames m (i + 1) l all (omega arith))))
 
 -- each plan of fields is served

@@ -1,7 +1,8 @@
 -- The references of planned pictures, and the list of reference pictures that coded ones leave behind.
-use Rattle.std.specs.Prelude.{◌≡◌, ℕ, true, List, [], ◌∷◌, ◌++◌, map, Option, ⊤}
+use Rattle.std.specs.Prelude.{◌≡◌, ℕ, ◌≤◌, true, List, [], ◌∷◌, ◌++◌, map, length, Option, ⊤}
 use Rattle.dirac_common.specs.declared.picture.Picture.{Picture}
 use Rattle.dirac_types.specs.declared.settings.Settings.{Settings}
+use Rattle.dirac_types.specs.Settings.{IsAccepted}
 use Rattle.dirac_refs.specs.References.{Commit, as_reference, committed, refs_of}
 use Rattle.dirac_picture.specs.Grammar.{are_listed}
 use Rattle.dirac_plan.specs.declared.planned.Planned.{Planned}
@@ -54,3 +55,10 @@ abbrev pub ReferencesAreKept : Type 0
 ReferencesAreKept =
     (s : Settings) (n : ℕ) (before after : List Planned) (p : Planned) (pictures : List Picture)
     → plan n s ≡ before ++ p ∷ after → ArePlanned before pictures → AreListed (refs_of (commits before pictures)) p
+
+-- of frames of a stream that is to be shown alike no more than three are listed at any time
+abbrev pub ThreeAreListed : Type 0
+ThreeAreListed =
+    (s : Settings) (n : ℕ) (before after : List Planned) (pictures : List Picture)
+    → IsAccepted s → s.alike ≡ 1 → s.fields ≡ 0 → plan n s ≡ before ++ after → ArePlanned before pictures
+    → length (refs_of (commits before pictures)) ≤ 3

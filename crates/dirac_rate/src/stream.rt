@@ -4,6 +4,7 @@ ghost use Rattle.std.specs.Prelude.{◌≡◌, ◌≤◌, ℕ, List, [], IfSome}
 ghost use Rattle.std.specs.Io.KnownBytes.{IsAtEnd};
 ghost use Rattle.dirac_io.specs.Faults.{Rose};
 ghost use Rattle.dirac_types.specs.Settings.{IsAccepted};
+ghost use Rattle.dirac_encode_laws.specs.Alike.{AreShownAlike};
 ghost use Rattle.dirac_encode_laws.specs.Encoding.{AnswersEncode, EndsStream, IsRecoveredUnder, encoding_under};
 ghost use Rattle.dirac_encode_laws.specs.Fit.{AllFitOrNone, fit};
 ghost use Rattle.dirac_encode_laws.specs.Standing.{jobs_in};
@@ -39,6 +40,9 @@ pub fn rate_stream<R: Threads + Sync, S: Source, K: Sink, N: Sink, G: RowGate>(
         EndsStream result → IsRecoveredUnder (fit budget) settings.now bytes) }
     // Each unit fits the budget, or at no index from the settings' on it does.
     ensures fits { (bytes : List ℕ) → AllFitOrNone budget settings.now [] (jobs_in settings.now bytes) }
+    // Where the settings ask for it, other decoders find in each picture what they need to show it alike.
+    ensures alike { (bytes : List ℕ) → settings.now.alike ≡ 1
+        → AreShownAlike (fit budget) settings.now [] (jobs_in settings.now bytes) }
     ensures whole { result ≡ Encoded.Done → IsAtEnd (S.held source.new) }
     ensures partial { (n : ℕ) → result ≡ Encoded.PartialPicture n → (1 ≤ n) × IsAtEnd (S.held source.new) }
 

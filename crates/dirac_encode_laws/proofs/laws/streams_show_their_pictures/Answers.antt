@@ -1,3 +1,4 @@
+use Rattle.dirac_encode_laws.proofs.Alike.{pictures_shown_alike}
 use Rattle.dirac_encode_laws.proofs.Headers.{header_read, header_short}
 use Rattle.dirac_encode_laws.proofs.Showing.{streams_cut, streams_shown}
 use Rattle.dirac_encode_laws.proofs.Fitting.{budgets_kept}
@@ -51,3 +52,6 @@ returns-clause-recovered_under c = under_recovered (streams_shown c.infos_are_re
 
 pub returns-clause-budgets : goal.returns-clause-budgets
 returns-clause-budgets c = budgets_kept
+
+pub returns-clause-alike : goal.returns-clause-alike
+returns-clause-alike c = pictures_shown_alike

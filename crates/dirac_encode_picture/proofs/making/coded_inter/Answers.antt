@@ -17,5 +17,5 @@ quantise-requires-clause-from g c = record {
 
 pub returns : goal.returns
 returns g c =
-    inter_same c.args.asked.now.settings.now c.args.asked.now.refs.now c.args.asked.now.planned.now c.args.asked.now.source.now c.args.prepared.now c.args.compensated.now c.header_of.result c.in_ok-motion.motion c.in_ok-residual.residual c.unless_zero.result
-    c.requires.prepared c.requires.inter c.header_of.ensures c.in_ok-motion.ensures c.in_ok-residual.ensures c.unless_zero.ensures
+    inter_same c.args.asked.now.settings.now c.args.asked.now.refs.now c.args.asked.now.planned.now c.args.asked.now.source.now c.args.prepared.now c.args.compensated.now c.header_of.result c.in_ok-motion.motion c.in_ok-residual.residual c.unless_left_out.result
+    c.requires.prepared c.requires.inter c.header_of.ensures c.in_ok-motion.ensures c.in_ok-residual.ensures c.unless_left_out.ensures

@@ -31,8 +31,8 @@ overflow_sub-len c =
     let is = place_of c.args.count s c.args.place c.min-len.result c.requires.place p.gop_least (omega arith) c.min-len.ensures in
     omega (arith, is.in_group, is.in_plan, is.place, is.len_is)
 
-pub retired_of-requires : goal.retired_of-requires
-retired_of-requires c two =
+pub retired_of-requires-clause-gap : goal.retired_of-requires-clause-gap
+retired_of-requires-clause-gap c two =
     let s = c.args.settings.now in
     let more = mul-le-mul_right (s.between + 1) two in
     omega arith
