@@ -27,7 +27,7 @@ room before =
     + (wanting (path_given before) + (wanting (value_given name.Count before) + wanting (value_given name.Budget before)))
 
 -- at first all settings, the path, the number and the budget
-pub room_first : room [] ≡ 28
+pub room_first : room [] ≡ 29
 unfolding room
 room_first = refl
 
@@ -92,7 +92,7 @@ any_behind f (suc n) [] any = cc
 any_behind f (suc n) (name ∷ ns) any = later (f name) (list_any f ns) (any_behind f n ns any)
 
 workers_named : (f : Name → Bool) → f name.Workers ≡ true → list_any f names ≡ true
-workers_named f is = any_behind f 22 names (ap (λ b. b || list_any f (name.Pictures ∷ name.UnitBytes ∷ [])) is)
+workers_named f is = any_behind f 22 names (ap (λ b. b || list_any f (name.Pictures ∷ name.UnitBytes ∷ name.Alike ∷ [])) is)
 
 -- a word that fits takes some of the room
 pub room_taken : (of : OptionsOf) (before : List (List ℕ)) (word : List ℕ) → fits of before word ≡ true → room (before ++ word ∷ []) + 1 ≤ room before

@@ -19,7 +19,7 @@ names =
     name.Base ∷ name.Chroma ∷ name.Width ∷ name.Height ∷ name.Rate ∷ name.Signal ∷ name.Fields ∷ name.Profile
     ∷ name.Level ∷ name.Wavelet ∷ name.Depth ∷ name.Index ∷ name.Codeblocks ∷ name.Finer ∷ name.Blocks ∷ name.Precision
     ∷ name.References ∷ name.Gop ∷ name.Between ∷ name.Range ∷ name.Pyramid ∷ name.Bias ∷ name.Workers ∷ name.Pictures
-    ∷ name.UnitBytes ∷ []
+    ∷ name.UnitBytes ∷ name.Alike ∷ []
 
 -- what stands behind this front, where the word begins with it
 abbrev pub behind : List ℕ → List ℕ → Option (List ℕ)
@@ -126,6 +126,7 @@ changed words d = record {
   workers = value_or words name.Workers d.workers;
   pictures = value_or words name.Pictures d.pictures;
   unit_bytes = value_or words name.UnitBytes d.unit_bytes;
+  alike = value_or words name.Alike d.alike;
 }
 
 -- the settings that these words say

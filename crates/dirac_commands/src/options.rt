@@ -6,7 +6,7 @@ ghost use Rattle.dirac_commands.specs.Options as options;
 use dirac_types::{Name, Settings};
 
 // The names of the settings, in the order of their table.
-const NAMES: [Name; 25] = [
+const NAMES: [Name; 26] = [
     Name::Base,
     Name::Chroma,
     Name::Width,
@@ -32,6 +32,7 @@ const NAMES: [Name; 25] = [
     Name::Workers,
     Name::Pictures,
     Name::UnitBytes,
+    Name::Alike,
 ];
 
 /// The command behind which words stand.
@@ -244,6 +245,7 @@ pub fn settings_given(words: &[String]) -> Settings
         workers: value_or(words, Name::Workers, d.workers),
         pictures: value_or(words, Name::Pictures, d.pictures),
         unit_bytes: value_or(words, Name::UnitBytes, d.unit_bytes),
+        alike: value_or(words, Name::Alike, d.alike),
     }
 }
 

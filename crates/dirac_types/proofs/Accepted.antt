@@ -32,6 +32,7 @@ pub record AreInRange (s : Settings) : Type 0 where
   pub workers : (1 ≤ s.workers) × (s.workers ≤ 64)
   pub pictures : (1 ≤ s.pictures) × (s.pictures ≤ 2147483647)
   pub unit_bytes : (14 ≤ s.unit_bytes) × (s.unit_bytes ≤ 4294967295)
+  pub alike : s.alike ≤ 1
   pub whole_across : s.width % step_across s.chroma ≡ 0
   pub whole_down : s.height % step_of_height s.chroma s.fields ≡ 0
 
@@ -63,6 +64,7 @@ in_range s is = record {
   workers = (is.1.1.1.1.1.1.1.1.1.1.1.1.1.1.1.1.1.1.1.1.1.1.0.0, is.1.1.1.1.1.1.1.1.1.1.1.1.1.1.1.1.1.1.1.1.1.1.0.1);
   pictures = (is.1.1.1.1.1.1.1.1.1.1.1.1.1.1.1.1.1.1.1.1.1.1.1.0.0, is.1.1.1.1.1.1.1.1.1.1.1.1.1.1.1.1.1.1.1.1.1.1.1.0.1);
   unit_bytes = (is.1.1.1.1.1.1.1.1.1.1.1.1.1.1.1.1.1.1.1.1.1.1.1.1.0.0, is.1.1.1.1.1.1.1.1.1.1.1.1.1.1.1.1.1.1.1.1.1.1.1.1.0.1);
+  alike = is.1.1.1.1.1.1.1.1.1.1.1.1.1.1.1.1.1.1.1.1.1.1.1.1.1.0.1;
   whole_across = is.1.1.0.2;
   whole_down = is.1.1.1.0.2;
 }

@@ -2,3 +2,4 @@ pub mod Accepted
 mod Examples
 pub mod Heights
 pub mod InRange
+mod Rows

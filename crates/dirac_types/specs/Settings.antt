@@ -60,6 +60,7 @@ table s =
     ∷ setting name.Workers s.workers 1 64 1
     ∷ setting name.Pictures s.pictures 1 2147483647 1
     ∷ setting name.UnitBytes s.unit_bytes 14 4294967295 1
+    ∷ setting name.Alike s.alike 0 1 1
     ∷ []
 
 -- the value is in its range
@@ -135,4 +136,5 @@ of_base base = let format = format_of base in record {
   workers = 1;
   pictures = 2147483647;
   unit_bytes = 4294967295;
+  alike = 0;
 }

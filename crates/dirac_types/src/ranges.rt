@@ -30,10 +30,16 @@ pub struct Format {
 }
 
 /// The settings with their ranges, in the order in which they are checked.
-#[tactic(auto, unfolding(crate::specs::Settings::table))]
-pub fn table(s: &Settings) -> [Ranged; 25]
+pub fn table(s: &Settings) -> [Ranged; 26]
     ensures value { result ≡ settings.table s.now }
     ensures steps_at_least_1 { All (λ r. 1 ≤ r.step) result }
+{
+    rows(s)
+}
+
+#[tactic(auto, unfolding(crate::specs::Settings::table))]
+fn rows(s: &Settings) -> [Ranged; 26]
+    ensures { result ≡ settings.table s.now }
 {
     [
         setting(Name::Base, s.base, 0, LAST_BASE, 1),
@@ -73,6 +79,7 @@ pub fn table(s: &Settings) -> [Ranged; 25]
         setting(Name::Workers, s.workers, 1, 64, 1),
         setting(Name::Pictures, s.pictures, 1, 2147483647, 1),
         setting(Name::UnitBytes, s.unit_bytes, 14, 4294967295, 1),
+        setting(Name::Alike, s.alike, 0, 1, 1),
     ]
 }
 

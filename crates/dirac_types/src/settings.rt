@@ -33,6 +33,7 @@ pub enum Name {
     Workers,
     Pictures,
     UnitBytes,
+    Alike,
     Count,
     Budget,
 }
@@ -68,6 +69,7 @@ impl Name {
             Name::Workers => "workers",
             Name::Pictures => "pictures",
             Name::UnitBytes => "unit_bytes",
+            Name::Alike => "alike",
             Name::Count => "count",
             Name::Budget => "budget",
         }
@@ -133,6 +135,8 @@ pub struct Settings {
     pub pictures: u32,
     /// The longest unit of a picture, in bytes.
     pub unit_bytes: u32,
+    /// 1 where the stream is for decoders that differ from the standard; else 0.
+    pub alike: u32,
 }
 
 impl Settings {
@@ -168,6 +172,7 @@ impl Settings {
             workers: 1,
             pictures: 2147483647,
             unit_bytes: 4294967295,
+            alike: 0,
         }
     }
 

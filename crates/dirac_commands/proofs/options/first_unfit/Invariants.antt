@@ -8,4 +8,4 @@ invariant-words l =
     let before = map string_bytes (take l.i l.words) in
     (first_unfit l.of before (map string_bytes (drop l.i l.words)) ≡ first_unfit l.of [] (map string_bytes l.words))
     × (l.number ≡ l.i + 1)
-    × (l.number + room before ≤ 29)
+    × (l.number + room before ≤ 30)
