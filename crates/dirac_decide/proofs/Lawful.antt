@@ -1,9 +1,10 @@
 -- The table of the best splits and blocks is a block table.
-use Rattle.std.proofs.Common.{◌≡◌, ℕ, ℤ, pos, zero, suc, ◌+◌, ◌*◌, ◌/◌, ◌%◌, ◌<◌, ◌≤◌, nat_lt, Option, Some, None, length, arith, refl, inl, inr, ap, sym, subst, ◌∙◌}
-use Rattle.std.specs.List.{All}
+use Rattle.std.proofs.Common.{◌≡◌, ℕ, ℤ, pos, zero, suc, ◌+◌, ◌*◌, ◌/◌, ◌%◌, ◌<◌, ◌≤◌, ◌==◌, nat_lt, List, [], ◌∷◌, map, Option, Some, None, length, arith, refl, inl, inr, ap, sym, subst, ◌∙◌}
+use Rattle.std.specs.List.{All, range_with_len}
 use Rattle.std.proofs.lemmas.Int.{ints}
 use Rattle.std.proofs.lemmas.Bool.{cases_Bool, cases_lt}
 use Rattle.std.proofs.lemmas.List.{get_or_past}
+use Rattle.std.proofs.lemmas.List.Elements.{All-filter}
 use Rattle.std.proofs.lemmas.List.FromFn.{get_or-map-range_with_len, length-map-range_with_len}
 use Rattle.std.proofs.lemmas.Nat.{div-mul-add, mod-mul-add, row_fits}
 use Rattle.dirac_common.specs.declared.formats.Vector.{Vector}
@@ -17,10 +18,11 @@ use Rattle.dirac_decide.specs.Deciding.{Deciding, IsDeciding, View}
 use Rattle.dirac_decide.specs.Laws.{IsLawful}
 use Rattle.dirac_decide.specs.Modes.{HasSamples, both_mode, choice_of, dc_mode, first_mode, from_both, from_dc, from_first, from_second, refs_of, second_mode}
 use Rattle.dirac_decide.specs.Splits.{best_block, best_split, block_by_rows, decided, split_of, unit_in}
-use Rattle.dirac_decide.specs.Units.{best_place, best_vector}
+use Rattle.dirac_decide.specs.Units.{best_place, best_vector, candidate, inside_to, unit_keeps, vector_cost}
 use Rattle.dirac_decide.specs.declared.choice.Choice.{Choice}
 use Rattle.dirac_decide.specs.declared.prediction_unit.PredictionUnit.{PredictionUnit}
 use Rattle.dirac_decide.proofs.Choices.{modes_are}
+use Rattle.dirac_decide.proofs.Insides.{first_has}
 use Rattle.dirac_decide.proofs.DcValues.{blocks_have, dc_has, low_split, some_size}
 
 -- ---- blocks
@@ -93,9 +95,19 @@ vector_short r i j all = elim (cases_lt (j * (4 * r.field.across) + i) (length r
   | inr past ↦ rw (get_or_past r.field.vectors (j * (4 * r.field.across) + i) no_motion past) nowhere
 ]
 
+candidates_short : (r : View) (u : PredictionUnit) (ks : List ℕ) → All IsShortVector r.field.vectors → All IsShortVector (map (candidate r u) ks)
+candidates_short r u [] all k d l = absurd (omega arith)
+candidates_short r u (m ∷ ms) all zero d l = vector_short r (u.i + m % u.size) (u.j + m / u.size) all
+candidates_short r u (m ∷ ms) all (suc k) d l = candidates_short r u ms all k d (omega arith)
+
 best_short : (d : Deciding) (r : View) (u : PredictionUnit) → All IsShortVector r.field.vectors → IsShortVector (best_vector d r u)
 unfolding best_vector
-best_short d r u all = vector_short r (u.i + best_place d r u % u.size) (u.j + best_place d r u / u.size) all
+best_short d r u all = elim (cases_Bool (d.alike == 0)) [
+  | inl every ↦ rw every (vector_short r (u.i + best_place d r u % u.size) (u.j + best_place d r u / u.size) all)
+  | inr some ↦ rw some
+      (first_has IsShortVector (vector_cost d r u) (inside_to d r u (u.size * u.size)) nowhere
+      (All-filter (unit_keeps d u) IsShortVector (map (candidate r u) (range_with_len 0 (u.size * u.size))) (candidates_short r u (range_with_len 0 (u.size * u.size)) all)))
+]
 
 cheaper_block : (refs : ℕ) (a b : Choice) → IsBlock refs a.block → IsBlock refs b.block → IsBlock refs (cheaper a b).block
 cheaper_block refs a b p q = elim (cases_Bool (nat_lt b.cost a.cost)) [

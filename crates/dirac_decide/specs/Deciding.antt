@@ -35,6 +35,7 @@ pub record Deciding : Type 0 where
   pub down_ratio : ℕ
   pub precision : ℕ
   pub bias : ℕ
+  pub alike : ℕ
 
 -- the sizes of a field, in superblocks
 pub record IsFieldSize (f : Vectors) : Type 0 where
@@ -77,6 +78,7 @@ deciding s p first second = record {
   down_ratio = ratio_down (sequence_of s).chroma;
   precision = s.precision;
   bias = s.bias;
+  alike = s.alike;
 }
 
 -- a picture whose planes have samples alone

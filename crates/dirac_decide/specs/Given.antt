@@ -31,6 +31,7 @@ given n = record {
   down_ratio = n.down_ratio;
   precision = n.precision;
   bias = n.bias;
+  alike = n.alike;
 }
 
 -- the table that is decided by the settings, from what these references lend

@@ -1,17 +1,20 @@
 -- What the definitions mean.
-use Rattle.std.specs.Prelude.{◌≡◌, ℕ, ◌*◌, ◌<◌, ◌≤◌, Some}
+use Rattle.std.specs.Prelude.{◌≡◌, ℕ, ◌*◌, ◌<◌, ◌≤◌, true, Some}
 use Rattle.std.specs.List.{All}
 use Rattle.dirac_blocks.specs.Tables.{IsBlockTable}
 use Rattle.dirac_decide.specs.Deciding.{Deciding, View}
 use Rattle.dirac_decide.specs.Modes.{HasSamples, both_mode, choice_of, dc_mode, first_mode, second_mode}
 use Rattle.dirac_decide.specs.Splits.{best_split, decided, split_cost}
-use Rattle.dirac_decide.specs.Units.{best_place, candidate_cost, least_cost}
+use Rattle.dirac_decide.specs.Units.{best_place, candidate, candidate_cost, least_cost, unit_keeps}
 use Rattle.dirac_decide.specs.declared.prediction_unit.PredictionUnit.{PredictionUnit}
 
--- the best vector costs no more than any candidate, and less than all before it
+-- the best vector costs no more than any candidate, and less than all before it; where streams are to be shown alike, it
+-- costs no more than any candidate that keeps inside from all blocks of the unit
 pub record IsLeastVector (d : Deciding) (r : View) (u : PredictionUnit) : Type 0 where
-  pub least : (k : ℕ) → k < u.size * u.size → least_cost d r u ≤ candidate_cost d r u k
-  pub first : (k : ℕ) → k < best_place d r u → least_cost d r u < candidate_cost d r u k
+  pub least : d.alike ≡ 0 → (k : ℕ) → k < u.size * u.size → least_cost d r u ≤ candidate_cost d r u k
+  pub first : d.alike ≡ 0 → (k : ℕ) → k < best_place d r u → least_cost d r u < candidate_cost d r u k
+  pub inside : (d.alike ≡ 0 → ⊥) → (k : ℕ) → k < u.size * u.size → unit_keeps d u (candidate r u k) ≡ true
+      → least_cost d r u ≤ candidate_cost d r u k
 
 -- the mode costs no more than any mode
 pub record IsLeastMode (d : Deciding) (u : PredictionUnit) : Type 0 where

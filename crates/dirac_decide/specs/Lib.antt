@@ -2,6 +2,7 @@ pub mod Best
 pub mod Choosing
 pub mod Deciding
 pub mod Given
+pub mod Insides
 pub mod Laws
 pub mod Modes
 pub mod Predictors

@@ -1,14 +1,18 @@
 -- Units of blocks: their windows, their candidates, and what these cost.
-use Rattle.std.specs.Prelude.{ℕ, ℤ, pos, ◌+◌, ◌-◌, ◌*◌, ◌/◌, ◌%◌, ◌^◌, ◌+ℤ◌}
+use Rattle.std.specs.Prelude.{ℕ, ℤ, pos, ◌+◌, ◌-◌, ◌*◌, ◌/◌, ◌%◌, ◌^◌, ◌+ℤ◌, ◌==◌, if◌then◌else◌, Bool, List, [], ◌∷◌}
+use Rattle.std.specs.Prelude.{map}
+use Rattle.std.specs.List.{filter, range_with_len}
 use Rattle.dirac_common.specs.declared.formats.Vector.{Vector}
 use Rattle.dirac_common.specs.declared.formats.BlockGrid.{BlockGrid}
 use Rattle.dirac_upconvert.specs.SubSamples.{Up, sub_sample}
 use Rattle.dirac_costs.specs.declared.window.Window.{Window}
 use Rattle.dirac_costs.specs.Bits.{bits_of_vector}
-use Rattle.dirac_costs.specs.Least.{first_least_to}
+use Rattle.dirac_costs.specs.Least.{first_least, first_least_to}
 use Rattle.dirac_costs.specs.Sums.{sum_below}
 use Rattle.dirac_costs.specs.Windows.{apart, over, sample_at}
-use Rattle.dirac_search.specs.Candidates.{vector_at}
+use Rattle.dirac_inside.specs.Inside.{all_below, keeps_inside}
+use Rattle.dirac_inside.specs.declared.picture_blocks.PictureBlocks.{PictureBlocks}
+use Rattle.dirac_search.specs.Candidates.{no_motion, vector_at}
 use Rattle.dirac_decide.specs.Deciding.{Deciding, View}
 use Rattle.dirac_decide.specs.declared.prediction_unit.PredictionUnit.{PredictionUnit}
 
@@ -49,9 +53,40 @@ candidate_cost d r u k = vector_cost d r u (candidate r u k)
 abbrev pub best_place : Deciding → View → PredictionUnit → ℕ
 best_place d r u = first_least_to (candidate_cost d r u) (u.size * u.size - 1)
 
--- that candidate
+-- the blocks of the picture and the sizes of its planes
+abbrev pub blocks_of : Deciding → PictureBlocks
+blocks_of d = record {
+  grid = d.grid;
+  width = d.y.width;
+  height = d.y.height;
+  across_ratio = d.across_ratio;
+  down_ratio = d.down_ratio;
+}
+
+-- whether a vector keeps inside from block k of a unit, by rows
+abbrev pub block_keeps : Deciding → PredictionUnit → Vector → ℕ → Bool
+block_keeps d u v k = keeps_inside (blocks_of d) d.precision (u.i + k % u.size) (u.j + k / u.size) v
+
+-- whether it keeps inside from all its blocks
+unfoldable pub unit_keeps : Deciding → PredictionUnit → Vector → Bool
+unit_keeps d u v = all_below (block_keeps d u v) (u.size * u.size)
+
+-- those of the first n candidates that keep inside from all blocks
+abbrev pub inside_to : Deciding → View → PredictionUnit → ℕ → List Vector
+inside_to d r u n = filter (unit_keeps d u) (map (candidate r u) (range_with_len 0 n))
+
+-- the first of least cost of some vectors; of none that of no motion
+abbrev pub first_or_none : (Vector → ℕ) → List Vector → Vector
+first_or_none cost [] = no_motion
+first_or_none cost (v ∷ vs) = first_least cost v vs
+
+-- the first of least cost of the candidates that keep inside
+abbrev pub best_inside : Deciding → View → PredictionUnit → Vector
+best_inside d r u = first_or_none (vector_cost d r u) (inside_to d r u (u.size * u.size))
+
+-- the first candidate of least cost, where streams are to be shown alike of those that keep inside
 unfoldable pub best_vector : Deciding → View → PredictionUnit → Vector
-best_vector d r u = candidate r u (best_place d r u)
+best_vector d r u = if d.alike == 0 then candidate r u (best_place d r u) else best_inside d r u
 
 -- what it costs
 abbrev pub least_cost : Deciding → View → PredictionUnit → ℕ

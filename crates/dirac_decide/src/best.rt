@@ -4,11 +4,13 @@ ghost use Rattle.dirac_costs.specs.Least.{IsToldBelow};
 ghost use Rattle.dirac_decide.specs.Choosing.{IsBestTo};
 ghost use Rattle.dirac_decide.specs.Deciding.{IsDeciding, IsView};
 ghost use Rattle.dirac_decide.specs.Given.{given, view_of};
+ghost use Rattle.dirac_decide.specs.Insides.{IsCosted};
 ghost use Rattle.dirac_decide.specs.Predictors.{IsPredictionUnit, IsUnitOf};
 ghost use Rattle.dirac_decide.specs.Units as units;
 
 use crate::costs::{price, unit_cost_below};
 use crate::inputs::{Inputs, RefView};
+use crate::inside::best_inside;
 use crate::prediction_unit::PredictionUnit;
 use crate::predictor::{Moved, Predictor};
 use dirac_common::Vector;
@@ -22,7 +24,7 @@ pub struct Best {
 }
 
 /// Candidate `k` of a unit: the vector of its block `k`, by rows.
-fn candidate(view: &RefView<'_>, unit: PredictionUnit, k: u32) -> Vector
+pub fn candidate(view: &RefView<'_>, unit: PredictionUnit, k: u32) -> Vector
     requires unit { IsUnitOf (view_of view.now) unit }
     requires inside { k < unit.size * unit.size }
     ensures value { result ≡ units.candidate (view_of view.now) unit k }
@@ -47,14 +49,14 @@ fn is_seen(view: &RefView<'_>, unit: PredictionUnit, k: u32, vector: Vector) -> 
 }
 
 /// Whether two vectors are the same.
-fn is_same(a: Vector, b: Vector) -> bool
+pub fn is_same(a: Vector, b: Vector) -> bool
     ensures { result ≡ true → a ≡ b }
 {
     a.x == b.x && a.y == b.y
 }
 
 /// What a vector costs in a unit, told where it is below `limit`.
-fn vector_cost_below(
+pub fn vector_cost_below(
     inputs: &Inputs<'_>,
     view: &RefView<'_>,
     unit: PredictionUnit,
@@ -114,7 +116,7 @@ fn next_best(
     }
 }
 
-/// The first candidate of least cost of a unit.
+/// The first candidate of least cost of a unit, where streams are to be shown alike of those that keep inside.
 pub fn best_of(inputs: &Inputs<'_>, view: &RefView<'_>, unit: PredictionUnit) -> Best
     requires inputs { IsDeciding (given inputs.now) }
     requires view { IsView inputs.now.across inputs.now.down (view_of view.now) }
@@ -123,6 +125,22 @@ pub fn best_of(inputs: &Inputs<'_>, view: &RefView<'_>, unit: PredictionUnit) ->
     ensures cost { result.cost ≡ units.least_cost (given inputs.now) (view_of view.now) unit }
     ensures of_16_bits { IsShortVector result.vector }
     ensures at_most_2_29 { result.cost ≤ 2 ^ 29 }
+{
+    if inputs.alike == 0 {
+        best_of_all(inputs, view, unit)
+    } else {
+        best_inside(inputs, view, unit)
+    }
+}
+
+/// The first candidate of least cost of a unit.
+fn best_of_all(inputs: &Inputs<'_>, view: &RefView<'_>, unit: PredictionUnit) -> Best
+    requires inputs { IsDeciding (given inputs.now) }
+    requires view { IsView inputs.now.across inputs.now.down (view_of view.now) }
+    requires unit { IsPredictionUnit inputs.now.across inputs.now.down unit }
+    ensures vector { result.vector ≡ units.candidate (view_of view.now) unit
+        (units.best_place (given inputs.now) (view_of view.now) unit) }
+    ensures costed { IsCosted (given inputs.now) (view_of view.now) unit result }
 {
     let mut best = first_candidate(inputs, view, unit);
     for k in 0..unit.size * unit.size - 1 {

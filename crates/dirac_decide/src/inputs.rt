@@ -24,4 +24,6 @@ pub struct Inputs<'a> {
     pub down_ratio: u32,
     pub precision: u8,
     pub bias: u32,
+    /// Whether vectors must keep inside: not 0.
+    pub alike: u32,
 }

@@ -7,6 +7,7 @@ mod best;
 mod choice;
 mod costs;
 mod inputs;
+mod inside;
 mod laws;
 mod modes;
 mod prediction_unit;

@@ -193,6 +193,7 @@ fn inputs_of<'a>(
         down_ratio: ratio_down(chroma),
         precision: settings.precision as u8,
         bias: settings.bias,
+        alike: settings.alike,
     }
 }
 

@@ -1,3 +1,4 @@
 mod Examples
 pub mod Choices
+pub mod Insides
 pub mod Tables

@@ -11,7 +11,7 @@ use Rattle.dirac_decide.specs.Units.{best_vector, vector_cost}
 use Rattle.dirac_decide.specs.declared.choice.Choice.{Choice}
 use Rattle.dirac_decide.specs.declared.prediction_unit.PredictionUnit.{PredictionUnit}
 use Rattle.dirac_decide.proofs.DcValues.{low_split, some_size}
-use Rattle.dirac_decide_laws.specs.Choices.{splits, vectors_of}
+use Rattle.dirac_decide_laws.specs.Choices.{splits, taken_vectors}
 use Rattle.dirac_decide_laws.specs.Tables.{HasLeastVectors, IsOfLeastMode, TablesAreLeast}
 use Rattle.dirac_decide_laws.proofs.Choices.{modes_least, splits_least, vectors_least}
 
@@ -29,7 +29,7 @@ split_is d sx sy a b =
 place_across : (sx i : ℕ) → i < 4 → ((4 * sx + i) / 4 ≡ sx) × ((4 * sx + i) % 4 ≡ i)
 place_across sx i l = (omega arith, omega arith)
 
-block_is : (d : Deciding) (sx sy i j : ℕ) → sx < d.across → sy < d.down → i < 4 → j < 4 → block_in (decided d) sx sy i j ≡ best_block d sx sy i j
+pub block_is : (d : Deciding) (sx sy i j : ℕ) → sx < d.across → sy < d.down → i < 4 → j < 4 → block_in (decided d) sx sy i j ≡ best_block d sx sy i j
 unfolding decided
 block_is d sx sy i j a b l m =
     let x = 4 * sx + i in
@@ -54,10 +54,10 @@ first_has d u some = record { first = λ e. vectors_least d d.first u some; seco
 
 -- the second reference is one
 same_second : (d : Deciding) (u : PredictionUnit) (r other : View) → d.second ≡ Some r → d.second ≡ Some other → 1 ≤ u.size
-    → IsFirstOfLeastCost (vector_cost d other u) (vectors_of other u) (best_vector d r u)
+    → IsFirstOfLeastCost (vector_cost d other u) (taken_vectors d other u) (best_vector d r u)
 same_second d u r other is also some =
     let same : r ≡ other = cc in
-    subst (λ (v : View). IsFirstOfLeastCost (vector_cost d v u) (vectors_of v u) (best_vector d r u)) same (vectors_least d r u some)
+    subst (λ (v : View). IsFirstOfLeastCost (vector_cost d v u) (taken_vectors d v u) (best_vector d r u)) same (vectors_least d r u some)
 
 second_has : (d : Deciding) (u : PredictionUnit) (r : View) → d.second ≡ Some r → 1 ≤ u.size → HasLeastVectors d u (second_mode d r u).block
 second_has d u r is some = record { first = λ e. absurd cc; second = λ other also e. same_second d u r other is also some }

@@ -3,12 +3,13 @@ use Rattle.std.specs.Prelude.{◌≡◌, ℕ, ◌<◌, true, Some}
 use Rattle.dirac_blocks.specs.declared.block.Block.{Block}
 use Rattle.dirac_blocks.specs.Tables.{BlockTable, block_in, split_at, unit_of}
 use Rattle.dirac_search_laws.specs.Least.{IsFirstOfLeastCost}
-use Rattle.dirac_decide.specs.Deciding.{Deciding, View}
+use Rattle.dirac_decide.specs.Deciding.{Deciding, IsDeciding, View}
 use Rattle.dirac_decide.specs.Splits.{decided, split_cost, unit_in}
-use Rattle.dirac_decide.specs.Units.{vector_cost}
+use Rattle.dirac_decide.specs.Units.{blocks_of, vector_cost}
 use Rattle.dirac_decide.specs.declared.choice.Choice.{Choice}
 use Rattle.dirac_decide.specs.declared.prediction_unit.PredictionUnit.{PredictionUnit}
-use Rattle.dirac_decide_laws.specs.Choices.{cost_of_mode, modes_of, splits, vectors_of}
+use Rattle.dirac_inside_laws.specs.Kept.{VectorsKeepInside}
+use Rattle.dirac_decide_laws.specs.Choices.{cost_of_mode, modes_of, splits, taken_vectors}
 
 -- the unit of block i of row j of superblock sx of row sy in a table
 abbrev pub unit_at : BlockTable → ℕ → ℕ → ℕ → ℕ → PredictionUnit
@@ -20,11 +21,11 @@ pub record IsOfLeastMode (d : Deciding) (u : PredictionUnit) (b : Block) : Type 
   pub least : IsFirstOfLeastCost cost_of_mode (modes_of d u) mode
   pub same : b ≡ mode.block
 
--- a block's vectors cost least among those that are tried for its unit, each in its reference
+-- a block's vectors cost least among those that may be taken for its unit, each in its reference
 pub record HasLeastVectors (d : Deciding) (u : PredictionUnit) (b : Block) : Type 0 where
-  pub first : b.ref1 ≡ true → IsFirstOfLeastCost (vector_cost d d.first u) (vectors_of d.first u) b.v1
+  pub first : b.ref1 ≡ true → IsFirstOfLeastCost (vector_cost d d.first u) (taken_vectors d d.first u) b.v1
   pub second : (r : View) → d.second ≡ Some r → b.ref2 ≡ true
-      → IsFirstOfLeastCost (vector_cost d r u) (vectors_of r u) b.v2
+      → IsFirstOfLeastCost (vector_cost d r u) (taken_vectors d r u) b.v2
 
 -- each superblock has the first split of least cost, and each block what the first mode of least cost of its unit has,
 -- with vectors of least cost
@@ -39,3 +40,8 @@ pub record IsLeastTable (d : Deciding) (t : BlockTable) : Type 0 where
 -- the table that is decided is such a one
 abbrev pub TablesAreLeast : Type 0
 TablesAreLeast = (d : Deciding) → IsLeastTable d (decided d)
+
+-- where streams are to be shown alike, its vectors keep inside
+abbrev pub TablesKeepInside : Type 0
+TablesKeepInside =
+    (d : Deciding) → IsDeciding d → (d.alike ≡ 0 → ⊥) → VectorsKeepInside (blocks_of d) d.precision (decided d)

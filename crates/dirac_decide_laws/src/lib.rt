@@ -3,4 +3,6 @@
 
 mod laws;
 
-pub use laws::{choices_are_first_of_least_cost, decided_tables_cost_least};
+pub use laws::{
+    choices_are_first_of_least_cost, decided_tables_cost_least, decided_tables_keep_inside,
+};

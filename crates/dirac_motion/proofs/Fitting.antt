@@ -61,7 +61,7 @@ at_least_one zero e = absurd cc
 at_least_one (suc n) e = omega arith
 
 -- the views of a second reference are searched
-second_searched : (s : Settings) (p : Picture) (o : Option Picture) → IsAccepted s → IsPicture (sequence_of s) p → ForSome (option_map (view_in s p) o) (IsSearched s p)
+pub second_searched : (s : Settings) (p : Picture) (o : Option Picture) → IsAccepted s → IsPicture (sequence_of s) p → ForSome (option_map (view_in s p) o) (IsSearched s p)
 second_searched s p None a is r e = absurd cc
 second_searched s p (Some other) a is r e = subst (λ (v : Option View). ForSome v (IsSearched s p)) refl (λ x f. subst (IsSearched s p) (same other x f) (is_searched s p other a is)) r e where
   same : (q : Picture) (x : View) → Some (view_in s p q) ≡ Some x → view_in s p q ≡ x

@@ -13,10 +13,12 @@ use Rattle.dirac_search.specs.Candidates.{IsWithinReach, Vectors, around, finer_
 use Rattle.dirac_search.specs.Costs.{cost_of}
 use Rattle.dirac_search.specs.Fields.{IsFormerField, IsSearch, after_finer, after_sub, best_of, stage_field}
 use Rattle.dirac_search.specs.Given.{Searched}
+use Rattle.dirac_search.specs.Kept.{kept}
+use Rattle.dirac_search.proofs.Keeping.{kept_all}
 use Rattle.dirac_search.proofs.Reaches.{rows_all, around_within, later_within, weaker}
 
 -- what holds of all candidates holds of the best
-first_least_all : (P : Vector → Type 0) (cost : Vector → ℕ) (v : Vector) (ws : List Vector) → P v → All P ws → P (first_least cost v ws)
+pub first_least_all : (P : Vector → Type 0) (cost : Vector → ℕ) (v : Vector) (ws : List Vector) → P v → All P ws → P (first_least cost v ws)
 first_least_all P cost v [] is all = is
 first_least_all P cost v (w ∷ ws) is all = elim (cases_Bool (nat_lt (cost w) (cost v))) [
   | inl less ↦ rw less (first_least_all P cost w ws (all 0 w (omega arith)) (λ k d l. all (suc k) d (omega arith)))
@@ -30,20 +32,23 @@ coarse_within : (g : Searched) (s : Settings) (l : ℕ) → s.range ≤ 16 → A
 unfolding stage_field best_of
 coarse_within g s l few =
     rows_all (IsWithinReach 16) (4 * g.across) (4 * g.down) (best_of g s (stage.Coarse l) None)
-    (λ i j _ _. first_least_all (IsWithinReach 16) (cost_of g s.bias (stage.Coarse l) i j) no_motion (around no_motion s.range) (no_motion_within 16)
-    (weaker (0 + s.range) 16 (around no_motion s.range) (omega arith) (around_within s.range 0 no_motion (no_motion_within 0))))
+    (λ i j _ _. first_least_all (IsWithinReach 16) (cost_of g s.bias (stage.Coarse l) i j) no_motion (kept g s (stage.Coarse l) i j (around no_motion s.range)) (no_motion_within 16)
+    (kept_all (IsWithinReach 16) g s (stage.Coarse l) i j (around no_motion s.range)
+    (weaker (0 + s.range) 16 (around no_motion s.range) (omega arith) (around_within s.range 0 no_motion (no_motion_within 0)))))
 
 finer_within : (g : Searched) (s : Settings) (l m : ℕ) (f : Vectors) → All (IsWithinReach m) f.vectors → All (IsWithinReach (2 * m + 1)) (stage_field g s (stage.Finer l) (Some f)).vectors
 unfolding stage_field best_of
 finer_within g s l m f all =
     rows_all (IsWithinReach (2 * m + 1)) (4 * g.across) (4 * g.down) (best_of g s (stage.Finer l) (Some f))
-    (λ i j _ _. first_least_all (IsWithinReach (2 * m + 1)) (cost_of g s.bias (stage.Finer l) i j) no_motion (finer_candidates (Some f) i j) (no_motion_within (2 * m + 1)) (later_within m i j f all).0)
+    (λ i j _ _. first_least_all (IsWithinReach (2 * m + 1)) (cost_of g s.bias (stage.Finer l) i j) no_motion (kept g s (stage.Finer l) i j (finer_candidates (Some f) i j)) (no_motion_within (2 * m + 1))
+    (kept_all (IsWithinReach (2 * m + 1)) g s (stage.Finer l) i j (finer_candidates (Some f) i j) (later_within m i j f all).0))
 
 sub_within : (g : Searched) (s : Settings) (q m : ℕ) (f : Vectors) → All (IsWithinReach m) f.vectors → All (IsWithinReach (2 * m + 1)) (stage_field g s (stage.Sub q) (Some f)).vectors
 unfolding stage_field best_of
 sub_within g s q m f all =
     rows_all (IsWithinReach (2 * m + 1)) (4 * g.across) (4 * g.down) (best_of g s (stage.Sub q) (Some f))
-    (λ i j _ _. first_least_all (IsWithinReach (2 * m + 1)) (cost_of g s.bias (stage.Sub q) i j) no_motion (sub_candidates (Some f) i j) (no_motion_within (2 * m + 1)) (later_within m i j f all).1)
+    (λ i j _ _. first_least_all (IsWithinReach (2 * m + 1)) (cost_of g s.bias (stage.Sub q) i j) no_motion (kept g s (stage.Sub q) i j (sub_candidates (Some f) i j)) (no_motion_within (2 * m + 1))
+    (kept_all (IsWithinReach (2 * m + 1)) g s (stage.Sub q) i j (sub_candidates (Some f) i j) (later_within m i j f all).1))
 
 -- how far the vectors reach after so many stages behind the first
 abbrev pub reach : ℕ → ℕ

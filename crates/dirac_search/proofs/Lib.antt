@@ -5,6 +5,7 @@ mod Differences
 mod Examples
 mod Gathered
 mod InLanes
+pub mod Keeping
 mod Lists
 mod Reaches
 mod Repeats

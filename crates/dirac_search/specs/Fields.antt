@@ -7,15 +7,16 @@ use Rattle.dirac_types.specs.declared.settings.Settings.{Settings}
 use Rattle.dirac_search.specs.declared.stage.Stage.{Stage}
 use Rattle.dirac_search.specs.declared.stage.Stage.TheVariants as stage
 use Rattle.dirac_search.specs.ByRows.{by_rows}
-use Rattle.dirac_search.specs.Candidates.{IsWithinReach, Vectors, further_candidates, no_motion}
+use Rattle.dirac_search.specs.Candidates.{IsWithinReach, Vectors, no_motion}
 use Rattle.dirac_costs.specs.Least.{first_least}
 use Rattle.dirac_search.specs.Costs.{cost_of}
 use Rattle.dirac_search.specs.Given.{Searched}
+use Rattle.dirac_search.specs.Kept.{kept_candidates}
 
--- the first candidate of least cost
+-- the first of least cost of the candidates that may be taken
 unfoldable pub best_of : Searched → Settings → Stage → Option Vectors → ℕ → ℕ → Vector
 best_of g s stage before i j =
-    first_least (cost_of g s.bias stage i j) no_motion (further_candidates stage s.range before i j)
+    first_least (cost_of g s.bias stage i j) no_motion (kept_candidates g s stage before i j)
 
 -- the best vectors of the four block rows of a row of superblocks
 abbrev pub superblock_row : Searched → Settings → Stage → Option Vectors → ℕ → List Vector

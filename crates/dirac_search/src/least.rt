@@ -9,6 +9,7 @@ ghost use Rattle.dirac_search.specs.Staged.{best_at};
 
 use crate::candidate_list::CandidateList;
 use crate::field::Field;
+use crate::kept::push_kept;
 use crate::stage::{Search, Stage, Staged};
 use crate::stage_candidates::push_choice;
 use crate::window_costs::{cost_below, whole_cost, window};
@@ -82,10 +83,11 @@ fn least_of(
     found
 }
 
-/// The room that the search of a block takes: for candidates, and for their centres.
+/// The room that the search of a block takes: for candidates, for those that keep inside, and for their centres.
 #[derive(Drop)]
 pub struct Room {
     list: CandidateList,
+    kept: CandidateList,
     centres: CandidateList,
 }
 
@@ -93,11 +95,12 @@ pub struct Room {
 pub fn new_room(alloc: Global) -> Room {
     Room {
         list: CandidateList::new(alloc),
+        kept: CandidateList::new(alloc),
         centres: CandidateList::new(alloc),
     }
 }
 
-/// The first candidate of least cost for block `i` of row `j` at a stage.
+/// The first of least cost of the candidates that may be taken for block `i` of row `j` at a stage.
 pub(crate) fn best_in(
     staged: &Staged<'_, '_>,
     before: Option<&Field>,
@@ -128,11 +131,17 @@ pub(crate) fn best_in(
         j,
     )?;
     let window = window(search, stage, i, j);
-    Ok(least_of(search, stage, settings.bias, window, &room.list))
+    if settings.alike == 0 {
+        return Ok(least_of(search, stage, settings.bias, window, &room.list));
+    }
+    room.kept.clear();
+    push_kept(staged, i, j, &room.list, &mut room.kept)?;
+    Ok(least_of(search, stage, settings.bias, window, &room.kept))
 }
 
-/// The first candidate of least cost for block `i` of row `j` at a stage. `before` has the former
-/// stage's vectors; the first stage has none.
+/// The first of least cost of the candidates that may be taken for block `i` of row `j` at a stage: of all, and where
+/// streams are to be shown alike of those that keep inside. `before` has the former stage's vectors; the first stage has
+/// none.
 pub fn best(
     alloc: Global,
     search: &Search<'_>,

@@ -7,6 +7,7 @@ mod around;
 mod candidate_list;
 mod eight_columns;
 mod field;
+mod kept;
 mod least;
 mod places;
 mod shared;

@@ -18,7 +18,7 @@ use dirac_costs::{Window, vector_bits};
 use dirac_types::Settings;
 
 /// The level of the pyramids on which a stage compares.
-fn level_of(stage: Stage) -> u8
+pub fn level_of(stage: Stage) -> u8
     ensures { result ≡ level_of_stage stage }
 {
     match stage {

@@ -1,5 +1,6 @@
 mod Examples
 pub mod Fields
+pub mod Insides
 pub mod Least
 pub mod Rows
 pub mod Workers

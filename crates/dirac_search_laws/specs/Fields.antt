@@ -1,19 +1,23 @@
 -- What the fields of a search are, in words.
 use Rattle.std.specs.Prelude.{◌≡◌, ℕ, suc, ◌-◌, ◌*◌, ◌<◌, Option, None, Some}
+use Rattle.std.specs.List.{filter}
 use Rattle.dirac_types.specs.declared.settings.Settings.{Settings}
+use Rattle.dirac_inside.specs.Inside.{KeepsInside}
 use Rattle.dirac_search.specs.declared.stage.Stage.{Stage}
 use Rattle.dirac_search.specs.declared.stage.Stage.TheVariants as stage
 use Rattle.dirac_search.specs.Candidates.{Vectors, candidates_of, vector_at}
 use Rattle.dirac_search.specs.Costs.{cost_of}
-use Rattle.dirac_search.specs.Fields.{after_finer, after_sub, field}
+use Rattle.dirac_search.specs.Fields.{IsSearch, IsStage, after_finer, after_sub, field}
 use Rattle.dirac_search.specs.Given.{Searched}
+use Rattle.dirac_search.specs.Kept.{blocks_of, stage_keeps, taken_candidates}
 use Rattle.dirac_search_laws.specs.Least.{IsFirstOfLeastCost}
 
--- after a stage the vector of each block is the first of least cost among the block's candidates at this stage
+-- after a stage the vector of each block is the first of least cost among the block's candidates at this stage, those
+-- that may be taken
 abbrev pub AreLeastVectors : Searched → Settings → Stage → Option Vectors → Vectors → Type 0
 AreLeastVectors g s stage before after =
     (i j : ℕ) → i < 4 * g.across → j < 4 * g.down
-    → IsFirstOfLeastCost (cost_of g s.bias stage i j) (candidates_of stage s.range before i j) (vector_at after i j)
+    → IsFirstOfLeastCost (cost_of g s.bias stage i j) (taken_candidates g s stage before i j) (vector_at after i j)
 
 -- this holds after the coarse stage, after each finer one, and after each in parts of a sample: the field is what
 -- stands after the last of them
@@ -26,6 +30,26 @@ pub record IsLeastField (g : Searched) (s : Settings) : Type 0 where
 -- it holds of every search
 abbrev pub VectorsCostLeast : Type 0
 VectorsCostLeast = (g : Searched) (s : Settings) → IsLeastField g s
+
+-- where streams needn't be shown alike, all candidates may be taken
+abbrev pub AllMayBeTaken : Type 0
+AllMayBeTaken =
+    (g : Searched) (s : Settings) (stage : Stage) (before : Option Vectors) (i j : ℕ) → s.alike ≡ 0
+    → taken_candidates g s stage before i j ≡ candidates_of stage s.range before i j
+
+-- where they must, just those that keep inside, in their order; the vector of no motion is one of them
+abbrev pub InsidesMayBeTaken : Type 0
+InsidesMayBeTaken =
+    (g : Searched) (s : Settings) (stage : Stage) (before : Option Vectors) (i j : ℕ)
+    → IsSearch g s → IsStage s stage → (s.alike ≡ 0 → ⊥)
+    → taken_candidates g s stage before i j ≡ filter (stage_keeps g s stage i j) (candidates_of stage s.range before i j)
+
+-- and the vectors that are found keep inside
+abbrev pub FieldsKeepInside : Type 0
+FieldsKeepInside =
+    (g : Searched) (s : Settings) → IsSearch g s → (s.alike ≡ 0 → ⊥)
+    → (i j : ℕ) → i < 4 * g.across → j < 4 * g.down
+    → KeepsInside (blocks_of g s) s.precision i j (vector_at (field g s) i j)
 
 -- settings that differ in the number of workers alone have the same field
 abbrev pub WorkersChangeNoField : Type 0

@@ -17,4 +17,5 @@ pub use dirac_common::{
     MOST_SUPERBLOCKS, Narrow, NoMemory, Picture, Plane, Refusal, Stop, Table, Vector, Wide,
     with_sign,
 };
+pub use ranges::{step_across, step_down};
 pub use settings::{BadSetting, Name, Settings};

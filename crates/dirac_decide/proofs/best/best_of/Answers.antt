@@ -1,23 +1,31 @@
-use Rattle.std.proofs.Common.{◌≡◌, ◌*◌, ◌-◌, arith, ap, ◌∙◌}
-use Rattle.dirac_costs.specs.Least.{first_least_to}
+use Rattle.std.proofs.Common.{ap, arith, sym, ◌∙◌}
 use Rattle.dirac_decide.specs.Given.{given, view_of}
-use Rattle.dirac_decide.specs.Units.{best_vector, candidate, candidate_cost}
+use Rattle.dirac_decide.specs.Units.{vector_cost}
+use Rattle.dirac_decide.proofs.Insides.{vector_at_zero, vector_inside}
 use Rattle.dirac_decide.proofs.best.best_of.Goals as goal
 
-pub returns-clause-vector : goal.returns-clause-vector
-unfolding best_vector
-returns-clause-vector c =
+pub returns-then-inputs-eq0-clause-vector : goal.returns-then-inputs-eq0-clause-vector
+returns-then-inputs-eq0-clause-vector c =
     let d = given c.args.inputs.now in
     let r = view_of c.args.view.now in
-    let u = c.args.unit in
-    let last : c.loop-k.k ≡ u.size * u.size - 1 = omega arith in
-    c.loop-k.invariant.vector ∙ ap (λ n. candidate r u (first_least_to (candidate_cost d r u) n)) last
+    c.best_of_all.ensures.vector ∙ sym (vector_at_zero d r c.args.unit (omega (arith, c.if-inputs-eq0.true)))
 
-pub returns-clause-cost : goal.returns-clause-cost
-unfolding best_vector
-returns-clause-cost c =
+pub returns-then-inputs-eq0-clause-cost : goal.returns-then-inputs-eq0-clause-cost
+returns-then-inputs-eq0-clause-cost c =
     let d = given c.args.inputs.now in
     let r = view_of c.args.view.now in
-    let u = c.args.unit in
-    let last : c.loop-k.k ≡ u.size * u.size - 1 = omega arith in
-    c.loop-k.invariant.cost ∙ ap (λ n. candidate_cost d r u (first_least_to (candidate_cost d r u) n)) last
+    c.best_of_all.ensures.costed.cost
+    ∙ ap (vector_cost d r c.args.unit) (c.best_of_all.ensures.vector ∙ sym (vector_at_zero d r c.args.unit (omega (arith, c.if-inputs-eq0.true))))
+
+pub returns-else-inputs-eq0-clause-vector : goal.returns-else-inputs-eq0-clause-vector
+returns-else-inputs-eq0-clause-vector c =
+    let d = given c.args.inputs.now in
+    let r = view_of c.args.view.now in
+    c.best_inside.ensures.vector ∙ sym (vector_inside d r c.args.unit (λ e. absurd (omega (arith, e, c.if-inputs-eq0.false))))
+
+pub returns-else-inputs-eq0-clause-cost : goal.returns-else-inputs-eq0-clause-cost
+returns-else-inputs-eq0-clause-cost c =
+    let d = given c.args.inputs.now in
+    let r = view_of c.args.view.now in
+    c.best_inside.ensures.costed.cost
+    ∙ ap (vector_cost d r c.args.unit) (c.best_inside.ensures.vector ∙ sym (vector_inside d r c.args.unit (λ e. absurd (omega (arith, e, c.if-inputs-eq0.false)))))

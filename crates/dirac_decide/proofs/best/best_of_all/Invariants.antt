@@ -1,6 +1,6 @@
 use Rattle.dirac_decide.specs.Choosing.{IsBestTo}
 use Rattle.dirac_decide.specs.Given.{given, view_of}
-use Rattle.dirac_decide.proofs.best.best_of.Given as goal
+use Rattle.dirac_decide.proofs.best.best_of_all.Given as goal
 
 abbrev pub invariant-loop-k : goal.invariant-loop-k
 invariant-loop-k l =
