@@ -41,7 +41,7 @@ brings_drain unit units units' state state' held held' gives is given given' o c
 }
 
 -- the outcome of a stream that ends there
-ended_outcome : (state : StreamState) (end : Option Fault) (o rest : Outcome) → o ≡ with_front (flushed state.waiting) rest → rest ≡ record { shown = []; most = state.most; end = end } → o ≡ ends_with state end
+pub ended_outcome : (state : StreamState) (end : Option Fault) (o rest : Outcome) → o ≡ with_front (flushed state.waiting) rest → rest ≡ record { shown = []; most = state.most; end = end } → o ≡ ends_with state end
 ended_outcome state end o rest same is =
     let make : List Picture → Outcome = λ shown. record { shown = shown; most = state.most; end = end } in
     same ∙ ap (with_front (flushed state.waiting)) is ∙ ap make (append-nil (flushed state.waiting))

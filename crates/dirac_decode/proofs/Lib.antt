@@ -8,3 +8,4 @@ pub mod Pictures
 pub mod Listing
 pub mod Covering
 pub mod Flushing
+pub mod Following

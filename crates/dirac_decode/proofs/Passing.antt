@@ -1,15 +1,20 @@
 -- One unit of a stream, and what the bytes behind it show.
 use Rattle.std.proofs.Common.{◌≡◌, ◌∙◌, ℕ, Bool, true, false, if◌then◌else◌, List, [], ◌∷◌, drop, slice_range, Option, None, Some, Result, Ok, Err, refl, sym, ap, subst, arith, length}
-use Rattle.std.specs.Prelude.{IfSome}
+use Rattle.std.specs.Prelude.{IfOk, IfSome}
+use Rattle.std.proofs.Common.{◌++◌, ◌≤◌, ◌==◌, nat_lt, take, length-append}
+use Rattle.std.proofs.lemmas.Bool.{le-ltb, ne_eqb}
+use Rattle.std.proofs.lemmas.List.{take-append-le}
 use Rattle.dirac_common.specs.declared.faults.Fault.{Fault}
 use Rattle.dirac_common.specs.declared.faults.Refusal.{Refusal}
 use Rattle.dirac_units.specs.declared.info.ParseInfo.{ParseInfo}
 use Rattle.dirac_units.specs.declared.unit_place.UnitPlace.{UnitPlace}
 use Rattle.dirac_units.specs.declared.unit.Unit.{Unit}
-use Rattle.dirac_units.specs.Info.{fields_are_read, span_of}
-use Rattle.dirac_units.specs.Cut.{UnitText, IsCut, EachHasACut, after, fault_at, front_of}
+use Rattle.dirac_units.specs.Info.{fields_are_read, info_read, span_of}
+use Rattle.dirac_units.specs.Cut.{UnitText, IsCut, EachHasACut, after, fault_at, front_of, unit_front}
 use Rattle.dirac_units.specs.Progress.{IsFirstUnit, kept_payload}
 use Rattle.dirac_units.proofs.Cuts.{cut_by}
+use Rattle.dirac_units.proofs.Fronts.{front_is, front_more, not_chosen}
+use Rattle.dirac_decode.specs.Stepping.{IsWholeUnit}
 use Rattle.dirac_decode.specs.StreamState.{StreamState, StreamStep, content, unit_step, passed}
 use Rattle.dirac_decode.specs.Shown.{Outcome, Shows, ends_with, follows, outcome, with_front}
 
@@ -82,3 +87,27 @@ told_end (Some bytes) unit_place state end front = ended_at state unit_place byt
 -- each list of bytes has a cut
 pub each_has_a_cut : EachHasACut
 each_has_a_cut unit_place bytes = cut_by (length bytes) unit_place bytes (front_of unit_place bytes) refl (omega arith)
+
+-- a refused parse info is a fault
+front_refused : (unit_place : UnitPlace) (bytes : List ℕ) (refusal : Refusal) → 13 ≤ length bytes → info_read (take 13 bytes) ≡ Err refusal → front_of unit_place bytes ≡ Err (Some (fault_of unit_place refusal))
+front_refused unit_place bytes refusal long read =
+    let some : (length bytes == 0) ≡ false = ne_eqb (length bytes) 0 (λ e. omega arith) in
+    let header : nat_lt (length bytes) 13 ≡ false = le-ltb (length bytes) 13 long in
+    not_chosen (length bytes == 0) _ _ some ∙ not_chosen (nat_lt (length bytes) 13) _ _ header ∙ ap (unit_front unit_place bytes) read
+
+-- a refused parse info is refused whatever follows it
+refused_more : (unit_place : UnitPlace) (bytes more : List ℕ) (refusal : Refusal) → 13 ≤ length bytes → info_read (take 13 bytes) ≡ Err refusal → front_of unit_place (bytes ++ more) ≡ front_of unit_place bytes
+refused_more unit_place bytes more refusal long read =
+    let longer : 13 ≤ length (bytes ++ more) = omega (arith, length-append bytes more, long) in
+    let again : info_read (take 13 (bytes ++ more)) ≡ Err refusal = ap info_read (take-append-le 13 bytes more long) ∙ read in
+    front_refused unit_place (bytes ++ more) refusal longer again ∙ sym (front_refused unit_place bytes refusal long read)
+
+-- what stands at the front of bytes that hold it as a whole is the same whatever follows
+front_before_by : (unit_place : UnitPlace) (bytes more : List ℕ) (read : Result ParseInfo Refusal) → info_read (take 13 bytes) ≡ read → 13 ≤ length bytes → IfOk read (λ (info : ParseInfo). span_of info ≤ length bytes) → front_of unit_place (bytes ++ more) ≡ front_of unit_place bytes
+front_before_by unit_place bytes more (Ok info) is long fits =
+    let whole : front_of unit_place bytes ≡ Ok info = front_is unit_place bytes info long is fits in
+    front_more unit_place bytes more info whole ∙ sym whole
+front_before_by unit_place bytes more (Err refusal) is long fits = refused_more unit_place bytes more refusal long is
+
+pub front_before : (unit_place : UnitPlace) (bytes more : List ℕ) → IsWholeUnit bytes → front_of unit_place (bytes ++ more) ≡ front_of unit_place bytes
+front_before unit_place bytes more is = front_before_by unit_place bytes more (info_read (take 13 bytes)) refl is.header is.payload

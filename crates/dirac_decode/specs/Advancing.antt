@@ -1,6 +1,7 @@
 -- What one unit of a stream does to a decoder, whatever was given so far.
 -- Inner: for the proofs of this crate.
 use Rattle.std.specs.Prelude.{◌≡◌, ℕ, ◌<◌, Bool, true, false, List, [], ◌∷◌, Option, None, Some, Result, Ok, Err, ⊤}
+use Rattle.std.specs.Io.KnownBytes.{append_known}
 use Rattle.dirac_common.specs.declared.picture.Picture.{Picture}
 use Rattle.dirac_units.specs.declared.unit.StreamEnd.{StreamEnd}
 use Rattle.dirac_units.specs.declared.unit.StreamEnd.TheVariants as stream_end
@@ -10,6 +11,7 @@ use Rattle.dirac_decode.specs.declared.step.Halt.TheVariants as halt
 use Rattle.dirac_decode.specs.declared.step.Step.{Step}
 use Rattle.dirac_decode.specs.declared.step.Step.TheVariants as step
 use Rattle.dirac_decode.specs.StreamState.{StreamState}
+use Rattle.dirac_decode.specs.Stepping.{IsThere}
 use Rattle.dirac_decode.specs.Decoding.{LeadsTo, decoding}
 use Rattle.dirac_decode.specs.Taking.{shown_in}
 
@@ -35,6 +37,13 @@ Advances (Err (halt.Fault fault)) units units' state state' held held' =
     Brings units units' state state' held held' true (stream_end.Faulted fault) []
 Advances (Err halt.ReadFault) units units' state state' held held' = ⊤
 Advances (Err halt.NoMemory) units units' state state' held held' = ⊤
+
+-- the same, whatever follows the bytes held, where the next unit is there
+abbrev pub AdvancesBefore : Result Step Halt → Progress → Progress → StreamState → StreamState → Option (List ℕ)
+    → Option (List ℕ) → Type 0
+AdvancesBefore answer units units' state state' held held' =
+    IsThere units held → (more : List ℕ)
+    → Advances answer units units' state state' (append_known held more) (append_known held' more)
 
 -- a unit was passed, so the next one begins further on
 abbrev pub GoesOn : Result Step Halt → Progress → Progress → Type 0

@@ -11,3 +11,4 @@ pub mod Predicting
 pub mod Rebuilding
 pub mod Moved
 pub mod Doubled
+pub mod Stepping

@@ -1,10 +1,10 @@
-ghost use Rattle.std.specs.Prelude.{◌≡◌, ℕ, ◌+◌, ◌<◌, ◌≤◌, ◌^◌, false, ◌∷◌, length, Err, IfSome, Option};
+ghost use Rattle.std.specs.Prelude.{◌≡◌, ℕ, ◌+◌, ◌<◌, ◌≤◌, ◌^◌, false, [], ◌∷◌, length, Err, IfSome, Option};
 ghost use Rattle.std.specs.Option.{option_to_list};
 ghost use Rattle.std.specs.Io.KnownBytes.{IsAtEnd};
 ghost use Rattle.dirac_io.specs.Faults.{Rose};
 ghost use Rattle.dirac_refs.specs.Delivery.{flushed};
 ghost use Rattle.dirac_decode.specs.Decoding.{due_of};
-ghost use Rattle.dirac_decode.specs.Advancing.{Advances, GoesOn, Settles, shown_by};
+ghost use Rattle.dirac_decode.specs.Advancing.{Advances, AdvancesBefore, GoesOn, Settles, shown_by};
 ghost use Rattle.dirac_decode.specs.Rebuilding.{Rebuilds};
 
 use crate::state::State;
@@ -32,6 +32,9 @@ pub(crate) fn advance_by_unit<
     requires going { units.old.stream_end ≡ StreamEnd.Going }
     requires no_overflow { units.old.unit_place.at + length units.old.ahead + S.left source.old < 2 ^ 63 }
     ensures advances { Advances result units.old units.new state.old state.new (S.held source.old) (S.held source.new) }
+    ensures advances_before_more { AdvancesBefore result units.old units.new state.old state.new (S.held source.old)
+        (S.held source.new) }
+    ensures none_ahead { units.new.ahead ≡ [] }
     ensures goes_on { GoesOn result units.old units.new }
     ensures no_more_than_units { units.old.unit_place.index + shown_by result + length state.new.waiting
         ≤ units.new.unit_place.index + length state.old.waiting }

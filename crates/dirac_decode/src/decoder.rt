@@ -4,6 +4,8 @@ ghost use Rattle.dirac_io.specs.Faults.{Rose};
 ghost use Rattle.dirac_decode.specs.Decoding.{begun, tally, Answers, Gives};
 ghost use Rattle.dirac_decode.specs.Rebuilding.{Rebuilds};
 
+mod stepping;
+
 use crate::advance::{advance_by_unit, next_due};
 use crate::answers::{Next, Tally};
 use crate::picture::rebuild;

@@ -28,4 +28,4 @@ pub use opened::Opened;
 pub use picture::{predicted_samples, rebuild};
 pub use planes::{height_of, plane_of, residual_of, width_of};
 pub use stream::{decode_stream, decode_stream_by};
-pub use written::put_picture;
+pub use written::{byte, put_picture};

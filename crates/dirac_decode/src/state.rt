@@ -3,6 +3,7 @@ ghost use Rattle.dirac_picture.specs.Grammar.{is_picture};
 ghost use Rattle.dirac_decode.specs.Rebuilding.{Rebuilds};
 ghost use Rattle.dirac_decode.specs.StreamState.{as_reference, begun, header_step, in_unit, is_same as same_header};
 ghost use Rattle.dirac_decode.specs.StreamState.{first_or as first_of, unit_step, passed, picture_step, shows};
+ghost use Rattle.dirac_decode.specs.Stepping.{sequence_of};
 ghost use Rattle.dirac_decode.specs.Taking.{Fewer, IfStopped, IsOfOpen, IsPopped, IsTook, Steps};
 
 use crate::opened::Opened;
@@ -74,6 +75,16 @@ impl State {
         ensures at_most_8_references { result ≤ MOST_REFERENCES }
     {
         self.most
+    }
+
+    /// The open sequence.
+    pub(crate) fn sequence(&self) -> Option<Sequence>
+        ensures { result ≡ sequence_of self.now.opened }
+    {
+        match &self.opened {
+            None => None,
+            Some(opened) => Some(opened.sequence),
+        }
     }
 
     /// Takes the picture that leaves first, where one waits.

@@ -58,9 +58,9 @@ fn put_bytes(samples: &[i16], bytes: &mut [u8])
     }
 }
 
-/// The byte of a sample.
+/// The byte of a sample in a raw picture.
 #[inline(always)]
-fn byte(sample: i16) -> u8
+pub fn byte(sample: i16) -> u8
     ensures { result ≡ byte_of sample }
 {
     (i32::from(sample) + 128).rem_euclid(256) as u8

@@ -1,0 +1,49 @@
+use Rattle.std.proofs.Common.{◌≡◌, ◌+◌, ◌∙◌, ap, arith, false, length, subst, sym, [], ◌∷◌, Ok}
+use Rattle.std.specs.Io.KnownBytes.{append_known}
+use Rattle.dirac_units.specs.declared.unit.StreamEnd.TheVariants as stream_end
+use Rattle.dirac_units.specs.Progress.{Progress}
+use Rattle.dirac_decode.specs.declared.step.Step.{Step}
+use Rattle.dirac_decode.specs.Advancing.{Advances}
+use Rattle.dirac_decode.specs.Decoding.{Decoding, decoding}
+use Rattle.dirac_decode.specs.Stepping.{IsThere}
+use Rattle.dirac_decode.specs.Taking.{shown_in}
+use Rattle.dirac_decode.proofs.Leading.{most_of, answers_any, leads_going, leads_same}
+use Rattle.dirac_decode.proofs.decoder.Decoder.step_by.Goals as goal
+
+pub returns-in-Ok-Shown : goal.returns-in-Ok-Shown
+returns-in-Ok-Shown g c =
+    let a = c.args.self.now in
+    let held = g.S.Source.held c.args.source.now in
+    let held' = g.S.Source.held c.advance_by_unit.new.source in
+    let here = decoding c.self.inside.units c.self.inside.state c.self.inside.draining c.self.inside.given c.self.inside.stream_end in
+    let before : a.stream_end ≡ stream_end.Going = sym (ap (λ (d : Decoding). d.stream_end) c.self.view_is) ∙ c.in-Going.is in
+    let given = ap (λ (d : Decoding). d.given + 1) c.self.view_is in
+    let stopped = λ (e : c.self.inside.stream_end ≡ stream_end.Stopped). sym (ap (λ (d : Decoding). d.stream_end) c.self.view_is) ∙ e in
+    record {
+      gives = (
+        leads_going a c.self.inside.units c.advance_by_unit.new.units c.self.inside.state c.next_due.new.state c.advance_by_unit.new.state
+            c.self.inside.draining false c.self.inside.given (c.self.inside.given + 1) c.self.inside.stream_end
+            held held held' (c.in-Ok-Shown.picture ∷ []) (leads_same a here held c.self.view_is) c.in-None.ensures.settles c.in-Going.is
+            (subst (λ (s : Step). Advances (Ok s) c.self.inside.units c.advance_by_unit.new.units c.next_due.new.state c.advance_by_unit.new.state held held') c.in-Ok-Shown.field-0-is c.in-Ok-Shown.ensures.advances),
+        given,
+        stopped,
+      );
+      before_more = λ there more. (
+        leads_going a c.self.inside.units c.advance_by_unit.new.units c.self.inside.state c.next_due.new.state c.advance_by_unit.new.state
+            c.self.inside.draining false c.self.inside.given (c.self.inside.given + 1) c.self.inside.stream_end
+            (append_known held more) (append_known held more) (append_known held' more) (c.in-Ok-Shown.picture ∷ []) (leads_same a here (append_known held more) c.self.view_is) c.in-None.ensures.settles c.in-Going.is
+            (subst (λ (s : Step). Advances (Ok s) c.self.inside.units c.advance_by_unit.new.units c.next_due.new.state c.advance_by_unit.new.state (append_known held more) (append_known held' more)) c.in-Ok-Shown.field-0-is
+            (c.in-Ok-Shown.ensures.advances_before_more (subst (λ (u : Progress). IsThere u held) (sym (ap (λ (d : Decoding). d.units) c.self.view_is)) there) more)),
+        given,
+        stopped,
+      );
+      repeated = answers_any a.stream_end a.due _ before;
+      repeats_without_reading = λ ne. absurd (ne before);
+      whole = λ w e. cc;
+      none_ahead = λ none. c.in-Ok-Shown.ensures.none_ahead;
+      read = λ e. cc;
+      count = c.in-Ok-Shown.ensures.count;
+      fits = omega (arith, c.self.invariant.0, c.in-None.ensures.fewer, c.in-Ok-Shown.ensures.no_more_than_units, ap shown_in c.in-Ok-Shown.field-0-is, c.in-Ok-Shown.ensures.fits);
+      greatest = omega (arith, ap (λ (d : Decoding). d.state.most) c.self.view_is, most_of c.self.inside.draining c.self.inside.state, c.in-None.ensures.greatest_stays, c.in-Ok-Shown.ensures.greatest_never_falls);
+      no_overflow = omega (arith, ap (λ (d : Decoding). d.units.unit_place.at + length d.units.ahead) c.self.view_is, c.in-Ok-Shown.ensures.no_overflow_result);
+    }

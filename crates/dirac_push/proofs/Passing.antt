@@ -1,0 +1,229 @@
+-- What calls of a decoder say of the whole stream, one behind another.
+use Rattle.std.proofs.Common.{◌≡◌, ◌∙◌, ℕ, ◌+◌, Bool, true, false, List, [], ◌∷◌, ◌++◌, Option, None, Some, refl, sym, ap, ap₂, subst, append_assoc, append-nil}
+use Rattle.std.specs.Prelude.{⊤}
+use Rattle.dirac_common.specs.declared.faults.Fault.{Fault}
+use Rattle.dirac_common.specs.declared.picture.Picture.{Picture}
+use Rattle.dirac_units.specs.declared.unit.StreamEnd.{StreamEnd}
+use Rattle.dirac_units.specs.declared.unit.StreamEnd.TheVariants as stream_end
+use Rattle.dirac_units.specs.Progress.{Progress}
+use Rattle.dirac_decode.specs.declared.answers.Next.{Next}
+use Rattle.dirac_decode.specs.declared.answers.Next.TheVariants as next
+use Rattle.dirac_decode.specs.Decoding.{Comes, Decoding, LeadsTo, Remains}
+use Rattle.dirac_decode.specs.Shown.{IsShown, Outcome, with_front}
+use Rattle.dirac_decode.specs.Stepping.{DueGives, IsThere, IsWholeUnit, StepGives, StepGivesBefore}
+use Rattle.dirac_push.specs.declared.answer.Answer.{Answer}
+use Rattle.dirac_push.specs.declared.answer.Answer.TheVariants as answers
+use Rattle.dirac_push.specs.Pushing.{MayFollow, Passes, PassesOn, PushGives, Pushed, Repeats, RepeatsMet, ShowsToItsEnd, ShowsToItsFault, TurnGives, begun}
+
+none_and_none : (b : Pushed) (c : Pushed) (sent' more : List ℕ) → ((b.is_finished ≡ true) → (c.is_finished ≡ true) × (sent' ≡ [])) → MayFollow c more → MayFollow b (sent' ++ more)
+none_and_none b c sent' more finished may e =
+    let f = finished e in
+    ap₂ (λ (xs ys : List ℕ). xs ++ ys) f.1 (may f.0)
+
+-- one call and then another
+pub passes_on : PassesOn
+passes_on a b c sent sent' given given' first second = record {
+  leads = λ more may o comes.
+      let later = second.leads more may o comes in
+      let before = first.leads (sent' ++ more) (none_and_none b c sent' more second.finished may) (with_front given' o) later in
+      let bytes : a.there ++ (sent ++ (sent' ++ more)) ≡ a.there ++ ((sent ++ sent') ++ more) = ap (λ (xs : List ℕ). a.there ++ xs) (sym (append_assoc sent sent' more)) in
+      let pictures : with_front given (with_front given' o) ≡ with_front (given ++ given') o =
+      ap (λ (ps : List Picture). record o { shown = ps }) (sym (append_assoc given given' o.shown)) in
+      subst (λ (xs : List ℕ). Comes a.decoder (Some xs) (with_front (given ++ given') o)) bytes
+      (subst (λ (x : Outcome). Comes a.decoder (Some (a.there ++ (sent ++ (sent' ++ more)))) x) pictures before);
+  finished = λ e.
+      let f = first.finished e in
+      let s = second.finished f.0 in
+      (s.0, ap₂ (λ (xs ys : List ℕ). xs ++ ys) f.1 s.1);
+}
+
+-- the decoder and the bytes there stay
+pub passes_same : (old new : Pushed) → new.decoder ≡ old.decoder → new.there ≡ old.there → (old.is_finished ≡ true → new.is_finished ≡ true) → Passes old new [] []
+passes_same old new same there finished = record {
+  leads = λ more may o comes.
+      subst (λ (d : Decoding). Comes d (Some (old.there ++ more)) o) same
+      (subst (λ (xs : List ℕ). Comes new.decoder (Some (xs ++ more)) o) there comes);
+  finished = λ e. (finished e, refl);
+}
+
+-- bytes were sent
+pub passes_sent : (old new : Pushed) (bytes : List ℕ) → new.decoder ≡ old.decoder → new.there ≡ old.there ++ bytes → old.is_finished ≡ false → Passes old new bytes []
+passes_sent old new bytes same there unfinished = record {
+  leads = λ more may o comes.
+      subst (λ (d : Decoding). Comes d (Some (old.there ++ (bytes ++ more))) o) same
+      (subst (λ (xs : List ℕ). Comes new.decoder (Some xs) o) (ap (λ (xs : List ℕ). xs ++ more) there ∙ append_assoc old.there bytes more) comes);
+  finished = λ e. cc;
+}
+
+-- a due picture left
+pub passes_due : (old new : Pushed) (p : Picture) → DueGives (Some p) old.decoder new.decoder → new.there ≡ old.there → new.is_finished ≡ old.is_finished → Passes old new [] (p ∷ [])
+passes_due old new p due there finished = record {
+  leads = λ more may o comes.
+      let at : Comes new.decoder (Some (old.there ++ more)) o = subst (λ (xs : List ℕ). Comes new.decoder (Some (xs ++ more)) o) there comes in
+      record {
+        rest = at.rest;
+        same = ap (with_front (p ∷ [])) at.same ∙ ap (λ (ps : List Picture). with_front ps at.rest) (sym due.0);
+        remains = subst (λ (d : Decoding). Remains d.stream_end d.state d.units (Some (old.there ++ more)) at.rest) due.1 at.remains;
+      };
+  finished = λ e. (finished ∙ e, refl);
+}
+
+-- nothing follows, or whatever does
+lead_by : (f : Bool) (old new : Pushed) (given : List Picture) → old.is_finished ≡ f → new.is_finished ≡ old.is_finished → LeadsTo old.decoder new.decoder (Some old.there) (Some new.there) given
+    → (f ≡ false → (more : List ℕ) → LeadsTo old.decoder new.decoder (Some (old.there ++ more)) (Some (new.there ++ more)) given)
+    → (more : List ℕ) → MayFollow new more → LeadsTo old.decoder new.decoder (Some (old.there ++ more)) (Some (new.there ++ more)) given
+lead_by true old new given is same plain before more may o comes =
+    let none : more ≡ [] = may (same ∙ is) in
+    let end : (xs : List ℕ) → xs ++ more ≡ xs = λ xs. ap (λ (ys : List ℕ). xs ++ ys) none ∙ append-nil xs in
+    subst (λ (xs : List ℕ). Comes old.decoder (Some xs) (with_front given o)) (sym (end old.there))
+    (plain o (subst (λ (xs : List ℕ). Comes new.decoder (Some xs) o) (end new.there) comes))
+lead_by false old new given is same plain before more may o comes = before refl more o comes
+
+pub passes_by : (old new : Pushed) (given : List Picture) → new.is_finished ≡ old.is_finished → LeadsTo old.decoder new.decoder (Some old.there) (Some new.there) given
+    → (old.is_finished ≡ false → (more : List ℕ) → LeadsTo old.decoder new.decoder (Some (old.there ++ more)) (Some (new.there ++ more)) given) → Passes old new [] given
+passes_by old new given same plain before = record {
+  leads = lead_by old.is_finished old new given refl same plain before;
+  finished = λ e. (same ∙ e, refl);
+}
+
+-- what a step says of the whole stream
+abbrev pub StepPasses : Option Next → Pushed → Pushed → Type 0
+StepPasses None old new = Passes old new [] []
+StepPasses (Some (next.Shown p)) old new = Passes old new [] (p ∷ [])
+StepPasses (Some next.End) old new = Passes old new [] []
+StepPasses (Some (next.Fault fault)) old new = Passes old new [] []
+StepPasses (Some next.ReadFault) old new = ⊤
+StepPasses (Some next.NoMemory) old new = ⊤
+StepPasses (Some next.Stopped) old new = ⊤
+
+-- no byte is ahead of those that are there
+there_by : (units : Progress) (bytes : List ℕ) → units.ahead ≡ [] → IsWholeUnit bytes → IsThere units (Some bytes)
+there_by units bytes none is = subst (λ (ahead : List ℕ). IsWholeUnit (ahead ++ bytes)) (sym none) is
+
+pub step_passes : (answer : Option Next) (old new : Pushed) → StepGives answer old.decoder new.decoder (Some old.there) (Some new.there)
+    → (IsThere old.decoder.units (Some old.there) → StepGivesBefore answer old.decoder new.decoder (Some old.there) (Some new.there))
+    → old.decoder.units.ahead ≡ [] → (old.is_finished ≡ false → IsWholeUnit old.there) → new.is_finished ≡ old.is_finished → StepPasses answer old new
+step_passes None old new gives before none there same =
+    passes_by old new [] same gives.0 (λ e more. (before (there_by old.decoder.units old.there none (there e)) more).0)
+step_passes (Some (next.Shown p)) old new gives before none there same =
+    passes_by old new (p ∷ []) same gives.0 (λ e more. (before (there_by old.decoder.units old.there none (there e)) more).0)
+step_passes (Some next.End) old new gives before none there same =
+    passes_by old new [] same gives.0 (λ e more. (before (there_by old.decoder.units old.there none (there e)) more).0)
+step_passes (Some (next.Fault fault)) old new gives before none there same =
+    passes_by old new [] same gives.0 (λ e more. (before (there_by old.decoder.units old.there none (there e)) more).0)
+step_passes (Some next.ReadFault) old new gives before none there same = tt
+step_passes (Some next.NoMemory) old new gives before none there same = tt
+step_passes (Some next.Stopped) old new gives before none there same = tt
+
+-- an answer, behind turns that gave none
+pub gives_behind : (answer : Answer) (old mid new : Pushed) → Passes old mid [] [] → mid.decoder.given ≡ old.decoder.given → (mid.decoder.stream_end ≡ stream_end.Stopped → ⊥) → PushGives answer mid new → PushGives answer old new
+gives_behind answers.Shown old mid new first same moving gives =
+    (gives.0, gives.1, passes_on old mid new [] [] [] (gives.0 ∷ []) first gives.2, gives.3 ∙ ap (λ n. n + 1) same)
+gives_behind answers.Needs old mid new first same moving gives =
+    (passes_on old mid new [] [] [] [] first gives.0, gives.1 ∙ same, gives.2, gives.3)
+gives_behind answers.End old mid new first same moving gives =
+    (passes_on old mid new [] [] [] [] first gives.0, gives.1 ∙ same, gives.2, gives.3, gives.4)
+gives_behind (answers.Fault fault) old mid new first same moving gives =
+    (passes_on old mid new [] [] [] [] first gives.0, gives.1 ∙ same, gives.2, gives.3, gives.4)
+gives_behind answers.NoMemory old mid new first same moving gives = (gives.0 ∙ same, gives.1, gives.2)
+gives_behind answers.Stopped old mid new first same moving gives = absurd (moving gives.0)
+
+-- turns before something was met changed nothing but the picture shown, where it was met before
+abbrev pub Still : Pushed → Pushed → Type 0
+Still a mid = (a.decoder.stream_end ≡ stream_end.Going → ⊥) → mid ≡ record a { shown = None }
+
+repeats_by : (m : StreamEnd) (answer : Answer) (a mid new : Pushed) → a.decoder.stream_end ≡ m → Still a mid → Repeats answer mid new → Repeats answer a new
+repeats_by stream_end.Going answer a mid new is still repeats =
+    subst (λ (x : StreamEnd). RepeatsMet x answer a.decoder.due (new ≡ record a { shown = None })) (sym is) tt
+repeats_by stream_end.Ended answer a mid new is still repeats =
+    subst (λ (x : Pushed). Repeats answer x new) (still (λ (e : a.decoder.stream_end ≡ stream_end.Going). cc)) repeats
+repeats_by (stream_end.Faulted fault) answer a mid new is still repeats =
+    subst (λ (x : Pushed). Repeats answer x new) (still (λ (e : a.decoder.stream_end ≡ stream_end.Going). cc)) repeats
+repeats_by stream_end.Stopped answer a mid new is still repeats =
+    subst (λ (x : Pushed). Repeats answer x new) (still (λ (e : a.decoder.stream_end ≡ stream_end.Going). cc)) repeats
+
+pub repeats_behind : (answer : Answer) (a mid new : Pushed) → Still a mid → Repeats answer mid new → Repeats answer a new
+repeats_behind answer a mid new still repeats = repeats_by a.decoder.stream_end answer a mid new refl still repeats
+
+-- where a later turn found nothing met, nothing was met before
+pub still_going : (a mid new : Pushed) → Still a mid → mid.decoder.stream_end ≡ stream_end.Going → Still a new
+still_going a mid new still going ne =
+    let same = still ne in
+    absurd (ne (sym (ap (λ (x : Pushed). x.decoder.stream_end) same) ∙ going))
+
+-- what a step gives, as a turn
+abbrev pub Steps : Option Next → Pushed → Pushed → Type 0
+Steps answer old new =
+    StepGives answer old.decoder new.decoder (Some old.there) (Some new.there)
+    × (IsThere old.decoder.units (Some old.there) → StepGivesBefore answer old.decoder new.decoder (Some old.there) (Some new.there))
+    × (old.decoder.units.ahead ≡ []) × (old.is_finished ≡ false → IsWholeUnit old.there) × (new.is_finished ≡ old.is_finished)
+
+pub turn_none : (old new : Pushed) → Steps None old new → new.shown ≡ None → TurnGives None old new
+turn_none old new steps shown =
+    (step_passes None old new steps.0 steps.1 steps.2 steps.3 steps.4, steps.0.3, shown, steps.0.1, steps.0.2, steps.0.4)
+
+pub turn_shown : (old new : Pushed) (p : Picture) → Steps (Some (next.Shown p)) old new → new.shown ≡ Some p → TurnGives (Some answers.Shown) old new
+turn_shown old new p steps shown =
+    (p, shown, step_passes (Some (next.Shown p)) old new steps.0 steps.1 steps.2 steps.3 steps.4, steps.0.1)
+
+pub turn_end : (old new : Pushed) → Steps (Some next.End) old new → new.shown ≡ None → TurnGives (Some answers.End) old new
+turn_end old new steps shown =
+    (step_passes (Some next.End) old new steps.0 steps.1 steps.2 steps.3 steps.4, steps.0.3, shown, steps.0.1, steps.0.2)
+
+pub turn_fault : (old new : Pushed) (fault : Fault) → Steps (Some (next.Fault fault)) old new → new.shown ≡ None → TurnGives (Some (answers.Fault fault)) old new
+turn_fault old new fault steps shown =
+    (step_passes (Some (next.Fault fault)) old new steps.0 steps.1 steps.2 steps.3 steps.4, steps.0.3, shown, steps.0.1, steps.0.2)
+
+-- the turns that take no unit: a due picture leaves, what was met is answered, or more bytes are needed
+pub turn_due : (old new : Pushed) (p : Picture) → DueGives (Some p) old.decoder new.decoder → new.there ≡ old.there → new.is_finished ≡ old.is_finished → new.shown ≡ Some p → TurnGives (Some answers.Shown) old new
+turn_due old new p due there finished shown =
+    (p, shown, passes_due old new p due there finished, ap (λ (d : Decoding). d.given) due.1)
+
+pub turn_ended : (old new : Pushed) → DueGives None old.decoder new.decoder → new.there ≡ old.there → new.is_finished ≡ old.is_finished → new.shown ≡ None → new.decoder.stream_end ≡ stream_end.Ended → TurnGives (Some answers.End) old new
+turn_ended old new due there finished shown ended =
+    (passes_same old new due.1 there (λ e. finished ∙ e), ap (λ (d : Decoding). d.given) due.1, shown, ended, ap (λ (d : Decoding). d.due) due.1 ∙ due.0)
+
+pub turn_faulted : (old new : Pushed) (fault : Fault) → DueGives None old.decoder new.decoder → new.there ≡ old.there → new.is_finished ≡ old.is_finished → new.shown ≡ None → new.decoder.stream_end ≡ stream_end.Faulted fault → TurnGives (Some (answers.Fault fault)) old new
+turn_faulted old new fault due there finished shown faulted =
+    (passes_same old new due.1 there (λ e. finished ∙ e), ap (λ (d : Decoding). d.given) due.1, shown, faulted, ap (λ (d : Decoding). d.due) due.1 ∙ due.0)
+
+pub turn_needs : (old new : Pushed) → DueGives None old.decoder new.decoder → new.there ≡ old.there → new.is_finished ≡ old.is_finished → new.shown ≡ None → new.decoder.stream_end ≡ stream_end.Going → new.is_finished ≡ false → (IsWholeUnit new.there → ⊥) → TurnGives (Some answers.Needs) old new
+turn_needs old new due there finished shown going unfinished none = (
+  passes_same old new due.1 there (λ e. finished ∙ e),
+  ap (λ (d : Decoding). d.given) due.1,
+  shown,
+  record { unfinished = unfinished; no_picture = ap (λ (d : Decoding). d.due) due.1 ∙ due.0; going = going; no_unit = none },
+)
+
+pub turn_taken : (answer : Option Answer) (old new : Pushed) (d : Decoding) → DueGives None old.decoder d → TurnGives answer (record old { decoder = d }) new → TurnGives answer old new
+turn_taken answer old new d due gives =
+    subst (λ (x : Decoding). TurnGives answer (record old { decoder = x }) new) due.1 gives
+
+-- what the bytes sent show, where nothing is due and this was met
+shows_by : (p : Pushed) (sent more : List ℕ) (given : List Picture) (o : Outcome) → Passes begun p sent given → p.decoder.due ≡ [] → MayFollow p more → o.shown ≡ []
+    → Remains p.decoder.stream_end p.decoder.state p.decoder.units (Some (p.there ++ more)) o → IsShown (sent ++ more) (record o { shown = given })
+shows_by p sent more given o passes none may empty remains =
+    let here : Comes p.decoder (Some (p.there ++ more)) o = record {
+      rest = o;
+      same = ap (λ (ps : List Picture). with_front ps o) (sym none);
+      remains = remains;
+    } in
+    let behind = passes.leads more may o here in
+    let same : behind.rest ≡ record o { shown = given } =
+    sym behind.same ∙ ap (λ (ps : List Picture). record o { shown = given ++ ps }) empty ∙ ap (λ (ps : List Picture). record o { shown = ps }) (append-nil given) in
+    subst (λ (x : Outcome). IsShown (sent ++ more) x) same behind.remains
+
+pub shows_to_its_end : ShowsToItsEnd
+shows_to_its_end p sent given passes none ended =
+    let o : Outcome = record { shown = []; most = p.decoder.state.most; end = None } in
+    let remains : Remains p.decoder.stream_end p.decoder.state p.decoder.units (Some (p.there ++ [])) o =
+    subst (λ (m : StreamEnd). Remains m p.decoder.state p.decoder.units (Some (p.there ++ [])) o) (sym ended) refl in
+    subst (λ (xs : List ℕ). IsShown xs (record o { shown = given })) (append-nil sent)
+    (shows_by p sent [] given o passes none (λ e. refl) refl remains)
+
+pub shows_to_its_fault : ShowsToItsFault
+shows_to_its_fault p sent more given fault passes none faulted may =
+    let o : Outcome = record { shown = []; most = p.decoder.state.most; end = Some fault } in
+    let remains : Remains p.decoder.stream_end p.decoder.state p.decoder.units (Some (p.there ++ more)) o =
+    subst (λ (m : StreamEnd). Remains m p.decoder.state p.decoder.units (Some (p.there ++ more)) o) (sym faulted) refl in
+    shows_by p sent more given o passes none may refl remains

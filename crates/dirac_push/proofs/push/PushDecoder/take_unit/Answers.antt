@@ -1,0 +1,40 @@
+use Rattle.std.proofs.Common.{◌≡◌, ◌∙◌, ap, false, refl, subst, sym, List, None, Option, Some}
+use Rattle.dirac_decode.specs.declared.answers.Next.{Next}
+use Rattle.dirac_decode.specs.declared.answers.Next.TheVariants as next
+use Rattle.dirac_decode.specs.Stepping.{IsThere, IsWholeUnit, StepGives, StepGivesBefore}
+use Rattle.dirac_push.specs.declared.answer.Answer.TheVariants as answers
+use Rattle.dirac_push.specs.Pushing.{Pushed, TurnGives}
+use Rattle.dirac_push.proofs.Passing.{turn_end, turn_fault, turn_none, turn_shown}
+use Rattle.dirac_push.proofs.push.PushDecoder.take_unit.Goals as goal
+
+pub returns-in-None-clause-gives : goal.returns-in-None-clause-gives
+returns-in-None-clause-gives c =
+    let old : Pushed = record { decoder = c.self.inside.decoder; there = c.self.inside.queue.bytes; room = c.self.inside.queue.room; is_finished = c.self.inside.is_finished; shown = c.self.inside.shown; format = c.self.inside.format } in
+    let new : Pushed = record { decoder = c.step-step.new.self; there = c.step-step.new.source.bytes; room = c.step-step.new.source.room; is_finished = c.self.inside.is_finished; shown = c.self.inside.shown; format = c.latest-self-inside.result } in
+    let there = subst (λ (x : Pushed). x.is_finished ≡ false → IsWholeUnit x.there) (sym c.self.view_is) c.requires.there in
+    subst (λ (x : Pushed). TurnGives (None) x new) c.self.view_is
+    (turn_none old new (c.in-None.ensures.gives, c.in-None.ensures.before_more, c.self.invariant.0, there, refl) (ap (λ (x : Pushed). x.shown) c.self.view_is ∙ c.requires.none_shown))
+
+pub returns-in-Some-Shown-clause-gives : goal.returns-in-Some-Shown-clause-gives
+returns-in-Some-Shown-clause-gives c =
+    let old : Pushed = record { decoder = c.self.inside.decoder; there = c.self.inside.queue.bytes; room = c.self.inside.queue.room; is_finished = c.self.inside.is_finished; shown = c.self.inside.shown; format = c.self.inside.format } in
+    let new : Pushed = record { decoder = c.step-step.new.self; there = c.step-step.new.source.bytes; room = c.step-step.new.source.room; is_finished = c.self.inside.is_finished; shown = Some c.in-Some-Shown.picture; format = c.latest-self-inside.result } in
+    let there = subst (λ (x : Pushed). x.is_finished ≡ false → IsWholeUnit x.there) (sym c.self.view_is) c.requires.there in
+    subst (λ (x : Pushed). TurnGives (Some answers.Shown) x new) c.self.view_is
+    (turn_shown old new c.in-Some-Shown.picture (subst (λ (n : Next). StepGives (Some n) old.decoder new.decoder (Some old.there) (Some new.there)) c.in-Some-Shown.field-0-is c.in-Some-Shown.ensures.gives, subst (λ (n : Next). IsThere old.decoder.units (Some old.there) → StepGivesBefore (Some n) old.decoder new.decoder (Some old.there) (Some new.there)) c.in-Some-Shown.field-0-is c.in-Some-Shown.ensures.before_more, c.self.invariant.0, there, refl) (refl))
+
+pub returns-in-Some-End-clause-gives : goal.returns-in-Some-End-clause-gives
+returns-in-Some-End-clause-gives c =
+    let old : Pushed = record { decoder = c.self.inside.decoder; there = c.self.inside.queue.bytes; room = c.self.inside.queue.room; is_finished = c.self.inside.is_finished; shown = c.self.inside.shown; format = c.self.inside.format } in
+    let new : Pushed = record { decoder = c.step-step.new.self; there = c.step-step.new.source.bytes; room = c.step-step.new.source.room; is_finished = c.self.inside.is_finished; shown = c.self.inside.shown; format = c.latest-self-inside.result } in
+    let there = subst (λ (x : Pushed). x.is_finished ≡ false → IsWholeUnit x.there) (sym c.self.view_is) c.requires.there in
+    subst (λ (x : Pushed). TurnGives (Some answers.End) x new) c.self.view_is
+    (turn_end old new (subst (λ (n : Next). StepGives (Some n) old.decoder new.decoder (Some old.there) (Some new.there)) c.in-Some-End.field-0-is c.in-Some-End.ensures.gives, subst (λ (n : Next). IsThere old.decoder.units (Some old.there) → StepGivesBefore (Some n) old.decoder new.decoder (Some old.there) (Some new.there)) c.in-Some-End.field-0-is c.in-Some-End.ensures.before_more, c.self.invariant.0, there, refl) (ap (λ (x : Pushed). x.shown) c.self.view_is ∙ c.requires.none_shown))
+
+pub returns-in-Some-Fault-clause-gives : goal.returns-in-Some-Fault-clause-gives
+returns-in-Some-Fault-clause-gives c =
+    let old : Pushed = record { decoder = c.self.inside.decoder; there = c.self.inside.queue.bytes; room = c.self.inside.queue.room; is_finished = c.self.inside.is_finished; shown = c.self.inside.shown; format = c.self.inside.format } in
+    let new : Pushed = record { decoder = c.step-step.new.self; there = c.step-step.new.source.bytes; room = c.step-step.new.source.room; is_finished = c.self.inside.is_finished; shown = c.self.inside.shown; format = c.latest-self-inside.result } in
+    let there = subst (λ (x : Pushed). x.is_finished ≡ false → IsWholeUnit x.there) (sym c.self.view_is) c.requires.there in
+    subst (λ (x : Pushed). TurnGives (Some (answers.Fault c.in-Some-Fault.fault)) x new) c.self.view_is
+    (turn_fault old new c.in-Some-Fault.fault (subst (λ (n : Next). StepGives (Some n) old.decoder new.decoder (Some old.there) (Some new.there)) c.in-Some-Fault.field-0-is c.in-Some-Fault.ensures.gives, subst (λ (n : Next). IsThere old.decoder.units (Some old.there) → StepGivesBefore (Some n) old.decoder new.decoder (Some old.there) (Some new.there)) c.in-Some-Fault.field-0-is c.in-Some-Fault.ensures.before_more, c.self.invariant.0, there, refl) (ap (λ (x : Pushed). x.shown) c.self.view_is ∙ c.requires.none_shown))

@@ -1,0 +1,182 @@
+ghost use Rattle.std.specs.Prelude.{◌≡◌, ◌<◌, ◌^◌, ◌↔◌, [], ◌++◌, true, false, IfErr, IfOk};
+ghost use Rattle.std.specs.Prelude.{IfSome, None, Some, Err, Option};
+ghost use Rattle.std.specs.Prelude.{option_map};
+ghost use Rattle.std.specs.Borrow.{Bor};
+ghost use Rattle.dirac_decode.specs.Stepping.{IsWholeUnit};
+ghost use Rattle.dirac_push.specs.Pushing.{begun, IsFormat, Passes, PushGives, Repeats, TurnGives};
+
+use crate::answer::{Answer, Unsent};
+use crate::queue::Queue;
+use dirac_common::{NoMemory, Picture};
+use dirac_decode::{Decoder, Next};
+use dirac_sequence_header::Sequence;
+use dirac_units::StreamEnd;
+use std::alloc::Global;
+use std::marker::Model;
+
+/// A decoder that is sent the bytes of its stream, in pieces of any length.
+#[derive(Drop)]
+pub struct PushDecoder {
+    decoder: Decoder,
+    queue: Queue,
+    is_finished: bool,
+    shown: Option<Picture>,
+    format: Option<Sequence>,
+}
+
+impl Model for PushDecoder {
+    ghost use Rattle.std.specs.Prelude.{◌≡◌, ◌+◌, ◌<◌, ◌^◌, []};
+    ghost use Rattle.dirac_push.specs.Queued.{room_of};
+    ghost use Rattle.dirac_push.specs.Pushing.{IsFormat, Pushed};
+
+    ghost Value = { Pushed };
+
+    ghost view = { λ d. record {
+      decoder = d.decoder;
+      there = d.queue.bytes;
+      room = d.queue.room;
+      is_finished = d.is_finished;
+      shown = d.shown;
+      format = d.format;
+    } };
+
+    ghost invariant = { λ d. (d.decoder.units.ahead ≡ [])
+        × (d.decoder.units.unit_place.at + room_of d.queue < 2 ^ 63) × IsFormat d.decoder.state.opened d.format };
+}
+
+impl PushDecoder {
+    /// A decoder before the first byte.
+    pub fn new(alloc: Global) -> PushDecoder
+        ensures { result ≡ begun }
+    {
+        PushDecoder {
+            decoder: Decoder::new(alloc),
+            queue: Queue::new(alloc),
+            is_finished: false,
+            shown: None,
+            format: None,
+        }
+    }
+
+    /// Adds bytes behind those that were sent: any number, cut anywhere. They are copied; after an error none is.
+    pub fn send(&mut self, bytes: &[u8]) -> Result<(), Unsent>
+        ensures sent { IfOk result (λ _. Passes self.old self.new bytes.now []) }
+        ensures added { IfOk result (λ _. self.new
+            ≡ record self.old { there = self.old.there ++ bytes.now; room = self.new.room }) }
+        ensures unsent { IfErr result (λ _. self.new ≡ self.old) }
+        ensures exactly_when_finished { (result ≡ Err Unsent.Finished) ↔ (self.old.is_finished ≡ true) }
+    {
+        if self.is_finished {
+            return Err(Unsent::Finished);
+        }
+        match self.queue.add(bytes) {
+            Ok(()) => Ok(()),
+            Err(NoMemory) => Err(Unsent::NoMemory),
+        }
+    }
+
+    /// Says that no more bytes follow.
+    pub fn finish(&mut self)
+        ensures finished { self.new ≡ record self.old { is_finished = true } }
+        ensures passes { Passes self.old self.new [] [] }
+    {
+        self.is_finished = true;
+    }
+
+    /// The picture that the last call of `next` gave.
+    pub fn shown(&self) -> Option<&Picture>
+        ensures { option_map (λ (p : Bor Picture). p.now) result ≡ self.now.shown }
+    {
+        match &self.shown {
+            None => None,
+            Some(picture) => Some(picture),
+        }
+    }
+
+    /// The sequence that was opened last. All pictures of a sequence are given before the next one is opened.
+    pub fn format(&self) -> Option<Sequence>
+        ensures value { result ≡ self.now.format }
+        ensures open { IsFormat self.now.decoder.state.opened result }
+    {
+        self.format
+    }
+
+    /// What comes next. It never waits. The end and a fault are answered again by each later call, and after `NoMemory`
+    /// each later call answers `Stopped`; none of them takes a byte.
+    pub fn next(&mut self) -> Answer
+        ensures gives { PushGives result self.old self.new }
+        ensures repeats { Repeats result self.old self.new }
+        ensures finished_stays { self.new.is_finished ≡ self.old.is_finished }
+    {
+        self.shown = None;
+        if let StreamEnd::Stopped = self.decoder.stream_end() {
+            return Answer::Stopped;
+        }
+        'units: loop {
+            if let Some(answer) = self.turn() {
+                return answer;
+            }
+        }
+    }
+
+    /// One turn: the picture that is due, what was met, or at most one unit.
+    #[tactic(auto, using(crate::proofs::Passing::turn_due, crate::proofs::Passing::turn_ended, crate::proofs::Passing::turn_faulted, crate::proofs::Passing::turn_needs, crate::proofs::Passing::turn_taken))]
+    fn turn(&mut self) -> Option<Answer>
+        requires not_stopped { self.old.decoder.stream_end ≡ StreamEnd.Stopped → ⊥ }
+        requires none_shown { self.old.shown ≡ None }
+        ensures gives { TurnGives result self.old self.new }
+        ensures repeats { IfSome result (λ answer. Repeats answer self.old self.new) }
+        ensures fits { self.new.decoder.units.unit_place.at < 2 ^ 63 }
+        ensures finished_stays { self.new.is_finished ≡ self.old.is_finished }
+    {
+        if let Some(picture) = self.decoder.due_picture() {
+            self.shown = Some(picture);
+            return Some(Answer::Shown);
+        }
+        match self.decoder.stream_end() {
+            StreamEnd::Going => {}
+            StreamEnd::Ended => return Some(Answer::End),
+            StreamEnd::Faulted(fault) => return Some(Answer::Fault(fault)),
+            StreamEnd::Stopped => unreachable!(),
+        }
+        if !self.is_finished && !self.queue.has_unit() {
+            return Some(Answer::Needs);
+        }
+        self.take_unit()
+    }
+
+    /// Takes a unit.
+    fn take_unit(&mut self) -> Option<Answer>
+        requires going { self.old.decoder.stream_end ≡ StreamEnd.Going }
+        requires there { self.old.is_finished ≡ false → IsWholeUnit self.old.there }
+        requires none_shown { self.old.shown ≡ None }
+        ensures gives { TurnGives result self.old self.new }
+        ensures fits { self.new.decoder.units.unit_place.at < 2 ^ 63 }
+        ensures finished_stays { self.new.is_finished ≡ self.old.is_finished }
+    {
+        let step = self.decoder.step(&mut self.queue);
+        self.format = latest(self.decoder.sequence(), self.format);
+        match step {
+            None => None,
+            Some(Next::Shown(picture)) => {
+                self.shown = Some(picture);
+                Some(Answer::Shown)
+            }
+            Some(Next::End) => Some(Answer::End),
+            Some(Next::Fault(fault)) => Some(Answer::Fault(fault)),
+            Some(Next::NoMemory) => Some(Answer::NoMemory),
+            Some(Next::ReadFault | Next::Stopped) => unreachable!(),
+        }
+    }
+}
+
+/// The open sequence, or the one before where none is open.
+fn latest(opened: Option<Sequence>, before: Option<Sequence>) -> Option<Sequence>
+    ensures one { IfSome opened (λ s. result ≡ Some s) }
+    ensures none { opened ≡ None → result ≡ before }
+{
+    match opened {
+        None => before,
+        Some(sequence) => Some(sequence),
+    }
+}

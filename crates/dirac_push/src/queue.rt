@@ -1,0 +1,117 @@
+ghost use Rattle.std.specs.Prelude.{◌≡◌, ◌≤◌, ◌<◌, ◌+◌, ◌-◌, ◌^◌, ◌++◌, ◌↔◌, true, length};
+ghost use Rattle.std.specs.Prelude.{IfOk, IfErr, IsTrue, Some, pos};
+ghost use Rattle.dirac_io.specs.Faults.{Rose};
+ghost use Rattle.dirac_io.specs.Reading.{IfBytes, GivesFront, MeetsEnd};
+ghost use Rattle.std.specs.Io.KnownBytes.{Keeps};
+ghost use Rattle.dirac_decode.specs.Stepping.{IsWholeUnit};
+ghost use Rattle.dirac_push.specs.Queued.{begun, none_fits, room_of, room_fits};
+
+use dirac_common::NoMemory;
+use dirac_io::{Got, Source};
+use dirac_units::{PARSE_INFO_LENGTH, read_info};
+use std::alloc::Global;
+use std::marker::Model;
+
+/// The most bytes that a decoder may be sent in all.
+pub const MOST_SENT: u64 = i64::MAX as u64;
+
+/// The bytes that were sent and not yet taken, and how many more may be sent. No read fails.
+#[derive(Drop)]
+pub(crate) struct Queue {
+    bytes: Vec<u8>,
+    from: usize,
+    room: u64,
+}
+
+impl Model for Queue {
+    ghost use Rattle.std.specs.Prelude.{◌≤◌, ◌<◌, ◌+◌, ◌^◌, drop, vec_len};
+    ghost use Rattle.dirac_push.specs.Queued.{Queued};
+
+    ghost Value = { Queued };
+
+    ghost view = { λ q. record { bytes = drop q.from q.bytes.items; room = q.room } };
+
+    ghost invariant = { λ q. (q.from ≤ vec_len q.bytes) × (q.room + vec_len q.bytes < 2 ^ 63 + q.from) };
+}
+
+impl Queue {
+    pub(crate) fn new(alloc: Global) -> Queue
+        ensures { result ≡ begun }
+    {
+        Queue {
+            bytes: Vec::new(alloc),
+            from: 0,
+            room: MOST_SENT,
+        }
+    }
+
+    /// Adds bytes behind those that are there. Where there is no memory for them, none is added.
+    pub(crate) fn add(&mut self, bytes: &[u8]) -> Result<(), NoMemory>
+        ensures added { IfOk result (λ _. (self.new.bytes ≡ self.old.bytes ++ bytes.now)
+            × (self.new.room + length bytes.now ≡ self.old.room)) }
+        ensures no_memory { IfErr result (λ _. self.new ≡ self.old) }
+    {
+        if bytes.len() as u64 > self.room {
+            return Err(NoMemory);
+        }
+        self.close_gap();
+        match self.bytes.extend_from_slice(bytes) {
+            Ok(()) => {
+                self.room -= bytes.len() as u64;
+                Ok(())
+            }
+            Err(_) => Err(NoMemory),
+        }
+    }
+
+    /// Drops the bytes that were taken.
+    fn close_gap(&mut self)
+        ensures { self.new ≡ self.old }
+    {
+        if self.from == 0 {
+            return;
+        }
+        let len = self.bytes.len();
+        let rest = len - self.from;
+        self.bytes.as_mut_slice().copy_within(self.from..len, 0);
+        self.bytes.truncate(rest);
+        self.from = 0;
+    }
+
+    /// Whether the next unit is there as a whole, or its parse info is, which is refused.
+    pub(crate) fn has_unit(&self) -> bool
+        ensures { IsTrue result ↔ IsWholeUnit self.now.bytes }
+    {
+        let rest = &self.bytes[self.from..];
+        if rest.len() < PARSE_INFO_LENGTH {
+            return false;
+        }
+        match read_info(&rest[..PARSE_INFO_LENGTH]) {
+            Err(_) => true,
+            Ok(info) => info.span() <= rest.len() as u64,
+        }
+    }
+}
+
+impl Source for Queue {
+    ghost held = { λ q. Some q.bytes };
+
+    ghost faults = { λ _. 0 };
+
+    ghost left = { λ q. room_of q };
+
+    ghost left_fits = { λ q. room_fits q };
+
+    ghost faults_fit = { λ _. none_fits };
+
+    fn read(&mut self, buf: &mut [u8]) -> Got {
+        let rest = &self.bytes[self.from..];
+        if rest.is_empty() {
+            return Got::End;
+        }
+        let n = buf.len().min(rest.len());
+        buf[..n].copy_from_slice(&rest[..n]);
+        self.from += n;
+        Got::Bytes(n)
+    }
+}
