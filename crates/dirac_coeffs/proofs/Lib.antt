@@ -23,3 +23,4 @@ pub mod Examples
 mod Fronts
 pub mod Going
 pub mod Largest
+pub mod Sited

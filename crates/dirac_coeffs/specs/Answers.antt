@@ -1,6 +1,7 @@
 -- What the answers of readers say.
 use Rattle.std.specs.Prelude.{◌≡◌, ⊤, ℕ, Result, Ok, Err}
 use Rattle.dirac_common.specs.declared.faults.Cause.{Cause}
+use Rattle.dirac_common.specs.declared.faults.Refusal.{Refusal}
 use Rattle.dirac_common.specs.declared.faults.Stop.{Stop}
 use Rattle.dirac_common.specs.declared.faults.Stop.TheVariants as stop
 use Rattle.dirac_coeffs.specs.declared.layout.BandLayout.{BandLayout}
@@ -19,3 +20,9 @@ GivesBlock layout at (Ok b) read =
     (b.table ≡ band_table layout b.table.values) × (read ≡ Ok (content b.table.values b.indices))
 GivesBlock layout at (Err (stop.Refused r)) read = (r.at ≡ at) × (read ≡ Err r.cause)
 GivesBlock layout at (Err stop.NoMemory) read = ⊤
+
+-- the answer is what is read; want of memory says nothing of the input
+abbrev pub GivesOrStops : {X : Type 0} → Result X Stop → Result X Refusal → Type 0
+GivesOrStops (Ok x) read = read ≡ Ok x
+GivesOrStops (Err (stop.Refused r)) read = read ≡ Err r
+GivesOrStops (Err stop.NoMemory) read = ⊤

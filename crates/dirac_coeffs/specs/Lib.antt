@@ -9,3 +9,4 @@ pub mod Grammar
 pub mod Answers
 pub mod Written
 pub mod Held
+pub mod Sites
