@@ -42,6 +42,16 @@ impl<'a> BitReader<'a> {
         }
     }
 
+    /// Another reader of the same bytes, which stands where this one stands.
+    pub fn again(&self) -> BitReader<'a>
+        ensures { result ≡ self.now }
+    {
+        BitReader {
+            bytes: self.bytes,
+            bit_place: self.bit_place,
+        }
+    }
+
     /// The number of the byte that holds the next bit, counted from the payload's first byte.
     pub fn place(&self) -> u64
         ensures value { result ≡ place self.now }

@@ -24,3 +24,4 @@ mod Fronts
 pub mod NoParent
 pub mod Going
 pub mod Largest
+pub mod Sited

@@ -1,6 +1,7 @@
 -- What the answers of readers say.
 use Rattle.std.specs.Prelude.{◌≡◌, ⊤, ℕ, Option, Some, None, Result, Ok, Err}
 use Rattle.dirac_common.specs.declared.faults.Cause.{Cause}
+use Rattle.dirac_common.specs.declared.faults.Refusal.{Refusal}
 use Rattle.dirac_common.specs.declared.faults.Stop.{Stop}
 use Rattle.dirac_common.specs.declared.faults.Stop.TheVariants as stop
 use Rattle.dirac_coeffs.specs.declared.layout.BandLayout.{BandLayout}
@@ -37,3 +38,9 @@ abbrev pub GivesNarrow : BandLayout → ℕ → Result (Option BandBlock) Stop �
 GivesNarrow layout at (Ok (Some b)) read = GivesBlock layout at (Ok b) read
 GivesNarrow layout at (Ok None) read = ⊤
 GivesNarrow layout at (Err e) read = GivesBlock layout at (Err e) read
+
+-- the answer is what is read; want of memory says nothing of the input
+abbrev pub GivesOrStops : {X : Type 0} → Result X Stop → Result X Refusal → Type 0
+GivesOrStops (Ok x) read = read ≡ Ok x
+GivesOrStops (Err (stop.Refused r)) read = read ≡ Err r
+GivesOrStops (Err stop.NoMemory) read = ⊤

@@ -10,3 +10,4 @@ pub mod Answers
 pub mod Written
 pub mod Held
 pub mod Lent
+pub mod Sites

@@ -10,4 +10,5 @@ fn are_shared() {
     is_shared::<crate::Coefficients>();
     is_shared::<crate::BandBlock>();
     is_shared::<crate::CodedBand>();
+    is_shared::<crate::Site<'_>>();
 }

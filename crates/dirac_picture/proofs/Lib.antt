@@ -12,3 +12,6 @@ pub mod Written
 pub mod Taken
 pub mod Bandwise
 pub mod Apart
+pub mod Finding
+pub mod Levels
+pub mod Chained

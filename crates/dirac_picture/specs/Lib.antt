@@ -5,3 +5,5 @@ pub mod Answers
 pub mod Written
 pub mod Writable
 pub mod Texts
+pub mod Chains
+pub mod Reading

@@ -9,6 +9,7 @@ ghost use Rattle.dirac_picture.specs.Answers.{GivesOrStops};
 ghost use Rattle.dirac_picture.specs.Grammar as grammar;
 ghost use Rattle.dirac_picture.specs.Fits.{FitsSequence, IsLayout, IsPlaneSize, HasResidual, IsResidual, IsTransform};
 ghost use Rattle.dirac_picture.specs.Fits.{NamesReferences};
+ghost use Rattle.dirac_picture.specs.Reading.{ReadsPlanes};
 
 use crate::coded::{CodedPicture, CodedResidual};
 use crate::motion::read_motion;
@@ -42,19 +43,51 @@ pub fn read_picture(
     // Each reference that its header names is listed.
     ensures listed { IfOk result (λ p. IsTrue (grammar.are_listed refs.now p.header)) }
 {
+    read_picture_by(&read_planes, alloc, payload, code, sequence, refs)
+}
+
+/// Reads the payload of a picture, as `read_picture`, where the subbands of its planes are read by `planes`.
+pub fn read_picture_by<
+    F: Fn(Global, &mut BitReader<'_>, Transform, &Sequence) -> Result<CodedResidual, Stop>,
+>(
+    planes: &F,
+    alloc: Global,
+    payload: &[u8],
+    code: u8,
+    sequence: &Sequence,
+    refs: &RefBuffer,
+) -> Result<CodedPicture, Stop>
+    requires planes { ReadsPlanes (F.pre planes.now) (F.post planes.now) }
+    requires code { IsTrue (grammar.is_picture code) }
+    requires sequence { IsSequence sequence.now }
+    ensures value { GivesOrStops result (grammar.picture_read code sequence.now refs.now payload.now) }
+    // What is answered is spelled by the payload's first bits.
+    ensures spelled { IfOk result (λ p. StartsWith (grammar.picture code sequence.now refs.now) p payload.now) }
+    // What its first bits spell is answered.
+    ensures no_other_reading { (p : ThePicture) → StartsWith (grammar.picture code sequence.now refs.now) p payload.now
+        → GivesOrStops result (Ok p) }
+    ensures place_inside { IfErr result (IsEarly (length payload.now)) }
+    ensures fits { IfOk result (FitsSequence code sequence.now) }
+    // Each reference that its header names is listed.
+    ensures listed { IfOk result (λ p. IsTrue (grammar.are_listed refs.now p.header)) }
+{
     let mut r = BitReader::new(payload);
-    read_fields(alloc, &mut r, code, sequence, refs)
+    read_fields(planes, alloc, &mut r, code, sequence, refs)
 }
 
 /// Reads the fields of a picture.
 #[tactic(auto, unfolding(crate::specs::Grammar::picture), using(dirac_bits::specs::Then::read_then))]
-fn read_fields(
+fn read_fields<
+    F: Fn(Global, &mut BitReader<'_>, Transform, &Sequence) -> Result<CodedResidual, Stop>,
+>(
+    planes: &F,
     alloc: Global,
     r: &mut BitReader<'_>,
     code: u8,
     sequence: &Sequence,
     refs: &RefBuffer,
 ) -> Result<CodedPicture, Stop>
+    requires planes { ReadsPlanes (F.pre planes.now) (F.post planes.now) }
     requires code { IsTrue (grammar.is_picture code) }
     requires sequence { IsSequence sequence.now }
     ensures value { ReadsOrStops result r.new (read (grammar.picture code sequence.now refs.now) r.old) }
@@ -69,7 +102,7 @@ fn read_fields(
             cause: Cause::MissingReference,
         }));
     }
-    read_body(alloc, r, code, sequence, header)
+    read_body(planes, alloc, r, code, sequence, header)
 }
 
 /// Whether each reference that a header names is listed.
@@ -81,13 +114,17 @@ pub fn are_listed(refs: &RefBuffer, header: &PictureHeader) -> bool
 
 /// Reads the fields behind a picture's header.
 #[tactic(auto, unfolding(crate::specs::Grammar::body), using(dirac_bits::specs::Then::read_then))]
-fn read_body(
+fn read_body<
+    F: Fn(Global, &mut BitReader<'_>, Transform, &Sequence) -> Result<CodedResidual, Stop>,
+>(
+    planes: &F,
     alloc: Global,
     r: &mut BitReader<'_>,
     code: u8,
     sequence: &Sequence,
     header: PictureHeader,
 ) -> Result<CodedPicture, Stop>
+    requires planes { ReadsPlanes (F.pre planes.now) (F.post planes.now) }
     requires code { IsTrue (grammar.is_picture code) }
     requires sequence { IsSequence sequence.now }
     requires header { NamesReferences code header }
@@ -100,7 +137,7 @@ fn read_body(
     let motion = read_motion(alloc, r, code, sequence)?;
     r.align();
     let zero = read_zero_residual(r, code)?;
-    let residual = read_residual_unless(alloc, r, code, zero, sequence)?;
+    let residual = read_residual_unless(planes, alloc, r, code, zero, sequence)?;
     Ok(CodedPicture {
         code,
         header,
@@ -125,13 +162,17 @@ fn read_zero_residual(r: &mut BitReader<'_>, code: u8) -> Result<bool, Refusal>
 
 /// Reads the residual, where it isn't 0.
 #[tactic(auto, unfolding(crate::specs::Grammar::residual_unless), using(dirac_bits::specs::Then::read_then))]
-fn read_residual_unless(
+fn read_residual_unless<
+    F: Fn(Global, &mut BitReader<'_>, Transform, &Sequence) -> Result<CodedResidual, Stop>,
+>(
+    planes: &F,
     alloc: Global,
     r: &mut BitReader<'_>,
     code: u8,
     zero: bool,
     sequence: &Sequence,
 ) -> Result<Option<CodedResidual>, Stop>
+    requires planes { ReadsPlanes (F.pre planes.now) (F.post planes.now) }
     requires inter { zero ≡ true → grammar.is_intra code ≡ false }
     requires sequence { IsSequence sequence.now }
     ensures value { ReadsOrStops result r.new (read (grammar.residual_unless zero sequence.now) r.old) }
@@ -142,17 +183,21 @@ fn read_residual_unless(
     if zero {
         return Ok(None);
     }
-    let residual = read_residual(alloc, r, sequence)?;
+    let residual = read_residual(planes, alloc, r, sequence)?;
     Ok(Some(residual))
 }
 
 /// Reads the transform parameters and the subbands.
 #[tactic(auto, unfolding(crate::specs::Grammar::residual), using(dirac_bits::specs::Then::read_then))]
-fn read_residual(
+fn read_residual<
+    F: Fn(Global, &mut BitReader<'_>, Transform, &Sequence) -> Result<CodedResidual, Stop>,
+>(
+    planes: &F,
     alloc: Global,
     r: &mut BitReader<'_>,
     sequence: &Sequence,
 ) -> Result<CodedResidual, Stop>
+    requires planes { ReadsPlanes (F.pre planes.now) (F.post planes.now) }
     requires sequence { IsSequence sequence.now }
     ensures value { ReadsOrStops result r.new (read (grammar.residual sequence.now) r.old) }
     ensures place_inside { IfErr result (IsEarly (length r.old.bytes)) }
@@ -160,12 +205,35 @@ fn read_residual(
     ensures fits { IfOk result (IsResidual sequence.now) }
 {
     let transform = read_transform(r, sequence.width, sequence.picture_height())?;
-    read_planes(alloc, r, transform, sequence)
+    planes_by(planes, alloc, r, transform, sequence)
 }
 
-/// Reads the subbands of the three planes.
+/// The subbands of the three planes, read by `planes`.
+fn planes_by<
+    F: Fn(Global, &mut BitReader<'_>, Transform, &Sequence) -> Result<CodedResidual, Stop>,
+>(
+    planes: &F,
+    alloc: Global,
+    r: &mut BitReader<'_>,
+    transform: Transform,
+    sequence: &Sequence,
+) -> Result<CodedResidual, Stop>
+    requires planes { ReadsPlanes (F.pre planes.now) (F.post planes.now) }
+    requires transform { IsTransform sequence.now.width (picture_height sequence.now) transform }
+    requires layout { IsLayout transform }
+    requires luma { IsPlaneSize sequence.now.width (picture_height sequence.now) }
+    requires chroma { IsPlaneSize (chroma_width sequence.now) (chroma_height sequence.now) }
+    ensures value { ReadsOrStops result r.new (read (grammar.planes sequence.now transform) r.old) }
+    ensures place_inside { IfErr result (IsEarly (length r.old.bytes)) }
+    ensures kept { r.new.bytes ≡ r.old.bytes }
+    ensures fits { IfOk result (IsResidual sequence.now) }
+{
+    planes(alloc, r, transform, sequence)
+}
+
+/// Reads the subbands of the three planes, one after another.
 #[tactic(auto, unfolding(crate::specs::Grammar::planes), using(dirac_bits::specs::Then::read_then))]
-fn read_planes(
+pub fn read_planes(
     alloc: Global,
     r: &mut BitReader<'_>,
     transform: Transform,

@@ -33,6 +33,13 @@ impl PlaneBands {
         }
     }
 
+    /// These bands.
+    pub(crate) fn of(list: Vec<CodedBand>) -> PlaneBands
+        ensures { result ≡ list.items }
+    {
+        PlaneBands { list }
+    }
+
     /// Gives the list back.
     pub fn into_list(self) -> Vec<CodedBand>
         ensures { result.items ≡ self }

@@ -10,4 +10,6 @@ fn are_shared() {
     is_shared::<crate::CodedMotion>();
     is_shared::<crate::CodedPicture>();
     is_shared::<crate::Texts>();
+    is_shared::<crate::Chain>();
+    is_shared::<crate::FoundPlanes<'_>>();
 }

@@ -5,15 +5,15 @@ use Rattle.dirac_picture.specs.Fits.{IsTransform}
 use Rattle.dirac_picture.proofs.Lawful.{layout_lawful, transform_lawful}
 use Rattle.dirac_picture.proofs.picture.read_residual.Goals as goal
 
-pub read_planes-requires-clause-transform : goal.read_planes-requires-clause-transform
-read_planes-requires-clause-transform c =
+pub planes_by-requires-clause-transform : goal.planes_by-requires-clause-transform
+planes_by-requires-clause-transform g c =
     let s = c.args.sequence.now in
     let size = picture_size s c.requires.sequence in
     transform_lawful s.width (picture_height s) c.args.r.now c.read_transform.new.r c.in_ok-transform.transform size.0 size.2
     c.in_ok-transform.ensures.wavelet c.in_ok-transform.ensures.depth c.in_ok-transform.ensures.levels c.in_ok-transform.ensures.mode (rw c.picture_height.ensures at c.in_ok-transform.ensures.value)
 
-pub read_planes-requires-clause-layout : goal.read_planes-requires-clause-layout
-read_planes-requires-clause-layout c =
+pub planes_by-requires-clause-layout : goal.planes_by-requires-clause-layout
+planes_by-requires-clause-layout g c =
     let s = c.args.sequence.now in
     let size = picture_size s c.requires.sequence in
     let high : picture_height s ≤ 4096 = omega (arith, size.3) in

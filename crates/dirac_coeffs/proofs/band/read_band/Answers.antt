@@ -1,0 +1,11 @@
+use Rattle.dirac_coeffs.specs.Grammar.{values_of_parent}
+use Rattle.dirac_coeffs.proofs.Sited.{band_reads, band_refused}
+use Rattle.dirac_coeffs.proofs.band.read_band.Goals as goal
+
+pub returns-in-Ok-clause-value : goal.returns-in-Ok-clause-value
+returns-in-Ok-clause-value c =
+    band_reads c.args.layout (values_of_parent c.args.parent) c.args.r.now c.find_site.new.r c.in-Ok.site c.read_at.result c.in-Ok.ensures.value c.read_at.ensures.value
+
+pub returns-in-Err-clause-value : goal.returns-in-Err-clause-value
+returns-in-Err-clause-value c =
+    band_refused c.args.layout (values_of_parent c.args.parent) c.args.r.now c.in-Err.refusal c.in-Err.ensures.value

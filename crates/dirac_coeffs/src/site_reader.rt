@@ -1,0 +1,68 @@
+ghost use Rattle.std.specs.Prelude.{◌≡◌, IfOk, IfSome};
+ghost use Rattle.std.specs.Option.{ForSome};
+ghost use Rattle.dirac_common.specs.Limits.{IsIndex};
+ghost use Rattle.dirac_coeffs.specs.Answers.{GivesOrStops};
+ghost use Rattle.dirac_coeffs.specs.Grammar.{values_of_parent, IsParentOf, IsCodedBand};
+ghost use Rattle.dirac_coeffs.specs.Layouts.{IsBandLayout};
+ghost use Rattle.dirac_coeffs.specs.Sites.{band_at, coded_at};
+
+use crate::block::read_block;
+use crate::coefficients::Coefficients;
+use crate::indices::equal_indices;
+use crate::layout::{BandLayout, CodedBand};
+use crate::site::Site;
+use dirac_common::Stop;
+use std::alloc::Global;
+
+/// Reads a subband of which something is coded.
+fn read_coded_at(
+    alloc: Global,
+    site: &Site<'_>,
+    layout: BandLayout,
+    parent: &[i64],
+) -> Result<CodedBand, Stop>
+    requires layout { IsBandLayout layout }
+    requires index { IsIndex site.now.index }
+    ensures value { GivesOrStops result (coded_at layout parent.now site.now) }
+    ensures lawful { IfOk result (IsCodedBand layout) }
+{
+    let index = site.index();
+    let read = read_block(alloc, site.block(), site.at(), layout, parent, index)?;
+    Ok(CodedBand {
+        index,
+        indices: read.indices,
+        table: read.table,
+    })
+}
+
+/// Reads the subband whose block was found, as `read_band` reads it there; so subbands that aren't parents of one
+/// another may be read in any order, or side by side. `parent` is that of `read_band`.
+pub fn read_at(
+    alloc: Global,
+    site: &Option<Site<'_>>,
+    layout: BandLayout,
+    parent: Option<&Coefficients>,
+) -> Result<CodedBand, Stop>
+    requires layout { IsBandLayout layout }
+    requires index { IfSome site.now (λ s. IsIndex s.index) }
+    requires parent { ForSome parent (IsParentOf layout) }
+    ensures value { GivesOrStops result (band_at layout (values_of_parent parent.entry) site.now) }
+    ensures lawful { IfOk result (IsCodedBand layout) }
+{
+    let Some(found) = site else {
+        let indices = equal_indices(alloc, layout, 0)?;
+        let table = Coefficients::zeros(layout.width, layout.height);
+        return Ok(CodedBand {
+            index: 0,
+            indices,
+            table,
+        });
+    };
+    match parent {
+        Some(table) => {
+            let wide = table.try_wide(alloc)?;
+            read_coded_at(alloc, found, layout, wide.values())
+        }
+        None => read_coded_at(alloc, found, layout, &[]),
+    }
+}
