@@ -55,14 +55,11 @@ pub record IsPopped (popped : Option Picture) (old new : StreamState) : Type 0 w
   pub fewer : length new.waiting + length (option_to_list popped) ≡ length old.waiting
   pub none : popped ≡ None → length old.waiting ≡ 0
 
--- a picture was read and rebuilt, or refused
-abbrev pub IsRebuilt : Result Rebuilt Stop → Result CodedPicture Refusal → Sequence → List Picture → Type 0
-IsRebuilt (Ok r) read s refs =
-    (read ≡ Ok r.coded)
-    × (r.picture ≡ rebuilt s refs r.coded)
-    × (r.reference ≡ as_reference r.coded.code r.picture)
-IsRebuilt (Err (stop.Refused refusal)) read s refs = read ≡ Err refusal
-IsRebuilt (Err stop.NoMemory) read s refs = ⊤
+-- a coded picture was rebuilt
+pub record IsRebuilt (s : Sequence) (refs : List Picture) (coded : CodedPicture) (r : Rebuilt) : Type 0 where
+  pub same : r.coded ≡ coded
+  pub picture : r.picture ≡ rebuilt s refs r.coded
+  pub reference : r.reference ≡ as_reference r.coded.code r.picture
 
 -- the open sequence can be read, and all listed pictures are of it; without one none is listed
 abbrev pub IsOpen : Option Opened → List Picture → Type 0

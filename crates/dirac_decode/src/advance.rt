@@ -3,15 +3,18 @@ ghost use Rattle.std.specs.Option.{option_to_list};
 ghost use Rattle.std.specs.Io.KnownBytes.{IsAtEnd};
 ghost use Rattle.dirac_io.specs.Faults.{Rose};
 ghost use Rattle.dirac_refs.specs.Delivery.{flushed};
+ghost use Rattle.dirac_picture.specs.Reading.{ReadsPlanes};
 ghost use Rattle.dirac_decode.specs.Decoding.{due_of};
 ghost use Rattle.dirac_decode.specs.Advancing.{Advances, AdvancesBefore, GoesOn, Settles, shown_by};
 ghost use Rattle.dirac_decode.specs.Rebuilding.{Rebuilds};
 
 use crate::state::State;
 use crate::step::{Halt, Step};
+use dirac_bits::BitReader;
 use dirac_common::{Fault, NoMemory, Picture, Stop};
+use dirac_header::Transform;
 use dirac_io::Source;
-use dirac_picture::CodedPicture;
+use dirac_picture::{CodedPicture, CodedResidual};
 use dirac_refs::RefBuffer;
 use dirac_sequence_header::Sequence;
 use dirac_units::{StreamEnd, UnitStep, Units};
@@ -20,14 +23,17 @@ use std::alloc::Global;
 /// Takes the next unit of a stream.
 pub(crate) fn advance_by_unit<
     S: Source,
+    P: Fn(Global, &mut BitReader<'_>, Transform, &Sequence) -> Result<CodedResidual, Stop>,
     F: Fn(Global, &CodedPicture, &Sequence, &RefBuffer) -> Result<Picture, NoMemory>,
 >(
+    planes: &P,
     make: &F,
     alloc: Global,
     units: &mut Units,
     state: &mut State,
     source: &mut S,
 ) -> Result<Step, Halt>
+    requires reads { ReadsPlanes (P.pre planes.now) (P.post planes.now) }
     requires rebuilds { Rebuilds (F.pre make.now) (F.post make.now) }
     requires going { units.old.stream_end ≡ StreamEnd.Going }
     requires no_overflow { units.old.unit_place.at + length units.old.ahead + S.left source.old < 2 ^ 63 }
@@ -54,7 +60,7 @@ pub(crate) fn advance_by_unit<
         UnitStep::NoMemory => return Err(Halt::NoMemory),
         UnitStep::Stopped => unreachable!(),
     };
-    match state.take(make, alloc, unit.info.code, unit.payload) {
+    match state.take(planes, make, alloc, unit.info.code, unit.payload) {
         Ok(step) => Ok(step),
         Err(Stop::NoMemory) => Err(Halt::NoMemory),
         Err(Stop::Refused(refusal)) => Err(Halt::Fault(Fault {

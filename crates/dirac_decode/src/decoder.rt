@@ -1,6 +1,7 @@
 ghost use Rattle.std.specs.Prelude.{◌≡◌, ℕ, ◌+◌, ◌<◌, ◌≤◌, ◌^◌, [], length, Option};
 ghost use Rattle.std.specs.Io.KnownBytes.{IsAtEnd};
 ghost use Rattle.dirac_io.specs.Faults.{Rose};
+ghost use Rattle.dirac_picture.specs.Reading.{ReadsPlanes};
 ghost use Rattle.dirac_decode.specs.Decoding.{begun, tally, Answers, Gives};
 ghost use Rattle.dirac_decode.specs.Rebuilding.{Rebuilds};
 
@@ -8,12 +9,15 @@ mod stepping;
 
 use crate::advance::{advance_by_unit, next_due};
 use crate::answers::{Next, Tally};
+use crate::in_turn::read_in_turn;
 use crate::picture::rebuild;
 use crate::state::State;
 use crate::step::{Halt, Step};
-use dirac_common::{NoMemory, Picture};
+use dirac_bits::BitReader;
+use dirac_common::{NoMemory, Picture, Stop};
+use dirac_header::Transform;
 use dirac_io::Source;
-use dirac_picture::CodedPicture;
+use dirac_picture::{CodedPicture, CodedResidual};
 use dirac_refs::{MOST_REFERENCES, RefBuffer};
 use dirac_sequence_header::Sequence;
 use dirac_units::{StreamEnd, Units};
@@ -98,14 +102,17 @@ impl Decoder {
             ≤ self.old.units.unit_place.at + length self.old.units.ahead + S.left source.old }
     {
         self.state.keep_halves();
-        self.next_picture_by(&rebuild, source)
+        self.next_picture_by(&read_in_turn, &rebuild, source)
     }
 
-    /// The next picture of the stream, as `next_picture`, where pictures are rebuilt by `make`.
+    /// The next picture of the stream, as `next_picture`, where the subbands of planes are read by `planes`, and
+    /// pictures are rebuilt by `make`.
     pub fn next_picture_by<
         S: Source,
+        P: Fn(Global, &mut BitReader<'_>, Transform, &Sequence) -> Result<CodedResidual, Stop>,
         F: Fn(Global, &CodedPicture, &Sequence, &RefBuffer) -> Result<Picture, NoMemory>,
-    >(&mut self, make: &F, source: &mut S) -> Next
+    >(&mut self, planes: &P, make: &F, source: &mut S) -> Next
+        requires reads { ReadsPlanes (P.pre planes.now) (P.post planes.now) }
         requires rebuilds { Rebuilds (F.pre make.now) (F.post make.now) }
         requires no_overflow { self.old.units.unit_place.at + length self.old.units.ahead + S.left source.old < 2 ^ 63 }
         ensures gives { Gives result self.old self.new (S.held source.old) (S.held source.new) }
@@ -139,7 +146,14 @@ impl Decoder {
                 StreamEnd::Faulted(fault) => return Next::Fault(fault),
                 StreamEnd::Stopped => return Next::Stopped,
             }
-            match advance_by_unit(make, self.alloc, &mut self.units, &mut self.state, source) {
+            match advance_by_unit(
+                planes,
+                make,
+                self.alloc,
+                &mut self.units,
+                &mut self.state,
+                source,
+            ) {
                 Ok(Step::On) => {}
                 Ok(Step::Shown(picture)) => {
                     self.given += 1;

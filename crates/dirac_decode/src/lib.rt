@@ -7,6 +7,7 @@ mod advance;
 mod answers;
 mod compensate;
 mod decoder;
+mod in_turn;
 mod laws;
 mod opened;
 mod picture;

@@ -5,20 +5,20 @@ ghost use Rattle.dirac_common.specs.declared.formats.Kind.TheVariants.{Inter};
 ghost use Rattle.dirac_sequence_header.specs.Lawful.{IsSequence};
 ghost use Rattle.dirac_refs.specs.Halves.{CanBeDoubled};
 ghost use Rattle.dirac_picture.specs.Fits.{FitsSequence, IsMotion, IsResidual, NamesReferences};
-ghost use Rattle.dirac_picture.specs.Grammar.{is_picture, picture_read};
+ghost use Rattle.dirac_picture.specs.Grammar.{are_listed};
 ghost use Rattle.dirac_synthesis.specs.Residual.{clipped as clipped_table, with_prediction};
 ghost use Rattle.dirac_decode.specs.Content as content;
 ghost use Rattle.dirac_decode.specs.Content.{AreReferences, IsPicture, rebuilt};
 ghost use Rattle.dirac_decode.specs.Predicting.{inter_picture, inter_plane, intra_picture};
 ghost use Rattle.dirac_decode.specs.Moved.{IsMoved};
 ghost use Rattle.dirac_decode.specs.Rebuilding.{CanBeRebuilt, Rebuilds};
-ghost use Rattle.dirac_decode.specs.Taking.{IfStopped, IsRebuilt};
+ghost use Rattle.dirac_decode.specs.Taking.{IsRebuilt};
 
 use crate::compensate::{Moved, named_reference, predict_from};
 use crate::planes::residual_of;
-use dirac_common::{Kind, NoMemory, Picture, Plane, Stop};
+use dirac_common::{Kind, NoMemory, Picture, Plane};
 use dirac_obmc::Component;
-use dirac_picture::{CodedMotion, CodedPicture, CodedResidual, read_picture};
+use dirac_picture::{CodedMotion, CodedPicture, CodedResidual};
 use dirac_refs::{RefBuffer, Reference, reference_of};
 use dirac_sequence_header::Sequence;
 use dirac_synthesis::{clipped, clipped_sum};
@@ -223,29 +223,26 @@ fn keep_halves(keeps: bool, alloc: Global, coded: &CodedPicture, refs: &mut RefB
     }
 }
 
-/// Reads a picture's payload and rebuilds the picture. Where half samples are kept, those of its references are made
-/// before.
+/// Rebuilds a picture. Where half samples are kept, those of its references are made before.
 pub(crate) fn make_picture<
     F: Fn(Global, &CodedPicture, &Sequence, &RefBuffer) -> Result<Picture, NoMemory>,
 >(
     make: &F,
     alloc: Global,
-    payload: &[u8],
-    code: u8,
+    coded: CodedPicture,
     sequence: &Sequence,
     keeps: bool,
     refs: &mut RefBuffer,
-) -> Result<Rebuilt, Stop>
+) -> Result<Rebuilt, NoMemory>
     requires rebuilds { Rebuilds (F.pre make.now) (F.post make.now) }
-    requires code { IsTrue (is_picture code) }
     requires sequence { IsSequence sequence.now }
+    requires fits { FitsSequence coded.code sequence.now coded }
+    requires listed { IsTrue (are_listed refs.old coded.header) }
     requires refs { All (IsPicture sequence.now) refs.old }
-    ensures value { IsRebuilt result (picture_read code sequence.now refs.old payload.now) sequence.now refs.old }
+    ensures value { IfOk result (IsRebuilt sequence.now refs.old coded) }
     ensures fits { IfOk result (λ r. IsPicture sequence.now r.picture) }
-    ensures place_inside { IfErr result (λ e. IfStopped e (λ r. r.at ≤ length payload.now)) }
     ensures kept { refs.new ≡ refs.old }
 {
-    let coded = read_picture(alloc, payload, code, sequence, refs)?;
     keep_halves(keeps, alloc, &coded, refs);
     let picture = rebuilt_by(make, alloc, &coded, sequence, refs)?;
     let reference = reference_of(alloc, coded.code, &picture)?;

@@ -1,5 +1,6 @@
 ghost use Rattle.std.specs.Prelude.{◌≡◌, ℕ, ◌+◌, ◌<◌, ◌≤◌, ◌^◌, length, IfErr, IsTrue, Ok, Option};
 ghost use Rattle.dirac_picture.specs.Grammar.{is_picture};
+ghost use Rattle.dirac_picture.specs.Reading.{ReadsPlanes};
 ghost use Rattle.dirac_decode.specs.Rebuilding.{Rebuilds};
 ghost use Rattle.dirac_decode.specs.StreamState.{as_reference, begun, header_step, in_unit, is_same as same_header};
 ghost use Rattle.dirac_decode.specs.StreamState.{first_or as first_of, unit_step, passed, picture_step, shows};
@@ -9,8 +10,10 @@ ghost use Rattle.dirac_decode.specs.Taking.{Fewer, IfStopped, IsOfOpen, IsPopped
 use crate::opened::Opened;
 use crate::picture::{Rebuilt, make_picture};
 use crate::step::Step;
+use dirac_bits::BitReader;
 use dirac_common::{Cause, END_OF_SEQUENCE, NoMemory, Picture, Refusal, SEQUENCE_HEADER, Stop};
-use dirac_picture::CodedPicture;
+use dirac_header::Transform;
+use dirac_picture::{CodedPicture, CodedResidual, read_picture_by};
 use dirac_refs::{Delivery, MOST_REFERENCES, RefBuffer, key};
 use dirac_sequence_header::{Sequence, read_sequence};
 use dirac_units::{PARSE_INFO_LENGTH, Payload, fields_are_read};
@@ -97,8 +100,17 @@ impl State {
     /// Takes the content of a unit with this parse code.
     #[tactic(auto, unfolding(crate::specs::StreamState::unit_step))]
     pub(crate) fn take<
+        P: Fn(Global, &mut BitReader<'_>, Transform, &Sequence) -> Result<CodedResidual, Stop>,
         F: Fn(Global, &CodedPicture, &Sequence, &RefBuffer) -> Result<Picture, NoMemory>,
-    >(&mut self, make: &F, alloc: Global, code: u8, payload: Payload) -> Result<Step, Stop>
+    >(
+        &mut self,
+        planes: &P,
+        make: &F,
+        alloc: Global,
+        code: u8,
+        payload: Payload,
+    ) -> Result<Step, Stop>
+        requires reads { ReadsPlanes (P.pre planes.now) (P.post planes.now) }
         requires rebuilds { Rebuilds (F.pre make.now) (F.post make.now) }
         requires below_2_63 { length payload < 2 ^ 63 }
         ensures took { IsTook result (unit_step self.old code payload) self.old self.new }
@@ -112,7 +124,7 @@ impl State {
         if code == SEQUENCE_HEADER {
             self.take_header(payload)
         } else {
-            self.take_picture(make, alloc, code, payload.bytes())
+            self.take_picture(planes, make, alloc, code, payload.bytes())
         }
     }
 
@@ -163,8 +175,17 @@ impl State {
 
     /// Reads and rebuilds a picture of the open sequence.
     fn take_picture<
+        P: Fn(Global, &mut BitReader<'_>, Transform, &Sequence) -> Result<CodedResidual, Stop>,
         F: Fn(Global, &CodedPicture, &Sequence, &RefBuffer) -> Result<Picture, NoMemory>,
-    >(&mut self, make: &F, alloc: Global, code: u8, payload: &[u8]) -> Result<Step, Stop>
+    >(
+        &mut self,
+        planes: &P,
+        make: &F,
+        alloc: Global,
+        code: u8,
+        payload: &[u8],
+    ) -> Result<Step, Stop>
+        requires reads { ReadsPlanes (P.pre planes.now) (P.post planes.now) }
         requires rebuilds { Rebuilds (F.pre make.now) (F.post make.now) }
         requires code { IsTrue (is_picture code) }
         requires below_2_63 { length payload.now < 2 ^ 63 }
@@ -179,17 +200,14 @@ impl State {
                 cause: Cause::NoSequence,
             }));
         };
-        match make_picture(
-            make,
-            alloc,
-            payload,
-            code,
-            &opened.sequence,
-            self.keeps,
-            &mut self.refs,
-        ) {
-            Err(Stop::Refused(refusal)) => Err(Stop::Refused(behind_parse_info(refusal))),
-            Err(Stop::NoMemory) => Err(Stop::NoMemory),
+        let sequence = &opened.sequence;
+        let coded = match read_picture_by(planes, alloc, payload, code, sequence, &self.refs) {
+            Err(Stop::Refused(refusal)) => return Err(Stop::Refused(behind_parse_info(refusal))),
+            Err(Stop::NoMemory) => return Err(Stop::NoMemory),
+            Ok(coded) => coded,
+        };
+        match make_picture(make, alloc, coded, sequence, self.keeps, &mut self.refs) {
+            Err(NoMemory) => Err(Stop::NoMemory),
             Ok(made) => Ok(self.show(made)),
         }
     }

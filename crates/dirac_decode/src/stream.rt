@@ -1,17 +1,21 @@
 ghost use Rattle.std.specs.Prelude.{◌≡◌, ◌≤◌, IfSome};
 ghost use Rattle.std.specs.Io.KnownBytes.{IsAtEnd};
 ghost use Rattle.dirac_io.specs.Faults.{Rose};
+ghost use Rattle.dirac_picture.specs.Reading.{ReadsPlanes};
 ghost use Rattle.dirac_decode.specs.Decoding.{begun};
 ghost use Rattle.dirac_decode.specs.Decoded.{IfDone, IfTally, IsDecoded};
 ghost use Rattle.dirac_decode.specs.Rebuilding.{Rebuilds};
 
 use crate::answers::{Decoded, Next};
 use crate::decoder::Decoder;
+use crate::in_turn::read_in_turn;
 use crate::picture::rebuild;
 use crate::written::put_picture;
-use dirac_common::{NoMemory, Picture};
+use dirac_bits::BitReader;
+use dirac_common::{NoMemory, Picture, Stop};
+use dirac_header::Transform;
 use dirac_io::{Put, Sink, Source};
-use dirac_picture::CodedPicture;
+use dirac_picture::{CodedPicture, CodedResidual};
 use dirac_refs::{MOST_REFERENCES, RefBuffer};
 use dirac_sequence_header::Sequence;
 use std::alloc::Global;
@@ -28,16 +32,19 @@ pub fn decode_stream<S: Source, K: Sink>(alloc: Global, source: &mut S, out: &mu
 {
     let mut decoder = Decoder::keeping(alloc);
     let mut row = Vec::new(alloc);
-    write_pictures(&rebuild, &mut decoder, &mut row, source, out)
+    write_pictures(&read_in_turn, &rebuild, &mut decoder, &mut row, source, out)
 }
 
-/// Decodes a whole stream, as `decode_stream`, where pictures are rebuilt by `make`.
+/// Decodes a whole stream, as `decode_stream`, where the subbands of planes are read by `planes`, and pictures are
+/// rebuilt by `make`.
 pub fn decode_stream_by<
     S: Source,
     K: Sink,
+    P: Fn(Global, &mut BitReader<'_>, Transform, &Sequence) -> Result<CodedResidual, Stop>,
     F: Fn(Global, &CodedPicture, &Sequence, &RefBuffer) -> Result<Picture, NoMemory>,
->(make: &F, alloc: Global, source: &mut S, out: &mut K) -> Decoded
-    requires { Rebuilds (F.pre make.now) (F.post make.now) }
+>(planes: &P, make: &F, alloc: Global, source: &mut S, out: &mut K) -> Decoded
+    requires reads { ReadsPlanes (P.pre planes.now) (P.post planes.now) }
+    requires rebuilds { Rebuilds (F.pre make.now) (F.post make.now) }
     ensures decoded { IfSome (S.held source.old) (λ bytes. IsDecoded bytes result (K.taken out.old) (K.taken out.new)) }
     ensures whole { IfDone result (IsAtEnd (S.held source.new)) }
     ensures at_most_8_references { IfTally result (λ tally. tally.references ≤ MOST_REFERENCES) }
@@ -48,15 +55,24 @@ pub fn decode_stream_by<
 {
     let mut decoder = Decoder::new(alloc);
     let mut row = Vec::new(alloc);
-    write_pictures(make, &mut decoder, &mut row, source, out)
+    write_pictures(planes, make, &mut decoder, &mut row, source, out)
 }
 
 /// Writes the pictures of a stream that a new decoder gives; `row` is a buffer for the bytes of a plane.
 fn write_pictures<
     S: Source,
     K: Sink,
+    P: Fn(Global, &mut BitReader<'_>, Transform, &Sequence) -> Result<CodedResidual, Stop>,
     F: Fn(Global, &CodedPicture, &Sequence, &RefBuffer) -> Result<Picture, NoMemory>,
->(make: &F, decoder: &mut Decoder, row: &mut Vec<u8>, source: &mut S, out: &mut K) -> Decoded
+>(
+    planes: &P,
+    make: &F,
+    decoder: &mut Decoder,
+    row: &mut Vec<u8>,
+    source: &mut S,
+    out: &mut K,
+) -> Decoded
+    requires reads { ReadsPlanes (P.pre planes.now) (P.post planes.now) }
     requires rebuilds { Rebuilds (F.pre make.now) (F.post make.now) }
     requires new { decoder.old ≡ begun }
     ensures decoded { IfSome (S.held source.old) (λ bytes. IsDecoded bytes result (K.taken out.old) (K.taken out.new)) }
@@ -68,7 +84,7 @@ fn write_pictures<
     ensures writes { K.faults out.old ≤ K.faults out.new }
 {
     'pictures: loop {
-        match decoder.next_picture_by(make, source) {
+        match decoder.next_picture_by(planes, make, source) {
             Next::Shown(picture) => match put_picture(out, &picture, row) {
                 Put::All => {}
                 Put::Failed => return Decoded::WriteFault,

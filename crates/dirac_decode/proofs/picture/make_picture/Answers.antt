@@ -1,5 +1,4 @@
-use Rattle.std.proofs.Common.{ℕ, List, subst, sym}
-use Rattle.dirac_picture.specs.Fits.{FitsSequence}
+use Rattle.std.proofs.Common.{List, subst, sym}
 use Rattle.dirac_common.specs.declared.picture.Picture.{Picture}
 use Rattle.dirac_decode.specs.Content.{AreReferences}
 use Rattle.dirac_decode.proofs.Doubling.{references_doubled}
@@ -12,7 +11,7 @@ keep_halves-requires g c = references_doubled c.args.sequence.now c.args.refs.no
 pub rebuilt_by-requires-clause-can_be_rebuilt : goal.rebuilt_by-requires-clause-can_be_rebuilt
 rebuilt_by-requires-clause-can_be_rebuilt g c = (
   c.requires.sequence,
-  subst (λ (code : ℕ). FitsSequence code c.args.sequence.now c.in_ok-coded.coded) (sym c.in_ok-coded.ensures.fits.same_code) c.in_ok-coded.ensures.fits,
-  subst (λ (refs : List Picture). AreReferences c.args.sequence.now refs c.in_ok-coded.coded.header) (sym c.keep_halves.ensures)
-      (references_fit c.args.sequence.now c.args.refs.now c.in_ok-coded.coded.header c.in_ok-coded.ensures.listed c.requires.refs),
+  c.requires.fits,
+  subst (λ (refs : List Picture). AreReferences c.args.sequence.now refs c.args.coded.header) (sym c.keep_halves.ensures)
+      (references_fit c.args.sequence.now c.args.refs.now c.args.coded.header c.requires.listed c.requires.refs),
 )
