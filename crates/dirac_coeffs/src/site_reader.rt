@@ -4,12 +4,14 @@ ghost use Rattle.dirac_common.specs.Limits.{IsIndex};
 ghost use Rattle.dirac_coeffs.specs.Answers.{GivesOrStops};
 ghost use Rattle.dirac_coeffs.specs.Grammar.{values_of_parent, IsParentOf, IsCodedBand};
 ghost use Rattle.dirac_coeffs.specs.Layouts.{IsBandLayout};
+ghost use Rattle.dirac_coeffs.specs.Lent.{numbers_in};
 ghost use Rattle.dirac_coeffs.specs.Sites.{band_at, coded_at};
 
-use crate::block::read_block;
+use crate::block::read_below;
 use crate::coefficients::Coefficients;
 use crate::indices::equal_indices;
 use crate::layout::{BandLayout, CodedBand};
+use crate::numbers::Numbers;
 use crate::site::Site;
 use dirac_common::Stop;
 use std::alloc::Global;
@@ -19,15 +21,15 @@ fn read_coded_at(
     alloc: Global,
     site: &Site<'_>,
     layout: BandLayout,
-    parent: &[i64],
+    parent: Numbers<'_>,
 ) -> Result<CodedBand, Stop>
     requires layout { IsBandLayout layout }
     requires index { IsIndex site.now.index }
-    ensures value { GivesOrStops result (coded_at layout parent.now site.now) }
+    ensures value { GivesOrStops result (coded_at layout (numbers_in parent.entry) site.now) }
     ensures lawful { IfOk result (IsCodedBand layout) }
 {
     let index = site.index();
-    let read = read_block(alloc, site.block(), site.at(), layout, parent, index)?;
+    let read = read_below(alloc, site.block(), site.at(), layout, parent, index)?;
     Ok(CodedBand {
         index,
         indices: read.indices,
@@ -59,10 +61,7 @@ pub fn read_at(
         });
     };
     match parent {
-        Some(table) => {
-            let wide = table.try_wide(alloc)?;
-            read_coded_at(alloc, found, layout, wide.values())
-        }
-        None => read_coded_at(alloc, found, layout, &[]),
+        Some(table) => read_coded_at(alloc, found, layout, table.numbers()),
+        None => read_coded_at(alloc, found, layout, Numbers::Zeros(0)),
     }
 }
