@@ -104,6 +104,6 @@ tables_keep_inside d h some i j column row =
     let small : i % 4 < 4 = omega arith in
     let low : j % 4 < 4 = omega arith in
     let in_superblock = subst (λ (b : Block). BlockKeepsInside (blocks_of d) d.precision (4 * sx + i % 4) (4 * sy + j % 4) b) (sym (block_is d sx sy (i % 4) (j % 4) (omega arith) (omega arith) small low))
-        (block_keeps_inside d sx sy (i % 4) (j % 4) h some small low) in
+    (block_keeps_inside d sx sy (i % 4) (j % 4) h some small low) in
     subst (λ (a : ℕ). BlockKeepsInside (blocks_of d) d.precision a j (block_at (decided d) a j)) across
     (subst (λ (b : ℕ). BlockKeepsInside (blocks_of d) d.precision (4 * sx + i % 4) b (block_at (decided d) (4 * sx + i % 4) b)) down in_superblock)

@@ -2,6 +2,7 @@
 ghost use Rattle.std.specs.Prelude.{◌≡◌, ℕ, ◌+◌, ◌<◌, ◌≤◌, ◌^◌, [], length, IfSome, None, Some, Option};
 ghost use Rattle.std.specs.Io.KnownBytes.{IsAtEnd};
 ghost use Rattle.dirac_io.specs.Faults.{Rose};
+ghost use Rattle.dirac_picture.specs.Reading.{ReadsPlanes};
 ghost use Rattle.dirac_decode.specs.Decoding.{Answers};
 ghost use Rattle.dirac_decode.specs.Rebuilding.{Rebuilds};
 ghost use Rattle.dirac_decode.specs.Stepping.{DueGives, IsThere, StepGives, StepGivesBefore, sequence_of};
@@ -9,11 +10,14 @@ ghost use Rattle.dirac_decode.specs.Stepping.{DueGives, IsThere, StepGives, Step
 use crate::advance::{advance_by_unit, next_due};
 use crate::answers::Next;
 use crate::decoder::Decoder;
+use crate::in_turn::read_in_turn;
 use crate::picture::rebuild;
 use crate::step::{Halt, Step};
-use dirac_common::{NoMemory, Picture};
+use dirac_bits::BitReader;
+use dirac_common::{NoMemory, Picture, Stop};
+use dirac_header::Transform;
 use dirac_io::Source;
-use dirac_picture::CodedPicture;
+use dirac_picture::{CodedPicture, CodedResidual};
 use dirac_refs::RefBuffer;
 use dirac_sequence_header::Sequence;
 use dirac_units::StreamEnd;
@@ -74,14 +78,16 @@ impl Decoder {
             ≤ self.old.units.unit_place.at + length self.old.units.ahead + S.left source.old }
     {
         self.state.keep_halves();
-        self.step_by(&rebuild, source)
+        self.step_by(&read_in_turn, &rebuild, source)
     }
 
-    /// One step, as `step`, where pictures are rebuilt by `make`.
+    /// One step, as `step`, where the subbands of planes are read by `planes`, and pictures are rebuilt by `make`.
     pub fn step_by<
         S: Source,
+        P: Fn(Global, &mut BitReader<'_>, Transform, &Sequence) -> Result<CodedResidual, Stop>,
         F: Fn(Global, &CodedPicture, &Sequence, &RefBuffer) -> Result<Picture, NoMemory>,
-    >(&mut self, make: &F, source: &mut S) -> Option<Next>
+    >(&mut self, planes: &P, make: &F, source: &mut S) -> Option<Next>
+        requires reads { ReadsPlanes (P.pre planes.now) (P.post planes.now) }
         requires rebuilds { Rebuilds (F.pre make.now) (F.post make.now) }
         requires no_overflow { self.old.units.unit_place.at + length self.old.units.ahead + S.left source.old < 2 ^ 63 }
         ensures gives { StepGives result self.old self.new (S.held source.old) (S.held source.new) }
@@ -116,7 +122,14 @@ impl Decoder {
             StreamEnd::Faulted(fault) => return Some(Next::Fault(fault)),
             StreamEnd::Stopped => return Some(Next::Stopped),
         }
-        match advance_by_unit(make, self.alloc, &mut self.units, &mut self.state, source) {
+        match advance_by_unit(
+            planes,
+            make,
+            self.alloc,
+            &mut self.units,
+            &mut self.state,
+            source,
+        ) {
             Ok(Step::On) => None,
             Ok(Step::Shown(picture)) => {
                 self.given += 1;
