@@ -26,7 +26,7 @@
  *     at the same time; several threads may use one decoder, if the caller orders the calls.
  *  3. A pointer points to what its type and its length say, aligned for its type, writable where it is not const, and
  *     is never NULL, also where the length is 0. What the pointers of one call point to doesn't overlap.
- *  4. No length is above PTRDIFF_MAX, and together no more than PTRDIFF_MAX bytes are sent to one decoder.
+ *  4. No length is above PTRDIFF_MAX.
  *  5. malloc, realloc and free are those of one allocator. No function is called from a signal handler.
  *
  * What the library keeps. No function starts a thread, takes a lock, waits, touches a file, prints, aborts, or
@@ -66,7 +66,8 @@ enum {
     JEV_CLOSED = -4,     /* send, finish, next, plane, format: the decoder is not open */
     JEV_NO_PICTURE = -5, /* plane: the last next answered no picture. format: no sequence header was read so far */
     JEV_SMALL = -6,      /* plane: stride is less than a row, or length less than the rows at this stride */
-    JEV_UNKNOWN = -7     /* plane: there is no such plane */
+    JEV_UNKNOWN = -7,    /* plane: there is no such plane */
+    JEV_FINISHED = -8    /* send: finish was called before; no byte was taken */
 };
 
 /* What jev_decoder_next tells. All fields are 0 but those of the answer that it gave. */
@@ -113,11 +114,12 @@ uint32_t jev_version(void);
 int32_t jev_decoder_open(jev_decoder *decoder);
 
 /* Sends the next bytes of the stream: any number, also 0, cut anywhere. They are copied, so `bytes` stays the caller's.
- * Bytes behind the stream's end or first fault change nothing of what next answers; nor do bytes behind finish, which
- * are not to be sent. JEV_OK, JEV_NO_MEMORY (no byte was taken; they may be sent again) or JEV_CLOSED. */
+ * Bytes behind the stream's first fault are taken, and change nothing of what next answers. JEV_OK, or with no byte
+ * taken JEV_NO_MEMORY (they may be sent again; also where they would be more than INT64_MAX in all), JEV_FINISHED or
+ * JEV_CLOSED. */
 int32_t jev_decoder_send(jev_decoder *decoder, const uint8_t *bytes, size_t length);
 
-/* Says that no more bytes follow. JEV_OK or JEV_CLOSED. */
+/* Says that no more bytes follow. Where that was said before it does nothing. JEV_OK or JEV_CLOSED. */
 int32_t jev_decoder_finish(jev_decoder *decoder);
 
 /* What is next: JEV_PICTURE, JEV_NEEDS, JEV_END, JEV_FAULT, JEV_NO_MEMORY, JEV_STOPPED or JEV_CLOSED, of which `frame`

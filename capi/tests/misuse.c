@@ -113,7 +113,8 @@ static void a_stream(const uint8_t *bytes, size_t length) {
     expect("frame of the end is empty", is_empty(&frame), 1);
     expect("plane behind the end", jev_decoder_plane(&moved, 0, &byte, 1, 1), JEV_NO_PICTURE);
     expect("format behind the end", jev_decoder_format(&moved, &format), JEV_OK);
-    expect("send behind the end", jev_decoder_send(&moved, bytes, length), JEV_OK);
+    expect("send behind finish", jev_decoder_send(&moved, bytes, length), JEV_FINISHED);
+    expect("send of no byte behind finish", jev_decoder_send(&moved, bytes, 0), JEV_FINISHED);
     expect("the end once more", jev_decoder_next(&moved, &frame), JEV_END);
     jev_decoder_close(&moved);
     /* closed in the middle of a unit, and with pictures that wait */

@@ -43,6 +43,8 @@ class Scripted:
     def jev_decoder_send(self, handle, data, length):
         if not handle.is_open:
             return c.CLOSED
+        if self.finished:
+            return c.FINISHED
         assert isinstance(data, bytes) and len(data) == length
         self.sent.append(data)
         return c.OK

@@ -152,6 +152,13 @@ class Misuse(Package):
             self.assertIsNone(decoder.next())
             self.assertTrue(decoder.is_ended)
 
+    def test_finished(self):
+        self.script("end")
+        with jevmutzal.Decoder() as decoder:
+            decoder.finish()
+            decoder.finish()
+            self.assertRaisesRegex(ValueError, "finish", decoder.send, b"xyz")
+
     def test_planes(self):
         self.script(PICTURE)
         with jevmutzal.Decoder() as decoder:

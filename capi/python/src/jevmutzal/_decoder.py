@@ -226,6 +226,8 @@ class Decoder:
             raise ValueError("the buffer is too small for the plane at this stride, or the stride for a row")
         if answer == c.UNKNOWN:
             raise ValueError("there is no such plane: 0 is Y, 1 is U, 2 is V")
+        if answer == c.FINISHED:
+            raise ValueError("finish was called before")
         if answer == c.STOPPED:
             raise MemoryError("the decoder stopped for want of memory")
         raise MemoryError("no memory")

@@ -9,7 +9,7 @@ VERSION = 1
 SHARED = "libjevmutzal.so.1"
 
 OK, PICTURE, NEEDS, END = 0, 1, 2, 3
-FAULT, NO_MEMORY, STOPPED, CLOSED, NO_PICTURE, SMALL, UNKNOWN = -1, -2, -3, -4, -5, -6, -7
+FAULT, NO_MEMORY, STOPPED, CLOSED, NO_PICTURE, SMALL, UNKNOWN, FINISHED = -1, -2, -3, -4, -5, -6, -7, -8
 
 # How many causes of faults there are, and room for the name of each.
 CAUSES = 36
