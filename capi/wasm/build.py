@@ -3,13 +3,12 @@
 
 build.py [--module=FILE]    FILE is an LLVM module, as text or bitcode, in place of that of crates/jevmutzal
 
-The source is proved; this way of compiling it is not the kit's, and no gate runs it. `rt` builds the crate
-crates/jevmutzal once more over what is proved, with a clang that keeps the module that it is given. The module's text
-is given the target wasm64 in place of x86-64, compiled by the kit's clang with heap.c, and linked by the kit's lld.
-(The kit's own way to wasm64 refuses a crate that takes memory from the C library.)
+The source is proved; this way of compiling it is not the kit's, and no gate runs it. ../archive.py proves and compiles
+the crate, with a clang that keeps the module that it is given. The module's text is given the target wasm64 in place of
+x86-64, compiled by the kit's clang with heap.c, and linked by the kit's lld. (The kit's own way to wasm64 refuses a
+crate that takes memory from the C library.)
 """
 import base64
-import importlib.util
 import os
 import pathlib
 import re
@@ -19,75 +18,26 @@ import sys
 import tempfile
 
 HERE = pathlib.Path(__file__).resolve().parent
-CRATE = HERE.parent.parent / "crates" / "jevmutzal"
 OUT = HERE / "out"
 TRIPLE = "wasm64-unknown-unknown"
 # LLVM's words for wasm64: little-endian, pointers of 64 bits
 LAYOUT = "e-m:e-p:64:64-p10:8:8-p20:8:8-i64:64-i128:128-n32:64-S128-ni:1:10:20"
 EXPORTED = "jev_alloc jev_free"
-# What stands in place of clang: it keeps the module, and goes on as clang.
-KEEPER = """#!/bin/sh
-for word in "$@"; do
-    case "$word" in *.bc | *.ll) cp "$word" '{kept}' ;; esac
-done
-exec '{clang}' "$@"
-"""
 
 
-def fail(text):
-    sys.exit(f"build.py: {text}")
-
-
-def find_rt():
+def find_kit():
     path = shutil.which("rt")
     if path is None:
-        fail("there is no rt")
-    return pathlib.Path(os.path.realpath(path))
+        sys.exit("build.py: there is no rt")
+    return pathlib.Path(os.path.realpath(path)).parent.parent
 
 
-def load_rt_library(rt):
-    """rtlib, which stands beside rt, as a module."""
-    spec = importlib.util.spec_from_file_location("rtlib", rt.with_name("rtlib.py"))
-    module = importlib.util.module_from_spec(spec)
-    sys.path.insert(0, str(rt.parent))
-    spec.loader.exec_module(module)
+def module_of_crate(folder):
+    """The module that the proved archive is compiled of."""
+    module = folder / "module.bc"
+    if subprocess.run([sys.executable, HERE.parent / "archive.py", f"--module={module}"]).returncode:
+        sys.exit(1)
     return module
-
-
-def make_keeper(kit, folder, kept):
-    """A folder of tools as the kit's, but for a clang that keeps the module."""
-    tools = kit / "toolchain"
-    (folder / "bin").mkdir(parents=True)
-    (folder / "lib").symlink_to(tools / "lib")
-    for tool in (tools / "bin").iterdir():
-        if tool.name != "clang":
-            (folder / "bin" / tool.name).symlink_to(tool)
-    clang = folder / "bin" / "clang"
-    clang.write_text(KEEPER.format(kept=kept, clang=tools / "bin" / "clang"))
-    clang.chmod(0o755)
-    return folder
-
-
-def module_of_crate(rt, folder):
-    """The module that `rt lib` gives to clang."""
-    if not CRATE.is_dir():
-        fail("there is no crate jevmutzal")
-    kept, library = folder / "module.bc", load_rt_library(rt)
-    tools = make_keeper(rt.parent.parent, folder / "tools", kept)
-    call = library.Crate.call
-
-    def with_keeper(crate, *words):
-        words = list(map(str, words))
-        if "build" in words[:2] and "staticlib" in words and "--toolchain" in words:
-            words[words.index("--toolchain") + 1] = str(tools)
-        return call(crate, *words)
-
-    library.Crate.call = with_keeper
-    os.chdir(CRATE)
-    status = library.main(["lib"])
-    if status or not kept.exists():
-        fail(f"rt lib ended with {status}, and the module {'is' if kept.exists() else 'is not'} there")
-    return kept
 
 
 def as_text(clang, module, folder):
@@ -142,11 +92,10 @@ def main():
     words = sys.argv[1:]
     if len(words) > 1 or (words and not words[0].startswith("--module=")):
         sys.exit("usage: build.py [--module=FILE]")
-    rt = find_rt()
-    kit = rt.parent.parent
+    kit = find_kit()
     with tempfile.TemporaryDirectory(prefix="wasm-") as name:
         folder = pathlib.Path(name)
-        module = pathlib.Path(words[0].partition("=")[2]).resolve() if words else module_of_crate(rt, folder)
+        module = pathlib.Path(words[0].partition("=")[2]).resolve() if words else module_of_crate(folder)
         link(kit, folder, retargeted(as_text(kit / "toolchain" / "bin" / "clang", module, folder)))
     write_page()
     path = OUT / "jevmutzal.wasm"
