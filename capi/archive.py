@@ -5,16 +5,16 @@ archive.py                      makes it
 archive.py --module=FILE        makes it, and FILE gets the LLVM module that it is compiled of
 archive.py --sources            prints the files that it is made of
 
-It works as ./run does, on a copy of the crates below ${XDG_CACHE_HOME:-~/.cache}, and by the gate's steps
-(tools/prove_kept.py). What `rt ci` proved of the same files on this machine is taken from where it keeps that, so that
-behind a run of the gate little is left to do. Then the step of `rt lib` compiles the archive. Broken off it goes on
-with the crates that weren't proved; the folder is removed once the archive is there. With an rt that can't be taken
-apart a plain `rt lib` does it all.
+It works on a copy of the crates below ${XDG_CACHE_HOME:-~/.cache}, where `rt ci` proves them, without their must-fail
+edits. What the gate proved of the same files on this machine `rt ci` takes as proved, so that behind a run of the gate
+little is left to do, and broken off it goes on with the crates that weren't proved. `rt ci` only checks a static
+library; so then rt's own step of `rt lib` compiles the archive, over what was proved there. The folder is removed once
+the archive is there.
 """
+import importlib.util
 import os
 import pathlib
 import shutil
-import subprocess
 import sys
 
 CAPI = pathlib.Path(__file__).resolve().parent
@@ -22,12 +22,10 @@ sys.path.insert(0, str(CAPI.parent / "tools"))
 sys.dont_write_bytecode = True
 
 import crate_list
-import prove_kept
 import proving
 
 NAME = "jevmutzal"
-# What is taken of rt beyond what prove_kept.py takes.
-OF_RT = "Kept Crate handles_of".split()
+PARTS = ("src", "specs", "proofs")
 # What stands in place of clang: it keeps the module that it is given, and goes on as clang.
 KEEPER = """#!/bin/sh
 for word in "$@"; do
@@ -44,6 +42,14 @@ def fail(text):
 
 def kit_of_rt():
     return pathlib.Path(os.path.realpath(shutil.which("rt"))).parent.parent
+
+
+def load_rt_library():
+    """What rt stands on, as a module."""
+    spec = importlib.util.spec_from_file_location("rtlib", kit_of_rt() / "bin" / "rtlib.py")
+    module = importlib.util.module_from_spec(spec)
+    spec.loader.exec_module(module)
+    return module
 
 
 def make_keeper(folder, kept):
@@ -80,48 +86,34 @@ class Archive(proving.Proving):
         super().__init__(top, [name], name, self.out / "archive.log")
         self.who = "archive"
 
-    def crates(self, rt):
-        """The crates of the folder as rt has them, lowest first."""
-        library = rt.rtlib
-        library.stop, library.Crate = rt.stop, rt.Crate
-        rt.Crate.allowed, rt.Crate.cuts_libraries = rt.handles_of(str(self.folder)), True
-        library.guarded()
-        return sorted(library.crates_below(str(self.folder)), key=lambda one: len(one.below()))
+    def take(self, line, block):
+        super().take(line, block)
+        name, is_kept, _ = line.replace("rt: ", "", 1).partition(" is kept: ")
+        if is_kept and name in self.names:
+            self.proved.append(name)
 
-    def take_from_gate(self, rt):
-        """Takes what the gate kept of the same files; how many crates that were."""
-        crates, taken = [one for one in self.crates(rt) if one.name != self.name], 0
-        kept, sums = rt.Kept(crates), prove_kept.sums_to_keep(self.folder)
-        there = prove_kept.kept_crates(self.folder)
-        for crate in crates:
-            if crate.name not in there:
-                shutil.rmtree(pathlib.Path(crate.folder) / "out", ignore_errors=True)
-                if not kept.give(crate, False, kept.key(crate)):
-                    continue
-                prove_kept.mark_of(self.folder, crate.name).write_text(sums[crate.name])
-                taken += 1
-            kept.is_built(crate)
-        return taken
-
-    def compile(self, rt, module):
+    def compile(self, module):
         """Compiles the proved crate in the folder into its archive; the status."""
-        (crate,) = [one for one in self.crates(rt) if one.name == self.name]
+        library = load_rt_library()
+        # as in rt ci: the crates above a library load its statements alone
+        library.Crate.cuts_libraries = True
+        library.guarded()
+        (crate,) = [one for one in library.crates_below(str(self.folder)) if one.name == self.name]
         crate.out = sys.stderr
         os.makedirs(f"{crate.folder}/out", exist_ok=True)
         if module:
             keep_module(crate, self.folder / "tools", module)
         return crate.build_static(["--jobs", "2"])
 
-    def build(self, rt, module):
+    def build(self, module):
         self.prepare()
-        os.chdir(self.folder)
-        taken = self.take_from_gate(rt)
-        self.tell(f"{len(self.names)} crates are wanted; kept by the gate on this machine: {taken}")
-        if self.prove():
+        self.tell(f"{proving.plural(len(self.names), 'crate')} to prove, or to take as the gate proved them")
+        if self.run(["rt", "ci"], "w"):
             print("".join(self.failures or self.tail()), file=sys.stderr)
             fail(f"not built; the whole log is {self.log}")
+        os.chdir(self.folder)
         self.tell("the archive is compiled")
-        if self.compile(rt, module):
+        if self.compile(module):
             fail("the archive wasn't compiled: the lines above say why")
         made = self.folder / "crates" / self.name / "out" / f"lib{self.name}.a"
         shutil.copy(made, self.out / f"{made.name}.part")
@@ -134,7 +126,7 @@ def sources(top, name):
     crates = crate_list.read_crates(top)
     yield top / "crates.txt"
     for one in [*crate_list.below(crates, name), name]:
-        for part in prove_kept.PARTS:
+        for part in PARTS:
             yield from sorted(path for path in (top / "crates" / one / part).rglob("*") if path.is_file())
 
 
@@ -148,15 +140,11 @@ def main(top=crate_list.TOP, name=NAME):
         return print("\n".join(map(str, sources(top, name))))
     if not shutil.which("rt"):
         fail("no command rt: the toolchain isn't there")
-    module, rt = os.path.abspath(words[0].partition("=")[2]) if words else None, prove_kept.load_rt()
-    if not rt or not all(hasattr(rt, one) for one in OF_RT):
-        if module:
-            fail("this rt can't be taken apart, so the module can't be kept")
-        sys.exit(subprocess.run(["rt", "lib"], cwd=top / "crates" / name).returncode)
+    module = os.path.abspath(words[0].partition("=")[2]) if words else None
     archive = Archive(top, name)
     archive.out.mkdir(parents=True, exist_ok=True)
     with archive.alone():
-        archive.build(rt, module)
+        archive.build(module)
     return None
 
 
