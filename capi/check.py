@@ -5,8 +5,8 @@ check.py [--may-skip] [--all] [--archive=FILE] [--kit=FOLDER] [--only=WORD]
 
 --may-skip      ends with 77, and says why, where the library can't be made here for want of cc, make or rt; without
                 this word that is a failure
---all           what is wanting of the rest (valgrind, numpy, GStreamer ..) is a failure too, and valgrind and
-                GStreamer get all streams
+--all           what is wanting of the rest (valgrind, numpy, GStreamer ..) is a failure too, and the slow parts get
+                all streams
 --archive=FILE  takes this archive in place of that of crates/jevmutzal, and asks no rt but for the kit's folder
 --kit=FOLDER    the kit's folder, where its heap functions are
 --only=WORD     the parts with WORD in their name
@@ -20,6 +20,7 @@ import functools
 import hashlib
 import os
 import pathlib
+import random
 import re
 import shutil
 import subprocess
@@ -40,8 +41,9 @@ SANITIZERS = {
     "UBSAN_OPTIONS": f"halt_on_error=1:print_stacktrace=1:exitcode={CHECKER_FAILED}",
 }
 VALGRIND = ["valgrind", "-q", "--leak-check=full", "--show-leak-kinds=all", f"--error-exitcode={CHECKER_FAILED}"]
-# of the slow checkers' share of the streams, one of so many
+# where not all streams are taken, one of so many is; and so often each is damaged
 SHARE = 8
+DAMAGED = 4
 
 
 class Missing(Exception):
@@ -92,6 +94,16 @@ def succeed(words, **how):
         said = (done.stdout + done.stderr).decode(errors="replace")[-2000:]
         raise Failure(f"{' '.join(map(str, words))} ended with {done.returncode}: {said}")
     return done.stdout.decode()
+
+
+def damage(stream, chance):
+    """A stream with a few places of it changed, left out or repeated."""
+    stream = bytearray(stream)
+    for _ in range(chance.randint(1, 4)):
+        at, length = chance.randrange(len(stream)), chance.choice((1, 1, 1, 4, 13))
+        with_what = chance.choice((chance.randbytes(length), b"", stream[:length], stream[at : at + 2 * length]))
+        stream[at : at + length] = with_what
+    return bytes(stream)
 
 
 def differences(row, done):
@@ -227,6 +239,29 @@ class Check:
         for row in self.misused():
             succeed([path, row.path])
 
+    def no_memory(self, folder):
+        """Each allocation refused in turn."""
+        wrapped = ",".join(f"--wrap={name}" for name in ("malloc", "realloc", "free"))
+        path = self.program(folder, "no_memory", f"-Wl,{wrapped}", source="tests/no_memory.c")
+        rows = [row for row in self.share() if row.status == 0]
+        return f"{sum(int(succeed([path, row.path])) for row in rows)} allocations"
+
+    def damaged(self, folder):
+        """Streams with bytes changed, left out or put in: whatever the pieces, the same comes out and no checker speaks."""
+        path = self.program(folder, "jevdec_damaged", "-fsanitize=address,undefined", "-fno-sanitize-recover=all")
+        streams = []
+        for number, row in enumerate(self.share() * DAMAGED):
+            streams.append(pathlib.Path(folder) / f"damaged_{number}.drc")
+            streams[-1].write_bytes(damage(row.path.read_bytes(), random.Random(number)))
+        answer = lambda stream, piece: run([path, "-p", piece, stream], env=SANITIZERS)
+        with concurrent.futures.ThreadPoolExecutor(os.cpu_count()) as pool:
+            found = list(pool.map(lambda stream: [answer(stream, piece) for piece in PIECES], streams))
+        for stream, runs in zip(streams, found):
+            told = {(done.returncode, done.stdout, done.stderr) for done in runs}
+            if len(told) > 1 or runs[0].returncode not in (0, 4):
+                raise Failure(f"{stream.name}: {[done.returncode for done in runs]}: {runs[0].stderr[-500:]!r}")
+        return f"{len(streams)} streams, {len(PIECES) * len(streams)} runs"
+
     def valgrind(self, folder):
         need("valgrind")
         misuse = self.program(folder, "misuse", source="tests/misuse.c")
@@ -319,6 +354,8 @@ class Check:
             self.part("misuse", within(self.misuse))
             self.part("install", within(self.installed))
             self.part("sanitizers", within(self.sanitized))
+            self.part("damaged streams", within(self.damaged))
+            self.part("no memory", within(self.no_memory))
             self.part("valgrind", within(self.valgrind))
             self.part("python", within(self.python))
             self.part("numpy", self.numpy)
