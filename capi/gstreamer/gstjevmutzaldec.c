@@ -25,9 +25,12 @@ struct _JevmutzalDec {
     /* what the pictures that leave now were announced as */
     jev_format format;
     guint width, height;
+    gint rate_n, rate_d;
     /* the time of units without a picture, which is that of the picture behind them */
     GstClockTime pending;
     gboolean has_times;
+    /* where there are no times: where this format began, and the pictures of it that left */
+    GstClockTime began;
     guint64 shown;
 };
 
@@ -87,6 +90,12 @@ static void set_ratio(guint64 numerator, guint64 denominator, gint *n, gint *d) 
     *d = (gint)denominator;
 }
 
+/* How long so many pictures of this format last; nothing where the stream doesn't say. */
+static GstClockTime time_of(JevmutzalDec *self, guint64 pictures) {
+    if (self->rate_n == 0) return 0;
+    return gst_util_uint64_scale(pictures, (guint64)self->rate_d * GST_SECOND, (guint64)self->rate_n);
+}
+
 static gboolean announce(JevmutzalDec *self, const jev_frame *frame) {
     static const GstVideoFormat formats[] = {GST_VIDEO_FORMAT_Y444, GST_VIDEO_FORMAT_Y42B, GST_VIDEO_FORMAT_I420};
     GstVideoDecoder *base = GST_VIDEO_DECODER(self);
@@ -103,6 +112,10 @@ static gboolean announce(JevmutzalDec *self, const jev_frame *frame) {
               &state->info.fps_n, &state->info.fps_d);
     state->info.par_n = state->info.par_d = 1;
     set_ratio(format.aspect_numerator, format.aspect_denominator, &state->info.par_n, &state->info.par_d);
+    self->began += time_of(self, self->shown);
+    self->shown = 0;
+    self->rate_n = state->info.fps_n;
+    self->rate_d = state->info.fps_d;
     state->info.interlace_mode = GST_VIDEO_INTERLACE_MODE_PROGRESSIVE;
     state->info.colorimetry.range =
         format.luma_offset == 0 ? GST_VIDEO_COLOR_RANGE_0_255 : GST_VIDEO_COLOR_RANGE_16_235;
@@ -137,12 +150,9 @@ static gboolean copy_planes(JevmutzalDec *self, const jev_frame *frame, GstVideo
 }
 
 static void set_time(JevmutzalDec *self, GstVideoCodecFrame *leaving) {
-    GstVideoCodecState *state = gst_video_decoder_get_output_state(GST_VIDEO_DECODER(self));
-    guint64 n = (guint64)state->info.fps_n, d = (guint64)state->info.fps_d;
-    gst_video_codec_state_unref(state);
-    if (n == 0) return;
-    leaving->duration = gst_util_uint64_scale(GST_SECOND, d, n);
-    if (!self->has_times) leaving->pts = gst_util_uint64_scale(self->shown, d * GST_SECOND, n);
+    if (self->rate_n == 0) return;
+    leaving->duration = time_of(self, 1);
+    if (!self->has_times) leaving->pts = self->began + time_of(self, self->shown);
 }
 
 static GstFlowReturn show(JevmutzalDec *self, const jev_frame *frame) {
@@ -246,6 +256,8 @@ static gboolean jevmutzal_dec_set_format(GstVideoDecoder *base, GstVideoCodecSta
 static gboolean jevmutzal_dec_start(GstVideoDecoder *base) {
     JevmutzalDec *self = JEVMUTZAL_DEC(base);
     self->width = self->height = 0;
+    self->rate_n = 0;
+    self->began = 0;
     self->shown = 0;
     self->has_times = FALSE;
     return jev_version() == JEV_VERSION && reopen(self);

@@ -124,7 +124,8 @@ int32_t jev_decoder_finish(jev_decoder *decoder);
 
 /* What is next: JEV_PICTURE, JEV_NEEDS, JEV_END, JEV_FAULT, JEV_NO_MEMORY, JEV_STOPPED or JEV_CLOSED, of which `frame`
  * tells more. Pictures come in the order in which they are shown, all before the end or the fault. Whatever the pieces
- * that were sent, the answers but JEV_NEEDS are the same. It never waits; it decodes at most up to one picture. */
+ * that were sent, the answers but JEV_NEEDS are the same. It never waits, and takes units up to the next picture that
+ * leaves. */
 int32_t jev_decoder_next(jev_decoder *decoder, jev_frame *frame);
 
 /* Copies a plane of the picture that the last next answered, 0 for Y, 1 for U (Cb), 2 for V (Cr), into `out`, of
