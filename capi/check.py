@@ -247,7 +247,7 @@ class Check:
         return f"{sum(int(succeed([path, row.path])) for row in rows)} allocations"
 
     def damaged(self, folder):
-        """Streams with bytes changed, left out or put in: whatever the pieces, the same comes out and no checker speaks."""
+        """Streams with bytes changed, left out or put in: the same comes out in all pieces, and no checker speaks."""
         path = self.program(folder, "jevdec_damaged", "-fsanitize=address,undefined", "-fno-sanitize-recover=all")
         streams = []
         for number, row in enumerate(self.share() * DAMAGED):
