@@ -60,6 +60,13 @@ class Header:
 HEADER = Header()
 
 
+def names_of_causes():
+    """The causes of faults in the order of their list."""
+    text = (CRATES / "dirac_common" / "src" / "faults.rt").read_text()
+    (body,) = re.findall(r"pub enum Cause \{(.*?)^\}", text, re.DOTALL | re.MULTILINE)
+    return re.findall(r"^    (\w+),$", body, re.MULTILINE)
+
+
 class ThePackage(unittest.TestCase):
     def test_answers(self):
         for name, value in HEADER.answers.items():
@@ -99,9 +106,7 @@ class Files(unittest.TestCase):
         self.assertIn(f"JEVMUTZAL_{HEADER.numbers['VERSION']} {{", (CAPI / "jevmutzal.map").read_text())
 
     def test_names_of_causes(self):
-        text = (CRATES / "dirac_common" / "src" / "faults.rt").read_text()
-        (body,) = re.findall(r"pub enum Cause \{(.*?)^\}", text, re.DOTALL | re.MULTILINE)
-        names = re.findall(r"^    (\w+),$", body, re.MULTILINE)
+        names = names_of_causes()
         self.assertEqual(len(names), HEADER.numbers["CAUSES"])
         self.assertLessEqual(max(map(len, names)), HEADER.numbers["CAUSE_ROOM"])
 
@@ -130,6 +135,14 @@ class TheCrate(unittest.TestCase):
     def test_answers(self):
         found = {name: int(value) for name, value in re.findall(r"pub const (\w+): i32 = (-?\d+);", crate_text())}
         self.assertEqual(found, HEADER.answers)
+
+    def test_version(self):
+        (found,) = re.findall(r"pub const VERSION: u32 = (\d+);", crate_text())
+        self.assertEqual(int(found), HEADER.numbers["VERSION"])
+
+    def test_numbers_of_causes(self):
+        found = {name: int(number) for name, number in re.findall(r"Cause::(\w+) => (\d+),", crate_text())}
+        self.assertEqual(found, {name: number for number, name in enumerate(names_of_causes(), 1)})
 
     def test_structures(self):
         for name, ours in STRUCTURES.items():
