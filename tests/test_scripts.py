@@ -22,7 +22,7 @@ LONGEST_LINE = 120
 
 
 def python_files():
-    folders = ["tools", "tests", "examples", "bench", "conformance"]
+    folders = ["tools", "tests", "examples", "bench", "conformance", "capi"]
     files = [path for folder in folders for path in sorted((TOP / folder).rglob("*.py"))]
     return [TOP / "dirac", *files]
 
