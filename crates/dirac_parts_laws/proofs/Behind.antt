@@ -123,7 +123,7 @@ each_second P (x ∷ xs) ys all = each_second P xs ys all.1
 
 pub behind_alike : PlansCanBeCoded → JobsAreRead → SourcesBehindAreCodedAlike
 unfolding coded_under
-behind_alike plans law t m xs ys whole small is numbered =
+behind_alike plans law t m xs ys none whole small is numbered =
     let d = length xs in
     let n = length ys in
     let more = map (picture_behind d) ys in
@@ -132,7 +132,7 @@ behind_alike plans law t m xs ys whole small is numbered =
     let count : length all ≡ d + n = length-append xs more ∙ ap (λ k. d + k) (length-map ys (picture_behind d)) in
     let first = plan d t in
     let second = map (planned_behind d) (plan n t) in
-    let both : plan (d + n) t ≡ first ++ second = subst (λ (g : ℕ). plan (g + n) t ≡ plan g t ++ map (planned_behind g) (plan n t)) (sym whole) (plans_on t m n some) in
+    let both : plan (d + n) t ≡ first ++ second = subst (λ (g : ℕ). plan (g + n) t ≡ plan g t ++ map (planned_behind g) (plan n t)) (sym whole) (plans_on t m n none some) in
     let planned = each_second IsPlanned first second (subst (AllByRecursion IsPlanned) both (plans t (d + n) is.accepted (omega arith)).each) in
     let below = (plans t d is.accepted (omega arith)).below in
     let below' = (plans t n is.accepted (omega arith)).below in

@@ -22,7 +22,7 @@ use Rattle.dirac_decode.specs.Content.{named, plane_of, predicted_among, rebuilt
 use Rattle.dirac_plan.specs.declared.planned.Planned.{Planned}
 use Rattle.dirac_plan_laws.specs.Headers.{header_of}
 use Rattle.dirac_motion.specs.Chosen.{blocks_among, chosen}
-use Rattle.dirac_encode_laws.specs.Coded.{bands_of, coded_of, kind_of, left_of, less_prediction, motion_of, residual_of, residual_unless_zero, transform_of}
+use Rattle.dirac_encode_laws.specs.Coded.{bands_of, coded_of, kind_of, left_of, less_prediction, motion_of, residual_of, residual_unless_left_out, transform_of}
 use Rattle.dirac_encode_laws.specs.Coding.{Job, Made, coded_under, made, refs_after}
 use Rattle.dirac_encode_laws.specs.Laws.{AreMade, IsMade}
 use Rattle.dirac_encode_laws.specs.Payloads.{motion_with, payload_of}
@@ -105,7 +105,7 @@ residual_onward t d inside whole h m p f =
 coded_same : (t : Settings) (d : ℕ) (inside whole : List Picture) (q : Planned) (p : Picture) → Finds d inside whole (header_of q) → coded_of t whole (planned_onward d q) (picture_onward d p) ≡ coded_onward d (coded_of t inside q p)
 coded_same t d inside whole q p f =
     let h = header_of q in
-    let make : Option CodedMotion → CodedResidual → CodedPicture = λ m r. record { code = q.code; header = header_onward d h; motion = m; residual = residual_unless_zero m r } in
+    let make : Option CodedMotion → CodedResidual → CodedPicture = λ m r. record { code = q.code; header = header_onward d h; motion = m; residual = residual_unless_left_out t m r } in
     ap (λ (m : Option CodedMotion). make m (residual_of t whole (header_onward d h) m (picture_onward d p))) (motion_onward t d inside whole q p f)
     ∙ ap (make (motion_of t inside q p)) (residual_onward t d inside whole h (motion_of t inside q p) p f)
 

@@ -116,7 +116,7 @@ opens_on t us index points =
     behind_header index points None (header_text t 0) us refl ∙ sym (behind_header index points (Some (record { header = sequence_payload t; pictures = [] })) (header_text t 0) us refl)
 
 -- a part's coded pictures: they begin with an intra picture
-record IsCoded (n : ℕ) (ms : List Made) : Type 0 where
+pub record IsCoded (n : ℕ) (ms : List Made) : Type 0 where
   pub codes : Codes ms
   pub begins : Begins ms
   pub count : length ms ≡ n
@@ -138,7 +138,7 @@ stream_read t m ms index points rest intra codes =
     record { first = r.first; index = r.index; points = r.points; is = opens ∙ r.is; same = r.same }
 
 -- what is known of each part
-abbrev AreCoded : List (List Made) → Type 0
+abbrev pub AreCoded : List (List Made) → Type 0
 AreCoded parts = AllByRecursion (λ (ms : List Made). IsCoded (length ms) ms) parts
 
 parts_read : (parts : List (List Made)) (t : Settings) (index points : ℕ) → AreCoded parts → map stripped_text (sequences_from index points None (flat_map (units_in t) parts)) ≡ map stripped_text (map (part_text t) parts)
@@ -153,7 +153,7 @@ parts_read ((m ∷ ms) ∷ parts) t index points all =
 -- ---- keys
 
 -- a picture's text whose number is moved on
-abbrev text_behind : ℕ → Made → PictureText
+abbrev pub text_behind : ℕ → Made → PictureText
 text_behind by m = record { index = 0; points = 0; code = m.coded.code; payload = to_be_bytes w32 (m.coded.header.number + by) ++ drop 4 m.payload }
 
 abbrev keys_of : List Made → List Keyed
@@ -183,7 +183,7 @@ high_least : (ks : List Keyed) → pos 0 ≤ℤ high ks
 high_least [] = omega (arith, ints)
 high_least (k ∷ ks) = omega (arith, ints, int_max_is k.key (high ks), high_least ks)
 
-abbrev AreFronts : List Made → Type 0
+abbrev pub AreFronts : List Made → Type 0
 AreFronts ms = AllByRecursion (λ (m : Made). m.payload ≡ to_be_bytes w32 m.coded.header.number ++ drop 4 m.payload) ms
 
 keys_bounded : (ms : List Made) (n : ℕ) → 0 < n → n ≤ 2 ^ 31 → AllByRecursion (λ (m : Made). m.coded.header.number < n) ms → AreFronts ms → Keys n (keys_of ms)
@@ -338,7 +338,7 @@ group_is t n ms c small =
     ap (λ (k : ℕ). let g : Group = record { header = sequence_payload t; first = k; pictures = map (keyed_from k) (map bare_text ms) } in g) (first_zero n ms c small)
 
 -- how many pictures parts have
-abbrev total : List (List Made) → ℕ
+abbrev pub total : List (List Made) → ℕ
 total [] = 0
 total (ms ∷ parts) = length ms + total parts
 
@@ -413,7 +413,7 @@ joins t n xs now ms d c small =
     greater n k some some' = omega (arith, ints, int_max_is (pos (n - 1)) (pos (k - 1 + n)))
 
 -- the texts of parts, one behind the other
-abbrev all_texts : ℕ → List (List Made) → List PictureText
+abbrev pub all_texts : ℕ → List (List Made) → List PictureText
 all_texts n [] = []
 all_texts n (ms ∷ parts) = map (text_behind n) ms ++ all_texts (n + length ms) parts
 
@@ -501,7 +501,7 @@ coded_at (x ∷ qs) t ps refs zero q is =
     (made t refs (job_of ps x), refl, ap (λ (y : Planned). y.number) same)
 coded_at (x ∷ qs) t ps refs (suc i) q is = coded_at qs t ps (refs_after refs (made t refs (job_of ps x))) i q is
 
-is_coded : PlansCanBeCoded → JobsAreRead → (t : Settings) (ps : List Picture) → AreSources t ps → 0 < length ps → (length (coding t ps) ≡ length ps) × IsCoded (length (coding t ps)) (coding t ps)
+pub is_coded : PlansCanBeCoded → JobsAreRead → (t : Settings) (ps : List Picture) → AreSources t ps → 0 < length ps → (length (coding t ps) ≡ length ps) × IsCoded (length (coding t ps)) (coding t ps)
 is_coded plans law t ps is some =
     let n = length ps in
     let gop : 0 < t.gop = omega (arith, (paced t is.accepted).gop_least) in
@@ -555,7 +555,7 @@ short_behind (m ∷ ms) d fronts all =
     (subst (λ (k : ℕ). 13 + k < 2 ^ 32) (sym same) all.0, short_behind ms d fronts.1 all.1)
 
 -- a source of parts
-record IsWhole (t : Settings) (parts : List (List Picture)) : Type 0 where
+pub record IsWhole (t : Settings) (parts : List (List Picture)) : Type 0 where
   pub sources : AreSources t (whole_of parts)
   pub numbered : AreNumbered 0 (whole_of parts)
   pub some : 0 < length (whole_of parts)
@@ -576,13 +576,13 @@ whole_one plans law t p is =
       coded = (c.1, tt);
     }
 
-whole_more : PlansCanBeCoded → JobsAreRead → (t : Settings) (p q : List Picture) (parts : List (List Picture)) (m : ℕ) → IsPart t p → length p ≡ m * group_pictures t → length (whole_of (p ∷ q ∷ parts)) < 2 ^ 31 → IsWhole t (q ∷ parts) → IsWhole t (p ∷ q ∷ parts)
-whole_more plans law t p q parts m is whole small w =
+whole_more : PlansCanBeCoded → JobsAreRead → (t : Settings) (p q : List Picture) (parts : List (List Picture)) (m : ℕ) → t.alike ≡ 0 → IsPart t p → length p ≡ m * group_pictures t → length (whole_of (p ∷ q ∷ parts)) < 2 ^ 31 → IsWhole t (q ∷ parts) → IsWhole t (p ∷ q ∷ parts)
+whole_more plans law t p q parts m none is whole small w =
     let ys = whole_of (q ∷ parts) in
     let d = length p in
     let more = map (picture_behind d) ys in
     let count : length (p ++ more) ≡ d + length ys = length-append p more ∙ ap (λ k. d + k) (length-map ys (picture_behind d)) in
-    let alike = behind_alike plans law t m p ys whole (omega (arith, small, count)) w.sources w.numbered in
+    let alike = behind_alike plans law t m p ys none whole (omega (arith, small, count)) w.sources w.numbered in
     let c = is_coded plans law t p is.sources is.some in
     let after = is_coded plans law t ys w.sources w.some in
     record {
@@ -607,10 +607,10 @@ whole_more plans law t p q parts m is whole small w =
 shorter : (p : List Picture) (ys : List Picture) (d : ℕ) → length (p ++ map (picture_behind d) ys) < 2 ^ 31 → length ys < 2 ^ 31
 shorter p ys d small = omega (arith, small, length-append p (map (picture_behind d) ys), length-map ys (picture_behind d))
 
-is_whole : PlansCanBeCoded → JobsAreRead → (parts : List (List Picture)) (t : Settings) (p : List Picture) → AllByRecursion (IsPart t) (p ∷ parts) → AreParts t (p ∷ parts) → length (whole_of (p ∷ parts)) < 2 ^ 31 → IsWhole t (p ∷ parts)
-is_whole plans law [] t p all are small = whole_one plans law t p all.0
-is_whole plans law (q ∷ parts) t p all are small =
-    whole_more plans law t p q parts are.0.0 all.0 are.0.1 small (is_whole plans law parts t q all.1 are.1 (shorter p (whole_of (q ∷ parts)) (length p) small))
+pub is_whole : PlansCanBeCoded → JobsAreRead → (parts : List (List Picture)) (t : Settings) (p : List Picture) → t.alike ≡ 0 → AllByRecursion (IsPart t) (p ∷ parts) → AreParts t (p ∷ parts) → length (whole_of (p ∷ parts)) < 2 ^ 31 → IsWhole t (p ∷ parts)
+is_whole plans law [] t p none all are small = whole_one plans law t p all.0
+is_whole plans law (q ∷ parts) t p none all are small =
+    whole_more plans law t p q parts are.0.0 none all.0 are.0.1 small (is_whole plans law parts t q none all.1 are.1 (shorter p (whole_of (q ∷ parts)) (length p) small))
 
 -- ---- the cut of the whole
 
@@ -670,9 +670,9 @@ join_by t p parts w =
     ∙ ap (bytes_or_bare (map (part_text t) cs)) (joined_parts (coding t p) (map (coding t) parts) t w.coded small)
 
 pub parts_join : PlansCanBeCoded → JobsAreRead → PartsJoinToTheWhole
-parts_join plans law t [] accepted some all are small = absurd (omega arith)
-parts_join plans law t (p ∷ parts) accepted some all are small =
-    let w = is_whole plans law parts t p all are small in
+parts_join plans law t [] accepted none some all are small = absurd (omega arith)
+parts_join plans law t (p ∷ parts) accepted none some all are small =
+    let w = is_whole plans law parts t p none all are small in
     let ms = coding t (whole_of (p ∷ parts)) in
     let c = (is_coded plans law t (whole_of (p ∷ parts)) w.sources w.some).1 in
     join_by t p parts w

@@ -11,7 +11,8 @@ use Rattle.dirac_common.specs.declared.codes.TheConstants.{INTRA_REFERENCE}
 use Rattle.dirac_types.specs.declared.settings.Settings.{Settings}
 use Rattle.dirac_plan.specs.declared.planned.Planned.{Planned}
 use Rattle.dirac_plan.specs.Frames.{IsBelow}
-use Rattle.dirac_plan.specs.Plan.{anchor_of, anchor_offset, anchors_behind, between_of, field_of, field_or_first, fields_of, frames_plan, group, group_at, group_count, opening, plan, retired_of, second_of, step}
+use Rattle.dirac_plan.specs.Plan.{anchor_of, anchor_offset, anchors_behind, between_of, field_of, field_or_first, fields_of, frames_plan, group, group_at, group_count, opening_of, plan, retired_of, retired_of_former, second_of, step}
+use Rattle.dirac_plan.proofs.Items.{none_asked}
 use Rattle.dirac_plan.proofs.Lists.{range_split}
 use Rattle.dirac_plan.proofs.Places.{frames_below}
 use Rattle.dirac_parts_laws.specs.Plans.{PlansGoOn, planned_behind}
@@ -49,10 +50,18 @@ behind_second s first d k =
 moved : (first d off : ℕ) → first + d + off ≡ first + off + d
 moved first d off = omega arith
 
-behind_retired : (s : Settings) (len first d k : ℕ) → retired_of s len (first + d) k ≡ option_map (λ n. n + d) (retired_of s len first k)
-behind_retired s len first d zero = refl
-behind_retired s len first d (suc zero) = refl
-behind_retired s len first d (suc (suc k)) = ap Some (moved first d (anchor_offset s len (suc k)))
+behind_former : (s : Settings) (first d j : ℕ) → s.alike ≡ 0 → retired_of_former s (first + d) j ≡ option_map (λ n. n + d) (retired_of_former s first j)
+behind_former s first d j none = none_asked s (first + d) j none ∙ sym (ap (option_map (λ n. n + d)) (none_asked s first j none))
+
+behind_retired : (s : Settings) (len first d k : ℕ) → s.alike ≡ 0 → retired_of s len (first + d) k ≡ option_map (λ n. n + d) (retired_of s len first k)
+behind_retired s len first d zero none = behind_former s first d 1 none
+behind_retired s len first d (suc zero) none = behind_former s first d 2 none
+behind_retired s len first d (suc (suc k)) none = ap Some (moved first d (anchor_offset s len (suc k)))
+
+behind_opening : (s : Settings) (first d : ℕ) → s.alike ≡ 0 → opening_of s (first + d) ≡ planned_behind d (opening_of s first)
+behind_opening s first d none =
+    let make : Option ℕ → Planned = λ o. record { number = first + d; code = INTRA_REFERENCE; ref1 = None; ref2 = None; retire = o } in
+    ap make (behind_former s first d 0 none)
 
 -- what stands between two anchors
 abbrev anchor_like : ℕ → ℕ → ℕ → Option ℕ → Planned
@@ -73,8 +82,8 @@ all_between (suc len) d references before after first =
     ap₂ (λ (x : Planned) (l : List Planned). x ∷ l) (behind_between d references before after first)
     (ap (λ n. map (between_of references (before + d) (after + d)) (range_with_len n len)) next ∙ all_between len d references before after (first + 1))
 
-behind_step : (s : Settings) (len first d k : ℕ) → step s len (first + d) k ≡ map (planned_behind d) (step s len first k)
-behind_step s len first d k =
+behind_step : (s : Settings) (len first d k : ℕ) → s.alike ≡ 0 → step s len (first + d) k ≡ map (planned_behind d) (step s len first k)
+behind_step s len first d k none =
     let before = first + anchor_offset s len k in
     let after = first + anchor_offset s len (suc k) in
     let from : first + d + anchor_offset s len k ≡ before + d = moved first d (anchor_offset s len k) in
@@ -86,17 +95,17 @@ behind_step s len first d k =
     let retires = retired_of s len (first + d) k in
     ap₂ (λ (x y : ℕ). make x y seconds retires (x + 1) (y - x - 1)) from to
     ∙ ap₂ (λ (z l : ℕ). make (before + d) (after + d) seconds retires z l) start span
-    ∙ ap₂ (λ (o r : Option ℕ). make (before + d) (after + d) o r (before + 1 + d) (after - before - 1)) (behind_second s first d k) (behind_retired s len first d k)
+    ∙ ap₂ (λ (o r : Option ℕ). make (before + d) (after + d) o r (before + 1 + d) (after - before - 1)) (behind_second s first d k) (behind_retired s len first d k none)
     ∙ ap₂ (λ (x : Planned) (l : List Planned). x ∷ l) (behind_anchor d after before (second_of s first k) (retired_of s len first k)) (all_between (after - before - 1) d s.references before after (before + 1))
 
-all_steps : (s : Settings) (len first d n i : ℕ) → flat_map (step s len (first + d)) (range_with_len i n) ≡ map (planned_behind d) (flat_map (step s len first) (range_with_len i n))
-all_steps s len first d zero i = refl
-all_steps s len first d (suc n) i =
-    ap₂ (λ (x y : List Planned). x ++ y) (behind_step s len first d i) (all_steps s len first d n (i + 1))
+all_steps : (s : Settings) (len first d n i : ℕ) → s.alike ≡ 0 → flat_map (step s len (first + d)) (range_with_len i n) ≡ map (planned_behind d) (flat_map (step s len first) (range_with_len i n))
+all_steps s len first d zero i none = refl
+all_steps s len first d (suc n) i none =
+    ap₂ (λ (x y : List Planned). x ++ y) (behind_step s len first d i none) (all_steps s len first d n (i + 1) none)
     ∙ sym (map-append (planned_behind d) (step s len first i) (flat_map (step s len first) (range_with_len (i + 1) n)))
 
-behind_group : (s : Settings) (len first d : ℕ) → group s len (first + d) ≡ map (planned_behind d) (group s len first)
-behind_group s len first d = ap (λ l. opening (first + d) ∷ l) (all_steps s len first d (anchors_behind s len) 0)
+behind_group : (s : Settings) (len first d : ℕ) → s.alike ≡ 0 → group s len (first + d) ≡ map (planned_behind d) (group s len first)
+behind_group s len first d none = ap₂ (λ (x : Planned) (l : List Planned). x ∷ l) (behind_opening s first d none) (all_steps s len first d (anchors_behind s len) 0 none)
 
 -- ---- frames
 
@@ -107,12 +116,12 @@ group_here s m n i less =
     let same : min s.gop (m * s.gop + n - i * s.gop) ≡ min s.gop (m * s.gop - i * s.gop) = omega (arith, up, one) in
     ap (λ len. group s len (i * s.gop)) same
 
-group_behind : (s : Settings) (m n j : ℕ) → group_at s (m * s.gop + n) (m + j) ≡ map (planned_behind (m * s.gop)) (group_at s n j)
-group_behind s m n j =
+group_behind : (s : Settings) (m n j : ℕ) → s.alike ≡ 0 → group_at s (m * s.gop + n) (m + j) ≡ map (planned_behind (m * s.gop)) (group_at s n j)
+group_behind s m n j none =
     let first : (m + j) * s.gop ≡ j * s.gop + m * s.gop = omega arith in
     let left : m * s.gop + n - (j * s.gop + m * s.gop) ≡ n - j * s.gop = omega arith in
     ap (λ x. group s (min s.gop (m * s.gop + n - x)) x) first ∙ ap (λ x. group s (min s.gop x) (j * s.gop + m * s.gop)) left
-    ∙ behind_group s (min s.gop (n - j * s.gop)) (j * s.gop) (m * s.gop)
+    ∙ behind_group s (min s.gop (n - j * s.gop)) (j * s.gop) (m * s.gop) none
 
 count_on : (s : Settings) (m n : ℕ) → 0 < s.gop → group_count s (m * s.gop + n) ≡ m + group_count s n
 count_on s m n some =
@@ -127,9 +136,9 @@ count_whole s m some =
     none : (g : ℕ) → 0 < g → (0 + (g - 1)) / g ≡ 0
     none g some = (let e : 0 ≡ 0 * g = omega arith in ap (λ x. (x + (g - 1)) / g) e) ∙ div-mul-add 0 g (g - 1) (omega arith)
 
-pub frames_on : (s : Settings) (m n : ℕ) → 0 < s.gop → frames_plan (m * s.gop + n) s ≡ frames_plan (m * s.gop) s ++ map (planned_behind (m * s.gop)) (frames_plan n s)
+pub frames_on : (s : Settings) (m n : ℕ) → s.alike ≡ 0 → 0 < s.gop → frames_plan (m * s.gop + n) s ≡ frames_plan (m * s.gop) s ++ map (planned_behind (m * s.gop)) (frames_plan n s)
 unfolding frames_plan
-frames_on s m n some =
+frames_on s m n none some =
     let all = m * s.gop + n in
     let k = group_count s n in
     ap (λ c. flat_map (group_at s all) (range_with_len 0 c)) (count_on s m n some)
@@ -138,7 +147,7 @@ frames_on s m n some =
     ∙ ap₂ (λ (x y : List Planned). x ++ y)
     (pieces_within (group_at s all) (group_at s (m * s.gop)) m 0 m (omega arith) (λ i less. group_here s m n i less) ∙ ap (λ c. flat_map (group_at s (m * s.gop)) (range_with_len 0 c)) (sym (count_whole s m some)))
     (ap (λ x. flat_map (group_at s all) (range_with_len x k)) (let same : m ≡ m + 0 = omega arith in same)
-    ∙ pieces_behind (planned_behind (m * s.gop)) (group_at s all) (group_at s n) m k 0 (λ j. group_behind s m n j))
+    ∙ pieces_behind (planned_behind (m * s.gop)) (group_at s all) (group_at s n) m k 0 (λ j. group_behind s m n j none))
 
 -- ---- fields
 
@@ -187,10 +196,12 @@ one_field_behind M n p f =
     ap (λ number. make number (option_map (field_or_first (2 * M + n) p) (option_map (λ x. x + M) f.ref1)) (option_map (field_or_first (2 * M + n) p) (option_map (λ x. x + M) f.ref2)) (option_map (λ t. 2 * t + p) (option_map (λ x. x + M) f.retire))) here
     ∙ ap₂ (λ (a b : Option ℕ). make (2 * f.number + p + 2 * M) a b (option_map (λ t. 2 * t + p) (option_map (λ x. x + M) f.retire))) (reference_behind M n p f.ref1) (reference_behind M n p f.ref2)
     ∙ ap (make (2 * f.number + p + 2 * M) (option_map (λ x. x + 2 * M) (option_map (field_or_first n p) f.ref1)) (option_map (λ x. x + 2 * M) (option_map (field_or_first n p) f.ref2))) (retired_behind M p f.retire) in
-    elim (code == INTRA_REFERENCE && p == 1) as (λ b. (if b then anchor_of (2 * (f.number + M) + 1) (2 * (f.number + M)) None None
+    elim (code == INTRA_REFERENCE && p == 1) as (λ b. (if b then anchor_of (2 * (f.number + M) + 1) (2 * (f.number + M)) None (option_map (λ t. 2 * t + p) (option_map (λ x. x + M) f.retire))
     else make (2 * (f.number + M) + p) (option_map (field_or_first (2 * M + n) p) (option_map (λ x. x + M) f.ref1)) (option_map (field_or_first (2 * M + n) p) (option_map (λ x. x + M) f.ref2)) (option_map (λ t. 2 * t + p) (option_map (λ x. x + M) f.retire)))
-    ≡ planned_behind (2 * M) (if b then anchor_of (2 * f.number + 1) (2 * f.number) None None else make (2 * f.number + p) (option_map (field_or_first n p) f.ref1) (option_map (field_or_first n p) f.ref2) (option_map (λ t. 2 * t + p) f.retire))) [
-      | true ↦ ap₂ (λ (x y : ℕ). anchor_of x y None None) one first
+    ≡ planned_behind (2 * M) (if b then anchor_of (2 * f.number + 1) (2 * f.number) None (option_map (λ t. 2 * t + p) f.retire) else make (2 * f.number + p) (option_map (field_or_first n p) f.ref1) (option_map (field_or_first n p) f.ref2) (option_map (λ t. 2 * t + p) f.retire))) [
+      | true ↦
+          ap₂ (λ (x y : ℕ). anchor_of x y None (option_map (λ t. 2 * t + p) (option_map (λ x. x + M) f.retire))) one first
+          ∙ ap (anchor_of (2 * f.number + 1 + 2 * M) (2 * f.number + 2 * M) None) (retired_behind M p f.retire)
       | false ↦ other
     ]
 
@@ -224,7 +235,7 @@ reference_there M n p (Some t) few is = ap Some (field_there M n p t few is)
 
 one_field_there : (M n p : ℕ) (f : Planned) → p ≤ 1 → IsBelow M f → field_of (2 * M + n) p f ≡ field_of (2 * M) p f
 one_field_there M n p f few below =
-    ap₂ (λ (a b : Option ℕ). if f.code == INTRA_REFERENCE && p == 1 then anchor_of (2 * f.number + 1) (2 * f.number) None None
+    ap₂ (λ (a b : Option ℕ). if f.code == INTRA_REFERENCE && p == 1 then anchor_of (2 * f.number + 1) (2 * f.number) None (option_map (λ t. 2 * t + p) f.retire)
     else (let q : Planned = record { number = 2 * f.number + p; code = f.code; ref1 = a; ref2 = b; retire = option_map (λ t. 2 * t + p) f.retire } in q))
     (reference_there M n p f.ref1 few below.ref1) (reference_there M n p f.ref2 few below.ref2)
 
@@ -239,9 +250,9 @@ all_there : (M n : ℕ) (fs : List Planned) → AllByRecursion (IsBelow M) fs �
 all_there M n [] all = refl
 all_there M n (f ∷ fs) all = ap₂ (λ (x y : List Planned). x ++ y) (both_there M n f all.0) (all_there M n fs all.1)
 
-fields_on : (s : Settings) (m n : ℕ) → 0 < s.gop → flat_map (fields_of (m * (2 * s.gop) + n)) (frames_plan ((m * (2 * s.gop) + n + 1) / 2) s)
+fields_on : (s : Settings) (m n : ℕ) → s.alike ≡ 0 → 0 < s.gop → flat_map (fields_of (m * (2 * s.gop) + n)) (frames_plan ((m * (2 * s.gop) + n + 1) / 2) s)
     ≡ flat_map (fields_of (m * (2 * s.gop))) (frames_plan ((m * (2 * s.gop) + 1) / 2) s) ++ map (planned_behind (m * (2 * s.gop))) (flat_map (fields_of n) (frames_plan ((n + 1) / 2) s))
-fields_on s m n some =
+fields_on s m n none some =
     let M : ℕ = m * s.gop in
     let k : ℕ = (n + 1) / 2 in
     let twice : m * (2 * s.gop) ≡ 2 * M = omega arith in
@@ -250,7 +261,7 @@ fields_on s m n some =
     let below = each_item (IsBelow M) (frames_plan M s) (λ i f at. frames_below M s i f some at) in
     let whole : flat_map (fields_of (2 * M + n)) (frames_plan ((2 * M + n + 1) / 2) s) ≡ flat_map (fields_of (2 * M)) (frames_plan ((2 * M + 1) / 2) s) ++ map (planned_behind (2 * M)) (flat_map (fields_of n) (frames_plan k s)) =
     ap (λ x. flat_map (fields_of (2 * M + n)) (frames_plan x s)) frames
-    ∙ ap (flat_map (fields_of (2 * M + n))) (frames_on s m k some)
+    ∙ ap (flat_map (fields_of (2 * M + n))) (frames_on s m k none some)
     ∙ flat_map-append (fields_of (2 * M + n)) (frames_plan M s) (map (planned_behind M) (frames_plan k s))
     ∙ ap₂ (λ (x y : List Planned). x ++ y) (all_there M n (frames_plan M s) below ∙ ap (λ x. flat_map (fields_of (2 * M)) (frames_plan x s)) (sym half)) (all_behind M n (frames_plan k s)) in
     ap (λ x. flat_map (fields_of (x + n)) (frames_plan ((x + n + 1) / 2) s)) twice ∙ whole
@@ -258,15 +269,15 @@ fields_on s m n some =
 
 -- ---- the law
 
-on_by : (b : Bool) (s : Settings) (m n : ℕ) → 0 < s.gop
+on_by : (b : Bool) (s : Settings) (m n : ℕ) → s.alike ≡ 0 → 0 < s.gop
     → (if b then frames_plan (m * ((if b then 1 else 2) * s.gop) + n) s else flat_map (fields_of (m * ((if b then 1 else 2) * s.gop) + n)) (frames_plan ((m * ((if b then 1 else 2) * s.gop) + n + 1) / 2) s))
     ≡ (if b then frames_plan (m * ((if b then 1 else 2) * s.gop)) s else flat_map (fields_of (m * ((if b then 1 else 2) * s.gop))) (frames_plan ((m * ((if b then 1 else 2) * s.gop) + 1) / 2) s))
     ++ map (planned_behind (m * ((if b then 1 else 2) * s.gop))) (if b then frames_plan n s else flat_map (fields_of n) (frames_plan ((n + 1) / 2) s))
-on_by true s m n some =
+on_by true s m n none some =
     let once : s.gop ≡ 1 * s.gop = omega arith in
-    subst (λ (g : ℕ). frames_plan (m * g + n) s ≡ frames_plan (m * g) s ++ map (planned_behind (m * g)) (frames_plan n s)) once (frames_on s m n some)
-on_by false s m n some = fields_on s m n some
+    subst (λ (g : ℕ). frames_plan (m * g + n) s ≡ frames_plan (m * g) s ++ map (planned_behind (m * g)) (frames_plan n s)) once (frames_on s m n none some)
+on_by false s m n none some = fields_on s m n none some
 
 pub plans_on : PlansGoOn
 unfolding plan
-plans_on s m n some = on_by (s.fields == 0) s m n some
+plans_on s m n none some = on_by (s.fields == 0) s m n none some

@@ -20,10 +20,11 @@ made_behind by m = record {
   shown = picture_behind by m.shown;
 }
 
--- m whole groups of sources, and others behind them, which alone are numbered from 0 on
+-- m whole groups of sources, and others behind them, which alone are numbered from 0 on; with alike 1 those behind also
+-- retire pictures
 abbrev pub SourcesBehindAreCodedAlike : Type 0
 SourcesBehindAreCodedAlike =
-    (t : Settings) (m : ℕ) (before after : List Picture) → length before ≡ m * group_pictures t
+    (t : Settings) (m : ℕ) (before after : List Picture) → t.alike ≡ 0 → length before ≡ m * group_pictures t
     → length before + length after < 2 ^ 31 → AreSources t after → AreNumbered 0 after
     → coding t (before ++ map (picture_behind (length before)) after)
     ≡ coding t before ++ map (made_behind (length before)) (coding t after)

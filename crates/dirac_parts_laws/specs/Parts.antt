@@ -34,10 +34,10 @@ AreParts t (p ∷ q ∷ parts) = ((m : ℕ) × (length p ≡ m * group_pictures 
 abbrev pub units_of_parts : Settings → List (List Picture) → List UnitText
 units_of_parts t parts = flat_map (stream_units t) parts
 
--- the parts' streams, joined, are the cut of the whole source's stream from point 0 to its end
+-- the parts' streams, joined, are the cut of the whole source's stream from point 0 to its end, with alike 0
 abbrev pub PartsJoinToTheWhole : Type 0
 PartsJoinToTheWhole =
-    (t : Settings) (parts : List (List Picture)) → IsAccepted t → 0 < length parts → AllByRecursion (IsPart t) parts
-    → AreParts t parts → length (whole_of parts) < 2 ^ 31
+    (t : Settings) (parts : List (List Picture)) → IsAccepted t → t.alike ≡ 0 → 0 < length parts
+    → AllByRecursion (IsPart t) parts → AreParts t parts → length (whole_of parts) < 2 ^ 31
     → joined_bytes (units_of_parts t parts)
     ≡ cut_bytes (stream_units t (whole_of parts)) 0 (points_of (stream_units t (whole_of parts)))

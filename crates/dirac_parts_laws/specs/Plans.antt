@@ -15,9 +15,10 @@ planned_behind by p = record {
   retire = option_map (λ n. n + by) p.retire;
 }
 
--- m whole groups, and n pictures behind them: the plan of the groups, and then that of the n pictures, moved on
+-- m whole groups, and n pictures behind them: the plan of the groups, and then that of the n pictures, moved on; with
+-- alike 1 a group behind others also retires pictures of the group before it
 abbrev pub PlansGoOn : Type 0
 PlansGoOn =
-    (t : Settings) (m n : ℕ) → 0 < t.gop
+    (t : Settings) (m n : ℕ) → t.alike ≡ 0 → 0 < t.gop
     → plan (m * group_pictures t + n) t
     ≡ plan (m * group_pictures t) t ++ map (planned_behind (m * group_pictures t)) (plan n t)

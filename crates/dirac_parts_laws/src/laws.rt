@@ -8,7 +8,8 @@ ghost use Rattle.dirac_parts_laws.specs.Plans.{PlansGoOn};
 use dirac_encode_laws::streams_show_their_pictures;
 use dirac_plan_laws::plans_can_be_coded;
 
-/// Behind whole groups a plan goes on as the plan of the pictures behind them, their numbers moved on.
+/// Behind whole groups a plan goes on as the plan of the pictures behind them, their numbers moved on: where the
+/// settings have `alike` 0, for with 1 a group retires pictures of the one before.
 pub fn plans_go_on()
     ensures { PlansGoOn }
 {}
@@ -19,7 +20,7 @@ pub fn payloads_keep_all_but_numbers()
     ensures { PayloadsKeepAllButNumbers }
 {}
 
-/// Sources behind whole groups of others are coded as they are alone, but for their numbers.
+/// Sources behind whole groups of others are coded as they are alone, but for their numbers, with `alike` 0.
 pub fn sources_behind_are_coded_alike()
     ensures { SourcesBehindAreCodedAlike }
 {
@@ -27,8 +28,8 @@ pub fn sources_behind_are_coded_alike()
     streams_show_their_pictures();
 }
 
-/// Parts of whole groups, each encoded apart: their streams, one behind the other and joined, are byte for byte the cut
-/// of the whole source's stream from point 0 to its end.
+/// Parts of whole groups, each encoded apart with `alike` 0: their streams, one behind the other and joined, are byte
+/// for byte the cut of the whole source's stream from point 0 to its end.
 pub fn parts_join_to_the_whole()
     ensures { PartsJoinToTheWhole }
 {
