@@ -333,7 +333,7 @@ texts_fit_made t pictures refs (q ∷ qs) index points short codes =
       texts_fit_made t pictures (refs_after refs m) qs (suc (index_up index m)) (points_up points m) short.1 codes.1,
     )
 
-header_fits : (t : Settings) → Fits (sequence_payload t)
+pub header_fits : (t : Settings) → Fits (sequence_payload t)
 unfolding sequence_payload
 header_fits t =
     let bits = up_to_byte (sequence_bits t) in

@@ -54,12 +54,12 @@ use Rattle.dirac_editing_laws.proofs.Following.{streams_behind}
 four_below : (v : ℕ) → AllByRecursion (λ b. b < 2 ^ 8) (to_be_bytes w32 v)
 four_below v = (omega arith, (omega arith, (omega arith, (omega arith, tt))))
 
-info_below : (info : ParseInfo) → info.code < 2 ^ 8 → AllByRecursion (λ b. b < 2 ^ 8) (info_bytes info)
+pub info_below : (info : ParseInfo) → info.code < 2 ^ 8 → AllByRecursion (λ b. b < 2 ^ 8) (info_bytes info)
 info_below info small =
     let rest = each_append (λ b. b < 2 ^ 8) (to_be_bytes w32 info.next) (to_be_bytes w32 info.previous) (four_below info.next) (four_below info.previous) in
     (omega arith, (omega arith, (omega arith, (omega arith, (small, rest)))))
 
-code_below : (code : ℕ) → is_picture code ≡ true → code < 2 ^ 8
+pub code_below : (code : ℕ) → is_picture code ≡ true → code < 2 ^ 8
 code_below code is =
     let known : (n : ℕ) → n < 2 ^ 8 → (code == n) ≡ true → code < 2 ^ 8 = λ n small e. subst (λ m. m < 2 ^ 8) (sym (eqb-true code n e)) small in
     elim (or_cases ((code == 0x08 || code == 0x0C) || (code == 0x09 || code == 0x0D)) (code == 0x0A || code == 0x0E) is) [
@@ -79,7 +79,7 @@ code_below code is =
       ]
     ]
 
-unit_below : (code previous : ℕ) (payload : List ℕ) → code < 2 ^ 8 → Fits payload → AllByRecursion (λ b. b < 2 ^ 8) (unit code previous payload)
+pub unit_below : (code previous : ℕ) (payload : List ℕ) → code < 2 ^ 8 → Fits payload → AllByRecursion (λ b. b < 2 ^ 8) (unit code previous payload)
 unit_below code previous payload small fits =
     let info = info_for code previous payload in
     each_append (λ b. b < 2 ^ 8) (info_bytes info) payload (info_below info small) fits.below

@@ -3,3 +3,4 @@ pub mod CodedBehind
 pub mod Parts
 pub mod Payloads
 pub mod Plans
+pub mod Shown

@@ -6,10 +6,12 @@ use Rattle.dirac_types.specs.declared.settings.Settings.{Settings}
 use Rattle.dirac_types.specs.Settings.{IsAccepted}
 use Rattle.dirac_units.specs.Cut.{UnitText}
 use Rattle.dirac_plan.specs.Planning.{group_pictures}
+use Rattle.dirac_encode_laws.specs.Coding.{reconstructions}
 use Rattle.dirac_encode_laws.specs.Laws.{AreNumbered, AreSources}
-use Rattle.dirac_encode_laws.specs.Stream.{stream_units}
+use Rattle.dirac_encode_laws.specs.Stream.{stream_of, stream_units}
 use Rattle.dirac_edit_laws.specs.Cut.{cut_bytes}
 use Rattle.dirac_edit_laws.specs.Joined.{joined_bytes}
+use Rattle.dirac_edit_laws.specs.Laws.{IsFaultless, ShowsJust}
 use Rattle.dirac_edit_laws.specs.Texts.{points_of}
 use Rattle.dirac_parts_laws.specs.Behind.{picture_behind}
 
@@ -41,3 +43,12 @@ PartsJoinToTheWhole =
     → AllByRecursion (IsPart t) parts → AreParts t parts → length (whole_of parts) < 2 ^ 31
     → joined_bytes (units_of_parts t parts)
     ≡ cut_bytes (stream_units t (whole_of parts)) 0 (points_of (stream_units t (whole_of parts)))
+
+-- with alike 0, the parts' streams, one behind the other, are a stream without a fault, of just these units; joined
+-- they have no fault and show the whole source's reconstructions
+abbrev pub JoinedPartsShowTheWhole : Type 0
+JoinedPartsShowTheWhole =
+    (t : Settings) (parts : List (List Picture)) → IsAccepted t → t.alike ≡ 0 → 0 < length parts
+    → AllByRecursion (IsPart t) parts → AreParts t parts → length (whole_of parts) < 2 ^ 31
+    → IsFaultless (flat_map (stream_of t) parts) (units_of_parts t parts)
+    × ShowsJust (joined_bytes (units_of_parts t parts)) (reconstructions t (whole_of parts))

@@ -1,12 +1,13 @@
 //! The laws of parts, as the contracts of functions that do nothing.
 
 ghost use Rattle.dirac_parts_laws.specs.Behind.{SourcesBehindAreCodedAlike};
-ghost use Rattle.dirac_parts_laws.specs.Parts.{PartsJoinToTheWhole};
+ghost use Rattle.dirac_parts_laws.specs.Parts.{JoinedPartsShowTheWhole, PartsJoinToTheWhole};
 ghost use Rattle.dirac_parts_laws.specs.Payloads.{PayloadsKeepAllButNumbers};
 ghost use Rattle.dirac_parts_laws.specs.Plans.{PlansGoOn};
 
 use dirac_encode_laws::streams_show_their_pictures;
 use dirac_plan_laws::plans_can_be_coded;
+use dirac_units::infos_are_read_as_written;
 
 /// Behind whole groups a plan goes on as the plan of the pictures behind them, their numbers moved on: where the
 /// settings have `alike` 0, for with 1 a group retires pictures of the one before.
@@ -33,6 +34,16 @@ pub fn sources_behind_are_coded_alike()
 pub fn parts_join_to_the_whole()
     ensures { PartsJoinToTheWhole }
 {
+    plans_can_be_coded();
+    streams_show_their_pictures();
+}
+
+/// The streams of parts of whole groups, one behind the other, have no fault; joined they show the reconstructions of
+/// the whole source, with `alike` 0.
+pub fn joined_parts_show_the_whole()
+    ensures { JoinedPartsShowTheWhole }
+{
+    infos_are_read_as_written();
     plans_can_be_coded();
     streams_show_their_pictures();
 }

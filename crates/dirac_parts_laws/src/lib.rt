@@ -4,6 +4,6 @@
 mod laws;
 
 pub use laws::{
-    parts_join_to_the_whole, payloads_keep_all_but_numbers, plans_go_on,
-    sources_behind_are_coded_alike,
+    joined_parts_show_the_whole, parts_join_to_the_whole, payloads_keep_all_but_numbers,
+    plans_go_on, sources_behind_are_coded_alike,
 };
