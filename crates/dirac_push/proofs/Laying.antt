@@ -2,10 +2,10 @@
 use Rattle.std.proofs.Common.{◌≡◌, ◌∙◌, ℕ, ℤ, pos, ◌+◌, ◌-◌, ◌*◌, ◌<◌, ◌≤◌, ◌⊎◌, inl, inr, Bool, true, false, nat_lt, List, slice_index_or, refl, sym, ap, subst, arith}
 use Rattle.std.specs.Prelude.{slice_index}
 use Rattle.std.proofs.lemmas.Bool.{ltb-false, ltb-true}
-use Rattle.std.proofs.Math.Nat.{eq-or-lt_of_le, mul-le-mul_right, suc-mul}
+use Rattle.std.proofs.Math.Nat.{eq-or-lt_of_le, mul-le-mul_right}
 use Rattle.dirac_common.specs.Table.{Table, table_at}
 use Rattle.dirac_decode.specs.Raw.{byte_of}
-use Rattle.dirac_push.specs.Laid.{AreLaid, CopiesSamples, IsOutside}
+use Rattle.dirac_push.specs.Laid.{AreLaid, CopiesSamples}
 
 -- a byte of an earlier row stands before a later one
 row_before : (x v y width stride : ℕ) → x < width → v < y → width ≤ stride → v * stride + x < y * stride

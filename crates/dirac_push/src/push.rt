@@ -120,7 +120,7 @@ impl PushDecoder {
     }
 
     /// One turn: the picture that is due, what was met, or at most one unit.
-    #[tactic(auto, using(crate::proofs::Passing::turn_due, crate::proofs::Passing::turn_ended, crate::proofs::Passing::turn_faulted, crate::proofs::Passing::turn_needs, crate::proofs::Passing::turn_taken))]
+    #[tactic(auto, using(crate::proofs::Passing::turn_taken))]
     fn turn(&mut self) -> Option<Answer>
         requires not_stopped { self.old.decoder.stream_end ≡ StreamEnd.Stopped → ⊥ }
         requires none_shown { self.old.shown ≡ None }
@@ -131,15 +131,19 @@ impl PushDecoder {
     {
         if let Some(picture) = self.decoder.due_picture() {
             self.shown = Some(picture);
+            #[tactic(auto, using(crate::proofs::Passing::turn_due))]
             return Some(Answer::Shown);
         }
         match self.decoder.stream_end() {
             StreamEnd::Going => {}
+            #[tactic(auto, using(crate::proofs::Passing::turn_ended))]
             StreamEnd::Ended => return Some(Answer::End),
+            #[tactic(auto, using(crate::proofs::Passing::turn_faulted))]
             StreamEnd::Faulted(fault) => return Some(Answer::Fault(fault)),
             StreamEnd::Stopped => unreachable!(),
         }
         if !self.is_finished && !self.queue.has_unit() {
+            #[tactic(auto, using(crate::proofs::Passing::turn_needs))]
             return Some(Answer::Needs);
         }
         self.take_unit()

@@ -1,6 +1,5 @@
-use Rattle.std.proofs.Common.{◌≡◌, ◌∙◌, ap, false, refl, subst, sym, List, None, Option, Some}
+use Rattle.std.proofs.Common.{◌≡◌, ◌∙◌, ap, false, refl, subst, sym, None, Some}
 use Rattle.dirac_decode.specs.declared.answers.Next.{Next}
-use Rattle.dirac_decode.specs.declared.answers.Next.TheVariants as next
 use Rattle.dirac_decode.specs.Stepping.{IsThere, IsWholeUnit, StepGives, StepGivesBefore}
 use Rattle.dirac_push.specs.declared.answer.Answer.TheVariants as answers
 use Rattle.dirac_push.specs.Pushing.{Pushed, TurnGives}

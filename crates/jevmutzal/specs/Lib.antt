@@ -1,0 +1,4 @@
+pub mod Owning
+pub mod Numbers
+pub mod Describing
+pub mod Sending

@@ -1,0 +1,23 @@
+-- What C is told of bytes sent and of the names of causes.
+use Rattle.std.specs.Prelude.{◌≡◌, ℕ, ℤ, ◌<◌, ◌++◌, ◌⊎◌, true, List, [], length, drop}
+use Rattle.dirac_common.specs.declared.faults.Cause.{Cause}
+use Rattle.dirac_types.specs.Causes.{name_of}
+use Rattle.dirac_push.specs.Pushing.{Passes, Pushed}
+use Rattle.jevmutzal.specs.declared.codes.TheConstants.{FINISHED, NO_MEMORY, OK}
+use Rattle.jevmutzal.specs.Numbers.{number_of_cause}
+
+-- a number tells whether the bytes were added; where they weren't, nothing changed
+abbrev pub TellsSent : ℤ → List ℕ → Pushed → Pushed → Type 0
+TellsSent code bytes old new =
+    (code ≡ OK) × Passes old new bytes [] × (new.there ≡ old.there ++ bytes)
+    ⊎ (code ≡ NO_MEMORY) × (new ≡ old)
+    ⊎ (code ≡ FINISHED) × (old.is_finished ≡ true) × (new ≡ old)
+
+-- the name of the cause of that number stands at the front of the buffer, and the answer is its length; or nothing was
+-- written, since there is no such cause or no room
+abbrev pub WritesName : ℕ → ℕ → List ℕ → List ℕ → Type 0
+WritesName number answer old new =
+    ((cause : Cause) × (number_of_cause cause ≡ number) × (answer ≡ length (name_of cause))
+    × (new ≡ name_of cause ++ drop (length (name_of cause)) old))
+    ⊎ ((answer ≡ 0) × (new ≡ old) × ((cause : Cause) → number_of_cause cause ≡ number
+    → length old < length (name_of cause)))

@@ -1,0 +1,5 @@
+//! Streams sent in pieces, and planes copied at a stride.
+#![tactic(auto)]
+
+#[cfg(test)]
+mod pieces;
