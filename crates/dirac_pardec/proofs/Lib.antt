@@ -1,2 +1,3 @@
 pub mod Sliced
 pub mod Placed
+pub mod Oriented

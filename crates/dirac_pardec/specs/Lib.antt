@@ -2,3 +2,4 @@ pub mod Places
 pub mod Slices
 pub mod Planes
 pub mod Given
+pub mod Bands

@@ -10,6 +10,7 @@ use crate::intra::intra_picture;
 use crate::predict::predict_slices;
 use crate::residuals::residuals;
 use crate::slices::inter_samples;
+use crate::small::workers_for;
 use crate::ups::ups;
 use dirac_common::{Kind, NoMemory, Picture, RowGate};
 use dirac_header::PictureHeader;
@@ -71,6 +72,7 @@ pub fn rebuild_rows<R: Threads + Sync, G: RowGate>(
     ensures value { IfOk result (λ p. p ≡ rebuilt sequence.now refs.now coded.now) }
     ensures fits { IfOk result (IsPicture sequence.now) }
 {
+    let workers = workers_for(sequence, workers);
     match &coded.motion {
         None => intra_picture(rt, alloc, coded, sequence, workers, gate),
         Some(motion) => {

@@ -2,22 +2,27 @@ ghost use Rattle.std.specs.Prelude.{◌≡◌, ◌≤◌, IfOk, IfSome};
 ghost use Rattle.std.specs.Io.KnownBytes.{IsAtEnd};
 ghost use Rattle.std.specs.Thread.{IsSync};
 ghost use Rattle.dirac_io.specs.Faults.{Rose};
+ghost use Rattle.dirac_picture.specs.Reading.{CanBeRead, ReadsThem};
 ghost use Rattle.dirac_decode.specs.Content.{rebuilt};
 ghost use Rattle.dirac_decode.specs.Decoded.{IfDone, IfTally, IsDecoded};
 ghost use Rattle.dirac_decode.specs.Rebuilding.{CanBeRebuilt};
 
+use crate::planes::read_planes_rows;
 use crate::rebuild::rebuild_rows;
-use dirac_common::{NoMemory, Picture, RowGate};
+use dirac_bits::BitReader;
+use dirac_common::{NoMemory, Picture, RowGate, Stop};
 use dirac_decode::{Decoded, decode_stream_by};
+use dirac_header::Transform;
 use dirac_io::{Sink, Source};
-use dirac_picture::CodedPicture;
+use dirac_picture::{CodedPicture, CodedResidual};
 use dirac_refs::{MOST_REFERENCES, RefBuffer};
 use dirac_sequence_header::Sequence;
 use std::alloc::Global;
 use std::marker::Sync;
 use std::thread::Threads;
 
-/// Decodes a whole stream, as `decode_stream`, its pictures rebuilt by that many workers as `rebuild_rows` does.
+/// Decodes a whole stream, as `decode_stream`, its pictures read and rebuilt by that many workers as
+/// `read_planes_rows` and `rebuild_rows` do.
 pub fn decode_rows<R: Threads + Sync, S: Source, K: Sink, G: RowGate>(
     rt: &R,
     alloc: Global,
@@ -35,6 +40,12 @@ pub fn decode_rows<R: Threads + Sync, S: Source, K: Sink, G: RowGate>(
     ensures reads { S.faults source.old ≤ S.faults source.new }
     ensures writes { K.faults out.old ≤ K.faults out.new }
 {
+    let planes = |alloc: Global, r: &mut BitReader<
+        '_,
+    >, transform: Transform, sequence: &Sequence| -> Result<CodedResidual, Stop>
+        requires { IsSync R.row × IsSync G.row × (1 ≤ workers) × (workers ≤ 64) × CanBeRead sequence.now transform }
+        ensures { ReadsThem sequence.now transform r.old result r.new }
+    { read_planes_rows(rt, alloc, r, transform, sequence, workers, gate) };
     let make = |alloc: Global, coded: &CodedPicture, sequence: &Sequence, refs: &RefBuffer| -> Result<
         Picture,
         NoMemory,
@@ -43,5 +54,5 @@ pub fn decode_rows<R: Threads + Sync, S: Source, K: Sink, G: RowGate>(
             × CanBeRebuilt coded.now sequence.now refs.now }
         ensures { IfOk result (λ p. p ≡ rebuilt sequence.now refs.now coded.now) }
     { rebuild_rows(rt, alloc, coded, sequence, refs, workers, gate) };
-    decode_stream_by(&make, alloc, source, out)
+    decode_stream_by(&planes, &make, alloc, source, out)
 }

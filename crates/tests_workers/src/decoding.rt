@@ -1,5 +1,6 @@
+use crate::encoding::encoded;
 use crate::gates::HoldsEachCall;
-use dirac_common::NoMemory;
+use dirac_common::{NoMemory, OpenGate};
 use dirac_decode::{Decoded, Tally};
 use dirac_io::{MemSink, MemSource};
 use dirac_pardec::decode_rows;
@@ -33,6 +34,29 @@ fn two_workers_share_the_rows_of_each_call(rt: HostRuntime) -> Result<(), NoMemo
         assert_eq!(rt; out.taken().len(), 192);
         assert!(rt; out.taken().iter().all(|byte| *byte == 0x80));
         assert_eq!(rt; gate.calls(), Some(3), "row {held} held");
+    }
+    Ok(())
+}
+
+// Pictures that aren't small also have the orientations of their subbands as rows, in a call before those: the intra
+// picture has two calls, the inter picture four.
+#[test]
+fn two_workers_share_the_subbands(rt: HostRuntime) -> Result<(), NoMemory> {
+    let alloc = rt.alloc();
+    let made = encoded(&rt, alloc, 320, 208, 1, &OpenGate)?;
+    for held in [0, 1] {
+        let gate = HoldsEachCall::new(held);
+        let bytes = Vec::from_slice(alloc, made.stream.taken())?;
+        let mut source = MemSource::new(bytes, 4096, Vec::new(alloc));
+        let mut out = MemSink::new(alloc, 4096, Vec::new(alloc));
+        let ended = decode_rows(&rt, alloc, &mut source, &mut out, 2, &gate);
+        let tally = Tally {
+            pictures: 2,
+            references: 2,
+        };
+        assert_eq!(rt; ended, Decoded::Done(tally));
+        assert_eq!(rt; out.taken(), made.shown.taken());
+        assert_eq!(rt; gate.calls(), Some(6), "row {held} held");
     }
     Ok(())
 }

@@ -8,17 +8,17 @@ use std::thread::Threads;
 
 // What encoding left: its answer, the stream, and the pictures that decoders show for it.
 #[derive(Drop)]
-struct Made {
-    ended: Encoded,
-    stream: MemSink,
-    shown: MemSink,
+pub struct Made {
+    pub ended: Encoded,
+    pub stream: MemSink,
+    pub shown: MemSink,
 }
 
-// Two raw pictures of 8 columns and that many rows, 4:2:0: the second is the first a row lower, and brighter.
-fn moving(alloc: Global, height: u32) -> Result<Vec<u8>, NoMemory> {
+// Two raw pictures of this size, 4:2:0: the second is the first a little lower, and brighter.
+fn moving(alloc: Global, width: u32, height: u32) -> Result<Vec<u8>, NoMemory> {
     let mut raw = Vec::new(alloc);
     for number in 0..2u32 {
-        for place in 0..height.saturating_mul(12) {
+        for place in 0..width.saturating_mul(height).saturating_mul(3) / 2 {
             let byte = place.wrapping_mul(place).wrapping_mul(7) / 13 + number.wrapping_mul(19);
             raw.push((byte % 256) as u8)?;
         }
@@ -27,21 +27,22 @@ fn moving(alloc: Global, height: u32) -> Result<Vec<u8>, NoMemory> {
 }
 
 // Encodes them; a picture of 40 rows has two rows of superblocks, one of 72 rows has three.
-fn encoded<R: Threads + Sync, G: RowGate>(
+pub fn encoded<R: Threads + Sync, G: RowGate>(
     rt: &R,
     alloc: Global,
+    width: u32,
     height: u32,
     workers: u32,
     gate: &G,
 ) -> Result<Made, NoMemory> {
     let mut settings = Settings::of_base(0);
-    settings.width = 8;
+    settings.width = width;
     settings.height = height;
     settings.workers = workers;
     let Ok(()) = settings.check() else {
         return Err(NoMemory);
     };
-    let mut source = MemSource::new(moving(alloc, height)?, 4096, Vec::new(alloc));
+    let mut source = MemSource::new(moving(alloc, width, height)?, 4096, Vec::new(alloc));
     let mut stream = MemSink::new(alloc, 4096, Vec::new(alloc));
     let mut shown = MemSink::new(alloc, 4096, Vec::new(alloc));
     let ended = encode_stream(
@@ -78,9 +79,9 @@ fn encoding_deals_rows_as_workers_come_free(rt: HostRuntime) -> Result<(), NoMem
         (72, 2, THIRD, three),
         (72, 3, three, three),
     ] {
-        let alone = encoded(&rt, alloc, height, 1, &OpenGate)?;
+        let alone = encoded(&rt, alloc, 8, height, 1, &OpenGate)?;
         let gate = HoldsRows::new(held, all);
-        let made = encoded(&rt, alloc, height, workers, &gate)?;
+        let made = encoded(&rt, alloc, 8, height, workers, &gate)?;
         assert!(rt;
             gate.all_came(),
             "{height} rows, {workers} workers, {held} held"
@@ -95,7 +96,7 @@ fn encoding_deals_rows_as_workers_come_free(rt: HostRuntime) -> Result<(), NoMem
 #[test]
 fn no_gate_is_passed_by_one_thread(rt: HostRuntime) -> Result<(), NoMemory> {
     let gate = HoldsRows::for_turns(1, FIRST, FIRST | SECOND);
-    let made = encoded(&rt, rt.alloc(), 40, 1, &gate)?;
+    let made = encoded(&rt, rt.alloc(), 8, 40, 1, &gate)?;
     assert!(rt; !gate.all_came());
     assert_eq!(rt; made.ended, Encoded::Done);
     Ok(())

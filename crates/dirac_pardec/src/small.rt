@@ -1,0 +1,23 @@
+//! How many threads a picture is worth; no answer depends on it.
+ghost use Rattle.std.specs.Prelude.{◌≤◌};
+
+use dirac_sequence_header::Sequence;
+
+/// A picture of fewer luma samples than this is small: threads started for it cost more than they give.
+pub const SMALL: u64 = 65_536;
+
+/// Whether a picture is small.
+pub(crate) fn is_small(sequence: &Sequence) -> bool {
+    u64::from(sequence.width) * u64::from(sequence.picture_height()) < SMALL
+}
+
+/// How many of these workers rebuild a picture: two of them at most where it is small.
+pub(crate) fn workers_for(sequence: &Sequence, workers: u32) -> u32
+    requires { (1 ≤ workers) × (workers ≤ 64) }
+    ensures { (1 ≤ result) × (result ≤ workers) }
+{
+    if is_small(sequence) {
+        return workers.min(2);
+    }
+    workers
+}
