@@ -1,9 +1,18 @@
--- What words say, computed on small cases.
-use Rattle.std.proofs.Common.{◌≡◌, [], ◌∷◌, None, Some, Ok, Err, refl}
+-- What words say, computed on small cases, and what no stream delivers.
+use Rattle.std.proofs.Common.{◌≡◌, ◌∙◌, List, [], ◌∷◌, Option, None, Some, Result, Ok, Err, ap, refl}
 use Rattle.std.specs.Prelude.{codes}
+use Rattle.dirac_common.specs.declared.faults.Cause.TheVariants.{MissingEnd}
+use Rattle.dirac_common.specs.declared.faults.Fault.{Fault}
+use Rattle.dirac_common.specs.declared.picture.Picture.{Picture}
 use Rattle.dirac_types.specs.Settings.{format_of, of_base, table}
+use Rattle.dirac_units.specs.declared.info.ParseInfo.{ParseInfo}
+use Rattle.dirac_units.specs.Cut.{IsCut, UnitText, start}
+use Rattle.dirac_decode.specs.Shown.{Outcome, outcome}
+use Rattle.dirac_decode.specs.StreamState.{begun}
+use Rattle.dirac_encode_laws.specs.declared.answers.Encoded.{Encoded}
 use Rattle.dirac_commands.specs.declared.words.Command.TheVariants.{Encode, Make, Rate}
 use Rattle.dirac_commands.specs.declared.words.WordsStop.TheVariants.{Usage}
+use Rattle.dirac_commands.specs.Delivered.{DeliversShown}
 use Rattle.dirac_commands.specs.Options.{fits, is_new_path, is_new_setting, number_read, path_in, settings_given, value_in, value_or}
 use Rattle.dirac_commands.specs.Words.{command_read, encode_read, make_read, path_read, rate_read}
 
@@ -127,3 +136,20 @@ rate_path = refl
 rate_path_refused : path_read (codes "rate" ∷ codes "--budget=13" ∷ codes "--recon=a.raw" ∷ []) ≡ None
 unfolding path_read rate_read settings_given value_or value_in number_read fits is_new_setting is_new_path path_in format_of table
 rate_path_refused = refl
+
+-- nothing is delivered beside a stream of no byte: its end unit is missing
+no_end_unit : (units : List UnitText) (end : Option Fault) (o : Outcome) → IsCut start [] units end → outcome begun start units end ≡ o → o.end ≡ None → ⊥
+unfolding outcome
+no_end_unit [] end o cut same none =
+    let missing : Option Fault = Some (record { unit = 0; at = 0; cause = MissingEnd }) in
+    let front : Result ParseInfo (Option Fault) = Err missing in
+    let is : front ≡ Err end = cut in
+    let last : end ≡ None = ap (λ (x : Outcome). x.end) same ∙ none in
+    cc
+no_end_unit (unit ∷ units) end o cut same none =
+    let front : Result ParseInfo (Option Fault) = Err (Some (record { unit = 0; at = 0; cause = MissingEnd })) in
+    let is : front ≡ Ok unit.info = cut.0 in
+    cc
+
+no_empty_stream : (answer : Encoded) (shown : List Picture) → DeliversShown (record { answer = answer; stream = []; shown = shown }) → ⊥
+no_empty_stream answer shown e = no_end_unit e.1.units e.1.end e.0 e.1.cut e.1.same e.2

@@ -13,3 +13,5 @@ pub mod Room
 pub mod Statuses
 pub mod Unfit
 pub mod Workers
+pub mod Delivered
+pub mod Inside

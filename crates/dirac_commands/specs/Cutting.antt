@@ -6,6 +6,7 @@ use Rattle.dirac_edit.specs.declared.answers.Edited.TheVariants as edited
 use Rattle.dirac_edit.specs.Edits.{IsCutBy, ShowsPart}
 use Rattle.dirac_commands.specs.declared.ended.Ended.{Ended}
 use Rattle.dirac_commands.specs.declared.ended.Ended.TheVariants as ended
+use Rattle.dirac_commands.specs.Inside.{IsFaultInside}
 
 -- how a run ends that edits a stream
 abbrev pub ended_of : Edited → Ended
@@ -24,6 +25,7 @@ pub record Cuts (from : ℕ) (to : Option ℕ) (held held' out out' : Option (Li
   pub cut : IfSome held (λ bytes. IsCutBy bytes from to how out out')
   pub shows : IfSome held (λ bytes. how ≡ edited.Done → ShowsPart bytes from to)
   pub whole : answer ≡ ended.Done → IsAtEnd held'
+  pub fault_inside : IfSome held (IsFaultInside answer)
 
 -- the answers that `cut` may give, of whatever source
 abbrev pub IsCutAnswer : Ended → Type 0

@@ -7,6 +7,7 @@ use Rattle.dirac_edit.specs.Edits.{IsJoinedBy, JoinedShowsSame}
 use Rattle.dirac_commands.specs.declared.ended.Ended.{Ended}
 use Rattle.dirac_commands.specs.declared.ended.Ended.TheVariants as ended
 use Rattle.dirac_commands.specs.Cutting.{ended_of}
+use Rattle.dirac_commands.specs.Inside.{IsFaultInside}
 
 -- the answers that `join` may give, of whatever source: none names a point or an open unit
 abbrev pub IsJoinAnswer : Ended → Type 0
@@ -25,3 +26,4 @@ pub record Joins (held held' out out' : Option (List ℕ)) (answer : Ended) : Ty
   pub joined : IfSome held (λ bytes. IsJoinedBy bytes how out out')
   pub shows : IfSome held (λ bytes. how ≡ edited.Done → JoinedShowsSame bytes)
   pub whole : answer ≡ ended.Done → IsAtEnd held'
+  pub fault_inside : IfSome held (IsFaultInside answer)

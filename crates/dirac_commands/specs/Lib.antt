@@ -14,3 +14,5 @@ pub mod Joining
 pub mod Running
 pub mod Flushing
 pub mod Workers
+pub mod Delivered
+pub mod Inside

@@ -4,8 +4,12 @@ use Rattle.std.specs.Io.KnownBytes.{IsAtEnd}
 use Rattle.dirac_types.specs.declared.settings.BadSetting.{BadSetting}
 use Rattle.dirac_types.specs.declared.settings.Settings.{Settings}
 use Rattle.dirac_types.specs.Settings.{first_bad, table}
-use Rattle.dirac_encode_laws.specs.Fit.{AllFitOrNone}
+use Rattle.dirac_encode_laws.specs.Coding.{own_index}
+use Rattle.dirac_encode_laws.specs.Encoding.{encoding, encoding_under}
+use Rattle.dirac_encode_laws.specs.Fit.{AllFitOrNone, fit}
 use Rattle.dirac_encode_laws.specs.Standing.{jobs_in}
+use Rattle.dirac_choice_laws.specs.Pictures.{AreLeastInters}
+use Rattle.dirac_choice_laws.specs.Workers.{with_workers}
 use Rattle.dirac_commands.specs.declared.ended.Ended.{Ended}
 use Rattle.dirac_commands.specs.declared.ended.Ended.TheVariants as ended
 use Rattle.dirac_commands.specs.declared.words.Command.{Command}
@@ -14,10 +18,12 @@ use Rattle.dirac_commands.specs.declared.words.WordsStop.{WordsStop}
 use Rattle.dirac_commands.specs.declared.words.WordsStop.TheVariants.{Usage}
 use Rattle.dirac_commands.specs.Cutting.{Cuts}
 use Rattle.dirac_commands.specs.Decoding.{IsDecoded, IsDecodeAnswer, TellsFew}
-use Rattle.dirac_commands.specs.Encoding.{IsEncoded, IsEncodeAnswer}
+use Rattle.dirac_commands.specs.Delivered.{DeliversShown, SideGetsShown}
+use Rattle.dirac_commands.specs.Encoding.{EndsStream, IsEncoded, IsEncodeAnswer}
+use Rattle.dirac_commands.specs.Inside.{IsFaultInside}
 use Rattle.dirac_commands.specs.Joining.{Joins}
 use Rattle.dirac_commands.specs.Listing.{IsListed, IsListAnswer}
-use Rattle.dirac_commands.specs.Making.{AnswersMake, first_bad_for_make}
+use Rattle.dirac_commands.specs.Making.{AnswersMake, first_bad_for_make, making}
 use Rattle.dirac_commands.specs.Workers.{bad_workers}
 use Rattle.dirac_commands.specs.Rating.{IsRated, first_bad_for_rate}
 
@@ -33,6 +39,7 @@ pub record Lists (old new : Held) (answer : Ended) : Type 0 where
   pub listed : IfSome old.held (λ bytes. IsListed bytes answer old.out new.out)
   pub whole : answer ≡ ended.Done → IsAtEnd new.held
   pub side : new.side ≡ old.side
+  pub fault_inside : IfSome old.held (IsFaultInside answer)
 
 -- `decode`: the pictures that the bytes held show, and their tally
 pub record Decodes (old new : Held) (answer : Ended) : Type 0 where
@@ -40,6 +47,7 @@ pub record Decodes (old new : Held) (answer : Ended) : Type 0 where
   pub decoded : IfSome old.held (λ bytes. IsDecoded bytes answer old.out new.out old.side new.side)
   pub tells_at_most_8_references : IfSome old.held (TellsFew answer)
   pub whole : answer ≡ ended.Done → IsAtEnd new.held
+  pub fault_inside : IfSome old.held (IsFaultInside answer)
 
 -- `pardecode`: what `decode` leaves, or the number of workers is out of its range, is answered and nothing is read or
 -- written
@@ -47,23 +55,29 @@ abbrev pub DecodesUnless : Option BadSetting → Held → Held → Ended → Typ
 DecodesUnless (Some bad) old new answer = (answer ≡ ended.BadSettings bad) × (new ≡ old)
 DecodesUnless None old new answer = Decodes old new answer
 
--- `encode` with accepted settings: the stream of the raw pictures that the bytes held are, and their reconstructions
+-- `encode` with accepted settings: the stream of the raw pictures that the bytes held are, and their reconstructions,
+-- which are just what the stream shows; each inter picture costs least, and the number of workers changes nothing
 pub record Encodes (t : Settings) (old new : Held) (answer : Ended) : Type 0 where
   pub answers : IsEncodeAnswer answer
   pub encoded : IfSome old.held (λ bytes. IsEncoded t bytes answer old.out new.out old.side new.side)
   pub whole : answer ≡ ended.Done → IsAtEnd new.held
   pub partial : (n : ℕ) → answer ≡ ended.PartialPicture n → (1 ≤ n) × IsAtEnd new.held
+  pub shows : IfSome old.held (λ bytes. EndsStream answer → SideGetsShown (encoding t bytes) old.side new.side)
+  pub least : (bytes : List ℕ) → AreLeastInters own_index t [] (jobs_in t bytes)
+  pub workers : (workers : ℕ) (bytes : List ℕ) → encoding (with_workers t workers) bytes ≡ encoding t bytes
 
 -- `encode`: the first setting that is out of its range is answered and nothing is read or written, or there is none
 abbrev pub EncodesUnless : Option BadSetting → Settings → Held → Held → Ended → Type 0
 EncodesUnless (Some bad) t old new answer = (answer ≡ ended.BadSettings bad) × (new ≡ old)
 EncodesUnless None t old new answer = Encodes t old new answer
 
--- `make` with accepted settings and number of pictures: nothing is read, and nothing is said beside what comes out
+-- `make` with accepted settings and number of pictures: nothing is read, and nothing is said beside what comes out;
+-- what is counted as exact is among what the stream shows
 pub record Makes (t : Settings) (count : ℕ) (old new : Held) (answer : Ended) : Type 0 where
   pub made : AnswersMake answer t count old.out new.out
   pub unread : new.held ≡ old.held
   pub side : new.side ≡ old.side
+  pub shows : answer ≡ ended.Done → DeliversShown (making t count)
 
 -- `make`: the first setting that is out of its range, or else the number of pictures, is answered and nothing is
 -- written
@@ -79,6 +93,11 @@ pub record Rates (t : Settings) (budget : ℕ) (old new : Held) (answer : Ended)
   pub fits : (bytes : List ℕ) → AllFitOrNone budget t [] (jobs_in t bytes)
   pub whole : answer ≡ ended.Done → IsAtEnd new.held
   pub partial : (n : ℕ) → answer ≡ ended.PartialPicture n → (1 ≤ n) × IsAtEnd new.held
+  pub shows : IfSome old.held (λ bytes. EndsStream answer
+      → SideGetsShown (encoding_under (fit budget) t bytes) old.side new.side)
+  pub least : (bytes : List ℕ) → AreLeastInters (fit budget) t [] (jobs_in t bytes)
+  pub workers : (workers : ℕ) (bytes : List ℕ)
+      → encoding_under (fit budget) (with_workers t workers) bytes ≡ encoding_under (fit budget) t bytes
 
 -- `rate`: the first setting that is out of its range, or else the budget, is answered and nothing is read or written
 abbrev pub RatesUnless : Option BadSetting → Settings → ℕ → Held → Held → Ended → Type 0

@@ -5,6 +5,7 @@ ghost use Rattle.dirac_io.specs.Writing.{AppendsFront};
 ghost use Rattle.dirac_types.specs.Settings.{verdict};
 ghost use Rattle.dirac_decode.specs.Decoded.{IfDone, IfTally, IsDecoded as IsStreamDecoded};
 ghost use Rattle.dirac_commands.specs.Decoding.{IsDecodeAnswer, IsDecoded, TellsFew, tally_line};
+ghost use Rattle.dirac_commands.specs.Inside.{IsFaultInside};
 ghost use Rattle.dirac_commands.specs.Workers.{bad_workers};
 
 use crate::ended::Ended;
@@ -76,6 +77,7 @@ pub fn decode<R: Threads + Sync, S: Source, K: Sink, N: Sink, G: RowGate>(
     ensures decoded { IfSome (S.held source.old) (λ bytes. IsDecoded bytes result
         (K.taken out.old) (K.taken out.new) (N.taken side.old) (N.taken side.new)) }
     ensures tells_at_most_8_references { IfSome (S.held source.old) (TellsFew result) }
+    ensures fault_inside { IfSome (S.held source.old) (IsFaultInside result) }
     ensures whole { result ≡ Ended.Done → IsAtEnd (S.held source.new) }
     ensures read { result ≡ Ended.ReadFault → Rose (S.faults source.old) (S.faults source.new) }
     ensures write { result ≡ Ended.WriteFault → Rose (K.faults out.old) (K.faults out.new) }

@@ -1,6 +1,7 @@
 ghost use Rattle.std.specs.Prelude.{◌≡◌, ◌≤◌, IfSome};
 ghost use Rattle.std.specs.Io.KnownBytes.{IsAtEnd};
 ghost use Rattle.dirac_io.specs.Faults.{Rose};
+ghost use Rattle.dirac_commands.specs.Inside.{IsFaultInside};
 ghost use Rattle.dirac_commands.specs.Listing.{IsListed, IsListAnswer};
 
 use crate::ended::Ended;
@@ -13,6 +14,7 @@ use std::alloc::Global;
 pub fn list<S: Source, K: Sink>(alloc: Global, source: &mut S, out: &mut K) -> Ended
     ensures answer { IsListAnswer result }
     ensures listed { IfSome (S.held source.old) (λ bytes. IsListed bytes result (K.taken out.old) (K.taken out.new)) }
+    ensures fault_inside { IfSome (S.held source.old) (IsFaultInside result) }
     ensures whole { result ≡ Ended.Done → IsAtEnd (S.held source.new) }
     ensures read { result ≡ Ended.ReadFault → Rose (S.faults source.old) (S.faults source.new) }
     ensures write { result ≡ Ended.WriteFault → Rose (K.faults out.old) (K.faults out.new) }

@@ -2,6 +2,7 @@ ghost use Rattle.std.specs.Prelude.{◌≡◌, ◌≤◌, IfOk, IfErr, OnOk, str
 ghost use Rattle.dirac_io.specs.Faults.{Rose};
 ghost use Rattle.dirac_types.specs.Settings.{IsAccepted, verdict};
 ghost use Rattle.dirac_encode_laws.specs.declared.answers.Encoded.TheVariants as encoded;
+ghost use Rattle.dirac_commands.specs.Delivered.{DeliversShown};
 ghost use Rattle.dirac_commands.specs.Making.{AnswersMake, AnswersUnmade, first_bad_for_make, line_with, made_line};
 ghost use Rattle.dirac_commands.specs.Making.{making};
 
@@ -10,6 +11,7 @@ use dirac_common::{NoMemory, RowGate};
 use dirac_encode::{Encoded, encode_stream};
 use dirac_generator::{Generator, KeptBytes, exact_pictures, picture_length};
 use dirac_io::{Put, Sink, put_all};
+use dirac_plan_laws::plans_can_be_coded;
 use dirac_types::{BadSetting, Name, Settings};
 use std::alloc::Global;
 use std::thread::Threads;
@@ -45,6 +47,8 @@ pub fn make<R: Threads + Sync, K: Sink, G: RowGate>(
     requires accepted { IsAccepted settings.now }
     requires count { count ≤ 1000 }
     ensures made { AnswersMake result settings.now count (K.taken out.old) (K.taken out.new) }
+    // What is delivered beside the stream, and counted where it is exact, is just what the stream shows.
+    ensures shows { result ≡ Ended.Done → DeliversShown (making settings.now count) }
     ensures write { result ≡ Ended.WriteFault → Rose (K.faults out.old) (K.faults out.new) }
     ensures writes { K.faults out.old ≤ K.faults out.new }
 {
@@ -70,8 +74,10 @@ fn line_of_made<R: Threads + Sync, G: RowGate>(
     requires count { count ≤ 1000 }
     ensures coded { OnOk result ((making settings.now count).answer ≡ encoded.Done) }
     ensures line { IfOk result (λ line. string_bytes line ≡ made_line settings.now count) }
+    ensures shows { OnOk result (DeliversShown (making settings.now count)) }
     ensures unmade { IfErr result (λ why. AnswersUnmade why settings.now count) }
 {
+    plans_can_be_coded();
     let mut source = Generator::try_new(alloc, settings, count)?;
     let mut stream = KeptBytes::new(alloc);
     let mut shown = KeptBytes::new(alloc);

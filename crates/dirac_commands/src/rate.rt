@@ -2,15 +2,21 @@ ghost use Rattle.std.specs.Prelude.{◌≡◌, ◌≤◌, ℕ, List, [], IfSome,
 ghost use Rattle.std.specs.Io.KnownBytes.{IsAtEnd};
 ghost use Rattle.dirac_io.specs.Faults.{Rose};
 ghost use Rattle.dirac_types.specs.Settings.{IsAccepted, verdict};
-ghost use Rattle.dirac_encode_laws.specs.Fit.{AllFitOrNone};
+ghost use Rattle.dirac_encode_laws.specs.Encoding.{encoding_under};
+ghost use Rattle.dirac_encode_laws.specs.Fit.{AllFitOrNone, fit};
 ghost use Rattle.dirac_encode_laws.specs.Standing.{jobs_in};
-ghost use Rattle.dirac_commands.specs.Encoding.{IsEncodeAnswer};
+ghost use Rattle.dirac_choice_laws.specs.Pictures.{AreLeastInters};
+ghost use Rattle.dirac_choice_laws.specs.Workers.{with_workers};
+ghost use Rattle.dirac_commands.specs.Delivered.{SideGetsShown};
+ghost use Rattle.dirac_commands.specs.Encoding.{EndsStream, IsEncodeAnswer};
 ghost use Rattle.dirac_commands.specs.Rating.{IsRated, first_bad_for_rate};
 
 use crate::ended::Ended;
+use dirac_choice_laws::{inter_pictures_cost_least, workers_change_nothing};
 use dirac_common::RowGate;
 use dirac_encode::Encoded;
 use dirac_io::{Sink, Source};
+use dirac_plan_laws::plans_can_be_coded;
 use dirac_rate::rate_stream;
 use dirac_types::{BadSetting, Name, Settings};
 use std::alloc::Global;
@@ -37,6 +43,46 @@ pub fn check_rate(settings: &Settings, budget: u32) -> Result<(), BadSetting>
 /// Encodes raw pictures, each with the least quantiser index by which its unit fits the budget: the stream goes to
 /// `out`, the reconstructions as raw pictures to the side.
 pub fn rate<R: Threads + Sync, S: Source, K: Sink, N: Sink, G: RowGate>(
+    rt: &R,
+    alloc: Global,
+    source: &mut S,
+    out: &mut K,
+    side: &mut N,
+    settings: &Settings,
+    budget: u32,
+    gate: &G,
+) -> Ended
+    requires { IsAccepted settings.now }
+    ensures answer { IsEncodeAnswer result }
+    ensures rated { IfSome (S.held source.old) (λ bytes. IsRated settings.now budget bytes result
+        (K.taken out.old) (K.taken out.new) (N.taken side.old) (N.taken side.new)) }
+    ensures fits { (bytes : List ℕ) → AllFitOrNone budget settings.now [] (jobs_in settings.now bytes) }
+    ensures whole { result ≡ Ended.Done → IsAtEnd (S.held source.new) }
+    ensures partial { (n : ℕ) → result ≡ Ended.PartialPicture n → (1 ≤ n) × IsAtEnd (S.held source.new) }
+    // Behind a whole stream the side got just what the stream shows.
+    ensures shows { IfSome (S.held source.old) (λ bytes. EndsStream result
+        → SideGetsShown (encoding_under (fit budget) settings.now bytes) (N.taken side.old) (N.taken side.new)) }
+    // Whatever the raw pictures are: what is chosen for each inter picture of their stream costs least,
+    ensures least { (bytes : List ℕ) → AreLeastInters (fit budget) settings.now [] (jobs_in settings.now bytes) }
+    // and the number of workers changes nothing.
+    ensures workers { (workers : ℕ) (bytes : List ℕ)
+        → encoding_under (fit budget) (with_workers settings.now workers) bytes
+        ≡ encoding_under (fit budget) settings.now bytes }
+    ensures read { result ≡ Ended.ReadFault → Rose (S.faults source.old) (S.faults source.new) }
+    ensures write { result ≡ Ended.WriteFault → Rose (K.faults out.old) (K.faults out.new) }
+    ensures side { result ≡ Ended.SideFault → Rose (N.faults side.old) (N.faults side.new) }
+    ensures reads { S.faults source.old ≤ S.faults source.new }
+    ensures writes { K.faults out.old ≤ K.faults out.new }
+    ensures sides { N.faults side.old ≤ N.faults side.new }
+{
+    plans_can_be_coded();
+    inter_pictures_cost_least();
+    workers_change_nothing();
+    rated(rt, alloc, source, out, side, settings, budget, gate)
+}
+
+// Encodes raw pictures under a budget.
+fn rated<R: Threads + Sync, S: Source, K: Sink, N: Sink, G: RowGate>(
     rt: &R,
     alloc: Global,
     source: &mut S,

@@ -1,7 +1,10 @@
 use Rattle.std.proofs.Common.{◌≡◌, ◌∙◌, subst, sym}
+use Rattle.std.specs.Prelude.{IfSome}
 use Rattle.dirac_commands.specs.declared.ended.Ended.{Ended}
 use Rattle.dirac_commands.specs.Cutting.{IfUnwrittenBy, IsCutAnswer}
+use Rattle.dirac_commands.specs.Inside.{IsFaultInside}
 use Rattle.dirac_commands.proofs.Edits.{done_by, is_answer, read_by, unwritten, write_by}
+use Rattle.dirac_commands.proofs.Inside.{cut_inside}
 use Rattle.dirac_commands.proofs.cut.cut.Goals as goal
 
 pub returns-clause-answer : goal.returns-clause-answer
@@ -15,6 +18,8 @@ returns-clause-cut g c = record {
   cut = c.cut_stream-edited.ensures.cut;
   shows = c.cut_stream-edited.ensures.shows;
   whole = λ done. c.cut_stream-edited.ensures.whole (done_by c.cut_stream-edited.result (sym c.ended_of.ensures ∙ done));
+  fault_inside = subst (λ (answer : Ended). IfSome (g.S.Source.held c.args.source.now) (IsFaultInside answer)) (sym c.ended_of.ensures)
+      (cut_inside (g.S.Source.held c.args.source.now) (g.K.Sink.taken c.args.out.now) (g.K.Sink.taken c.cut_stream-edited.new.out) c.args.from c.args.to c.cut_stream-edited.result c.cut_stream-edited.ensures.cut);
 }
 
 pub returns-clause-untouched : goal.returns-clause-untouched

@@ -1,4 +1,5 @@
 use Rattle.dirac_commands.proofs.Decoded.{done_no_memory, fault_no_memory, fault_side, no_memory}
+use Rattle.dirac_commands.proofs.Inside.{decoded_inside}
 use Rattle.dirac_commands.proofs.decode.decode.Goals as goal
 
 pub returns-in-NoMemory-put_tally-clause-decoded : goal.returns-in-NoMemory-put_tally-clause-decoded
@@ -23,3 +24,8 @@ pub returns-in-NoMemory-clause-decoded : goal.returns-in-NoMemory-clause-decoded
 returns-in-NoMemory-clause-decoded g c =
     no_memory (g.S.Source.held c.args.source.now) (g.K.Sink.taken c.args.out.now) (g.K.Sink.taken c.decoded_by.new.out)
     (g.N.Sink.taken c.args.side.now) c.in-NoMemory.ensures.decoded
+
+pub returns-in-All-put_tally-clause-fault_inside : goal.returns-in-All-put_tally-clause-fault_inside
+returns-in-All-put_tally-clause-fault_inside g c =
+    decoded_inside (g.S.Source.held c.args.source.now) (g.K.Sink.taken c.args.out.now) (g.K.Sink.taken c.decoded_by.new.out) c.in-Fault.fault c.in-Fault.tally
+    c.in-Fault.ensures.decoded

@@ -1,8 +1,11 @@
 use Rattle.std.proofs.Common.{◌≡◌, ◌∙◌, subst, sym}
+use Rattle.std.specs.Prelude.{IfSome}
 use Rattle.dirac_commands.specs.declared.ended.Ended.{Ended}
 use Rattle.dirac_commands.specs.Cutting.{IfUnwrittenBy}
+use Rattle.dirac_commands.specs.Inside.{IsFaultInside}
 use Rattle.dirac_commands.specs.Joining.{IsJoinAnswer}
 use Rattle.dirac_commands.proofs.Edits.{done_by, is_join_answer, read_by, unwritten, write_by}
+use Rattle.dirac_commands.proofs.Inside.{join_inside}
 use Rattle.dirac_commands.proofs.join.join.Goals as goal
 
 pub returns-clause-answer : goal.returns-clause-answer
@@ -17,6 +20,8 @@ returns-clause-joined g c = record {
   joined = c.join_stream-edited.ensures.joined;
   shows = c.join_stream-edited.ensures.shows;
   whole = λ done. c.join_stream-edited.ensures.whole (done_by c.join_stream-edited.result (sym c.ended_of.ensures ∙ done));
+  fault_inside = subst (λ (answer : Ended). IfSome (g.S.Source.held c.args.source.now) (IsFaultInside answer)) (sym c.ended_of.ensures)
+      (join_inside (g.S.Source.held c.args.source.now) (g.K.Sink.taken c.args.out.now) (g.K.Sink.taken c.join_stream-edited.new.out) c.join_stream-edited.result c.join_stream-edited.ensures.joined);
 }
 
 pub returns-clause-untouched : goal.returns-clause-untouched

@@ -4,6 +4,7 @@ use Rattle.dirac_io.specs.Writing.{AppendsFront}
 use Rattle.dirac_units.specs.Cut.{EachHasACut, front_of}
 use Rattle.dirac_units.specs.Progress.{Progress}
 use Rattle.dirac_units.proofs.Cuts.{cut_by}
+use Rattle.dirac_commands.proofs.Inside.{listed_inside}
 use Rattle.dirac_commands.proofs.Listed.{ListsSoFar, begins, goes_on, ends_done, ends_faulty, stops_between, stops_inside, at_read_fault, at_write_fault, at_no_memory}
 use Rattle.dirac_commands.specs.declared.ended.Ended.TheVariants.{ReadFault, WriteFault, NoMemory}
 use Rattle.dirac_commands.proofs.list.list.Goals as goal
@@ -69,3 +70,9 @@ returns-in-ReadFault-clause-listed g c =
 pub returns-in-NoMemory-clause-listed : goal.returns-in-NoMemory-clause-listed
 returns-in-NoMemory-clause-listed g c =
     stops_between NoMemory at_no_memory each_has_a_cut c.units.units _ _ _ _ c.units.invariant.0
+
+pub returns-in-Fault-clause-fault_inside : goal.returns-in-Fault-clause-fault_inside
+returns-in-Fault-clause-fault_inside g c =
+    listed_inside _ _ _ c.in-Fault.fault
+    (ends_faulty c.in-Fault.fault c.units.units _ _ _ _ _ c.units.invariant.0
+    (c.in-Fault.ensures.fault c.in-Fault.fault c.units.invariant.1 refl))

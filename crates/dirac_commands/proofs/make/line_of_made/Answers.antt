@@ -2,6 +2,7 @@ use Rattle.std.proofs.Common.{ap, sym, ◌∙◌, length}
 use Rattle.dirac_decode.specs.Raw.{raws}
 use Rattle.dirac_encode_laws.specs.Encoding.{encoding}
 use Rattle.dirac_generator.specs.Generated.{exact_from}
+use Rattle.dirac_commands.proofs.Delivered.{made_shown}
 use Rattle.dirac_commands.proofs.Making.{came_out, never_partial, same_line, whole_raw}
 use Rattle.dirac_commands.proofs.make.line_of_made.Goals as goal
 
@@ -22,3 +23,8 @@ unreachable-requires g c =
     let t = c.args.settings.now in
     never_partial t c.args.count c.in-PartialPicture.field-0 c.requires.accepted
     (sym (c.in-PartialPicture.ensures.encoded.0 ∙ ap (λ h. (encoding t h).answer) c.in_ok-source.ensures))
+
+pub returns-in-Done-clause-shows : goal.returns-in-Done-clause-shows
+returns-in-Done-clause-shows g c =
+    made_shown c.plans_can_be_coded.ensures c.args.settings.now c.args.count _ c.requires.accepted c.in_ok-source.ensures
+    c.in-Done.ensures.encoded.0 c.in-Done.ensures.recovered
