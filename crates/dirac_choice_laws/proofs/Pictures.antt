@@ -76,7 +76,7 @@ all_least f t pictures refs (q ∷ qs) codes found =
     let j = job_of pictures q in
     (inter_least f t refs j codes.0 found.0, all_least f t pictures (refs_after refs (made_under f t refs j)) qs codes.1 found.1)
 
-few : (t : Settings) (bytes : List ℕ) → IsAccepted t → length (sources t bytes) ≤ 2 ^ 31
+pub few : (t : Settings) (bytes : List ℕ) → IsAccepted t → length (sources t bytes) ≤ 2 ^ 31
 few t bytes accepted = omega (arith, length-pictures_in t (min (whole_pictures t bytes) t.pictures) 0 bytes, most_pictures t accepted)
 
 pub inters_least : PlansCanBeCoded → InterPicturesCostLeast

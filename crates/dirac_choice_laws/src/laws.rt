@@ -1,5 +1,6 @@
 //! What holds of all encodings, as the contracts of functions that do nothing.
 
+ghost use Rattle.dirac_choice_laws.specs.Insides.{ChosenTablesKeepInside, CodedVectorsKeepInside};
 ghost use Rattle.dirac_choice_laws.specs.Pictures.{InterPicturesCostLeast};
 ghost use Rattle.dirac_choice_laws.specs.Workers.{WorkersChangeNoBlocks, WorkersChangeNothing};
 
@@ -9,6 +10,18 @@ use dirac_plan_laws::plans_can_be_coded;
 /// least: each split and mode of all, and each vector among its candidates, from stage to stage of the search.
 pub fn inter_pictures_cost_least()
     ensures { InterPicturesCostLeast }
+{
+    plans_can_be_coded();
+}
+
+/// Where streams are to be shown alike, all vectors of the block table of an inter picture keep inside.
+pub fn chosen_tables_keep_inside()
+    ensures vectors_keep_inside { ChosenTablesKeepInside }
+{}
+
+/// Of the pictures that raw pictures become where streams are to be shown alike, all vectors keep inside.
+pub fn coded_vectors_keep_inside()
+    ensures { CodedVectorsKeepInside }
 {
     plans_can_be_coded();
 }

@@ -3,4 +3,7 @@
 
 mod laws;
 
-pub use laws::{inter_pictures_cost_least, workers_change_nothing};
+pub use laws::{
+    chosen_tables_keep_inside, coded_vectors_keep_inside, inter_pictures_cost_least,
+    workers_change_nothing,
+};

@@ -10,7 +10,7 @@ use Rattle.dirac_inside.specs.Inside.{all_below, keeps_inside}
 use Rattle.dirac_inside.specs.Ranges.{AreBlocks}
 use Rattle.dirac_inside.proofs.Below.{all_from, all_tells}
 use Rattle.dirac_inside.proofs.Zeros.{zero_keeps}
-use Rattle.dirac_inside_laws.specs.Kept.{BlockKeepsInside}
+use Rattle.dirac_inside_laws.specs.Kept.{BlockKeepsInside, VectorsKeepInside}
 use Rattle.dirac_search.specs.Candidates.{no_motion}
 use Rattle.dirac_decide.specs.Deciding.{Deciding, IsDeciding, View}
 use Rattle.dirac_decide.specs.Modes.{both_mode, choice_of, dc_mode, first_mode, other_modes, second_mode}
@@ -24,16 +24,21 @@ use Rattle.dirac_decide_laws.specs.Tables.{TablesKeepInside}
 use Rattle.dirac_decide_laws.proofs.Choices.{modes_least}
 use Rattle.dirac_decide_laws.proofs.Tables.{block_is}
 
+-- the sizes of the blocks that are decided
+pub record HasBlocks (d : Deciding) : Type 0 where
+  pub blocks : AreBlocks (blocks_of d)
+  pub precision : d.precision ≤ 3
+
 -- ---- units
 
 -- no motion keeps inside
-unit_zero : (d : Deciding) (u : PredictionUnit) → IsDeciding d → unit_keeps d u no_motion ≡ true
+unit_zero : (d : Deciding) (u : PredictionUnit) → HasBlocks d → unit_keeps d u no_motion ≡ true
 unfolding unit_keeps
 unit_zero d u h =
-    all_from (block_keeps d u no_motion) (u.size * u.size) (λ k l. zero_keeps (blocks_of d) d.precision (u.i + k % u.size) (u.j + k / u.size) (are_blocks d h) h.precision)
+    all_from (block_keeps d u no_motion) (u.size * u.size) (λ k l. zero_keeps (blocks_of d) d.precision (u.i + k % u.size) (u.j + k / u.size) h.blocks h.precision)
 
 -- so does the best vector
-best_keeps : (d : Deciding) (r : View) (u : PredictionUnit) → IsDeciding d → (d.alike ≡ 0 → ⊥) → unit_keeps d u (best_vector d r u) ≡ true
+best_keeps : (d : Deciding) (r : View) (u : PredictionUnit) → HasBlocks d → (d.alike ≡ 0 → ⊥) → unit_keeps d u (best_vector d r u) ≡ true
 best_keeps d r u h some =
     subst (λ (v : Vector). unit_keeps d u v ≡ true) (sym (vector_inside d r u some))
     (first_has (λ v. unit_keeps d u v ≡ true) (vector_cost d r u) (inside_to d r u (u.size * u.size)) (unit_zero d u h)
@@ -44,7 +49,7 @@ record HasInsides (d : Deciding) (u : PredictionUnit) (b : Block) : Type 0 where
   first : b.ref1 ≡ true → unit_keeps d u b.v1 ≡ true
   second : b.ref2 ≡ true → unit_keeps d u b.v2 ≡ true
 
-module _ (d : Deciding) (u : PredictionUnit) (h : IsDeciding d) (some : d.alike ≡ 0 → ⊥) where
+module _ (d : Deciding) (u : PredictionUnit) (h : HasBlocks d) (some : d.alike ≡ 0 → ⊥) where
   modes_have : (o : Option View) (k : ℕ) (c : Choice) → k < length (first_mode d u ∷ other_modes d u o) → HasInsides d u (get_or (first_mode d u ∷ other_modes d u o) k c).block
   modes_have None zero c l = record { first = λ e. best_keeps d d.first u h some; second = λ e. absurd cc }
   modes_have None (suc zero) c l = record { first = λ e. absurd cc; second = λ e. absurd cc }
@@ -83,7 +88,7 @@ from_block d u v i j is keeps =
     (subst (λ (b : ℕ). keeps_inside (blocks_of d) d.precision (u.i + is.number % u.size) b v ≡ true) is.row
     (all_tells (block_keeps d u v) (u.size * u.size) keeps is.number is.inside))
 
-block_keeps_inside : (d : Deciding) (sx sy i j : ℕ) → IsDeciding d → (d.alike ≡ 0 → ⊥) → i < 4 → j < 4 → BlockKeepsInside (blocks_of d) d.precision (4 * sx + i) (4 * sy + j) (best_block d sx sy i j)
+block_keeps_inside : (d : Deciding) (sx sy i j : ℕ) → HasBlocks d → (d.alike ≡ 0 → ⊥) → i < 4 → j < 4 → BlockKeepsInside (blocks_of d) d.precision (4 * sx + i) (4 * sy + j) (best_block d sx sy i j)
 block_keeps_inside d sx sy i j h some a b =
     let split = best_split d sx sy in
     let u = unit_in split sx sy (unit_of split i j) in
@@ -94,9 +99,9 @@ block_keeps_inside d sx sy i j h some a b =
       second = λ e. from_block d u (best_block d sx sy i j).v2 (4 * sx + i) (4 * sy + j) is (has.second e);
     }
 
-pub tables_keep_inside : TablesKeepInside
+pub tables_inside : (d : Deciding) → HasBlocks d → (d.alike ≡ 0 → ⊥) → VectorsKeepInside (blocks_of d) d.precision (decided d)
 unfolding decided
-tables_keep_inside d h some i j column row =
+tables_inside d h some i j column row =
     let sx = i / 4 in
     let sy = j / 4 in
     let across : 4 * (i / 4) + i % 4 ≡ i = omega arith in
@@ -107,3 +112,6 @@ tables_keep_inside d h some i j column row =
     (block_keeps_inside d sx sy (i % 4) (j % 4) h some small low) in
     subst (λ (a : ℕ). BlockKeepsInside (blocks_of d) d.precision a j (block_at (decided d) a j)) across
     (subst (λ (b : ℕ). BlockKeepsInside (blocks_of d) d.precision (4 * sx + i % 4) b (block_at (decided d) (4 * sx + i % 4) b)) down in_superblock)
+
+pub tables_keep_inside : TablesKeepInside
+tables_keep_inside d h some = tables_inside d (record { blocks = are_blocks d h; precision = h.precision }) some
