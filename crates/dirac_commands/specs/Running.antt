@@ -4,10 +4,12 @@ use Rattle.std.specs.Io.KnownBytes.{IsAtEnd}
 use Rattle.dirac_types.specs.declared.settings.BadSetting.{BadSetting}
 use Rattle.dirac_types.specs.declared.settings.Settings.{Settings}
 use Rattle.dirac_types.specs.Settings.{first_bad, table}
+use Rattle.dirac_encode_laws.specs.Alike.{AreShownAlike}
 use Rattle.dirac_encode_laws.specs.Coding.{own_index}
 use Rattle.dirac_encode_laws.specs.Encoding.{encoding, encoding_under}
 use Rattle.dirac_encode_laws.specs.Fit.{AllFitOrNone, fit}
 use Rattle.dirac_encode_laws.specs.Standing.{jobs_in}
+use Rattle.dirac_choice_laws.specs.Insides.{HaveVectorsInside}
 use Rattle.dirac_choice_laws.specs.Pictures.{AreLeastInters}
 use Rattle.dirac_choice_laws.specs.Workers.{with_workers}
 use Rattle.dirac_commands.specs.declared.ended.Ended.{Ended}
@@ -56,7 +58,9 @@ DecodesUnless (Some bad) old new answer = (answer ≡ ended.BadSettings bad) × 
 DecodesUnless None old new answer = Decodes old new answer
 
 -- `encode` with accepted settings: the stream of the raw pictures that the bytes held are, and their reconstructions,
--- which are just what the stream shows; each inter picture costs least, and the number of workers changes nothing
+-- which are just what the stream shows; each inter picture costs least, and the number of workers changes nothing; where
+-- the settings ask for it each inter picture has a residual and vectors that keep inside, so that decoders which differ
+-- from the standard show it alike
 pub record Encodes (t : Settings) (old new : Held) (answer : Ended) : Type 0 where
   pub answers : IsEncodeAnswer answer
   pub encoded : IfSome old.held (λ bytes. IsEncoded t bytes answer old.out new.out old.side new.side)
@@ -65,6 +69,8 @@ pub record Encodes (t : Settings) (old new : Held) (answer : Ended) : Type 0 whe
   pub shows : IfSome old.held (λ bytes. EndsStream answer → SideGetsShown (encoding t bytes) old.side new.side)
   pub least : (bytes : List ℕ) → AreLeastInters own_index t [] (jobs_in t bytes)
   pub workers : (workers : ℕ) (bytes : List ℕ) → encoding (with_workers t workers) bytes ≡ encoding t bytes
+  pub alike : (bytes : List ℕ) → t.alike ≡ 1
+      → AreShownAlike own_index t [] (jobs_in t bytes) × HaveVectorsInside own_index t [] (jobs_in t bytes)
 
 -- `encode`: the first setting that is out of its range is answered and nothing is read or written, or there is none
 abbrev pub EncodesUnless : Option BadSetting → Settings → Held → Held → Ended → Type 0
@@ -98,6 +104,8 @@ pub record Rates (t : Settings) (budget : ℕ) (old new : Held) (answer : Ended)
   pub least : (bytes : List ℕ) → AreLeastInters (fit budget) t [] (jobs_in t bytes)
   pub workers : (workers : ℕ) (bytes : List ℕ)
       → encoding_under (fit budget) (with_workers t workers) bytes ≡ encoding_under (fit budget) t bytes
+  pub alike : (bytes : List ℕ) → t.alike ≡ 1
+      → AreShownAlike (fit budget) t [] (jobs_in t bytes) × HaveVectorsInside (fit budget) t [] (jobs_in t bytes)
 
 -- `rate`: the first setting that is out of its range, or else the budget, is answered and nothing is read or written
 abbrev pub RatesUnless : Option BadSetting → Settings → ℕ → Held → Held → Ended → Type 0

@@ -2,16 +2,20 @@ ghost use Rattle.std.specs.Prelude.{◌≡◌, ◌≤◌, ℕ, List, [], IfSome}
 ghost use Rattle.std.specs.Io.KnownBytes.{IsAtEnd};
 ghost use Rattle.dirac_io.specs.Faults.{Rose};
 ghost use Rattle.dirac_types.specs.Settings.{IsAccepted};
+ghost use Rattle.dirac_encode_laws.specs.Alike.{AreShownAlike};
 ghost use Rattle.dirac_encode_laws.specs.Coding.{own_index};
 ghost use Rattle.dirac_encode_laws.specs.Encoding.{encoding};
 ghost use Rattle.dirac_encode_laws.specs.Standing.{jobs_in};
+ghost use Rattle.dirac_choice_laws.specs.Insides.{HaveVectorsInside};
 ghost use Rattle.dirac_choice_laws.specs.Pictures.{AreLeastInters};
 ghost use Rattle.dirac_choice_laws.specs.Workers.{with_workers};
 ghost use Rattle.dirac_commands.specs.Delivered.{SideGetsShown};
 ghost use Rattle.dirac_commands.specs.Encoding.{EndsStream, IsEncoded, IsEncodeAnswer};
 
 use crate::ended::Ended;
-use dirac_choice_laws::{inter_pictures_cost_least, workers_change_nothing};
+use dirac_choice_laws::{
+    coded_vectors_keep_inside, inter_pictures_cost_least, workers_change_nothing,
+};
 use dirac_common::RowGate;
 use dirac_encode::{Encoded, encode_stream};
 use dirac_io::{Sink, Source};
@@ -44,6 +48,10 @@ pub fn encode<R: Threads + Sync, S: Source, K: Sink, N: Sink, G: RowGate>(
     // and the number of workers changes nothing.
     ensures workers { (workers : ℕ) (bytes : List ℕ)
         → encoding (with_workers settings.now workers) bytes ≡ encoding settings.now bytes }
+    // Where the settings ask for it, each inter picture has a residual, and vectors that keep inside.
+    ensures alike { (bytes : List ℕ) → settings.now.alike ≡ 1
+        → AreShownAlike own_index settings.now [] (jobs_in settings.now bytes)
+        × HaveVectorsInside own_index settings.now [] (jobs_in settings.now bytes) }
     ensures read { result ≡ Ended.ReadFault → Rose (S.faults source.old) (S.faults source.new) }
     ensures write { result ≡ Ended.WriteFault → Rose (K.faults out.old) (K.faults out.new) }
     ensures side { result ≡ Ended.SideFault → Rose (N.faults side.old) (N.faults side.new) }
@@ -53,6 +61,7 @@ pub fn encode<R: Threads + Sync, S: Source, K: Sink, N: Sink, G: RowGate>(
 {
     plans_can_be_coded();
     inter_pictures_cost_least();
+    coded_vectors_keep_inside();
     workers_change_nothing();
     encoded(rt, alloc, source, out, side, settings, gate)
 }
@@ -71,6 +80,8 @@ fn encoded<R: Threads + Sync, S: Source, K: Sink, N: Sink, G: RowGate>(
     ensures answer { IsEncodeAnswer result }
     ensures encoded { IfSome (S.held source.old) (λ bytes. IsEncoded settings.now bytes result
         (K.taken out.old) (K.taken out.new) (N.taken side.old) (N.taken side.new)) }
+    ensures alike { (bytes : List ℕ) → settings.now.alike ≡ 1
+        → AreShownAlike own_index settings.now [] (jobs_in settings.now bytes) }
     ensures whole { result ≡ Ended.Done → IsAtEnd (S.held source.new) }
     ensures partial { (n : ℕ) → result ≡ Ended.PartialPicture n → (1 ≤ n) × IsAtEnd (S.held source.new) }
     ensures read { result ≡ Ended.ReadFault → Rose (S.faults source.old) (S.faults source.new) }

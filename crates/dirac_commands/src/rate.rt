@@ -2,9 +2,11 @@ ghost use Rattle.std.specs.Prelude.{◌≡◌, ◌≤◌, ℕ, List, [], IfSome,
 ghost use Rattle.std.specs.Io.KnownBytes.{IsAtEnd};
 ghost use Rattle.dirac_io.specs.Faults.{Rose};
 ghost use Rattle.dirac_types.specs.Settings.{IsAccepted, verdict};
+ghost use Rattle.dirac_encode_laws.specs.Alike.{AreShownAlike};
 ghost use Rattle.dirac_encode_laws.specs.Encoding.{encoding_under};
 ghost use Rattle.dirac_encode_laws.specs.Fit.{AllFitOrNone, fit};
 ghost use Rattle.dirac_encode_laws.specs.Standing.{jobs_in};
+ghost use Rattle.dirac_choice_laws.specs.Insides.{HaveVectorsInside};
 ghost use Rattle.dirac_choice_laws.specs.Pictures.{AreLeastInters};
 ghost use Rattle.dirac_choice_laws.specs.Workers.{with_workers};
 ghost use Rattle.dirac_commands.specs.Delivered.{SideGetsShown};
@@ -12,7 +14,9 @@ ghost use Rattle.dirac_commands.specs.Encoding.{EndsStream, IsEncodeAnswer};
 ghost use Rattle.dirac_commands.specs.Rating.{IsRated, first_bad_for_rate};
 
 use crate::ended::Ended;
-use dirac_choice_laws::{inter_pictures_cost_least, workers_change_nothing};
+use dirac_choice_laws::{
+    coded_vectors_keep_inside, inter_pictures_cost_least, workers_change_nothing,
+};
 use dirac_common::RowGate;
 use dirac_encode::Encoded;
 use dirac_io::{Sink, Source};
@@ -68,6 +72,10 @@ pub fn rate<R: Threads + Sync, S: Source, K: Sink, N: Sink, G: RowGate>(
     ensures workers { (workers : ℕ) (bytes : List ℕ)
         → encoding_under (fit budget) (with_workers settings.now workers) bytes
         ≡ encoding_under (fit budget) settings.now bytes }
+    // Where the settings ask for it, each inter picture has a residual, and vectors that keep inside.
+    ensures alike { (bytes : List ℕ) → settings.now.alike ≡ 1
+        → AreShownAlike (fit budget) settings.now [] (jobs_in settings.now bytes)
+        × HaveVectorsInside (fit budget) settings.now [] (jobs_in settings.now bytes) }
     ensures read { result ≡ Ended.ReadFault → Rose (S.faults source.old) (S.faults source.new) }
     ensures write { result ≡ Ended.WriteFault → Rose (K.faults out.old) (K.faults out.new) }
     ensures side { result ≡ Ended.SideFault → Rose (N.faults side.old) (N.faults side.new) }
@@ -77,6 +85,7 @@ pub fn rate<R: Threads + Sync, S: Source, K: Sink, N: Sink, G: RowGate>(
 {
     plans_can_be_coded();
     inter_pictures_cost_least();
+    coded_vectors_keep_inside();
     workers_change_nothing();
     rated(rt, alloc, source, out, side, settings, budget, gate)
 }
@@ -97,6 +106,8 @@ fn rated<R: Threads + Sync, S: Source, K: Sink, N: Sink, G: RowGate>(
     ensures rated { IfSome (S.held source.old) (λ bytes. IsRated settings.now budget bytes result
         (K.taken out.old) (K.taken out.new) (N.taken side.old) (N.taken side.new)) }
     ensures fits { (bytes : List ℕ) → AllFitOrNone budget settings.now [] (jobs_in settings.now bytes) }
+    ensures alike { (bytes : List ℕ) → settings.now.alike ≡ 1
+        → AreShownAlike (fit budget) settings.now [] (jobs_in settings.now bytes) }
     ensures whole { result ≡ Ended.Done → IsAtEnd (S.held source.new) }
     ensures partial { (n : ℕ) → result ≡ Ended.PartialPicture n → (1 ≤ n) × IsAtEnd (S.held source.new) }
     ensures read { result ≡ Ended.ReadFault → Rose (S.faults source.old) (S.faults source.new) }

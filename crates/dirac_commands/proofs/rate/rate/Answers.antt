@@ -15,3 +15,7 @@ returns-clause-least g c = λ bytes. c.inter_pictures_cost_least.ensures (fit c.
 pub returns-clause-workers : goal.returns-clause-workers
 returns-clause-workers g c =
     λ workers bytes. c.workers_change_nothing.ensures.encoding (Some c.args.budget) c.args.settings.now workers bytes
+
+pub returns-clause-alike : goal.returns-clause-alike
+returns-clause-alike g c =
+    λ bytes alike. (c.rated.ensures.alike bytes alike, c.coded_vectors_keep_inside.ensures (fit c.args.budget) c.args.settings.now bytes c.requires alike)
