@@ -13,8 +13,8 @@ tries again where that fails (--tries=3), and `join`, which joins all parts to S
 --by=none       not at all: `seq 0 LAST | xargs -P 4 -n 1 STREAM.drc.parts/part && STREAM.drc.parts/join`
 
 With --hosts=A,B each part is encoded on one of these machines, by ssh, the next one at each try: its pictures go there
-and its stream comes back, so the hosts need the program alone, at the same path. Slurm's machines need the same folders.
-The same words make the same parts, so what was broken off goes on with the parts that are wanting.
+and its stream comes back, so the hosts need the program alone, at the same path. Slurm's machines need the same
+folders. The same words make the same parts, so what was broken off goes on with the parts that are wanting.
 """
 import argparse
 import os
