@@ -1,7 +1,9 @@
 #!/usr/bin/env python3
 """The plain decoder and encoder of bench/reference under the words of dirac_tool, for tests without the proved program.
 
-plain_tool.py list | decode | encode [--NAME=VALUE...]      as docs/PROGRAM.md says; other commands are no words here
+plain_tool.py list | decode | pardecode | encode [--NAME=VALUE...]      as docs/PROGRAM.md says, pardecode by no workers
+
+Other commands are no words here.
 """
 import pathlib
 import re
@@ -66,7 +68,7 @@ def encode(words):
 
 
 def main():
-    commands = {"list": list_units, "decode": decode, "encode": encode}
+    commands = {"list": list_units, "decode": decode, "pardecode": decode, "encode": encode}
     if len(sys.argv) < 2 or sys.argv[1] not in commands:
         end(USAGE, "usage: word 0\n")
     commands[sys.argv[1]](sys.argv[2:])

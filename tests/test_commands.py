@@ -6,6 +6,7 @@ import subprocess
 import sys
 import unittest
 from fractions import Fraction
+from unittest import mock
 
 from tests import support
 from tests.support import TOP, InFolder, conformance, decoder, encoded, encoder, raw_pictures, shown
@@ -420,6 +421,14 @@ class Parts(unittest.TestCase):
             self.assertIn(text, program.explained(line))
         self.assertEqual(program.refusal("x", -9, "").status, 1)
         self.assertIsNone(program.refusal("x", 0, "pictures=1 references=1\n"))
+
+    def test_as_many_workers_decode_as_there_are_processors(self):
+        rows = [({3}, ["decode"]), ({0, 1}, ["pardecode", "--workers=2"]), (range(96), ["pardecode", "--workers=64"])]
+        for processors, words in rows:
+            with mock.patch.object(program.os, "sched_getaffinity", return_value=processors, create=True):
+                with mock.patch.object(program, "start") as start:
+                    program.start_decoder([b""], False)
+            start.assert_called_once_with(words, [b""])
 
     def test_settings_of_the_program_are_those_of_the_encoder(self):
         names = [name for name, _, _ in encoder.SETTING_RANGES]

@@ -10,7 +10,7 @@ from .formats import BASE_FORMATS, BOTTOM_FIRST, FULL_RANGE, LIMITED_RANGE, PROG
 from .formats import rate_index
 from .outputs import Output, check_apart, check_stream_name
 from .plain import decoder, encoder
-from .program import refusal, start
+from .program import refusal, start, workers
 from .progress import Progress, size_text, time_text
 from .refusal import Refusal
 from .sequence import read_header, spell_header
@@ -37,7 +37,6 @@ PASSED = ["base", "profile", "level", "wavelet", "depth", "index", "codeblocks",
 PASSED += ["references", "gop", "between", "range", "pyramid", "bias", "workers", "unit_bytes", "alike"]
 BASES = {PROGRESSIVE: 0, TOP_FIRST: 8, BOTTOM_FIRST: 7}
 SIGNALS = {"full": FULL_RANGE, "limited": LIMITED_RANGE}
-MOST_WORKERS = 64
 # what the program is told where the rate is written afterwards
 RATE_IN_BETWEEN = 3
 OTHER_WAYS = " (the same pictures, at that speed), or --filter fps=25, or --own-rate, which writes it as two numbers"
@@ -104,7 +103,7 @@ def settings_of(video, words):
     settings.update(
         rate=index or RATE_IN_BETWEEN, signal=1 if video.signal == FULL_RANGE else 2, fields=int(words.fields)
     )
-    settings["workers"] = min(MOST_WORKERS, os.cpu_count() or 1)
+    settings["workers"] = workers()
     settings["alike"] = 1
     settings.update({name: getattr(words, name) for name in PASSED if getattr(words, name) is not None})
     check_order(video, settings["base"])

@@ -12,6 +12,7 @@ PLACE = TOP / "crates" / "dirac_tool" / "out" / "dirac_tool"
 PLAIN = TOP / "bench" / "reference" / "decode.py"
 VARIABLE = "DIRAC_TOOL"
 FAULT = 4
+MOST_WORKERS = 64
 
 NOT_OF_PROFILE = "LowDelay Vlc Version Preset ChromaFormat Sampling RateIndex AspectIndex SignalRange Depth8 Fields"
 NOT_OF_PROFILE += " GlobalMotion PredictionMode BlockPreset Size"
@@ -57,9 +58,21 @@ def start(words, fed, passed=()):
     return Pipe([place(), *words], fed, passed)
 
 
+def workers():
+    """As many workers as there are processors for this process, of those that the program takes."""
+    own = len(os.sched_getaffinity(0)) if hasattr(os, "sched_getaffinity") else os.cpu_count() or 1
+    return min(MOST_WORKERS, own)
+
+
 def start_decoder(fed, is_plain):
-    """The proved decoder, or the plain one of bench/reference, which answers the same and needs no build."""
-    return Pipe([sys.executable, str(PLAIN)], fed) if is_plain else start(["decode"], fed)
+    """The proved decoder, by workers where there are processors for them; or the plain one of bench/reference.
+
+    All three answer the same. The plain one needs no build.
+    """
+    if is_plain:
+        return Pipe([sys.executable, str(PLAIN)], fed)
+    count = workers()
+    return start(["decode"] if count == 1 else ["pardecode", f"--workers={count}"], fed)
 
 
 def explained(line):
