@@ -1,10 +1,11 @@
 #!/usr/bin/env python3
 """Builds the C library and runs it, and what stands on it, over conformance/.
 
-check.py [--may-skip] [--all] [--archive=FILE] [--kit=FOLDER] [--only=WORD]
+check.py [--may-skip] [--within=MINUTES] [--all] [--archive=FILE] [--kit=FOLDER] [--only=WORD]
 
---may-skip      ends with 77, and says why, where the library can't be made here for want of cc, make or rt; without
-                this word that is a failure
+--may-skip      ends with 77, and says why, where the library can't be made here for want of cc, make, rt or time;
+                without this word that is a failure
+--within=MINUTES    how long proving and building the library may take; without it there is no limit
 --all           what is wanting of the rest (valgrind, numpy, GStreamer ..) is a failure too, and the slow parts get
                 all streams
 --archive=FILE  takes this archive in place of that of crates/jevmutzal, and asks no rt but for the kit's folder
@@ -23,6 +24,7 @@ import pathlib
 import random
 import re
 import shutil
+import signal
 import subprocess
 import sys
 import tempfile
@@ -96,6 +98,20 @@ def succeed(words, **how):
     return done.stdout.decode()
 
 
+def status_within(words, limit):
+    """The status of a command that writes to standard error; None where it is ended after so many seconds."""
+    done = subprocess.Popen(words, stdin=subprocess.DEVNULL, stdout=sys.stderr, start_new_session=True)
+    try:
+        return done.wait(limit)
+    except subprocess.TimeoutExpired:
+        os.killpg(done.pid, signal.SIGTERM)
+        done.wait()
+        return None
+    except KeyboardInterrupt:
+        os.killpg(done.pid, signal.SIGTERM)
+        raise
+
+
 def damage(stream, chance):
     """A stream with a few places of it changed, left out or repeated."""
     stream = bytearray(stream)
@@ -125,9 +141,10 @@ class Check:
         self.may_skip, self.all = "--may-skip" in words, "--all" in words
         named = dict(word.lstrip("-").split("=", 1) for word in words if "=" in word)
         unknown = [it for it in words if it.split("=")[0] not in OPTIONS]
-        if unknown or any(it in words for it in ("--archive", "--kit", "--only")):
+        if unknown or any(it in words for it in ("--within", "--archive", "--kit", "--only")):
             sys.exit(f"check.py: {' '.join(unknown) or 'a word wants a value'}\n{__doc__.splitlines()[2]}")
         self.archive, self.kit, self.only = named.get("archive"), named.get("kit"), named.get("only", "")
+        self.within = 60 * float(named["within"]) if "within" in named else None
         self.rows = read_table()
         self.failed = self.passed = 0
         self.not_run = []
@@ -330,9 +347,11 @@ class Check:
             self.make("clean")
         # the proof of a new clone takes longer than a run of this script's own may
         named = [f"{name}={os.path.abspath(it)}" for name, it in (("ARCHIVE", self.archive), ("KIT", self.kit)) if it]
-        done = subprocess.run(["make", "-C", CAPI, *named], stdin=subprocess.DEVNULL, stdout=sys.stderr)
-        if done.returncode:
-            print(f"FAILED: make: it ended with {done.returncode}")
+        status = status_within(["make", "-C", CAPI, *named], self.within)
+        if status is None:
+            return Missing(f"it isn't built within {self.within / 60:g} minutes")
+        if status:
+            print(f"FAILED: make: it ended with {status}")
             sys.exit(1)
         return None
 
@@ -368,7 +387,7 @@ class Check:
         sys.exit(1 if self.failed else status)
 
 
-OPTIONS = ("--may-skip", "--all", "--archive", "--kit", "--only")
+OPTIONS = ("--may-skip", "--within", "--all", "--archive", "--kit", "--only")
 
 if __name__ == "__main__":
     Check(sys.argv[1:]).run()
