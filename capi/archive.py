@@ -86,12 +86,6 @@ class Archive(proving.Proving):
         super().__init__(top, [name], name, self.out / "archive.log")
         self.who = "archive"
 
-    def take(self, line, block):
-        super().take(line, block)
-        name, is_kept, _ = line.replace("rt: ", "", 1).partition(" is kept: ")
-        if is_kept and name in self.names:
-            self.proved.append(name)
-
     def compile(self, module):
         """Compiles the proved crate in the folder into its archive; the status."""
         library = load_rt_library()
