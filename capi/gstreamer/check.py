@@ -73,7 +73,8 @@ def without_padding(data, pictures):
 def launch(folder, path, *between):
     out = pathlib.Path(folder) / f"{path.stem}.yuv"
     words = ["gst-launch-1.0", "filesrc", f"location={path}", "!", *between, "jevmutzaldec", "!"]
-    words += ["filesink", f"location={out}"]
+    # what is shown before a fault is written at once: gst-launch-1.0 ends the sink at the error, with what it holds
+    words += ["filesink", "buffer-mode=unbuffered", f"location={out}"]
     registry = pathlib.Path(folder) / "registry.bin"
     environment = {**os.environ, "GST_PLUGIN_PATH": str(HERE / "out"), "GST_REGISTRY": str(registry)}
     how = {"capture_output": True, "env": environment, "stdin": subprocess.DEVNULL}
