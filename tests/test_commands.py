@@ -11,7 +11,7 @@ from tests import support
 from tests.support import TOP, InFolder, conformance, decoder, encoded, encoder, raw_pictures, shown
 
 import check
-from front import decoding, encode, formats, info, outputs, progress, program, psnr, sequence, units
+from front import decoding, encode, formats, info, outputs, play, png, progress, program, psnr, sequence, units
 from front.refusal import Refusal
 
 MOVING = TOP / "examples" / "moving.drc"
@@ -22,6 +22,24 @@ SETTINGS = {**support.QUICK, "width": 16, "height": 16}
 def y4m(raw, header=b"W16 H16 F25:1", length=384):
     frames = [b"FRAME\n" + raw[place : place + length] for place in range(0, len(raw), length)]
     return b"YUV4MPEG2 " + header + b"\n" + b"".join(frames)
+
+
+def labelled(stream, colour):
+    """The stream with these colours in its headers, where its base has others."""
+    target = io.BytesIO()
+    writer = units.UnitWriter(target)
+    for unit in units.read_units(io.BytesIO(stream)):
+        payload = unit.payload
+        if unit.code == units.SEQUENCE_HEADER:
+            header = sequence.read_header(payload)
+            if header.known_colour() != colour:
+                payload = sequence.spell_header(header._replace(colour=colour))
+        writer.write(unit.code, payload)
+    return target.getvalue()
+
+
+def header_of(stream):
+    return sequence.read_header(support.units_of(stream)[0].payload)
 
 
 class Words(InFolder):
@@ -112,7 +130,7 @@ class Encode(InFolder):
         """The stream of the plain encoder for the words that are to be given."""
         settings = encoder.default_settings(values.get("base", 0)) | SETTINGS
         settings |= {"rate": 3, "signal": 2, "alike": 1} | values
-        return encoder.encode(settings, raw).stream
+        return labelled(encoder.encode(settings, raw).stream, formats.SDTV_625)
 
     def test_y4m_becomes_what_its_header_says(self):
         raw = raw_pictures(1)
@@ -164,6 +182,40 @@ class Encode(InFolder):
             self.assertEqual({name: getattr(read, name) for name in values}, values, header)
             self.assertEqual(read.is_interlaced, b" I" in header)
             self.assertEqual(shown(self.read("out.drc")), shown(plain))
+
+    def test_colours_stand_in_the_headers(self):
+        self.write("in.y4m", y4m(raw_pictures(1)))
+        for words, colour in (([], formats.SDTV_625), (["--matrix", "709"], None), (["--base", "2"], None)):
+            self.assertEqual(self.encode(*words)[0], 0)
+            self.assertEqual(header_of(self.read("out.drc")).colour, colour, words)
+        self.assertEqual(self.encode("--base", "2", "--matrix", "709")[0], 0)
+        self.assertEqual(header_of(self.read("out.drc")).colour, formats.HDTV)
+
+    def test_colours_by_the_size(self):
+        for size, colour in (
+            ((720, 576), formats.SDTV_625),
+            ((720, 480), formats.SDTV_525),
+            ((1024, 576), formats.SDTV_625),
+            ((1280, 544), formats.HDTV),
+            ((640, 720), formats.HDTV),
+        ):
+            self.assertEqual(formats.usual_colour(formats.Video(*size, 2, 25)), colour, size)
+
+    @unittest.skipUnless(support.has("ffmpeg"), "no ffmpeg")
+    def test_colours_of_a_clip_go_through(self):
+        self.write("in.y4m", y4m(raw_pictures(2)))
+        rows = [("bt709", "yuv420p", 3), ("smpte170m", "yuv420p", 1), ("bt470bg", "yuv420p", 2), ("bt709", "gbrp", 2)]
+        for space, pixels, colour in rows:
+            words = ["-colorspace", space] if pixels != "gbrp" else []
+            words = ["ffmpeg", "-v", "error", "-y", "-i", "in.y4m", "-pix_fmt", pixels, *words, "-c:v", "ffv1", "in.mkv"]
+            self.assertEqual(support.run(words, folder=self.folder).status, 0)
+            self.assertEqual(self.dirac("encode", "in.mkv", "-o", "out.drc", *QUICK).status, 0)
+            self.assertEqual(header_of(self.read("out.drc")).known_colour(), colour, (space, pixels))
+            for name in ("out.mkv", "out.mp4"):
+                self.assertEqual(self.dirac("decode", "out.drc", "-o", name).status, 0)
+                words = ["ffprobe", "-v", "error", "-show_entries", "stream=color_space", "-of", "csv=p=0", name]
+                told = support.run(words, folder=self.folder).out.decode().strip()
+                self.assertEqual(told, formats.FFMPEG_COLOURS[colour][0], name)
 
     def test_refused_clips(self):
         rows = [
@@ -287,6 +339,15 @@ class Decode(InFolder):
         self.assertEqual(self.names(), ["in.drc", "shot-0000.png", "shot-0001.png"])
         self.assertTrue(self.read("shot-0001.png").startswith(b"\x89PNG"))
 
+    def test_pixels_by_range_and_matrix(self):
+        # red of both matrices in both ranges: Y, U and V by their formulas, rounded
+        rows = [((81, 90, 240), formats.LIMITED_RANGE, 2), ((63, 102, 240), formats.LIMITED_RANGE, 3)]
+        rows += [((76, 85, 255), formats.FULL_RANGE, 1), ((54, 99, 255), formats.FULL_RANGE, 4)]
+        for raw, signal, colour in rows:
+            video = formats.Video(1, 1, 0, None, signal=signal, colour=colour)
+            red, green, blue = next(png.rgb_rows(bytes(raw), video))
+            self.assertTrue(red >= 253 and green <= 2 and blue <= 2, (raw, red, green, blue))
+
     def test_what_was_shown_before_a_fault_is_kept(self):
         done = self.dirac("decode", "-", "-o", "out.yuv", data=conformance("delivery_before_a_fault"))
         self.assertEqual(done.status, 4)
@@ -405,6 +466,16 @@ class Parts(unittest.TestCase):
         shown_on = io.StringIO()
         progress.Progress(3, shown_on).show(1, 1)
         self.assertEqual(shown_on.getvalue(), "")
+
+    def test_players_are_told_the_matrix(self):
+        rows = [(2, "colorspace=bt470bg:", "bt.601"), (3, "colorspace=bt709:", "bt.709"), (None, "", "")]
+        for colour, for_ffplay, for_mpv in rows:
+            video = formats.Video(16, 16, 2, 25, colour=colour)
+            for player, text in (("ffplay", for_ffplay), ("mpv", for_mpv)):
+                words = play.command_for(player, "a name", video)
+                self.assertEqual((words[0], words[-1]), (player, "-"))
+                self.assertIn(text, " ".join(words))
+                self.assertEqual(any("color" in word for word in words), colour is not None)
 
     def test_answers_of_the_program(self):
         rows = [

@@ -7,7 +7,7 @@ import threading
 from . import psnr
 from .clips import open_clip, with_rate
 from .formats import BASE_FORMATS, BOTTOM_FIRST, FULL_RANGE, LIMITED_RANGE, PROGRESSIVE, RATES, TOP_FIRST
-from .formats import rate_index
+from .formats import MATRICES, rate_index, usual_colour, with_matrix
 from .outputs import Output, check_apart, check_stream_name
 from .plain import decoder, encoder
 from .program import refusal, start
@@ -26,9 +26,11 @@ EPILOG = """examples:
 
 Size, chroma format, range, rate, pixel aspect and the order of fields are those of the clip. A rate that the standard's
 table doesn't have is refused: say --rate with one of the table, have ffmpeg convert the clip (--filter fps=25), or say
---own-rate, which writes the clip's rate as two numbers. What `encode` of the proved program has no setting for (pixel
-aspect, interlacing, a rate of its own) is written into the sequence headers afterwards, all alike: those values change
-no sample, and every other unit stays byte for byte. Interlaced clips are coded as frames; --fields codes their fields.
+--own-rate, which writes the clip's rate as two numbers. The matrix of the colours is the clip's; where it says none,
+BT.709 above 576 rows or 1279 columns, and else BT.601, which is what players take. What `encode` of the proved program
+has no setting for (pixel aspect, colours, interlacing, a rate of its own) is written into the sequence headers
+afterwards, all alike: those values change no sample, and every other unit stays byte for byte. Interlaced clips are
+coded as frames; --fields codes their fields.
 docs/ENCODER.md says what the settings mean. --index is the one that matters: 0 loses nothing, 12 is the default, 30 is
 small and coarse.
 """
@@ -59,6 +61,7 @@ def add_to(commands):
     parser.add_argument("--rate", metavar="R", help="frames a second, as 25 or 30000/1001, in place of the clip's")
     parser.add_argument("--own-rate", action="store_true", help="write a rate that the table doesn't have")
     parser.add_argument("--signal", choices=SIGNALS, help="the range of the samples, in place of the clip's")
+    parser.add_argument("--matrix", choices=MATRICES, help="the matrix of the colours, in place of the clip's")
     parser.add_argument("--chroma", metavar="F", help="4:2:0, 4:2:2 or 4:4:4; another one than the clip's wants ffmpeg")
     parser.add_argument(
         "--filter", metavar="F", help="filters of ffmpeg, such as scale=640:360, fps=25 or crop=640:480"
@@ -122,7 +125,9 @@ def check_order(video, base):
 
 def header_for(header, video):
     """The header with what the program has no setting for."""
-    return header._replace(rate=video.rate, aspect=video.aspect, is_interlaced=video.scan != PROGRESSIVE)
+    header = header._replace(rate=video.rate, aspect=video.aspect, is_interlaced=video.scan != PROGRESSIVE)
+    colour = usual_colour(video) if video.colour is None else video.colour
+    return header if header.known_colour() == colour else header._replace(colour=colour)
 
 
 # The run
@@ -209,7 +214,7 @@ def run(words):
     clip = with_rate(open_clip(words.clip, words), words.rate)
     if words.signal:
         clip.video = clip.video._replace(signal=SIGNALS[words.signal])
-    video = clip.video
+    clip.video = video = with_matrix(clip.video, words.matrix)
     given = settings_of(video, words)
     coded = video._replace(height=video.height // 2) if words.fields else video
     compared = Compared(coded) if words.psnr else None

@@ -2,7 +2,7 @@
 import argparse
 import json
 
-from .formats import CHROMA_FORMATS, FULL_RANGE, LIMITED_RANGE, rate_text
+from .formats import CHROMA_FORMATS, COLOURS, FULL_RANGE, LIMITED_RANGE, rate_text
 from .plain import decoder
 from .sequence import read_header
 from .program import FAULT, explained
@@ -140,6 +140,7 @@ def lines_of(told, is_whole):
     yield "pixels", ratio_text(header.aspect) + ("" if header.aspect == 1 else f", shown {shown} wide")
     yield "rate", f"{rate_text(header.rate)} frames a second"
     yield "range", range_text(header.signal)
+    yield "colours", COLOURS[header.known_colour()] if header.known_colour() else "of a kind of their own"
     coded = "pictures are fields, two a frame" if header.has_fields else "pictures are frames"
     yield "scan", f"{header.scan()}; {coded}"
     if header.clean != (header.width, header.height, 0, 0):
@@ -168,6 +169,7 @@ def as_dictionary(told):
     values = header._asdict()
     values.update(rate=str(header.rate), aspect=str(header.aspect), scan=header.scan())
     values["chroma"] = CHROMA_FORMATS[header.chroma].name
+    values["colour"] = header.known_colour()
     values.update(pictures=told.pictures(), seconds=told.seconds(), bytes=told.bytes)
     values["points"] = [vars(point) for point in told.points]
     return values

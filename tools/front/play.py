@@ -4,6 +4,7 @@ import shutil
 
 from .decode import pass_on
 from .decoding import PLAIN_HELP, Decoding, of_one_kind
+from .formats import colour_filter, matrix_of
 from .refusal import Refusal
 from .sinks import CommandSink
 from .sources import open_stream
@@ -13,9 +14,9 @@ EPILOG = """examples:
   dirac play moving.mkv --player mpv
 
 The proved program decodes, and ffplay or mpv, whichever is there, shows what comes out, at the stream's rate, in its
-range and pixel aspect. Fields are woven to frames.
+range, colours and pixel aspect. Fields are woven to frames.
 """
-PLAYERS = {"ffplay": ["-v", "error", "-autoexit", "-f", "yuv4mpegpipe", "-window_title"], "mpv": ["--really-quiet"]}
+PLAYERS = {"ffplay": ["-v", "error", "-autoexit", "-f", "yuv4mpegpipe"], "mpv": ["--really-quiet"]}
 
 
 def add_to(commands):
@@ -32,23 +33,32 @@ def add_to(commands):
     parser.set_defaults(run=run)
 
 
-def command_for(player, name):
-    """The player's words; it reads y4m from standard input."""
+def player_for(player):
+    """The player that is said, or the one that is there."""
     found = [each for each in ([player] if player else PLAYERS) if shutil.which(each)]
     if not found:
         wanted = player or "ffplay or mpv"
         raise Refusal(f"play wants {wanted}, which isn't there; `dirac decode X.drc -o X.y4m` makes what others play")
-    title = [name] if found[0] == "ffplay" else [f"--title={name}"]
-    return [found[0], *PLAYERS[found[0]], *title, "-"]
+    return found[0]
+
+
+def command_for(player, name, video):
+    """The player's words; it reads y4m from standard input, which doesn't say the colours' matrix."""
+    if player == "ffplay":
+        given = ["-window_title", name, *colour_filter(video)]
+    else:
+        matrix = matrix_of(video)
+        given = [f"--title={name}"] + ([f"--vf=format=colormatrix=bt.{matrix}"] if matrix else [])
+    return [player, *PLAYERS[player], *given, "-"]
 
 
 def run(words):
-    command = command_for(words.player, words.stream)
+    player = player_for(words.player)
     decoding = Decoding(open_stream(words.stream), words.plain)
     video, pictures = of_one_kind(decoding.pictures())
     try:
         if video is not None:
-            pass_on(CommandSink(command[0], command, video), pictures)
+            pass_on(CommandSink(player, command_for(player, words.stream, video), video), pictures)
     except BrokenPipeError:
         # the window was closed
         decoding.pipe.stop()
