@@ -207,7 +207,8 @@ class Encode(InFolder):
         rows = [("bt709", "yuv420p", 3), ("smpte170m", "yuv420p", 1), ("bt470bg", "yuv420p", 2), ("bt709", "gbrp", 2)]
         for space, pixels, colour in rows:
             words = ["-colorspace", space] if pixels != "gbrp" else []
-            words = ["ffmpeg", "-v", "error", "-y", "-i", "in.y4m", "-pix_fmt", pixels, *words, "-c:v", "ffv1", "in.mkv"]
+            words = ["-pix_fmt", pixels, *words, "-c:v", "ffv1", "in.mkv"]
+            words = ["ffmpeg", "-v", "error", "-y", "-i", "in.y4m", *words]
             self.assertEqual(support.run(words, folder=self.folder).status, 0)
             self.assertEqual(self.dirac("encode", "in.mkv", "-o", "out.drc", *QUICK).status, 0)
             self.assertEqual(header_of(self.read("out.drc")).known_colour(), colour, (space, pixels))

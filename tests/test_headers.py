@@ -46,8 +46,9 @@ class Headers(unittest.TestCase):
         self.assertEqual(sequence.read_header(writer.sequence_header(0)).scan(), formats.PROGRESSIVE)
 
     def test_colours(self):
-        rows = [(0, None, 3), (2, None, 2), (7, None, 1), (9, None, 3), (16, None, 4), (0, 1, 1), (2, 3, 3), (0, 9, None)]
-        rows += [(0, (None, 1, None), 2), (2, (1, 1, 0), 1), (8, (None, None, None), 3), (0, (2, 2, None), None)]
+        rows = [(0, None, 3), (2, None, 2), (7, None, 1), (9, None, 3), (16, None, 4), (0, 1, 1), (2, 3, 3)]
+        rows += [(0, 9, None), (0, (None, 1, None), 2), (2, (1, 1, 0), 1)]
+        rows += [(8, (None, None, None), 3), (0, (2, 2, None), None)]
         plain = sequence.read_header(writer.sequence_header(0))
         for base, colour, known in rows:
             header = plain._replace(base=base, signal=formats.LIMITED_RANGE, colour=colour)
