@@ -103,6 +103,16 @@ class Info(InFolder):
         self.assertEqual((only["pictures"], told["bytes"], told["fault"]), (7, len(stream), None))
         self.assertAlmostEqual(only["seconds"], 7 * 1001 / 24000)
 
+    def test_several_files(self):
+        for name, data in (("a.drc", encoded(1)), ("b.txt", b""), ("c.drc", conformance("fault_missing_end"))):
+            self.write(name, data)
+        done = self.dirac("info", "a.drc", "b.txt", "c.drc")
+        self.assertEqual((done.status, done.err), (1, "dirac: b.txt is empty: no Dirac stream\n"))
+        names = [line for line in done.out.decode().splitlines() if not line.startswith(" ")]
+        self.assertEqual(names, ["a.drc", "c.drc"])
+        done = self.dirac("info", "--json", "a.drc", "c.drc")
+        self.assertEqual((done.status, [each["name"] for each in json.loads(done.out)]), (4, ["a.drc", "c.drc"]))
+
     def test_fields_and_sequences(self):
         rows = {row.stream: row for row in check.read_table()}
         for name in ("fields", "sequences_of_different_kinds", "header_of_own_values", "base_formats"):
@@ -392,10 +402,15 @@ class Decode(InFolder):
         stream = encoded(5, gop=4)
         self.write("in.drc", stream)
         words = ["ffmpeg", "-v", "error", "-r", "25", "-f", "dirac", "-i", "in.drc", "-c", "copy"]
-        for name in ("in.mkv", "in.avi"):
+        for name in ("in.mkv", "in.avi", "in.mov", "in.mp4", "in.ts", "in.nut", "in.asf"):
             self.assertEqual(support.run([*words, name], folder=self.folder).status, 0)
             done = self.dirac("decode", name, "-o", "out.yuv")
             self.assertEqual((done.status, self.read("out.yuv")), (0, b"".join(shown(stream))), done.err)
+        for name in ("in.m2ts", "in.mpg"):
+            self.assertEqual(support.run([*words, name], folder=self.folder).status, 0)
+            done = self.dirac("info", name)
+            self.assertEqual((done.status, done.err.count("\n")), (1, 1))
+            self.assertIn("without a Dirac stream", done.err)
         self.assertEqual(self.dirac("decode", "-", "-o", "out.yuv", data=self.read("in.mkv")).status, 0)
         self.assertEqual(self.dirac("decode", "in.drc", "-o", "out.mkv").status, 0)
         done = self.dirac("info", "out.mkv")
@@ -482,6 +497,8 @@ class Parts(unittest.TestCase):
         rows = [
             ("fault unit=3 at=46 cause=BadPrefix", "fault in unit 3 at byte 46: BadPrefix"),
             ("fault unit=0 at=13 cause=Depth8", "isn't of the profile"),
+            ("fault unit=0 at=13 cause=Size", "853 by 480"),
+            ("fault unit=2 at=99 cause=UnitShort", "dirac repair --decode"),
             ("bad setting width=7", "width=7 is out of its range"),
             ("no such point: 9", "dirac info"),
             ("open cut: unit 4", "unit 4 refers"),
