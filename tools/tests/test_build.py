@@ -186,6 +186,25 @@ class TellsProgress(Repository):
         for line in lines:
             self.assertRegex(line, r"0 of 3 crates proved; in hand: low \(.+\) 0:0\d; left by a guess: ")
         self.assertEqual((self.room / "build.log").read_text(), "\nrt: low proved\n")
+        # rt ci says no times, so the pace is that of what was seen in hand
+        [(cost, seconds)] = work.took
+        self.assertEqual(cost, work.costs["low"])
+        self.assertTrue(1.5 <= seconds <= 10, seconds)
+
+    def test_places_are_the_processors_until_fewer_crates_are_in_hand_than_could_be(self):
+        work = proving.Proving(self.top, ["tool"], "tool", self.room / "build.log")
+        work.costs = {"low": 100, "middle": 100, "tool": 100}
+        work.waits = {"low": [], "middle": [], "tool": []}
+        process, guesses = process_table.Process(1, 0, [], "", 0, 0, 0, 0, 0), []
+        for crates in (("low", "middle", "tool"), ("low",)):
+            work.places, work.is_full, work.command = 1, False, process_table.collections.namedtuple("C", "pid")(1)
+            steps = [(process_table.Step(crate, "proof"), process) for crate in crates]
+            with unittest.mock.patch.object(process_table, "steps_below", return_value=steps):
+                found = work.in_hand()
+            with unittest.mock.patch.object(time_left, "in_words", side_effect=guesses.append):
+                work.guess(found)
+        self.assertEqual(work.ready(), ["low", "middle", "tool"])
+        self.assertAlmostEqual(guesses[1], 3 * guesses[0])
 
 
 class Waits(Builds):
