@@ -1,6 +1,7 @@
 """Tests of build.py and of what it stands on."""
 import contextlib
 import fcntl
+import hashlib
 import io
 import os
 import pathlib
@@ -263,6 +264,38 @@ class Runs(Builds):
         status, wrote, said = self.run_it(path=PLAIN_PATH)
         self.assertEqual((status, wrote), (1, ""))
         self.assertIn("no command rt", said)
+
+
+class SumsOfPrograms(Builds):
+    def sum_of_program(self, *words):
+        wrote, said, status = self.call("sum_of_program.py", *words, "tool")
+        return status, wrote + said
+
+    def test_of_a_program_that_is_not_there(self):
+        status, said = self.sum_of_program()
+        self.assertEqual(status, 1)
+        self.assertIn("isn't there", said)
+
+    def test_beside_the_one_that_is_named(self):
+        self.build()
+        status, said = self.sum_of_program()
+        self.assertEqual((status, said.count("\n")), (0, 1))
+        mine = said.split()[0]
+        self.assertEqual(mine, hashlib.sha256((self.top / "crates/tool/out/tool").read_bytes()).hexdigest())
+        for named, answer in ((mine, (0, "names it")), ("0" * 64, (1, "names another one"))):
+            (self.top / "README.md").write_text(f"It has the SHA-256\n`{named}`.\n")
+            status, said = self.sum_of_program()
+            self.assertEqual((status, answer[1] in said), (answer[0], True), said)
+
+    def test_of_two_builds(self):
+        self.build()
+        status, said = self.sum_of_program("--again")
+        self.assertEqual(status, 0, said)
+        self.assertIn("the second build gave the same", said)
+        (self.top / "crates/tool/out/tool").write_text("another\n")
+        status, said = self.sum_of_program("--again")
+        self.assertEqual(status, 1)
+        self.assertIn("the second build gave another one", said)
 
 
 class TellsSteps(unittest.TestCase):
