@@ -492,6 +492,8 @@ class Parts(unittest.TestCase):
                 self.assertEqual((words[0], words[-1]), (player, "-"))
                 self.assertIn(text, " ".join(words))
                 self.assertEqual(any("color" in word for word in words), colour is not None)
+        video = formats.Video(16, 16, 2, 25, signal=formats.FULL_RANGE, colour=formats.HDTV)
+        self.assertIn("scale=out_range=limited", " ".join(play.command_for("ffplay", "a name", video)))
 
     def test_answers_of_the_program(self):
         rows = [

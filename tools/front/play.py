@@ -4,7 +4,7 @@ import shutil
 
 from .decode import pass_on
 from .decoding import PLAIN_HELP, Decoding, of_one_kind
-from .formats import colour_filter, matrix_of
+from .formats import FULL_RANGE, colour_filter, matrix_of
 from .refusal import Refusal
 from .sinks import CommandSink
 from .sources import open_stream
@@ -46,6 +46,9 @@ def command_for(player, name, video):
     """The player's words; it reads y4m from standard input, which doesn't say the colours' matrix."""
     if player == "ffplay":
         given = ["-window_title", name, *colour_filter(video)]
+        if video.signal == FULL_RANGE and matrix_of(video) == "709":
+            # ffplay shows the full range by BT.601 whatever the matrix is
+            given[-1] += ",scale=out_range=limited"
     else:
         matrix = matrix_of(video)
         given = [f"--title={name}"] + ([f"--vf=format=colormatrix=bt.{matrix}"] if matrix else [])
