@@ -11,7 +11,8 @@ from tests import support
 from tests.support import TOP, InFolder, conformance, decoder, encoded, encoder, raw_pictures, shown
 
 import check
-from front import decoding, encode, formats, info, outputs, play, png, progress, program, psnr, sequence, units
+from front import decoding, encode, formats, info, matroska, outputs, play, png, progress, program, psnr, sequence
+from front import units
 from front.refusal import Refusal
 
 MOVING = TOP / "examples" / "moving.drc"
@@ -45,7 +46,7 @@ def header_of(stream):
 class Words(InFolder):
     def test_help_of_each_command(self):
         self.assertIn("examples:", self.dirac("--help").out.decode())
-        for command in ("info", "encode", "decode", "play", "repair", "cut", "join", "compare"):
+        for command in ("info", "encode", "decode", "play", "repair", "cut", "join", "wrap", "compare"):
             done = self.dirac(command, "--help")
             self.assertEqual((done.status, done.err), (0, ""))
             self.assertIn("examples:\n  dirac " + command, done.out.decode())
@@ -61,7 +62,8 @@ class Words(InFolder):
             (["info", "."], 1, "Is a directory"),
             (["decode", "a.drc"], 2, "name what to write with -o"),
             (["decode", "a.drc", "-o", "a.drc"], 1, "the file that is read"),
-            (["encode", "a.drc", "-o", "x.mkv"], 2, "mkvmerge"),
+            (["encode", "a.drc", "-o", "x.mp4"], 2, "or Matroska, an .mkv file"),
+            (["wrap", "a.drc", "-o", "x.drc"], 2, "ends in .mkv"),
             (["encode", "a.drc", "-o", "x.drc", "--index", "x"], 2, "--index"),
             (["encode", "a.drc", "-o", "x.drc", "--rate", "0"], 2, "30000/1001"),
             (["cut", "a.drc", "-o", "b.drc", "--from", "soon"], 2, "3.5s"),
@@ -458,6 +460,52 @@ class Edit(InFolder):
         self.assertEqual(shown(self.read("c.drc")), shown(stream))
         done = self.dirac("cut", "in.drc", "--from", "7", "-o", "d.drc", **tool)
         self.assertEqual((done.status, "dirac info" in done.err, "d.drc" in self.names()), (13, True, False))
+
+
+class Matroska(InFolder):
+    def test_times_in_the_order_of_coding(self):
+        coded = [0, 4, 1, 2, 3, 8, 5, 6, 7, 12, 11, 10, 9]
+        stream = conformance("delivery_in_another_order")
+        rate = header_of(stream).rate
+        for data, numbers in ((stream, coded), (stream[:-13], coded), (stream * 2, coded + [13 + n for n in coded])):
+            self.assertEqual(matroska.times_of(io.BytesIO(data)), [number / rate for number in numbers])
+        times = matroska.times_of(io.BytesIO(encoded(4, fields=1, rate=3)))
+        self.assertEqual(sorted(times), [Fraction(n, 50) for n in range(4)])
+        with self.assertRaises(Refusal):
+            matroska.times_of(io.BytesIO(stream[:100]))
+
+    def test_without_mkvmerge(self):
+        self.write("in.drc", encoded(1))
+        done = self.dirac("wrap", "in.drc", "-o", "out.mkv", PATH="/nowhere")
+        self.assertEqual((done.status, self.names()), (1, ["in.drc"]))
+        self.assertIn("apt-get install mkvtoolnix", done.err)
+
+    @unittest.skipUnless(support.has("mkvmerge") and support.has("ffprobe"), "no mkvmerge or ffprobe")
+    def test_times_and_bytes(self):
+        stream = encoded(9, gop=8, rate=3)
+        self.write("in.drc", stream)
+        self.assertEqual(self.dirac("wrap", "in.drc", "-o", "out.mkv").status, 0)
+        self.assertEqual(self.names(), ["in.drc", "out.mkv"])
+        words = ["ffprobe", "-v", "error", "-show_entries", "frame=pts_time", "-of", "csv=p=0", "out.mkv"]
+        times = support.run(words, folder=self.folder).out.decode().split()
+        self.assertEqual([float(time.strip(",")) for time in times], [n / 25 for n in range(9)])
+        words = ["ffmpeg", "-v", "fatal", "-i", "out.mkv", "-c", "copy", "-f", "dirac", "-"]
+        self.assertEqual(support.run(words, folder=self.folder).out, stream)
+        done = self.dirac("info", "out.mkv")
+        self.assertEqual(done.status, 0, done.err)
+        self.write("in.y4m", y4m(raw_pictures(3)))
+        self.assertEqual(self.dirac("encode", "in.y4m", "-o", "new.mkv", *QUICK, "--index=0").status, 0)
+        self.assertEqual(self.dirac("decode", "new.mkv", "-o", "new.yuv").status, 0)
+        self.assertEqual(self.read("new.yuv"), raw_pictures(3))
+
+    @unittest.skipUnless(support.has("mkvmerge"), "no mkvmerge")
+    def test_streams_that_do_not_go_in(self):
+        no_picture = support.stream_of([(0, support.units_of(encoded(1))[0].payload), (0x10, b"")])
+        for data, text in ((conformance("fault_bad_prefix"), "dirac repair"), (no_picture, "no picture")):
+            self.write("in.drc", data)
+            done = self.dirac("wrap", "in.drc", "-o", "out.mkv")
+            self.assertEqual((done.status, self.names(), done.err.count("\n")), (1, ["in.drc"], 1))
+            self.assertIn(text, done.err)
 
 
 class Terminal(io.StringIO):

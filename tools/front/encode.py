@@ -8,7 +8,7 @@ from . import psnr
 from .clips import open_clip, with_rate
 from .formats import BASE_FORMATS, BOTTOM_FIRST, FULL_RANGE, LIMITED_RANGE, PROGRESSIVE, RATES, TOP_FIRST
 from .formats import MATRICES, rate_index, usual_colour, with_matrix
-from .outputs import Output, check_apart, check_stream_name
+from .outputs import check_apart, check_stream_name, stream_output
 from .plain import decoder, encoder
 from .program import refusal, start
 from .progress import Progress, size_text, time_text
@@ -20,6 +20,7 @@ from .units import PICTURES, SEQUENCE_HEADER, UnitWriter, read_units
 EPILOG = """examples:
   dirac encode clip.y4m -o clip.drc
   dirac encode clip.mkv -o clip.drc --index 20              anything that ffmpeg opens, where it is there
+  dirac encode clip.mp4 -o clip.mkv                         in Matroska, for other players (wants mkvmerge)
   dirac encode clip.mp4 -o clip.drc --filter scale=640:360 --psnr
   dirac encode clip.yuv -o clip.drc --raw 720x576 --chroma 4:2:2 --rate 25
   ffmpeg -v error -i clip.mp4 -f yuv4mpegpipe - | dirac encode - -o - > clip.drc
@@ -55,7 +56,8 @@ def add_to(commands):
         formatter_class=argparse.RawDescriptionHelpFormatter,
     )
     parser.add_argument("clip", metavar="CLIP", help="y4m, or any clip where ffmpeg is there; - is standard input")
-    parser.add_argument("-o", metavar="X.drc", required=True, help="the stream to write; - is standard output")
+    text = "the stream to write, or Matroska, as X.mkv; - is standard output"
+    parser.add_argument("-o", metavar="X.drc", required=True, help=text)
     parser.add_argument("--psnr", action="store_true", help="tell in the end how near the pictures are, plane by plane")
     parser.add_argument("--frames", metavar="N", type=int, help="only so many pictures from the beginning on")
     parser.add_argument("--rate", metavar="R", help="frames a second, as 25 or 30000/1001, in place of the clip's")
@@ -220,7 +222,7 @@ def run(words):
     compared = Compared(coded) if words.psnr else None
     total = clip.count if words.frames is None else min(words.frames, clip.count or words.frames)
     progress = Progress(2 * total if total and words.fields else total)
-    with Output(words.o) as output:
+    with stream_output(words.o) as output:
         fed = fed_pictures(clip, words, compared)
         if compared is None:
             pipe = start(given, fed)

@@ -82,11 +82,11 @@ def tell(line):
     print(f"dirac: {line}", file=sys.stderr)
 
 
-def wanted(command, why):
+def wanted(command, why, package="ffmpeg"):
     """The path of a command that may be missing; `why` begins the sentence that says so."""
     path = shutil.which(command)
     if path is None:
-        raise Refusal(f"{why}, {command} is wanted, and it isn't there: install it (Debian: apt-get install ffmpeg)")
+        raise Refusal(f"{why}, {command} is wanted, and it isn't there: install it (Debian: apt-get install {package})")
     return path
 
 
