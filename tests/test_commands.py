@@ -6,6 +6,7 @@ import subprocess
 import sys
 import unittest
 from fractions import Fraction
+from unittest import mock
 
 from tests import support
 from tests.support import TOP, InFolder, conformance, decoder, encoded, encoder, raw_pictures, shown
@@ -530,6 +531,11 @@ class Parts(unittest.TestCase):
         shown_on = io.StringIO()
         progress.Progress(3, shown_on).show(1, 1)
         self.assertEqual(shown_on.getvalue(), "")
+
+    def test_a_screen_that_is_not_there(self):
+        for values, has_one in (({}, False), ({"DISPLAY": ":1"}, True), ({"WAYLAND_DISPLAY": "wayland-0"}, True)):
+            with mock.patch.dict(os.environ, values, clear=True), mock.patch.object(sys, "platform", "linux"):
+                self.assertEqual(play.has_screen(), has_one)
 
     def test_players_are_told_the_matrix(self):
         rows = [(2, "colorspace=bt470bg:", "bt.601"), (3, "colorspace=bt709:", "bt.709"), (None, "", "")]

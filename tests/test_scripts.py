@@ -106,6 +106,12 @@ class Documents(unittest.TestCase):
         expected = [("one < a \\\n    | two", ["line"]), ("three", []), ("python3 x.py", None), ("./run y", None)]
         self.assertEqual(found, expected)
 
+    def test_commands_that_are_left_out(self):
+        rows = [("./run list < x.drc", 0, 0), ("./dirac play x.drc", 1, 1), ("ffplay x.mkv", 1, 1)]
+        for command, without, with_library in [*rows, ("python3 capi/check.py", 1, 0)]:
+            found = [check_documents.is_left_out(command, has_library) for has_library in (False, True)]
+            self.assertEqual(found, [bool(without), bool(with_library)], command)
+
     def test_times_of_a_container(self):
         even = [n / 25 for n in range(10)]
         self.assertIsNone(check_documents.wrong_times(even, 0.4))

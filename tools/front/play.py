@@ -1,13 +1,15 @@
 """`dirac play`: shows a stream in a window."""
 import argparse
+import os
 import shutil
+import sys
 
 from .decode import pass_on
 from .decoding import PLAIN_HELP, Decoding, of_one_kind
 from .formats import FULL_RANGE, colour_filter, matrix_of
 from .refusal import Refusal
 from .sinks import CommandSink
-from .sources import open_stream
+from .sources import open_stream, tell
 
 EPILOG = """examples:
   dirac play moving.drc
@@ -55,8 +57,15 @@ def command_for(player, name, video):
     return [player, *PLAYERS[player], *given, "-"]
 
 
+def has_screen():
+    """Whether the players find a screen, as far as that can be known."""
+    return sys.platform != "linux" or any(os.environ.get(name) for name in ("DISPLAY", "WAYLAND_DISPLAY"))
+
+
 def run(words):
     player = player_for(words.player)
+    if not has_screen():
+        tell(f"no screen is there (DISPLAY isn't set): {player} may show nothing, and say nothing of it")
     decoding = Decoding(open_stream(words.stream), words.plain)
     video, pictures = of_one_kind(decoding.pictures())
     try:
