@@ -49,8 +49,8 @@ def place():
         if named:
             raise Refusal(f"{VARIABLE}={named} names no program that can be run")
         raise Refusal(
-            "the proved program isn't built yet: `./run list < examples/moving.drc` builds it, or the variable"
-            f" {VARIABLE} names it; with --plain decode and play do without it, slowly"
+            "the proved program isn't built yet: `./run list < examples/moving.drc` builds it, in 40 minutes or so, or"
+            f" the variable {VARIABLE} names it; with --plain decode and play do without it, slowly"
         )
     return path
 
