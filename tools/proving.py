@@ -91,10 +91,10 @@ class Proving:
         """The steps in hand and for how many seconds, the longest first; when each crate was begun is kept."""
         now = time.monotonic()
         steps = [(step, process.age) for step, process in process_table.steps_below(self.command.pid)]
-        proofs = [(step.crate, now - age) for step, age in steps if step.step != "edits"]
-        for crate, begun in proofs:
-            self.begun[crate] = min(begun, self.begun.get(crate, begun))
-        crates = {crate for crate, _ in proofs}
+        for step, age in steps:
+            if step.step == "proof":
+                self.begun[step.crate] = min(now - age, self.begun.get(step.crate, now))
+        crates = {step.crate for step, _ in steps if step.step not in ("edits", "layout")}
         self.places = max(self.places, len({(step.crate, step.step == "edits") for step, _ in steps}))
         self.is_full = self.is_full or bool(crates) and len(crates) < len(self.ready())
         return steps
