@@ -106,6 +106,11 @@ class Documents(unittest.TestCase):
         expected = [("one < a \\\n    | two", ["line"]), ("three", []), ("python3 x.py", None), ("./run y", None)]
         self.assertEqual(found, expected)
 
+    def test_files_of_an_earlier_run(self):
+        rows = [("ffmpeg -v error -i x.mkv x.yuv", "x.yuv"), ("ffmpeg -i x.mkv -f dirac - | cmp - x.drc", None)]
+        for command, name in [*rows, ("./run list < x.drc", None), ("ffmpeg -i x.mkv -f rawvideo -", None)]:
+            self.assertEqual(check_documents.asked_about(command), name, command)
+
     def test_commands_that_are_left_out(self):
         rows = [("./run list < x.drc", 0, 0), ("./dirac play x.drc", 1, 1), ("ffplay x.mkv", 1, 1)]
         for command, without, with_library in [*rows, ("python3 capi/check.py", 1, 0)]:

@@ -54,6 +54,13 @@ def written_container(command):
     return next((name for name in named if CONTAINER.fullmatch(name)), None)
 
 
+def asked_about(command):
+    """The file about which ffmpeg would ask whether to write over it, or None."""
+    target = command.split()[-1]
+    is_written = command.startswith("ffmpeg ") and "|" not in command and re.fullmatch(r"\w+\.\w+", target)
+    return target if is_written else None
+
+
 def wrong_times(times, duration):
     """What is wrong with the times of a container's packets, or None."""
     if len(times) < 2:
@@ -83,8 +90,8 @@ def wrong_container(name):
 def difference(command, expected):
     """What differs, or None."""
     container = written_container(command)
-    if container:
-        (TOP / container).unlink(missing_ok=True)
+    for name in {container, asked_about(command)} - {None}:
+        (TOP / name).unlink(missing_ok=True)
     done = subprocess.run(["bash", "-c", command], cwd=TOP, stdin=subprocess.DEVNULL, capture_output=True)
     lines = (done.stdout + done.stderr).decode(errors="replace").splitlines()
     if container and (TOP / container).exists() and shutil.which("ffprobe"):
