@@ -6,7 +6,7 @@ look.py [STREAM [PNG]]      STREAM is moving.drc beside this script where none i
 
 At most four pictures are decoded, by the plain decoder in bench/reference. It is slow: up to a second for each
 picture of 176 by 144, some fifteen for one of 720 by 576. Where the stream has a fault before them, nothing is written,
-and the status is 4. The colours are taken as those of BT.601, in the range that the stream says.
+and the status is 4. The colours are those of the range and the matrix that the stream says.
 """
 import pathlib
 import sys

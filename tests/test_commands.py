@@ -12,7 +12,8 @@ from tests import support
 from tests.support import TOP, InFolder, conformance, decoder, encoded, encoder, raw_pictures, shown
 
 import check
-from front import decoding, encode, formats, info, outputs, progress, program, psnr, sequence, units
+from front import decoding, encode, formats, info, matroska, outputs, play, png, progress, program, psnr, sequence
+from front import units
 from front.refusal import Refusal
 
 MOVING = TOP / "examples" / "moving.drc"
@@ -25,10 +26,28 @@ def y4m(raw, header=b"W16 H16 F25:1", length=384):
     return b"YUV4MPEG2 " + header + b"\n" + b"".join(frames)
 
 
+def labelled(stream, colour):
+    """The stream with these colours in its headers, where its base has others."""
+    target = io.BytesIO()
+    writer = units.UnitWriter(target)
+    for unit in units.read_units(io.BytesIO(stream)):
+        payload = unit.payload
+        if unit.code == units.SEQUENCE_HEADER:
+            header = sequence.read_header(payload)
+            if header.known_colour() != colour:
+                payload = sequence.spell_header(header._replace(colour=colour))
+        writer.write(unit.code, payload)
+    return target.getvalue()
+
+
+def header_of(stream):
+    return sequence.read_header(support.units_of(stream)[0].payload)
+
+
 class Words(InFolder):
     def test_help_of_each_command(self):
         self.assertIn("examples:", self.dirac("--help").out.decode())
-        for command in ("info", "encode", "decode", "play", "repair", "cut", "join", "compare"):
+        for command in ("info", "encode", "decode", "play", "repair", "cut", "join", "wrap", "compare"):
             done = self.dirac(command, "--help")
             self.assertEqual((done.status, done.err), (0, ""))
             self.assertIn("examples:\n  dirac " + command, done.out.decode())
@@ -44,7 +63,8 @@ class Words(InFolder):
             (["info", "."], 1, "Is a directory"),
             (["decode", "a.drc"], 2, "name what to write with -o"),
             (["decode", "a.drc", "-o", "a.drc"], 1, "the file that is read"),
-            (["encode", "a.drc", "-o", "x.mkv"], 2, "mkvmerge"),
+            (["encode", "a.drc", "-o", "x.mp4"], 2, "or Matroska, an .mkv file"),
+            (["wrap", "a.drc", "-o", "x.drc"], 2, "ends in .mkv"),
             (["encode", "a.drc", "-o", "x.drc", "--index", "x"], 2, "--index"),
             (["encode", "a.drc", "-o", "x.drc", "--rate", "0"], 2, "30000/1001"),
             (["cut", "a.drc", "-o", "b.drc", "--from", "soon"], 2, "3.5s"),
@@ -86,6 +106,16 @@ class Info(InFolder):
         self.assertEqual((only["pictures"], told["bytes"], told["fault"]), (7, len(stream), None))
         self.assertAlmostEqual(only["seconds"], 7 * 1001 / 24000)
 
+    def test_several_files(self):
+        for name, data in (("a.drc", encoded(1)), ("b.txt", b""), ("c.drc", conformance("fault_missing_end"))):
+            self.write(name, data)
+        done = self.dirac("info", "a.drc", "b.txt", "c.drc")
+        self.assertEqual((done.status, done.err), (1, "dirac: b.txt is empty: no Dirac stream\n"))
+        names = [line for line in done.out.decode().splitlines() if not line.startswith(" ")]
+        self.assertEqual(names, ["a.drc", "c.drc"])
+        done = self.dirac("info", "--json", "a.drc", "c.drc")
+        self.assertEqual((done.status, [each["name"] for each in json.loads(done.out)]), (4, ["a.drc", "c.drc"]))
+
     def test_fields_and_sequences(self):
         rows = {row.stream: row for row in check.read_table()}
         for name in ("fields", "sequences_of_different_kinds", "header_of_own_values", "base_formats"):
@@ -113,7 +143,7 @@ class Encode(InFolder):
         """The stream of the plain encoder for the words that are to be given."""
         settings = encoder.default_settings(values.get("base", 0)) | SETTINGS
         settings |= {"rate": 3, "signal": 2, "alike": 1} | values
-        return encoder.encode(settings, raw).stream
+        return labelled(encoder.encode(settings, raw).stream, formats.SDTV_625)
 
     def test_y4m_becomes_what_its_header_says(self):
         raw = raw_pictures(1)
@@ -165,6 +195,41 @@ class Encode(InFolder):
             self.assertEqual({name: getattr(read, name) for name in values}, values, header)
             self.assertEqual(read.is_interlaced, b" I" in header)
             self.assertEqual(shown(self.read("out.drc")), shown(plain))
+
+    def test_colours_stand_in_the_headers(self):
+        self.write("in.y4m", y4m(raw_pictures(1)))
+        for words, colour in (([], formats.SDTV_625), (["--matrix", "709"], None), (["--base", "2"], None)):
+            self.assertEqual(self.encode(*words)[0], 0)
+            self.assertEqual(header_of(self.read("out.drc")).colour, colour, words)
+        self.assertEqual(self.encode("--base", "2", "--matrix", "709")[0], 0)
+        self.assertEqual(header_of(self.read("out.drc")).colour, formats.HDTV)
+
+    def test_colours_by_the_size(self):
+        for size, colour in (
+            ((720, 576), formats.SDTV_625),
+            ((720, 480), formats.SDTV_525),
+            ((1024, 576), formats.SDTV_625),
+            ((1280, 544), formats.HDTV),
+            ((640, 720), formats.HDTV),
+        ):
+            self.assertEqual(formats.usual_colour(formats.Video(*size, 2, 25)), colour, size)
+
+    @unittest.skipUnless(support.has("ffmpeg"), "no ffmpeg")
+    def test_colours_of_a_clip_go_through(self):
+        self.write("in.y4m", y4m(raw_pictures(2)))
+        rows = [("bt709", "yuv420p", 3), ("smpte170m", "yuv420p", 1), ("bt470bg", "yuv420p", 2), ("bt709", "gbrp", 2)]
+        for space, pixels, colour in rows:
+            words = ["-colorspace", space] if pixels != "gbrp" else []
+            words = ["-pix_fmt", pixels, *words, "-c:v", "ffv1", "in.mkv"]
+            words = ["ffmpeg", "-v", "error", "-y", "-i", "in.y4m", *words]
+            self.assertEqual(support.run(words, folder=self.folder).status, 0)
+            self.assertEqual(self.dirac("encode", "in.mkv", "-o", "out.drc", *QUICK).status, 0)
+            self.assertEqual(header_of(self.read("out.drc")).known_colour(), colour, (space, pixels))
+            for name in ("out.mkv", "out.mp4"):
+                self.assertEqual(self.dirac("decode", "out.drc", "-o", name).status, 0)
+                words = ["ffprobe", "-v", "error", "-show_entries", "stream=color_space", "-of", "csv=p=0", name]
+                told = support.run(words, folder=self.folder).out.decode().strip()
+                self.assertEqual(told, formats.FFMPEG_COLOURS[colour][0], name)
 
     def test_refused_clips(self):
         rows = [
@@ -288,6 +353,15 @@ class Decode(InFolder):
         self.assertEqual(self.names(), ["in.drc", "shot-0000.png", "shot-0001.png"])
         self.assertTrue(self.read("shot-0001.png").startswith(b"\x89PNG"))
 
+    def test_pixels_by_range_and_matrix(self):
+        # red of both matrices in both ranges: Y, U and V by their formulas, rounded
+        rows = [((81, 90, 240), formats.LIMITED_RANGE, 2), ((63, 102, 240), formats.LIMITED_RANGE, 3)]
+        rows += [((76, 85, 255), formats.FULL_RANGE, 1), ((54, 99, 255), formats.FULL_RANGE, 4)]
+        for raw, signal, colour in rows:
+            video = formats.Video(1, 1, 0, None, signal=signal, colour=colour)
+            red, green, blue = next(png.rgb_rows(bytes(raw), video))
+            self.assertTrue(red >= 253 and green <= 2 and blue <= 2, (raw, red, green, blue))
+
     def test_what_was_shown_before_a_fault_is_kept(self):
         done = self.dirac("decode", "-", "-o", "out.yuv", data=conformance("delivery_before_a_fault"))
         self.assertEqual(done.status, 4)
@@ -331,10 +405,15 @@ class Decode(InFolder):
         stream = encoded(5, gop=4)
         self.write("in.drc", stream)
         words = ["ffmpeg", "-v", "error", "-r", "25", "-f", "dirac", "-i", "in.drc", "-c", "copy"]
-        for name in ("in.mkv", "in.avi"):
+        for name in ("in.mkv", "in.avi", "in.mov", "in.mp4", "in.ts", "in.nut", "in.asf"):
             self.assertEqual(support.run([*words, name], folder=self.folder).status, 0)
             done = self.dirac("decode", name, "-o", "out.yuv")
             self.assertEqual((done.status, self.read("out.yuv")), (0, b"".join(shown(stream))), done.err)
+        for name in ("in.m2ts", "in.mpg"):
+            self.assertEqual(support.run([*words, name], folder=self.folder).status, 0)
+            done = self.dirac("info", name)
+            self.assertEqual((done.status, done.err.count("\n")), (1, 1))
+            self.assertIn("without a Dirac stream", done.err)
         self.assertEqual(self.dirac("decode", "-", "-o", "out.yuv", data=self.read("in.mkv")).status, 0)
         self.assertEqual(self.dirac("decode", "in.drc", "-o", "out.mkv").status, 0)
         done = self.dirac("info", "out.mkv")
@@ -384,6 +463,52 @@ class Edit(InFolder):
         self.assertEqual((done.status, "dirac info" in done.err, "d.drc" in self.names()), (13, True, False))
 
 
+class Matroska(InFolder):
+    def test_times_in_the_order_of_coding(self):
+        coded = [0, 4, 1, 2, 3, 8, 5, 6, 7, 12, 11, 10, 9]
+        stream = conformance("delivery_in_another_order")
+        rate = header_of(stream).rate
+        for data, numbers in ((stream, coded), (stream[:-13], coded), (stream * 2, coded + [13 + n for n in coded])):
+            self.assertEqual(matroska.times_of(io.BytesIO(data)), [number / rate for number in numbers])
+        times = matroska.times_of(io.BytesIO(encoded(4, fields=1, rate=3)))
+        self.assertEqual(sorted(times), [Fraction(n, 50) for n in range(4)])
+        with self.assertRaises(Refusal):
+            matroska.times_of(io.BytesIO(stream[:100]))
+
+    def test_without_mkvmerge(self):
+        self.write("in.drc", encoded(1))
+        done = self.dirac("wrap", "in.drc", "-o", "out.mkv", PATH="/nowhere")
+        self.assertEqual((done.status, self.names()), (1, ["in.drc"]))
+        self.assertIn("apt-get install mkvtoolnix", done.err)
+
+    @unittest.skipUnless(support.has("mkvmerge") and support.has("ffprobe"), "no mkvmerge or ffprobe")
+    def test_times_and_bytes(self):
+        stream = encoded(9, gop=8, rate=3)
+        self.write("in.drc", stream)
+        self.assertEqual(self.dirac("wrap", "in.drc", "-o", "out.mkv").status, 0)
+        self.assertEqual(self.names(), ["in.drc", "out.mkv"])
+        words = ["ffprobe", "-v", "error", "-show_entries", "frame=pts_time", "-of", "csv=p=0", "out.mkv"]
+        times = support.run(words, folder=self.folder).out.decode().split()
+        self.assertEqual([float(time.strip(",")) for time in times], [n / 25 for n in range(9)])
+        words = ["ffmpeg", "-v", "fatal", "-i", "out.mkv", "-c", "copy", "-f", "dirac", "-"]
+        self.assertEqual(support.run(words, folder=self.folder).out, stream)
+        done = self.dirac("info", "out.mkv")
+        self.assertEqual(done.status, 0, done.err)
+        self.write("in.y4m", y4m(raw_pictures(3)))
+        self.assertEqual(self.dirac("encode", "in.y4m", "-o", "new.mkv", *QUICK, "--index=0").status, 0)
+        self.assertEqual(self.dirac("decode", "new.mkv", "-o", "new.yuv").status, 0)
+        self.assertEqual(self.read("new.yuv"), raw_pictures(3))
+
+    @unittest.skipUnless(support.has("mkvmerge"), "no mkvmerge")
+    def test_streams_that_do_not_go_in(self):
+        no_picture = support.stream_of([(0, support.units_of(encoded(1))[0].payload), (0x10, b"")])
+        for data, text in ((conformance("fault_bad_prefix"), "dirac repair"), (no_picture, "no picture")):
+            self.write("in.drc", data)
+            done = self.dirac("wrap", "in.drc", "-o", "out.mkv")
+            self.assertEqual((done.status, self.names(), done.err.count("\n")), (1, ["in.drc"], 1))
+            self.assertIn(text, done.err)
+
+
 class Terminal(io.StringIO):
     def isatty(self):
         return True
@@ -407,10 +532,29 @@ class Parts(unittest.TestCase):
         progress.Progress(3, shown_on).show(1, 1)
         self.assertEqual(shown_on.getvalue(), "")
 
+    def test_a_screen_that_is_not_there(self):
+        for values, has_one in (({}, False), ({"DISPLAY": ":1"}, True), ({"WAYLAND_DISPLAY": "wayland-0"}, True)):
+            with mock.patch.dict(os.environ, values, clear=True), mock.patch.object(sys, "platform", "linux"):
+                self.assertEqual(play.has_screen(), has_one)
+
+    def test_players_are_told_the_matrix(self):
+        rows = [(2, "colorspace=bt470bg:", "bt.601"), (3, "colorspace=bt709:", "bt.709"), (None, "", "")]
+        for colour, for_ffplay, for_mpv in rows:
+            video = formats.Video(16, 16, 2, 25, colour=colour)
+            for player, text in (("ffplay", for_ffplay), ("mpv", for_mpv)):
+                words = play.command_for(player, "a name", video)
+                self.assertEqual((words[0], words[-1]), (player, "-"))
+                self.assertIn(text, " ".join(words))
+                self.assertEqual(any("color" in word for word in words), colour is not None)
+        video = formats.Video(16, 16, 2, 25, signal=formats.FULL_RANGE, colour=formats.HDTV)
+        self.assertIn("scale=out_range=limited", " ".join(play.command_for("ffplay", "a name", video)))
+
     def test_answers_of_the_program(self):
         rows = [
             ("fault unit=3 at=46 cause=BadPrefix", "fault in unit 3 at byte 46: BadPrefix"),
             ("fault unit=0 at=13 cause=Depth8", "isn't of the profile"),
+            ("fault unit=0 at=13 cause=Size", "853 by 480"),
+            ("fault unit=2 at=99 cause=UnitShort", "dirac repair --decode"),
             ("bad setting width=7", "width=7 is out of its range"),
             ("no such point: 9", "dirac info"),
             ("open cut: unit 4", "unit 4 refers"),

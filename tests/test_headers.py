@@ -45,6 +45,32 @@ class Headers(unittest.TestCase):
         self.assertEqual(sequence.read_header(writer.sequence_header(7, signal=2)).scan(), formats.BOTTOM_FIRST)
         self.assertEqual(sequence.read_header(writer.sequence_header(0)).scan(), formats.PROGRESSIVE)
 
+    def test_colours(self):
+        rows = [(0, None, 3), (2, None, 2), (7, None, 1), (9, None, 3), (16, None, 4), (0, 1, 1), (2, 3, 3)]
+        rows += [(0, 9, None), (0, (None, 1, None), 2), (2, (1, 1, 0), 1)]
+        rows += [(8, (None, None, None), 3), (0, (2, 2, None), None)]
+        plain = sequence.read_header(writer.sequence_header(0))
+        for base, colour, known in rows:
+            header = plain._replace(base=base, signal=formats.LIMITED_RANGE, colour=colour)
+            header = sequence.read_header(sequence.spell_header(header))
+            self.assertEqual((header.colour, header.known_colour()), (colour, known), (base, colour))
+
+    @unittest.skipUnless(support.has("ffprobe"), "no ffprobe")
+    def test_ffprobe_takes_the_same_colours(self):
+        words = ["ffprobe", "-v", "error", "-show_entries", "stream=color_space", "-of", "csv=p=0", "-f", "dirac", "-"]
+        for base in (0, 1, 2, 7, 8, 9, 16):
+            stream = support.encoded(1, base=base, chroma=2, signal=2)
+            for colour in (None, (None, 1, None)):
+                pieces = []
+                for unit in support.units_of(stream):
+                    payload = unit.payload
+                    if unit.code == decoder.SEQUENCE_HEADER:
+                        header = sequence.read_header(payload)._replace(colour=colour)
+                        payload, known = sequence.spell_header(header), header.known_colour()
+                    pieces.append((unit.code, payload))
+                told = support.run(words, support.stream_of(pieces)).out.decode().strip()
+                self.assertIn(told, (formats.FFMPEG_COLOURS[known][0], "bt470bg" if known == 1 else ""), (base, colour))
+
     def test_fields_come_twice_as_often(self):
         header = sequence.read_header(writer.sequence_header(8, signal=2, mode=1))
         self.assertEqual((header.pictures_a_second(), header.picture_height()), (50, 288))
@@ -84,12 +110,12 @@ def header(text):
 class Y4m(unittest.TestCase):
     def test_what_a_line_says(self):
         video = header("YUV4MPEG2 W720 H576 F25:1 It A16:15 C422 XYSCSS=422 XCOLORRANGE=FULL")
-        expected = (720, 576, 1, 25, Fraction(16, 15), formats.FULL_RANGE, formats.TOP_FIRST)
+        expected = (720, 576, 1, 25, Fraction(16, 15), formats.FULL_RANGE, formats.TOP_FIRST, None)
         self.assertEqual(tuple(video), expected)
 
     def test_what_a_line_leaves_out(self):
         video = header("YUV4MPEG2 W16 H8")
-        self.assertEqual(tuple(video), (16, 8, 2, None, 1, formats.LIMITED_RANGE, formats.PROGRESSIVE))
+        self.assertEqual(tuple(video), (16, 8, 2, None, 1, formats.LIMITED_RANGE, formats.PROGRESSIVE, None))
         self.assertIsNone(header("YUV4MPEG2 W16 H8 F0:0 A0:0").rate)
 
     def test_refused_lines(self):

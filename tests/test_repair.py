@@ -16,7 +16,10 @@ def places_of(stream, code):
 
 
 class Damage(InFolder):
-    """Twelve pictures in groups of four; the second reference of a group is its fourth picture."""
+    """Twelve pictures in groups of four; the second reference of a group is its fourth picture.
+
+    What is repaired is shown by ffmpeg too, where it is there.
+    """
 
     def setUp(self):
         super().setUp()
@@ -30,7 +33,10 @@ class Damage(InFolder):
 
     def assert_shows(self, data, numbers, *said, words=()):
         out, err = self.repaired(data, *words)
-        self.assertEqual(shown(out), [self.pictures[number] for number in numbers])
+        expected = [self.pictures[number] for number in numbers]
+        self.assertEqual(shown(out), expected)
+        if support.has("ffmpeg"):
+            self.assertEqual(support.shown_by_ffmpeg(out)[0], b"".join(expected))
         for text in said:
             self.assertIn(text, err)
 

@@ -1,8 +1,12 @@
 """The scripts of tools, examples, bench and conformance."""
 import ast
+import os
 import pathlib
+import pty
 import re
+import shutil
 import struct
+import subprocess
 import sys
 import unittest
 import zlib
@@ -101,6 +105,17 @@ class Documents(unittest.TestCase):
         found = [one for block in check_documents.blocks(text) for one in check_documents.commands(block)]
         expected = [("one < a \\\n    | two", ["line"]), ("three", []), ("python3 x.py", None), ("./run y", None)]
         self.assertEqual(found, expected)
+
+    def test_files_of_an_earlier_run(self):
+        rows = [("ffmpeg -v error -i x.mkv x.yuv", "x.yuv"), ("ffmpeg -i x.mkv -f dirac - | cmp - x.drc", None)]
+        for command, name in [*rows, ("./run list < x.drc", None), ("ffmpeg -i x.mkv -f rawvideo -", None)]:
+            self.assertEqual(check_documents.asked_about(command), name, command)
+
+    def test_commands_that_are_left_out(self):
+        rows = [("./run list < x.drc", 0, 0), ("./dirac play x.drc", 1, 1), ("ffplay x.mkv", 1, 1)]
+        for command, without, with_library in [*rows, ("python3 capi/check.py", 1, 0)]:
+            found = [check_documents.is_left_out(command, has_library) for has_library in (False, True)]
+            self.assertEqual(found, [bool(without), bool(with_library)], command)
 
     def test_times_of_a_container(self):
         even = [n / 25 for n in range(10)]
@@ -250,8 +265,58 @@ class Reference(unittest.TestCase):
         self.assertIn("fault unit=2 at=105 cause=Vlc", done.err)
 
 
-class Wrapper(unittest.TestCase):
-    """./run, as far as it needs no program."""
+class Wrapper(InFolder):
+    """./run, with a program that only pretends to be one."""
+
+    def setUp(self):
+        super().setUp()
+        out = self.folder / "crates" / "dirac_tool" / "out"
+        out.mkdir(parents=True)
+        self.write("crates.txt", b"dirac_tool:\n")
+        shutil.copy(TOP / "run", self.folder)
+        program = out / "dirac_tool"
+        program.write_text("#!/bin/sh\necho $*\ncat\n")
+        program.chmod(0o755)
+
+    def run_on(self, data, *words, path=None):
+        """What comes out of ./run on a file that holds these bytes, and what it says."""
+        with open(self.folder / self.write("in", data), "rb") as file:
+            words = ["bash", str(path or self.folder / "run"), *words]
+            done = subprocess.run(words, stdin=file, capture_output=True, timeout=support.LONGEST_RUN)
+        self.assertEqual(done.returncode, 0, done.stderr)
+        return done.stdout, done.stderr.decode()
+
+    def test_runs_the_program(self):
+        self.assertEqual(self.run_on(b"BBCD", "decode"), (b"decode\nBBCD", ""))
+        self.assertEqual(self.run_on(b"any bytes", "encode", "--width=8"), (b"encode --width=8\nany bytes", ""))
+        self.assertEqual(self.run_on(b"", "list"), (b"list\n", ""))
+        (self.folder / "link").symlink_to("run")
+        self.assertEqual(self.run_on(b"BBCD", "list", path=self.folder / "link"), (b"list\nBBCD", ""))
+
+    def test_hints(self):
+        rows = [
+            (b"", ["decode", "clip.drc"], "./run decode < clip.drc"),
+            (b"YUV4MPEG2 W8 H8\n", ["encode", "--width=8"], "./dirac encode takes it"),
+            (b"YUV4MPEG2 W8 H8\n", ["rate"], "is y4m"),
+            (b"BBCD\0", ["encode"], "is a Dirac stream"),
+            (b"\x1a\x45\xdf\xa3 Matroska", ["decode"], "./dirac opens containers"),
+            (b"RIFF", ["cut", "--from=1"], "./dirac opens containers"),
+        ]
+        for data, words, text in rows:
+            out, err = self.run_on(data, *words)
+            self.assertEqual(out, " ".join(words).encode() + b"\n" + data, words)
+            self.assertTrue(err.startswith("run: ") and err.count("\n") == 1, err)
+            self.assertIn(text, err)
+
+    def test_a_terminal(self):
+        leader, follower = pty.openpty()
+        words = ["bash", str(self.folder / "run"), "list"]
+        with subprocess.Popen(words, stdin=follower, stdout=subprocess.PIPE, stderr=subprocess.PIPE) as command:
+            os.close(follower)
+            self.assertIn(b"waiting for bytes", command.stderr.readline())
+            os.write(leader, b"\x04")
+            self.assertEqual(command.stdout.readline(), b"list\n")
+        os.close(leader)
 
     def test_help(self):
         for word in ("help", "-h", "--help"):

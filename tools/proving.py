@@ -23,8 +23,8 @@ BY_RT_CI = {
     prove_kept.NO_STEPS: "this rt has no steps that can be kept, so a plain rt ci proves all from nothing",
     prove_kept.KEEPS_ITSELF: "rt ci proves them, and keeps each that is proved",
 }
-# Seconds between two lines, at most.
-PERIOD = 25
+# Seconds between two lines, at most, and between two looks at what is in hand.
+PERIOD, LOOKS = 25, 5
 LEFT_OUT = shutil.ignore_patterns("out", "must-fail", "more-edits")
 SET_DEATH_SIGNAL = 1
 KEEPING = pathlib.Path(__file__).resolve().with_name("prove_kept.py")
@@ -79,19 +79,34 @@ class Proving:
         self.folder = cache_folder(top, what)
         self.begin, self.told = time.monotonic(), 0.0
         self.costs, self.proved, self.took, self.command = {}, [], [], None
-        self.places, self.failures = 1, []
+        self.begun, self.failures = {}, []
+        # the most crates that were in hand at once, and whether others could have been then
+        self.places, self.is_full = 1, False
 
     def tell(self, text):
         self.told = time.monotonic()
         print(f"{self.who}: {text} ({clock(self.told - self.begin)})", file=sys.stderr, flush=True)
 
     def in_hand(self):
-        """The steps in hand and for how many seconds, the longest first."""
-        return [(step, process.age) for step, process in process_table.steps_below(self.command.pid)]
+        """The steps in hand and for how many seconds, the longest first; when each crate was begun is kept."""
+        now = time.monotonic()
+        steps = [(step, process.age) for step, process in process_table.steps_below(self.command.pid)]
+        for step, age in steps:
+            if step.step == "proof":
+                self.begun[step.crate] = min(now - age, self.begun.get(step.crate, now))
+        crates = {step.crate for step, _ in steps if step.step not in ("edits", "layout")}
+        self.places = max(self.places, len({(step.crate, step.step == "edits") for step, _ in steps}))
+        self.is_full = self.is_full or bool(crates) and len(crates) < len(self.ready())
+        return steps
 
     def costs_left(self):
         """What isn't done, with what it costs by its lines."""
         return {name: self.costs[name] for name in self.names if name not in self.proved}
+
+    def ready(self):
+        """The crates that aren't proved and wait for no other."""
+        left = self.costs_left()
+        return [name for name in self.names if name in left and not any(below in left for below in self.waits[name])]
 
     def done(self):
         return f"{len(self.proved)} of {plural(len(self.names), 'crate')} proved"
@@ -102,13 +117,13 @@ class Proving:
         for step, age in steps:
             task = f"{step.crate} {step.step}" if step.step == "edits" else step.crate
             begun[task] = max(age, begun.get(task, 0))
-        self.places = max(self.places, len(begun))
         costs, pace = self.costs_left(), time_left.pace(self.took)
         # what takes longer than by the pace of the others says of the pace, too
         long = [(costs[task], age) for task, age in begun.items() if task in costs and age > pace * costs[task]]
         pace = time_left.pace(self.took + long)
         left = {task: pace * cost for task, cost in costs.items()}
-        return time_left.in_words(time_left.seconds_left(left, self.waits, begun, self.places))
+        places = self.places if self.is_full else max(self.places, len(os.sched_getaffinity(0)))
+        return time_left.in_words(time_left.seconds_left(left, self.waits, begun, places))
 
     def tell_progress(self):
         steps = self.in_hand()
@@ -128,6 +143,9 @@ class Proving:
         block.append(line)
         if end == "proved" and name in self.names:
             seconds = [int(one.split()[1]) for one in block if one.startswith("took ")]
+            if not seconds and name in self.begun:
+                # rt ci says no times
+                seconds = [time.monotonic() - self.begun[name]]
             self.took += [(self.costs[name], one) for one in seconds]
             self.proved.append(name)
             self.tell(f"{self.done()}: {name}")
@@ -149,10 +167,14 @@ class Proving:
                                             preexec_fn=die_with_parent, **how)
             threading.Thread(target=self.read_lines, args=(lines,), daemon=True).start()
             while True:
+                left = self.told + PERIOD - time.monotonic()
                 try:
-                    line = lines.get(timeout=max(0.1, self.told + PERIOD - time.monotonic()))
+                    line = lines.get(timeout=max(0.1, min(left, LOOKS)))
                 except queue.Empty:
-                    self.tell_progress()
+                    if left <= LOOKS:
+                        self.tell_progress()
+                    else:
+                        self.in_hand()
                     continue
                 if line is None:
                     self.command.stdout.close()

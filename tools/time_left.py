@@ -5,8 +5,8 @@ import re
 # What a crate costs beside its lines, in lines: what it stands on is loaded first.
 LOADING = 200
 # Seconds of the clock for a line, until crates were proved on this machine; it weighs like so many lines of them.
-FIRST_PACE = 0.06
-FIRST_WEIGHT = 1000
+FIRST_PACE = 0.14
+FIRST_WEIGHT = 5000
 # What takes longer than by the guess is taken to need so much of its time once more.
 OVERDUE = 0.25
 

@@ -1,13 +1,19 @@
 """Clips: raw pictures and what is known of them, from y4m, raw files, Dirac streams, and all that ffmpeg opens."""
 import json
+import re
 import subprocess
 from fractions import Fraction
 
 from . import y4m
 from .decoding import Decoding, of_one_kind
-from .formats import CHROMA_FORMATS, Video, check_size, read_chroma, read_rate, read_size, rounded_rate
+from .formats import CHROMA_FORMATS, HDTV, SDTV_525, SDTV_625, Video
+from .formats import check_size, read_chroma, read_rate, read_size, rounded_rate
 from .refusal import Refusal
-from .sources import Source, Stream, read_through_ffmpeg, wanted
+from .sources import Source, Stream, read_through_ffmpeg, tell, wanted
+
+
+# the colour specification by what ffprobe calls the matrix
+KNOWN_MATRICES = {"bt709": HDTV, "bt470bg": SDTV_625, "smpte170m": SDTV_525}
 
 
 class Clip:
@@ -46,22 +52,36 @@ def _y4m_clip(name, file, size=None, count=None):
     return Clip(name, video, y4m.read_pictures(file, video.picture_length()), count)
 
 
-def _picture_count(path):
-    """How many pictures ffprobe says that a file has, or None."""
+def _probed(path):
+    """What ffprobe says of a file's first video and of the file; nothing where it says nothing."""
     words = ["-v", "error", "-select_streams", "v:0", "-of", "json", "-show_entries"]
-    words += ["stream=nb_frames,avg_frame_rate,duration:format=duration", f"file:{path}"]
+    words += ["stream=nb_frames,avg_frame_rate,duration,color_space,pix_fmt:format=duration", f"file:{path}"]
     try:
         done = subprocess.run(
             [wanted("ffprobe", "to count pictures"), *words], capture_output=True, stdin=subprocess.DEVNULL
         )
         told = json.loads(done.stdout)
-        stream = told["streams"][0]
+        return told["streams"][0], told["format"]
+    except (Refusal, OSError, ValueError, KeyError, IndexError):
+        return {}, {}
+
+
+def _picture_count(stream, file):
+    """How many pictures a file has by what ffprobe says, or None."""
+    try:
         if stream.get("nb_frames", "").isdigit():
             return int(stream["nb_frames"])
-        duration = stream.get("duration") or told["format"]["duration"]
+        duration = stream.get("duration") or file["duration"]
         return round(Fraction(duration) * Fraction(stream["avg_frame_rate"]))
-    except (Refusal, OSError, ValueError, KeyError, IndexError, ZeroDivisionError):
+    except (ValueError, KeyError, ZeroDivisionError):
         return None
+
+
+def _colour(stream):
+    """The colour specification by what ffprobe says, or None; of red, green and blue ffmpeg makes BT.601."""
+    if re.match("rgb|bgr|gbr|argb|abgr|0rgb|0bgr|x2rgb|x2bgr|pal8|mono", stream.get("pix_fmt", "")):
+        return SDTV_625
+    return KNOWN_MATRICES.get(stream.get("color_space"))
 
 
 def _filters(words):
@@ -72,8 +92,14 @@ def _filters(words):
 
 def _ffmpeg_clip(source, words):
     given = ["-map", "0:v:0", "-vf", _filters(words), "-f", "yuv4mpegpipe", "-"]
-    count = None if source.path == "-" or words.filter else _picture_count(source.path)
-    return _y4m_clip(source.name, read_through_ffmpeg(source, given), count=count)
+    told = ({}, {}) if source.path == "-" else _probed(source.path)
+    count = None if words.filter else _picture_count(*told)
+    clip = _y4m_clip(source.name, read_through_ffmpeg(source, given), count=count)
+    clip.video = clip.video._replace(colour=_colour(told[0]))
+    space = told[0].get("color_space", "unknown")
+    if clip.video.colour is None and space != "unknown":
+        tell(f"{source.name} has colours of {space}, which no stream can say: they are taken as if it said none")
+    return clip
 
 
 def _decoded_clip(stream):

@@ -1,10 +1,10 @@
-"""`dirac cut` and `dirac join`: parts of streams and streams of parts, without recoding."""
+"""`dirac cut`, `dirac join` and `dirac wrap`: parts of streams, streams of parts, Matroska; without recoding."""
 import argparse
 import io
 import re
 
 from .info import Survey
-from .outputs import Output, check_apart, check_stream_name
+from .outputs import MATROSKA, check_apart, check_stream_name, stream_output
 from .processes import pieces
 from .program import refusal, start
 from .refusal import Refusal
@@ -20,6 +20,14 @@ JOIN = """examples:
   dirac join one.drc two.drc -o both.drc
 
 Sequences with equal headers become one; others stand behind one another, as they were.
+"""
+
+WRAP = """examples:
+  dirac wrap clip.drc -o clip.mkv
+  mkvmerge -o both.mkv clip.mkv sound.flac      with sound beside it
+
+Each picture gets the time at which it is shown; other players find none in a bare stream. The stream stays as it is,
+byte for byte. Wants mkvmerge (Debian: apt-get install mkvtoolnix). All commands that write a stream take such a name.
 """
 
 
@@ -39,6 +47,11 @@ def add_to(commands):
     join.add_argument("streams", metavar="X.drc", nargs="+", help="streams or containers with one, in order")
     join.add_argument("-o", metavar="Y.drc", required=True, help="the stream to write; - is standard output")
     join.set_defaults(run=run_join)
+    text = "put a stream into Matroska, where other players find its times"
+    wrap = commands.add_parser("wrap", help=text, description="Wraps a stream.", epilog=WRAP, formatter_class=form)
+    wrap.add_argument("stream", metavar="X.drc", help="a stream or a container with one; - is standard input")
+    wrap.add_argument("-o", metavar="X.mkv", required=True, help="the Matroska file to write")
+    wrap.set_defaults(run=run_wrap)
 
 
 def times_of(survey):
@@ -69,7 +82,7 @@ def point_of(text, data, name):
 def run_program(words, fed, name, path):
     """Runs the program and keeps what it writes where it is done."""
     pipe = start(words, fed)
-    with Output(path) as output:
+    with stream_output(path) as output:
         for piece in pieces(pipe):
             output.write(piece)
         problem = refusal(name, *pipe.finish())
@@ -99,3 +112,16 @@ def run_join(words):
     streams = [open_stream(path) for path in words.streams]
     fed = (piece for stream in streams for piece in pieces(stream))
     return run_program(["join"], fed, " and ".join(stream.name for stream in streams), words.o)
+
+
+def run_wrap(words):
+    if not words.o.lower().endswith(MATROSKA):
+        raise Refusal(f"wrap: {words.o} isn't named as Matroska is: give -o a name that ends in {MATROSKA}", 2)
+    check_stream_name(words.o)
+    check_apart(words.o, [words.stream])
+    stream = open_stream(words.stream)
+    with stream_output(words.o) as output:
+        for piece in pieces(stream):
+            output.write(piece)
+        output.keep()
+    return 0

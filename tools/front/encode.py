@@ -7,8 +7,8 @@ import threading
 from . import psnr
 from .clips import open_clip, with_rate
 from .formats import BASE_FORMATS, BOTTOM_FIRST, FULL_RANGE, LIMITED_RANGE, PROGRESSIVE, RATES, TOP_FIRST
-from .formats import rate_index
-from .outputs import Output, check_apart, check_stream_name
+from .formats import MATRICES, rate_index, usual_colour, with_matrix
+from .outputs import check_apart, check_stream_name, stream_output
 from .plain import decoder, encoder
 from .program import refusal, start, workers
 from .progress import Progress, size_text, time_text
@@ -20,15 +20,18 @@ from .units import PICTURES, SEQUENCE_HEADER, UnitWriter, read_units
 EPILOG = """examples:
   dirac encode clip.y4m -o clip.drc
   dirac encode clip.mkv -o clip.drc --index 20              anything that ffmpeg opens, where it is there
+  dirac encode clip.mp4 -o clip.mkv                         in Matroska, for other players (wants mkvmerge)
   dirac encode clip.mp4 -o clip.drc --filter scale=640:360 --psnr
   dirac encode clip.yuv -o clip.drc --raw 720x576 --chroma 4:2:2 --rate 25
   ffmpeg -v error -i clip.mp4 -f yuv4mpegpipe - | dirac encode - -o - > clip.drc
 
 Size, chroma format, range, rate, pixel aspect and the order of fields are those of the clip. A rate that the standard's
 table doesn't have is refused: say --rate with one of the table, have ffmpeg convert the clip (--filter fps=25), or say
---own-rate, which writes the clip's rate as two numbers. What `encode` of the proved program has no setting for (pixel
-aspect, interlacing, a rate of its own) is written into the sequence headers afterwards, all alike: those values change
-no sample, and every other unit stays byte for byte. Interlaced clips are coded as frames; --fields codes their fields.
+--own-rate, which writes the clip's rate as two numbers. The matrix of the colours is the clip's; where it says none,
+BT.709 above 576 rows or 1279 columns, and else BT.601, which is what players take. What `encode` of the proved program
+has no setting for (pixel aspect, colours, interlacing, a rate of its own) is written into the sequence headers
+afterwards, all alike: those values change no sample, and every other unit stays byte for byte. Interlaced clips are
+coded as frames; --fields codes their fields.
 docs/ENCODER.md says what the settings mean. --index is the one that matters: 0 loses nothing, 12 is the default, 30 is
 small and coarse.
 """
@@ -52,12 +55,14 @@ def add_to(commands):
         formatter_class=argparse.RawDescriptionHelpFormatter,
     )
     parser.add_argument("clip", metavar="CLIP", help="y4m, or any clip where ffmpeg is there; - is standard input")
-    parser.add_argument("-o", metavar="X.drc", required=True, help="the stream to write; - is standard output")
+    text = "the stream to write, or Matroska, as X.mkv; - is standard output"
+    parser.add_argument("-o", metavar="X.drc", required=True, help=text)
     parser.add_argument("--psnr", action="store_true", help="tell in the end how near the pictures are, plane by plane")
     parser.add_argument("--frames", metavar="N", type=int, help="only so many pictures from the beginning on")
     parser.add_argument("--rate", metavar="R", help="frames a second, as 25 or 30000/1001, in place of the clip's")
     parser.add_argument("--own-rate", action="store_true", help="write a rate that the table doesn't have")
     parser.add_argument("--signal", choices=SIGNALS, help="the range of the samples, in place of the clip's")
+    parser.add_argument("--matrix", choices=MATRICES, help="the matrix of the colours, in place of the clip's")
     parser.add_argument("--chroma", metavar="F", help="4:2:0, 4:2:2 or 4:4:4; another one than the clip's wants ffmpeg")
     parser.add_argument(
         "--filter", metavar="F", help="filters of ffmpeg, such as scale=640:360, fps=25 or crop=640:480"
@@ -121,7 +126,9 @@ def check_order(video, base):
 
 def header_for(header, video):
     """The header with what the program has no setting for."""
-    return header._replace(rate=video.rate, aspect=video.aspect, is_interlaced=video.scan != PROGRESSIVE)
+    header = header._replace(rate=video.rate, aspect=video.aspect, is_interlaced=video.scan != PROGRESSIVE)
+    colour = usual_colour(video) if video.colour is None else video.colour
+    return header if header.known_colour() == colour else header._replace(colour=colour)
 
 
 # The run
@@ -208,13 +215,13 @@ def run(words):
     clip = with_rate(open_clip(words.clip, words), words.rate)
     if words.signal:
         clip.video = clip.video._replace(signal=SIGNALS[words.signal])
-    video = clip.video
+    clip.video = video = with_matrix(clip.video, words.matrix)
     given = settings_of(video, words)
     coded = video._replace(height=video.height // 2) if words.fields else video
     compared = Compared(coded) if words.psnr else None
     total = clip.count if words.frames is None else min(words.frames, clip.count or words.frames)
     progress = Progress(2 * total if total and words.fields else total)
-    with Output(words.o) as output:
+    with stream_output(words.o) as output:
         fed = fed_pictures(clip, words, compared)
         if compared is None:
             pipe = start(given, fed)

@@ -37,6 +37,20 @@ FULL_RANGE, LIMITED_RANGE = decoder.SIGNAL_RANGES[1], decoder.SIGNAL_RANGES[2]
 PROGRESSIVE, TOP_FIRST, BOTTOM_FIRST = "progressive", "top field first", "bottom field first"
 
 
+# colour specifications by index; what 0 leaves open is taken as HDTV
+HDTV, DIGITAL_CINEMA = 3, 4
+COLOURS = ["", "SDTV of 525 lines (BT.601)", "SDTV of 625 lines (BT.601)", "HDTV (BT.709)", "digital cinema (BT.709)"]
+# by the words of --matrix
+SDTV_525, SDTV_625 = 1, 2
+MATRICES = {"601": (SDTV_525, SDTV_625), "709": (HDTV, DIGITAL_CINEMA)}
+# what ffmpeg names matrix, primaries and transfer
+FFMPEG_COLOURS = {SDTV_525: ("smpte170m",) * 3, SDTV_625: ("bt470bg", "bt470bg", "bt709")}
+FFMPEG_COLOURS.update(dict.fromkeys((HDTV, DIGITAL_CINEMA), ("bt709",) * 3))
+# pictures with more rows or columns than these have the matrix of HDTV where nobody says which
+MOST_SDTV_ROWS, MOST_SDTV_COLUMNS = 576, 1279
+ROWS_OF_525 = (120, 240, 480, 486)
+
+
 class BaseFormat(NamedTuple):
     """What a base video format gives beside size, chroma format and signal range.
 
@@ -48,26 +62,28 @@ class BaseFormat(NamedTuple):
     aspect: int
     clean: tuple
     is_top_first: bool
+    colour: int
 
 
 def _base_formats():
-    bases = [(0, 1, 1, 0), (0, 9, 2, 0), (0, 10, 3, 1), (0, 9, 2, 0), (0, 10, 3, 1), (0, 9, 2, 0), (0, 10, 3, 1)]
-    bases += [(1, 4, 2, 0), (1, 3, 3, 1), (0, 7, 1, 1), (0, 6, 1, 1), (1, 4, 1, 1), (1, 3, 1, 1), (0, 7, 1, 1)]
-    bases += [(0, 6, 1, 1), (0, 2, 1, 1), (0, 2, 1, 1)]
-    for (is_interlaced, rate, aspect, is_top_first), size in zip(bases, decoder.BASE_FORMATS):
+    small = [(0, 9, 2, 0, SDTV_525), (0, 10, 3, 1, SDTV_625)]
+    bases = [(0, 1, 1, 0, HDTV), *small, *small, *small, (1, 4, 2, 0, SDTV_525), (1, 3, 3, 1, SDTV_625)]
+    bases += [(0, 7, 1, 1, HDTV), (0, 6, 1, 1, HDTV), (1, 4, 1, 1, HDTV), (1, 3, 1, 1, HDTV), (0, 7, 1, 1, HDTV)]
+    bases += [(0, 6, 1, 1, HDTV), (0, 2, 1, 1, DIGITAL_CINEMA), (0, 2, 1, 1, DIGITAL_CINEMA)]
+    for (is_interlaced, rate, aspect, is_top_first, colour), size in zip(bases, decoder.BASE_FORMATS):
         clean = (size.width, size.height, 0, 0)
         if is_interlaced and size.width == 720:
             clean = (704, size.height, 8, 0)
-        yield BaseFormat(bool(is_interlaced), rate, aspect, clean, bool(is_top_first))
+        yield BaseFormat(bool(is_interlaced), rate, aspect, clean, bool(is_top_first), colour)
 
 
 BASE_FORMATS = list(_base_formats())
 
 
 class Video(NamedTuple):
-    """What is known of pictures beside their samples; `rate` is frames a second.
+    """What is known of pictures beside their samples; `rate` is frames a second, `colour` an index of COLOURS.
 
-    Rate, aspect and signal range are None where nobody says them.
+    Rate, aspect, signal range and colour are None where nobody says them.
     """
 
     width: int
@@ -77,6 +93,7 @@ class Video(NamedTuple):
     aspect: Fraction = Fraction(1)
     signal: tuple = LIMITED_RANGE
     scan: str = PROGRESSIVE
+    colour: int = None
 
     def picture_length(self):
         """Bytes of a raw picture."""
@@ -104,6 +121,34 @@ def check_size(width, height, chroma):
         )
     if not (1 <= width <= 4096 and 1 <= height <= 2304):
         raise Refusal(f"{width} by {height}: a stream has pictures of 1 by 1 to 4096 by 2304")
+
+
+def usual_colour(video):
+    """The colour specification of pictures of which nobody says it: by their size, as players take it."""
+    if video.height > MOST_SDTV_ROWS or video.width > MOST_SDTV_COLUMNS:
+        return HDTV
+    return SDTV_525 if video.height in ROWS_OF_525 else SDTV_625
+
+
+def matrix_of(video):
+    """The matrix as a word of MATRICES; None where nobody says it."""
+    return next((name for name, colours in MATRICES.items() if video.colour in colours), None)
+
+
+def colour_filter(video):
+    """The words by which ffmpeg and ffplay know the colours of y4m, which can't say them."""
+    if video.colour not in FFMPEG_COLOURS:
+        return []
+    return ["-vf", "setparams=colorspace={}:color_primaries={}:color_trc={}".format(*FFMPEG_COLOURS[video.colour])]
+
+
+def with_matrix(video, matrix):
+    """The video, with the matrix that a word says; None leaves it as it is."""
+    if matrix is None or video.colour in MATRICES[matrix]:
+        return video
+    if matrix == "709":
+        return video._replace(colour=HDTV)
+    return video._replace(colour=SDTV_525 if video.height in ROWS_OF_525 else SDTV_625)
 
 
 def rate_text(rate):

@@ -2,15 +2,17 @@
 import argparse
 import json
 
-from .formats import CHROMA_FORMATS, FULL_RANGE, LIMITED_RANGE, rate_text
+from .formats import CHROMA_FORMATS, COLOURS, FULL_RANGE, LIMITED_RANGE, rate_text
 from .plain import decoder
 from .sequence import read_header
 from .program import FAULT, explained
-from .sources import open_stream
+from .refusal import Refusal
+from .sources import open_stream, tell
 from .units import END_OF_SEQUENCE, PICTURES, SEQUENCE_HEADER, read_units
 
 EPILOG = """examples:
   dirac info moving.drc
+  dirac info archive/*.drc            one after another; a file that can't be opened is told, and passed over
   dirac info moving.mkv --json
   dirac info moving.drc --points      every point, where `dirac cut` can begin and end
 
@@ -28,7 +30,9 @@ def add_to(commands):
         epilog=EPILOG,
         formatter_class=argparse.RawDescriptionHelpFormatter,
     )
-    parser.add_argument("stream", metavar="FILE", help="a stream or a container with one; - is standard input")
+    parser.add_argument(
+        "streams", metavar="FILE", nargs="+", help="a stream or a container with one, or more; - is standard input"
+    )
     parser.add_argument("--points", action="store_true", help="list every point, not the first ones alone")
     parser.add_argument("--json", action="store_true", help="for other programs")
     parser.set_defaults(run=run)
@@ -140,6 +144,7 @@ def lines_of(told, is_whole):
     yield "pixels", ratio_text(header.aspect) + ("" if header.aspect == 1 else f", shown {shown} wide")
     yield "rate", f"{rate_text(header.rate)} frames a second"
     yield "range", range_text(header.signal)
+    yield "colours", COLOURS[header.known_colour()] if header.known_colour() else "of a kind of their own"
     coded = "pictures are fields, two a frame" if header.has_fields else "pictures are frames"
     yield "scan", f"{header.scan()}; {coded}"
     if header.clean != (header.width, header.height, 0, 0):
@@ -168,21 +173,44 @@ def as_dictionary(told):
     values = header._asdict()
     values.update(rate=str(header.rate), aspect=str(header.aspect), scan=header.scan())
     values["chroma"] = CHROMA_FORMATS[header.chroma].name
+    values["colour"] = header.known_colour()
     values.update(pictures=told.pictures(), seconds=told.seconds(), bytes=told.bytes)
     values["points"] = [vars(point) for point in told.points]
     return values
 
 
-def run(words):
-    stream = open_stream(words.stream)
-    survey = Survey(stream)
+def fault_line(survey):
+    """The program's line for the first fault of the row of units, or None."""
     fault = survey.fault
-    line = None if fault is None else f"fault unit={fault.unit} at={fault.place} cause={fault.cause}"
-    if words.json:
-        told = {"name": stream.name, "container": stream.container, "bytes": survey.bytes, "fault": line}
-        print(json.dumps(told | {"sequences": [as_dictionary(each) for each in survey.sequences]}, indent=1))
-    else:
+    return None if fault is None else f"fault unit={fault.unit} at={fault.place} cause={fault.cause}"
+
+
+def all_as_dictionary(stream, survey):
+    told = {"name": stream.name, "container": stream.container, "bytes": survey.bytes, "fault": fault_line(survey)}
+    told["sequences"] = [as_dictionary(each) for each in survey.sequences]
+    return told
+
+
+def run(words):
+    status, dictionaries = 0, []
+    for path in words.streams:
+        try:
+            stream = open_stream(path)
+            survey = Survey(stream)
+        except Refusal as problem:
+            if len(words.streams) == 1:
+                raise
+            tell(problem.text)
+            status = status or problem.status
+            continue
+        line = fault_line(survey)
+        status = status or (FAULT if line else 0)
+        if words.json:
+            dictionaries.append(all_as_dictionary(stream, survey))
+            continue
         print_text(stream, survey, words.points)
         if line:
             print(f"  {'fault':<11}{explained(line)}")
-    return FAULT if line else 0
+    if words.json:
+        print(json.dumps(dictionaries[0] if len(words.streams) == 1 else dictionaries, indent=1))
+    return status

@@ -3,9 +3,12 @@ import os
 import stat
 import sys
 
+from . import matroska
 from .refusal import Refusal
+from .sources import wanted
 
-CONTAINER_ENDINGS = (".mkv", ".webm", ".mp4", ".mov", ".avi", ".ts", ".ogg", ".ogv", ".nut", ".y4m")
+MATROSKA = ".mkv"
+CONTAINER_ENDINGS = (".webm", ".mp4", ".mov", ".avi", ".ts", ".ogg", ".ogv", ".nut", ".y4m")
 
 
 def check_apart(target, sources):
@@ -17,13 +20,15 @@ def check_apart(target, sources):
 
 
 def check_stream_name(path):
-    """Refuses a name that promises a container."""
+    """Refuses a name that promises a container that isn't written."""
     if path.lower().endswith(CONTAINER_ENDINGS):
         raise Refusal(
-            f"{path}: what is written is a stream, a .drc file; `mkvmerge -o X.mkv X.drc` puts it into a container,"
-            " and docs/FORMAT.md has other ways under Interoperation",
+            f"{path}: what is written is a stream, a .drc file, or Matroska, an .mkv file; docs/PLAYERS.md has other"
+            " ways under Into a container",
             2,
         )
+    if path.lower().endswith(MATROSKA):
+        wanted("mkvmerge", f"to write {path}", "mkvtoolnix")
 
 
 class Output:
@@ -78,3 +83,25 @@ class Output:
                 pass
         if self.part:
             os.unlink(self.part)
+
+
+class MatroskaOutput(Output):
+    """A Matroska file with the stream that is written here, in which each picture has its time."""
+
+    def __init__(self, path):
+        super().__init__(f"{path}.drc")
+        self.target = path
+
+    def keep(self):
+        try:
+            self.file.close()
+        except OSError as error:
+            raise Refusal(f"{self.path}: {error.strerror}") from None
+        matroska.wrap(self.part, self.target)
+        os.unlink(self.part)
+        self.part = None
+
+
+def stream_output(path):
+    """Where a stream goes."""
+    return MatroskaOutput(path) if path.lower().endswith(MATROSKA) else Output(path)

@@ -2,9 +2,11 @@
 import struct
 import zlib
 
-from .formats import FULL_RANGE
+from .formats import DIGITAL_CINEMA, FULL_RANGE, HDTV
 
 GAP = 4
+# red of V, green of U and of V, blue of U
+BT_601, BT_709 = (1.402, 0.344136, 0.714136, 1.772), (1.5748, 0.187324, 0.468124, 1.8556)
 
 
 def clip(value):
@@ -25,14 +27,15 @@ def rgb_rows(raw, video):
     across, down = width // chroma_width, height // chroma_height
     luma, blues, reds = video.planes(raw)
     lights, colours = _tables(video.signal)
+    to_red, blue_from_green, red_from_green, to_blue = BT_709 if video.colour in (HDTV, DIGITAL_CINEMA) else BT_601
     for y in range(height):
         row = bytearray()
         for x in range(width):
             light = lights[luma[y * width + x]]
             place = y // down * chroma_width + x // across
             blue, red = colours[blues[place]], colours[reds[place]]
-            green = light - 0.344136 * blue - 0.714136 * red
-            row += bytes((clip(light + 1.402 * red), clip(green), clip(light + 1.772 * blue)))
+            green = light - blue_from_green * blue - red_from_green * red
+            row += bytes((clip(light + to_red * red), clip(green), clip(light + to_blue * blue)))
         yield bytes(row)
 
 

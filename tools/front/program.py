@@ -15,7 +15,7 @@ FAULT = 4
 MOST_WORKERS = 64
 
 NOT_OF_PROFILE = "LowDelay Vlc Version Preset ChromaFormat Sampling RateIndex AspectIndex SignalRange Depth8 Fields"
-NOT_OF_PROFILE += " GlobalMotion PredictionMode BlockPreset Size"
+NOT_OF_PROFILE += " GlobalMotion PredictionMode BlockPreset"
 FAULTS = {
     "MissingEnd": "the end unit is missing, behind all pictures; `dirac repair` writes one",
     "Truncated": "the file ends within a unit; what stands before it was taken",
@@ -24,6 +24,8 @@ FAULTS = {
     "MissingReference": "a picture refers to one that isn't there; `dirac repair` leaves it out",
     "OffsetMissing": "a unit doesn't say where the next one is; `dirac repair` fills that in",
     "SequenceChanged": "another header without an end unit before it; `dirac repair` puts one there",
+    "Size": "a size above 4096 by 2304, or one that the chroma format doesn't divide, as 853 by 480 in 4:2:0, isn't of"
+    " the profile that this codec reads",
     "UnknownCode": "a unit of a kind that no decoder of this profile takes (VC-2 high quality, E8, is one)",
 }
 ANSWERS = [
@@ -48,8 +50,8 @@ def place():
         if named:
             raise Refusal(f"{VARIABLE}={named} names no program that can be run")
         raise Refusal(
-            "the proved program isn't built yet: `./run list < examples/moving.drc` builds it, or the variable"
-            f" {VARIABLE} names it; with --plain decode and play do without it, slowly"
+            "the proved program isn't built yet: `./run list < examples/moving.drc` builds it, in 40 minutes or so, or"
+            f" the variable {VARIABLE} names it; with --plain decode and play do without it, slowly"
         )
     return path
 
@@ -80,9 +82,10 @@ def explained(line):
     fault = re.search(r"fault unit=(\d+) at=(\d+) cause=(\w+)", line)
     if fault:
         unit, at, cause = fault.groups()
-        meaning = FAULTS.get(cause, "a field of the unit isn't what it can be; `dirac repair` can leave the unit out")
+        meaning = "a field of the unit isn't what it can be; `dirac repair --decode` leaves the unit out"
         if cause in NOT_OF_PROFILE.split():
-            meaning = "the stream isn't of the profile that this codec reads; docs/FORMAT.md has it under Faults"
+            meaning = "the stream isn't of the profile that this codec reads; docs/PLAYERS.md has it under Old files"
+        meaning = FAULTS.get(cause, meaning)
         return f"fault in unit {unit} at byte {at}: {cause} ({meaning})"
     for pattern, text in ANSWERS:
         found = re.search(pattern, line)

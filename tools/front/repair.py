@@ -4,7 +4,7 @@ import io
 import re
 
 from .mend import first_header, for_players, mend
-from .outputs import Output, check_apart, check_stream_name
+from .outputs import check_apart, check_stream_name, stream_output
 from .processes import Pipe, pieces
 from .program import FAULT, place
 from .refusal import Refusal
@@ -122,7 +122,7 @@ def run(words):
     if words.for_players:
         units = for_players(units, report)
     stream = written(units)
-    with Output(words.o) as output:
+    with stream_output(words.o) as output:
         output.write(stream)
         output.keep()
     tell_report(report, units, stream == data, words.all)

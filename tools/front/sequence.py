@@ -2,7 +2,8 @@
 from fractions import Fraction
 from typing import NamedTuple
 
-from .formats import ASPECTS, BASE_FORMATS, BOTTOM_FIRST, PROGRESSIVE, RATES, TOP_FIRST, Video
+from .formats import ASPECTS, BASE_FORMATS, BOTTOM_FIRST, COLOURS, HDTV, PROGRESSIVE, RATES, SDTV_525, SDTV_625
+from .formats import TOP_FIRST, Video
 from .plain import decoder, encoder
 
 
@@ -38,9 +39,20 @@ class Header(NamedTuple):
             return PROGRESSIVE
         return TOP_FIRST if BASE_FORMATS[self.base].is_top_first else BOTTOM_FIRST
 
+    def known_colour(self):
+        """The index of the colour specification; None where it is none that players know, or has another matrix."""
+        if not isinstance(self.colour, tuple):
+            index = BASE_FORMATS[self.base].colour if self.colour is None else self.colour
+            return index if index < len(COLOURS) else None
+        primaries, matrix, _ = self.colour
+        if matrix in (None, 0):
+            return HDTV
+        return (SDTV_525 if primaries == 1 else SDTV_625) if matrix == 1 else None
+
     def frames(self):
         """What a clip of the stream's frames says of itself."""
-        return Video(self.width, self.height, self.chroma, self.rate, self.aspect, self.signal, self.scan())
+        what = (self.rate, self.aspect, self.signal, self.scan(), self.known_colour())
+        return Video(self.width, self.height, self.chroma, *what)
 
     def pictures(self):
         """The same of its pictures, which may be fields."""

@@ -4,6 +4,7 @@ import pathlib
 import subprocess
 
 from . import png, y4m
+from .formats import colour_filter
 from .outputs import Output
 from .refusal import Refusal
 from .sources import wanted
@@ -58,7 +59,7 @@ class SumSink:
 
 
 class PngSink:
-    """A file a picture, with its number in front of the ending; the colours are those of BT.601."""
+    """A file a picture, with its number in front of the ending."""
 
     takes_any = False
 
@@ -123,7 +124,7 @@ class FfmpegSink(CommandSink):
 
     def __init__(self, path, video):
         command = wanted("ffmpeg", f"to write {path}")
-        words = ["-v", "error", "-y", "-f", "yuv4mpegpipe", "-i", "-", f"file:{path}"]
+        words = ["-v", "error", "-y", "-f", "yuv4mpegpipe", "-i", "-", *colour_filter(video), f"file:{path}"]
         super().__init__(f"{path}: ffmpeg", [command, *words], video)
 
 

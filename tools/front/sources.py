@@ -10,9 +10,13 @@ from .processes import Pipe, pieces
 from .refusal import Refusal
 
 LOOKED_AT = 4096
+# a line of ffmpeg's that says how to call it otherwise
+ADVICE = "To ignore this"
 # how files of containers that may hold Dirac begin, and from which byte on
 CONTAINERS = [(b"\x1a\x45\xdf\xa3", 0), (b"RIFF", 0), (b"ftyp", 4), (b"moov", 4), (b"mdat", 4), (b"wide", 4)]
-CONTAINERS += [(b"\x47\x40", 0), (b"\x30\x26\xb2\x75\x8e\x66\xcf\x11", 0), (b"nut/multimed", 0)]
+CONTAINERS += [(b"\x30\x26\xb2\x75\x8e\x66\xcf\x11", 0), (b"nut/multimed", 0), (b"\x00\x00\x01\xba", 0)]
+# packets of MPEG-TS have 188 bytes, those of discs four more in front; each begins with this byte
+PACKET, PACKET_LENGTHS = b"\x47", ((0, 188), (4, 192))
 
 
 class _Joined(io.RawIOBase):
@@ -69,18 +73,20 @@ class Source:
         return self.is_ogg() and units.PREFIX in self.first
 
     def is_container(self):
-        return any(self.begins(words, place) for words, place in CONTAINERS)
+        if any(self.begins(words, place) for words, place in CONTAINERS):
+            return True
+        return any(self.begins(PACKET, at) and self.begins(PACKET, at + length) for at, length in PACKET_LENGTHS)
 
 
 def tell(line):
     print(f"dirac: {line}", file=sys.stderr)
 
 
-def wanted(command, why):
+def wanted(command, why, package="ffmpeg"):
     """The path of a command that may be missing; `why` begins the sentence that says so."""
     path = shutil.which(command)
     if path is None:
-        raise Refusal(f"{why}, {command} is wanted, and it isn't there: install it (Debian: apt-get install ffmpeg)")
+        raise Refusal(f"{why}, {command} is wanted, and it isn't there: install it (Debian: apt-get install {package})")
     return path
 
 
@@ -122,7 +128,8 @@ class _Checked(io.RawIOBase):
         if not data:
             status, text = self._pipe.finish()
             if status or not self._count:
-                lines = text.strip().splitlines() or ["nothing comes out of it"]
+                lines = [line for line in text.strip().splitlines() if not line.startswith(ADVICE)]
+                lines = lines or ["nothing comes out of it"]
                 raise Refusal(f"{self._name}: ffmpeg says: {lines[-1]}")
         self._count += len(data)
         buffer[: len(data)] = data
@@ -152,11 +159,13 @@ class Stream:
             self.file = source.file
         if self.container is not None:
             self.size = None
-            first = self.file.read(len(units.PREFIX))
+            without = f"{source.name} is a container without a Dirac stream; `dirac encode` makes one of a clip"
+            try:
+                first = self.file.read(len(units.PREFIX))
+            except Refusal as problem:
+                raise Refusal(f"{without} ({problem.text})") from None
             if first != units.PREFIX:
-                raise Refusal(
-                    f"{source.name} is a container without a Dirac stream; `dirac encode` makes one of a clip"
-                )
+                raise Refusal(without)
             self.file = io.BufferedReader(_Joined(first, self.file), 1 << 16)
         self.read, self.read1 = self.file.read, self.file.read1
 

@@ -1,6 +1,7 @@
 """Tests of build.py and of what it stands on."""
 import contextlib
 import fcntl
+import hashlib
 import io
 import os
 import pathlib
@@ -186,6 +187,25 @@ class TellsProgress(Repository):
         for line in lines:
             self.assertRegex(line, r"0 of 3 crates proved; in hand: low \(.+\) 0:0\d; left by a guess: ")
         self.assertEqual((self.room / "build.log").read_text(), "\nrt: low proved\n")
+        # rt ci says no times, so the pace is that of what was seen in hand
+        [(cost, seconds)] = work.took
+        self.assertEqual(cost, work.costs["low"])
+        self.assertTrue(1.5 <= seconds <= 10, seconds)
+
+    def test_places_are_the_processors_until_fewer_crates_are_in_hand_than_could_be(self):
+        work = proving.Proving(self.top, ["tool"], "tool", self.room / "build.log")
+        work.costs = {"low": 100, "middle": 100, "tool": 100}
+        work.waits = {"low": [], "middle": [], "tool": []}
+        process, guesses = process_table.Process(1, 0, [], "", 0, 0, 0, 0, 0), []
+        for crates in (("low", "middle", "tool"), ("low",)):
+            work.places, work.is_full, work.command = 1, False, process_table.collections.namedtuple("C", "pid")(1)
+            steps = [(process_table.Step(crate, "proof"), process) for crate in crates]
+            with unittest.mock.patch.object(process_table, "steps_below", return_value=steps):
+                found = work.in_hand()
+            with unittest.mock.patch.object(time_left, "in_words", side_effect=guesses.append):
+                work.guess(found)
+        self.assertEqual(work.ready(), ["low", "middle", "tool"])
+        self.assertAlmostEqual(guesses[1], 3 * guesses[0])
 
 
 class Waits(Builds):
@@ -244,6 +264,38 @@ class Runs(Builds):
         status, wrote, said = self.run_it(path=PLAIN_PATH)
         self.assertEqual((status, wrote), (1, ""))
         self.assertIn("no command rt", said)
+
+
+class SumsOfPrograms(Builds):
+    def sum_of_program(self, *words):
+        wrote, said, status = self.call("sum_of_program.py", *words, "tool")
+        return status, wrote + said
+
+    def test_of_a_program_that_is_not_there(self):
+        status, said = self.sum_of_program()
+        self.assertEqual(status, 1)
+        self.assertIn("isn't there", said)
+
+    def test_beside_the_one_that_is_named(self):
+        self.build()
+        status, said = self.sum_of_program()
+        self.assertEqual((status, said.count("\n")), (0, 1))
+        mine = said.split()[0]
+        self.assertEqual(mine, hashlib.sha256((self.top / "crates/tool/out/tool").read_bytes()).hexdigest())
+        for named, answer in ((mine, (0, "names it")), ("0" * 64, (1, "names another one"))):
+            (self.top / "README.md").write_text(f"It has the SHA-256\n`{named}`.\n")
+            status, said = self.sum_of_program()
+            self.assertEqual((status, answer[1] in said), (answer[0], True), said)
+
+    def test_of_two_builds(self):
+        self.build()
+        status, said = self.sum_of_program("--again")
+        self.assertEqual(status, 0, said)
+        self.assertIn("the second build gave the same", said)
+        (self.top / "crates/tool/out/tool").write_text("another\n")
+        status, said = self.sum_of_program("--again")
+        self.assertEqual(status, 1)
+        self.assertIn("the second build gave another one", said)
 
 
 class TellsSteps(unittest.TestCase):
