@@ -79,7 +79,7 @@ class Proving:
         self.folder = cache_folder(top, what)
         self.begin, self.told = time.monotonic(), 0.0
         self.costs, self.proved, self.took, self.command = {}, [], [], None
-        self.begun, self.failures = {}, []
+        self.begun, self.failures, self.kept = {}, [], 0
         # the most crates that were in hand at once, and whether others could have been then
         self.places, self.is_full = 1, False
 
@@ -111,6 +111,10 @@ class Proving:
     def done(self):
         return f"{len(self.proved)} of {plural(len(self.names), 'crate')} proved"
 
+    def earlier(self):
+        """How many of these an earlier run proved, in words."""
+        return f", {self.kept} of them earlier" if self.kept else ""
+
     def guess(self, steps):
         """How long it takes on from here, in words."""
         begun = {}
@@ -129,15 +133,14 @@ class Proving:
         steps = self.in_hand()
         hand = ", ".join(f"{step.crate} ({step.step}) {clock(age)}" for step, age in steps)
         left = f"; left by a guess: {self.guess(steps)}" if self.costs_left() else ""
-        self.tell(f"{self.done()}; in hand: {hand or 'what rt reads and runs itself'}{left}")
+        self.tell(f"{self.done()}{self.earlier()}; in hand: {hand or 'what rt reads and runs itself'}{left}")
 
     def take(self, line, block):
         """Takes a line that the command wrote; block holds the lines since the one that names a crate."""
         name, _, end = line[4:].strip().partition(" ") if line.startswith("rt: ") else ("", "", "")
-        if line.startswith("kept: "):
-            self.proved.append(line[6:].strip())
-        if end.startswith("is kept: ") and name in self.names:
-            self.proved.append(name)
+        if line.startswith("kept: ") or end.startswith("is kept: ") and name in self.names:
+            self.proved.append(name or line[6:].strip())
+            self.kept += 1
         if line.startswith("== "):
             block.clear()
         block.append(line)

@@ -192,6 +192,12 @@ class TellsProgress(Repository):
         self.assertEqual(cost, work.costs["low"])
         self.assertTrue(1.5 <= seconds <= 10, seconds)
 
+    def test_what_an_earlier_run_proved(self):
+        work = proving.Proving(self.top, ["tool"], "tool", self.room / "build.log")
+        for line in ("kept: low\n", "rt: middle is kept: an earlier run\n", "rt: none is kept: elsewhere\n"):
+            work.take(line, [])
+        self.assertEqual((work.proved, work.earlier()), (["low", "middle"], ", 2 of them earlier"))
+
     def test_places_are_the_processors_until_fewer_crates_are_in_hand_than_could_be(self):
         work = proving.Proving(self.top, ["tool"], "tool", self.room / "build.log")
         work.costs = {"low": 100, "middle": 100, "tool": 100}
