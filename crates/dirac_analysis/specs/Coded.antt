@@ -81,6 +81,10 @@ coded counts finer index t =
 abbrev pub reduced_values : ℕ → Table → List ℤ
 reduced_values index t = map (λ v. reduced v index) t.values
 
+-- the table of these numbers
+abbrev pub reduced_band : ℕ → Table → Table
+reduced_band index t = record { width = t.width; height = t.height; values = reduced_values index t }
+
 -- the index of a table whose codeblocks are all coded at this one: a band of zeros has index 0
 abbrev pub index_coded : ℕ → Table → ℕ
 index_coded index t = if is_zero_band (reduced_values index t) then 0 else index

@@ -6,7 +6,7 @@ ghost use Rattle.dirac_analysis.specs.Analysis.{analysis_of, as_coded, differenc
 ghost use Rattle.dirac_analysis.specs.Fits.{AreQuantisable, IsDivisible, IsQuantisable, grown};
 ghost use Rattle.dirac_analysis.specs.Splitting.{AreFourBands, IsSplittable};
 
-use crate::analysed::AnalysedPlane;
+use crate::analysed::{AnalysedBand, AnalysedPlane};
 use crate::narrow::split_narrow;
 use crate::split::SplitLevel;
 use dirac_bands::{FourBands, dc_subtract, split_bands};
@@ -50,9 +50,9 @@ fn split_wide(alloc: Global, mut plane: Wide, wavelet: u8) -> Result<SplitLevel,
     let FourBands { ll, hl, lh, hh } = split_bands(alloc, &plane)?;
     Ok(SplitLevel {
         ll: Held::Wide(ll),
-        hl,
-        lh,
-        hh,
+        hl: AnalysedBand::of_wide(hl),
+        lh: AnalysedBand::of_wide(lh),
+        hh: AnalysedBand::of_wide(hh),
     })
 }
 

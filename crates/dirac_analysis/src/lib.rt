@@ -13,9 +13,10 @@ mod narrow;
 mod padding;
 mod plane;
 mod quantising;
+mod shared;
 mod split;
 
-pub use analysed::AnalysedPlane;
+pub use analysed::{AnalysedBand, AnalysedPlane};
 pub use choosing::FLAT_BELOW;
 pub use laws::planes_are_coded;
 pub use plane::{analyse, analyse_plane};

@@ -1,14 +1,16 @@
 -- What an encoder has written, and that it is read back.
-use Rattle.std.proofs.Common.{◌≡◌, ℕ, zero, suc, ℤ, pos, negsuc, ◌+◌, ◌-◌, ◌*◌, ◌+ℤ◌, ◌-ℤ◌, ◌<◌, min, Bool, true, false, List, [], ◌∷◌, ◌++◌, ◌&&◌, length, Ok, arith, lit<, refl}
+use Rattle.std.proofs.Common.{◌≡◌, ℕ, zero, suc, ℤ, pos, negsuc, ◌+◌, ◌-◌, ◌*◌, ◌+ℤ◌, ◌-ℤ◌, ◌<◌, min, Bool, true, false, List, [], ◌∷◌, ◌++◌, ◌&&◌, length, Ok, arith, lit<, refl, ap, sym, ◌∙◌}
 use Rattle.std.proofs.lemmas.Int.{ints}
 use Rattle.std.proofs.lemmas.List.{length-replicate}
 use Rattle.std.proofs.lemmas.List.Elements.{All-replicate}
 use Rattle.dirac_common.specs.Limits.{IsIndex}
 use Rattle.std.specs.List.{AllByRecursion}
 use Rattle.std.proofs.lemmas.List.Elements.{All-from_recursion}
-use Rattle.dirac_arith.specs.Interval.{Decision, InContexts}
+use Rattle.dirac_arith.specs.Interval.{Decision, InContexts, Interval, narrowed, narrowed_by}
+use Rattle.dirac_arith.specs.Spelling.{follow_at, signed_spelling, spelling, spelt}
 use Rattle.dirac_arith.proofs.Encodings.{flushed_is_carried}
 use Rattle.dirac_arith.proofs.InContexts.{AreBelow, in_append, in_signed}
+use Rattle.dirac_arith.proofs.Numbers.{digits_none}
 use Rattle.dirac_bands.specs.Geometry.{edge_of}
 use Rattle.dirac_coeffs.specs.declared.layout.BandLayout.{BandLayout}
 use Rattle.dirac_coeffs.specs.BandRead.{band_read, content}
@@ -78,6 +80,14 @@ unfolding bands_part
 in_bands layout parent xs marks zero = tt
 in_bands layout parent xs marks (suc n) =
     in_append (bands_part layout parent xs marks n) (blocks_part layout parent xs (marks n) n layout.across) (in_bands layout parent xs marks n) (in_blocks layout parent xs (marks n) n layout.across)
+
+-- one true decision is all of a 0
+pub zero_written : (s : Interval) (follow : List ℕ) (bits sign first : ℕ) (v : ℤ) → first ≡ follow_at follow 0 → v ≡ pos 0 → narrowed s (first, true) ≡ narrowed_by s (signed_spelling follow bits sign v)
+unfolding signed_spelling spelling
+zero_written s follow bits sign first v is none =
+    ap (λ c. let d : Decision = (c, true) in narrowed s d) is
+    ∙ ap (λ digits. narrowed_by s (spelt follow bits digits true)) (sym digits_none)
+    ∙ ap (λ x. narrowed_by s (signed_spelling follow bits sign x)) (sym none)
 
 difference_sums : (a b : ℕ) → pos a ≡ pos b +ℤ (pos a -ℤ pos b)
 difference_sums a b = omega (arith, ints)

@@ -121,7 +121,7 @@ impl Coefficients {
     }
 
     /// The coefficients that stand in this list, by rows.
-    fn of_narrow(width: u32, height: u32, values: Vec<i32>) -> Coefficients
+    pub fn of_narrow(width: u32, height: u32, values: Vec<i32>) -> Coefficients
         requires across { (1 ≤ width) × (width ≤ LARGEST_TABLE_SIDE) }
         requires down { (1 ≤ height) × (height ≤ LARGEST_TABLE_SIDE) }
         requires len { length values.items ≡ width * height }

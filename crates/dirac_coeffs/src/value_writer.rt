@@ -1,7 +1,7 @@
-ghost use Rattle.std.specs.Prelude.{◌≡◌, ◌+◌, ◌*◌, ◌<◌, ◌≤◌, ◌^◌, ◌-◌, length, OnOk, unsigned_abs};
+ghost use Rattle.std.specs.Prelude.{◌≡◌, ◌+◌, ◌*◌, ◌<◌, ◌≤◌, ◌^◌, ◌-◌, length, IfOk, OnOk, unsigned_abs};
 ghost use Rattle.dirac_arith.specs.Interval.{narrowed_by};
 ghost use Rattle.dirac_coeffs.specs.Carried.{AreSmall};
-ghost use Rattle.dirac_coeffs.specs.Contexts.{value_spelling};
+ghost use Rattle.dirac_coeffs.specs.Contexts.{corner_of, left_of, value_spelling};
 ghost use Rattle.dirac_coeffs.specs.Decisions.{frame_of, value_part, row_part, rows_part};
 ghost use Rattle.dirac_coeffs.specs.Lent.{numbers_in};
 
@@ -12,9 +12,16 @@ use crate::spans::Span;
 use dirac_arith::{COEFFICIENT_DIGITS, Encoder};
 use dirac_common::{Band, LARGEST_TABLE_SIDE, NoMemory};
 
+/// What stands to the left of a value that is written next, and above that.
+#[derive(Clone, Copy)]
+struct Beside {
+    left: i64,
+    corner: i64,
+}
+
 /// Writes a value among these neighbours.
-#[inline(always)]
-fn write_value(
+#[inline(never)]
+fn write_number(
     encoder: &mut Encoder,
     band: Band,
     left: i64,
@@ -31,7 +38,28 @@ fn write_value(
     encoder.signed(follow, COEFFICIENT_DIGITS, sign, value)
 }
 
-/// Writes the value in column `x` of row `y`.
+/// The same where the value is mostly 0, which one decision spells.
+#[inline(always)]
+fn write_value(
+    encoder: &mut Encoder,
+    band: Band,
+    left: i64,
+    above: i64,
+    corner: i64,
+    parent: i64,
+    value: i64,
+) -> Result<(), NoMemory>
+    requires { unsigned_abs value < 2 ^ 39 - 1 }
+    ensures { OnOk result (encoder.new ≡ narrowed_by encoder.old (value_spelling band left above corner parent value)) }
+{
+    if value == 0 {
+        let first = contexts::first_among(left, above, corner, parent);
+        return encoder.decision(first, true);
+    }
+    write_number(encoder, band, left, above, corner, parent, value)
+}
+
+/// Writes the value in column `x` of row `y`, and tells what stands beside the next one.
 #[inline(always)]
 fn write_at(
     encoder: &mut Encoder,
@@ -40,29 +68,30 @@ fn write_at(
     parent: Numbers<'_>,
     x: usize,
     y: usize,
-) -> Result<(), NoMemory>
+    beside: Beside,
+) -> Result<Beside, NoMemory>
     requires column { x < layout.width }
     requires width { layout.width ≤ LARGEST_TABLE_SIDE }
     requires row { y < LARGEST_TABLE_SIDE }
     requires inside { (y + 1) * layout.width ≤ length (numbers_in values) }
     requires magnitudes_bounded { AreSmall (numbers_in values) }
-    ensures { OnOk result (encoder.new ≡ narrowed_by encoder.old
+    requires left { beside.left ≡ left_of layout.width (numbers_in values) x y }
+    requires corner { beside.corner ≡ corner_of layout.width (numbers_in values) x y }
+    ensures written { OnOk result (encoder.new ≡ narrowed_by encoder.old
         (value_part (frame_of layout (numbers_in parent.entry)) (numbers_in values.entry) x y)) }
+    ensures left { IfOk result (λ next. next.left ≡ left_of layout.width (numbers_in values.entry) (x + 1) y) }
+    ensures corner { IfOk result (λ next. next.corner ≡ corner_of layout.width (numbers_in values.entry) (x + 1) y) }
 {
     let width = layout.width as usize;
-    let left = contexts::left_value(values, width, x, y);
+    let Beside { left, corner } = beside;
     let above = contexts::above_value(values, width, x, y);
-    let corner = contexts::corner_value(values, width, x, y);
     let parent = contexts::parent_value(parent, width, x, y);
-    write_value(
-        encoder,
-        layout.band,
-        left,
-        above,
-        corner,
-        parent,
-        number_at(values, y * width + x),
-    )
+    let value = number_at(values, y * width + x);
+    write_value(encoder, layout.band, left, above, corner, parent, value)?;
+    Ok(Beside {
+        left: value,
+        corner: above,
+    })
 }
 
 /// Writes the values of these columns of row `y`, as one piece of code with each caller, in which it is known how the
@@ -85,8 +114,13 @@ fn write_part(
         (row_part (frame_of layout (numbers_in parent.entry)) (numbers_in values.entry) y columns.start
         columns.length)) }
 {
+    let width = layout.width as usize;
+    let left = contexts::left_value(values, width, columns.start, y);
+    let corner = contexts::corner_value(values, width, columns.start, y);
+    let mut beside = Beside { left, corner };
     'values: for i in 0..columns.length {
-        write_at(encoder, values, layout, parent, columns.start + i, y)?;
+        let x = columns.start + i;
+        beside = write_at(encoder, values, layout, parent, x, y, beside)?;
     }
     Ok(())
 }

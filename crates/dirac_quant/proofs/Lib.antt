@@ -1,3 +1,4 @@
 pub mod Powers
 pub mod Limits
 pub mod Reciprocals
+pub mod Signs

@@ -5,6 +5,6 @@
 mod quantiser;
 
 pub use quantiser::{
-    MOST_QUARTERS, factor, narrow_limit, offset, reciprocal, reduce, reduce_at, reduce_by, restore,
-    restore_narrow,
+    MOST_QUARTERS, factor, narrow_limit, offset, reciprocal, reduce, reduce_at, reduce_by,
+    reduce_narrow, restore, restore_narrow,
 };

@@ -125,6 +125,17 @@ pub fn reduce_at(value: i64, factor: u64, reciprocal: u64) -> i64
     if value < 0 { -steps } else { steps }
 }
 
+/// The number that codes a coefficient of 32 bits, by the factor of an index and its reciprocal: it has no more bits.
+#[inline(always)]
+pub fn reduce_narrow(value: i32, factor: u64, reciprocal: u64) -> i32
+    requires factor { 4 ≤ factor }
+    requires below { factor < 2 ^ 27 }
+    requires reciprocal { reciprocal ≡ reciprocal_of factor }
+    ensures { result ≡ with_sign_of value (4 * unsigned_abs value / factor) }
+{
+    reduce_at(i64::from(value), factor, reciprocal) as i32
+}
+
 /// The number that codes a coefficient, by the factor of an index: its magnitude in steps, rounded towards zero, with
 /// its sign.
 #[inline(always)]

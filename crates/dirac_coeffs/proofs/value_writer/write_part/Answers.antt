@@ -1,5 +1,8 @@
-use Rattle.std.proofs.Common.{◌+◌, refl}
+use Rattle.std.proofs.Common.{◌≡◌, ◌+◌, ◌∙◌, ap, arith, of_z, refl, to_z}
+use Rattle.std.specs.Int.{w64}
+use Rattle.std.proofs.lemmas.Int.{to_z-of_z}
 use Rattle.dirac_arith.proofs.Spellings.{narrowed_more}
+use Rattle.dirac_coeffs.specs.Contexts.{corner_of, left_of}
 use Rattle.dirac_coeffs.specs.Decisions.{frame_of, value_part, row_part}
 use Rattle.dirac_coeffs.specs.Lent.{numbers_in}
 use Rattle.dirac_coeffs.proofs.Agreement.{row_next}
@@ -7,13 +10,30 @@ use Rattle.dirac_coeffs.proofs.value_writer.write_part.Goals as goal
 
 pub values-init : goal.values-init
 unfolding row_part
-values-init c = refl
+values-init c =
+    let w = c.args.layout.width in
+    let xs = numbers_in c.args.values in
+    let same : c.args.columns.start ≡ c.args.columns.start + 0 = omega arith in
+    let left : to_z w64 (of_z w64 c.left_value-left.result) ≡ c.left_value-left.result = to_z-of_z w64 _ (record { sfits = c.left_value-left.type_inv }) in
+    let corner : to_z w64 (of_z w64 c.corner_value-corner.result) ≡ c.corner_value-corner.result = to_z-of_z w64 _ (record { sfits = c.corner_value-corner.type_inv }) in
+    record {
+      written = refl;
+      left = left ∙ c.left_value-left.ensures ∙ ap (λ x. left_of w xs x c.args.y) same;
+      corner = corner ∙ c.corner_value-corner.ensures ∙ ap (λ x. corner_of w xs x c.args.y) same;
+    }
 
 pub values-preserved : goal.values-preserved
 values-preserved c =
     let f = frame_of c.args.layout (numbers_in c.args.parent) in
-    let xs = (numbers_in c.args.values) in
+    let w = c.args.layout.width in
+    let xs = numbers_in c.args.values in
     let from = c.args.columns.start in
     let y = c.args.y in
     let i = c.values.i in
-    narrowed_more _ _ _ (row_part f xs y from i) (value_part f xs (from + i) y) _ c.values.invariant c.in_ok-write_at.ensures (row_next f xs y from i)
+    let next : from + i + 1 ≡ from + (i + 1) = omega arith in
+    let done = c.in_ok-beside.ensures in
+    record {
+      written = narrowed_more _ _ _ (row_part f xs y from i) (value_part f xs (from + i) y) _ c.values.invariant.written done.written (row_next f xs y from i);
+      left = done.left ∙ ap (λ x. left_of w xs x y) next;
+      corner = done.corner ∙ ap (λ x. corner_of w xs x y) next;
+    }

@@ -1,7 +1,7 @@
 use Rattle.std.proofs.Common.{◌+◌, pos, get_or, arith, refl, ap, ◌∙◌}
 use Rattle.dirac_common.specs.Table.{table_at}
 use Rattle.dirac_common.proofs.Rows.{row_at, rows_more, rows_all}
-use Rattle.dirac_analysis.proofs.narrow.wide_half.Goals as goal
+use Rattle.dirac_analysis.proofs.narrow.half_rows.Goals as goal
 
 pub loop-y-preserved : goal.loop-y-preserved
 loop-y-preserved c = record {
@@ -10,7 +10,7 @@ loop-y-preserved c = record {
   rows =
       rows_more (λ x y. table_at c.args.rows.now (c.args.from + x) y) _ _ _ c.loop-y.y (c.loop-y.y + 1) _ c.loop-y.invariant.rows (omega arith) refl (omega arith)
       (λ x l.
-      c.widen_from.ensures x (omega (arith, l))
+      c.copy_from.ensures x (omega (arith, l))
       ∙ ap (λ zs. get_or zs (c.args.from + x) (pos 0)) c.row.ensures.value
       ∙ row_at c.args.rows.now (c.args.from + x) c.loop-y.y (omega (arith, l, c.loop-y.invariant.across, c.requires.from)));
 }
