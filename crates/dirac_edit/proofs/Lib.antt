@@ -7,7 +7,9 @@ pub mod Merging
 pub mod Numbered
 pub mod Placed
 pub mod Stepping
+pub mod Lookups
 pub mod Opening
+pub mod Following
 pub mod Checking
 pub mod Adding
 pub mod Answering

@@ -1,8 +1,6 @@
 -- What headers say of a part is what its rebuilt pictures say.
-use Rattle.std.proofs.Common.{◌≡◌, ◌∙◌, ℕ, ◌==◌, Bool, true, false, not, ◌&&◌, ◌||◌, if◌then◌else◌, List, [], ◌∷◌, ◌++◌, length, drop, map, nat_le, Option, None, Some, Result, Ok, Err, refl, sym, ap, ap₂}
-use Rattle.std.specs.Prelude.{is_some}
-use Rattle.std.specs.List.{AllByRecursion, filter, list_any}
-use Rattle.std.proofs.lemmas.List.{length-map, map-append}
+use Rattle.std.proofs.Common.{◌≡◌, ◌∙◌, ℕ, Bool, true, false, if◌then◌else◌, List, [], ◌∷◌, map, Option, None, Some, Result, Ok, Err, refl, sym, ap, ap₂}
+use Rattle.std.specs.List.{AllByRecursion, filter}
 use Rattle.dirac_common.specs.Chain.{◌>>=◌ as ◌>>◌}
 use Rattle.dirac_common.specs.declared.faults.Cause.TheVariants.{MissingReference}
 use Rattle.dirac_common.specs.declared.faults.Refusal.{Refusal}
@@ -11,21 +9,20 @@ use Rattle.dirac_bits.specs.Answers.{value_of}
 use Rattle.dirac_bits.specs.Cursor.{Cursor, start}
 use Rattle.dirac_bits.specs.Syntax.{Syntax, done, refuse, ◌>>=◌, align, read}
 use Rattle.dirac_bits.specs.Then.{read_then}
-use Rattle.dirac_common.specs.Codes.{is_reference}
 use Rattle.dirac_sequence_header.specs.declared.sequence.Sequence.{Sequence}
 use Rattle.dirac_header.specs.declared.header.PictureHeader.{PictureHeader}
 use Rattle.dirac_header.specs.Header.{header}
-use Rattle.dirac_refs.specs.declared.ref_buffer.TheConstants.{MOST_REFERENCES}
-use Rattle.dirac_refs.specs.References.{append, appended, as_reference, committed, listed, retire, without}
+use Rattle.dirac_refs.specs.References.{as_reference, committed}
 use Rattle.dirac_picture.specs.declared.coded.CodedMotion.{CodedMotion}
 use Rattle.dirac_picture.specs.declared.coded.CodedPicture.{CodedPicture}
-use Rattle.dirac_picture.specs.Grammar.{are_listed, body, is_listed, motion, picture, picture_read, residual_unless, zero_residual}
+use Rattle.dirac_picture.specs.Grammar.{are_listed, body, motion, picture, picture_read, residual_unless, zero_residual}
 use Rattle.dirac_picture.proofs.Every.{Every, every_any, every_then}
 use Rattle.dirac_edit_laws.specs.Cut.{first_of, is_between, open_among, open_from, part_rebuilt, restricted}
 use Rattle.dirac_edit_laws.specs.Rebuilt.{AreRead, IsRead, RebuiltText, list_behind, rebuilt_behind, rebuilt_from, rebuilt_of, rebuilt_on, rebuilt_text}
 use Rattle.dirac_edit_laws.specs.Texts.{PictureText, SequenceText}
 use Rattle.dirac_edit.specs.Open.{first_open, first_open_among, header_in, list_with, numbered, open_or}
 use Rattle.dirac_edit_laws.proofs.Alike.{every_value}
+use Rattle.dirac_edit.proofs.Lookups.{behind, numbers, same_committed, same_named}
 
 -- a picture that was read has the header that its payload begins with, and its unit's parse code
 record HasFront (code : ℕ) (head : PictureHeader) (coded : CodedPicture) : Type 0 where
@@ -45,9 +42,6 @@ body_front code s head =
     every_then (λ _. Unit {0}) P (motion code s) (behind_gap code s head) (every_any (motion code s)) (λ m _.
     every_then (λ _. Unit {0}) P (zero_residual code) (with_residual code s head m) (every_any (zero_residual code)) (λ none _.
     every_then (λ _. Unit {0}) P (residual_unless none s) (λ coded. done (record { code = code; header = head; motion = m; residual = coded })) (every_any (residual_unless none s)) (λ r _. record { head_is = refl; code_is = refl })))
-
-abbrev behind : ℕ → Sequence → List Picture → PictureHeader → Syntax CodedPicture
-behind code s refs head = if are_listed refs head then body code s head else refuse 0 MissingReference
 
 behind_front : (code : ℕ) (s : Sequence) (refs : List Picture) (head : PictureHeader) (d : Cursor) (coded : CodedPicture) → value_of (read (behind code s refs head) d) ≡ Ok coded → HasFront code head coded
 behind_front code s refs head d coded is =
@@ -71,63 +65,6 @@ header_is : (s : Sequence) (refs : List Picture) (p : PictureText) (coded : Code
 unfolding picture
 header_is s refs p coded is =
     front_header p.code s refs coded (read (header p.code) (start p.payload)) (sym (ap value_of (read_then (header p.code) (behind p.code s refs) (start p.payload))) ∙ is)
-
--- ---- numbers
-
-abbrev numbers : List Picture → List ℕ
-numbers list = map (λ (p : Picture). p.number) list
-
-found_or : (b t : Bool) (p : Picture) (o : Option Picture) → is_some o ≡ t → is_some (if b then Some p else o) ≡ (b || t)
-found_or true t p o same = refl
-found_or false t p o same = same
-
-some_listed : (list : List Picture) (n : ℕ) → is_some (listed list n) ≡ list_any (λ m. m == n) (numbers list)
-some_listed [] n = refl
-some_listed (p ∷ list) n = found_or (p.number == n) (list_any (λ m. m == n) (numbers list)) p (listed list n) (some_listed list n)
-
-same_listed : (xs ys : List Picture) (r : Option ℕ) → numbers xs ≡ numbers ys → is_listed xs r ≡ is_listed ys r
-same_listed xs ys None same = refl
-same_listed xs ys (Some n) same = some_listed xs n ∙ ap (list_any (λ m. m == n)) same ∙ sym (some_listed ys n)
-
-stays_or : (b : Bool) (p : Picture) (list : List Picture) (ns : List ℕ) → numbers list ≡ ns → numbers (if b then p ∷ list else list) ≡ (if b then p.number ∷ ns else ns)
-stays_or true p list ns same = ap (λ ms. p.number ∷ ms) same
-stays_or false p list ns same = same
-
-numbers_without : (n : ℕ) (list : List Picture) → numbers (without n list) ≡ filter (λ m. not (m == n)) (numbers list)
-numbers_without n [] = refl
-numbers_without n (p ∷ list) = stays_or (not (p.number == n)) p (without n list) (filter (λ m. not (m == n)) (numbers list)) (numbers_without n list)
-
-same_without : (n : ℕ) (xs ys : List Picture) → numbers xs ≡ numbers ys → numbers (without n xs) ≡ numbers (without n ys)
-same_without n xs ys same = numbers_without n xs ∙ ap (filter (λ m. not (m == n))) same ∙ sym (numbers_without n ys)
-
-same_retire : (xs ys : List Picture) (r : Option ℕ) → numbers xs ≡ numbers ys → numbers (retire xs r) ≡ numbers (retire ys r)
-same_retire xs ys None same = same
-same_retire xs ys (Some n) same = same_without n xs ys same
-
-numbers_append : (list : List Picture) (p : Picture) → numbers (append list p) ≡ (if nat_le MOST_REFERENCES (length (numbers list)) then drop 1 (numbers list) else numbers list) ++ p.number ∷ []
-numbers_append list p =
-    map-append (λ (q : Picture). q.number) (if nat_le MOST_REFERENCES (length list) then drop 1 list else list) (p ∷ [])
-    ∙ ap (λ ns. ns ++ p.number ∷ []) (oldest (nat_le MOST_REFERENCES (length list)) list ∙ ap (λ (n : ℕ). if nat_le MOST_REFERENCES n then drop 1 (numbers list) else numbers list) (sym (length-map list (λ (q : Picture). q.number)))) where
-      oldest : (b : Bool) (list : List Picture) → numbers (if b then drop 1 list else list) ≡ (if b then drop 1 (numbers list) else numbers list)
-      oldest true [] = refl
-      oldest true (q ∷ list) = refl
-      oldest false list = refl
-
-same_append : (xs ys : List Picture) (p q : Picture) → numbers xs ≡ numbers ys → p.number ≡ q.number → numbers (append xs p) ≡ numbers (append ys q)
-same_append xs ys p q same one =
-    numbers_append xs p ∙ ap (λ ns. (if nat_le MOST_REFERENCES (length ns) then drop 1 ns else ns) ++ p.number ∷ []) same
-    ∙ ap (λ n. (if nat_le MOST_REFERENCES (length (numbers ys)) then drop 1 (numbers ys) else numbers ys) ++ n ∷ []) one ∙ sym (numbers_append ys q)
-
-same_committed : (xs ys : List Picture) (r : Option ℕ) (code : ℕ) (p q : Picture) → numbers xs ≡ numbers ys → p.number ≡ q.number
-    → numbers (committed xs r (as_reference code p)) ≡ numbers (committed ys r (as_reference code q))
-same_committed xs ys r code p q same one =
-    let left = retire xs r in
-    let right = retire ys r in
-    let kept : numbers left ≡ numbers right = same_retire xs ys r same in
-    elim (is_reference code) as (λ b. numbers (appended left (if b then Some p else None)) ≡ numbers (appended right (if b then Some q else None))) [
-      | false ↦ kept
-      | true ↦ same_append (without p.number left) (without q.number right) p q (same_without p.number left right kept ∙ ap (λ n. numbers (without n right)) one) one
-    ]
 
 -- ---- a sequence
 
@@ -160,8 +97,7 @@ same_step a b s p pictures whole xs ys coded is same later =
     let kept : numbers (committed xs coded.header.retire (as_reference p.code (numbered coded.header.number))) ≡ numbers (list_behind ys r) =
     same_committed xs ys coded.header.retire p.code (numbered coded.header.number) r.picture same refl
     ∙ ap (λ (n : ℕ). numbers (committed ys coded.header.retire (as_reference n r.picture))) (sym head.code_is) in
-    let listed_same : are_listed xs coded.header ≡ are_listed ys coded.header =
-    ap₂ (λ (x y : Bool). x && y) (same_listed xs ys coded.header.ref1 same) (same_listed xs ys coded.header.ref2 same) in
+    let listed_same : are_listed xs coded.header ≡ are_listed ys coded.header = same_named xs ys coded.header same in
     let step : first_open xs (p ∷ filter (is_between a b) pictures) ≡ open_from ys (r ∷ filter (between a b) rest) =
     ap (λ h. open_or p.index (λ next. first_open next (filter (is_between a b) pictures)) (list_with xs p.code h)) head.read_is
     ∙ pick (are_listed xs coded.header) (committed xs coded.header.retire (as_reference p.code (numbered coded.header.number))) p.index (λ next. first_open next (filter (is_between a b) pictures))

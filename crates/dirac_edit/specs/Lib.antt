@@ -1,4 +1,5 @@
 pub mod Open
+pub mod Course
 pub mod Edits
 pub mod Steps
 pub mod Units

@@ -6,7 +6,6 @@ ghost use Rattle.std.specs.Int.{to_be_bytes, w32};
 ghost use Rattle.std.specs.Io.KnownBytes.{Appends};
 ghost use Rattle.dirac_io.specs.Faults.{Rose};
 ghost use Rattle.dirac_io.specs.Writing.{AppendsFront};
-ghost use Rattle.dirac_decode.specs.StreamState.{is_same as same_header};
 ghost use Rattle.dirac_encode_laws.specs.Stream.{end_unit, unit};
 ghost use Rattle.dirac_edit_laws.specs.Joined.{bare, bytes_or_bare, first_number, joined};
 ghost use Rattle.dirac_edit.specs.Merged.{added, behind, length_behind, may_follow, moved_on, own_bytes, own_length};
@@ -14,7 +13,7 @@ ghost use Rattle.dirac_edit.specs.Merged.{shift_onto, units_behind, way_onto};
 
 use crate::keys::{Keys, keys_of};
 use crate::numbers::{behind_number, number_in};
-use crate::sequence::{HeldPicture, HeldSequence};
+use crate::sequence::{HeldPicture, HeldSequence, is_same};
 use dirac_common::SEQUENCE_HEADER;
 use dirac_io::{Sink, Unwritten, put_all};
 use dirac_units::{PARSE_INFO_LENGTH, ParseInfo, put_end, put_unit, unit_length, write_info};
@@ -91,13 +90,6 @@ impl<'a> Latest<'a> {
             high: high as u32,
         })
     }
-}
-
-/// Whether two headers have equal payloads.
-fn is_same(header: &[u8], former: &[u8]) -> bool
-    ensures { result ≡ same_header header.now former.now }
-{
-    header.len() == former.len() && header.starts_with(former)
 }
 
 /// How far the writing is: the sequence that was written last, and the length of the last unit.

@@ -7,11 +7,13 @@
 mod answers;
 mod bounds;
 mod check;
+mod course;
 mod cut;
 mod join;
 mod joining;
 mod keys;
 mod lent;
+mod listed;
 mod numbers;
 mod open;
 mod part;

@@ -1,13 +1,13 @@
 ghost use Rattle.std.specs.Prelude.{◌≡◌, [], IfOk, None, Some, if◌then◌else◌};
-ghost use Rattle.dirac_edit.specs.Open.{dot as one_sample, first_open as first_open_of, first_open_among, header_in};
-ghost use Rattle.dirac_edit.specs.Open.{list_with, numbered as numbered_as};
+ghost use Rattle.dirac_edit.specs.Open.{first_open as first_open_of, first_open_among, header_in, list_with};
 
+use crate::listed::list_by_number;
 use crate::sequence::{HeldPicture, HeldSequence};
 use dirac_bits::BitReader;
-use dirac_common::{NoMemory, Picture, Plane, Table};
+use dirac_common::NoMemory;
 use dirac_header::read_header;
 use dirac_picture::are_listed;
-use dirac_refs::{RefBuffer, reference_of};
+use dirac_refs::RefBuffer;
 use std::alloc::Global;
 
 /// The index of the first unit of these sequences whose picture has a reference that isn't among those before it.
@@ -50,27 +50,6 @@ fn is_open(alloc: Global, picture: &HeldPicture<'_>, refs: &mut RefBuffer) -> Re
     if !are_listed(refs, &head) {
         return Ok(true);
     }
-    let listed = numbered(alloc, head.number)?;
-    let reference = reference_of(alloc, picture.code(), &listed)?;
-    refs.commit(head.retire, reference);
+    list_by_number(alloc, refs, picture.code(), &head)?;
     Ok(false)
-}
-
-/// A picture of this number, which is all that a list of references is asked for here.
-fn numbered(alloc: Global, number: u32) -> Result<Picture, NoMemory>
-    ensures { IfOk result (λ picture. picture ≡ numbered_as number) }
-{
-    Ok(Picture {
-        number,
-        y: dot(alloc)?,
-        u: dot(alloc)?,
-        v: dot(alloc)?,
-    })
-}
-
-/// A plane of one sample.
-fn dot(alloc: Global) -> Result<Plane, NoMemory>
-    ensures { IfOk result (λ plane. plane ≡ one_sample) }
-{
-    Table::try_new(alloc, 1, 1, 0)
 }
