@@ -32,6 +32,7 @@ fn beside(place: i64) -> i64
 }
 
 /// Whether that many samples from a place of a row on, and the places behind them, lie inside the row.
+#[inline(always)]
 fn is_inside(place: i64, count: usize, width: u32) -> bool
     requires place { unsigned_abs place ≤ 2 ^ 34 }
     requires count { count ≤ LARGEST_SIDE }
@@ -276,6 +277,49 @@ fn copy_widened(row: &[i8], at: usize, out: &mut [i16])
     }
 }
 
+/// Writes as many samples of a row, from place `at` on, as there are lanes, into a list from place `first` on.
+#[inline(always)]
+fn put_widened(row: &[i8], at: usize, lanes: &mut [i16], out: &mut [i16], first: usize)
+    requires inside { at + length lanes.old ≤ length row.now }
+    requires lanes_inside { first + length lanes.old ≤ length out.old }
+    ensures { PutFrom first (length lanes.old) (λ k. slice_index_or row.now (at + k) (pos 0)) out.old out.new }
+{
+    copy_widened(row, at, lanes);
+    put(lanes, out, first);
+}
+
+/// At least eight samples of a row from place `at` on: the last eight may be some that were written before.
+#[inline(always)]
+fn copy_by_eights(row: &[i8], at: usize, out: &mut [i16])
+    requires inside { at + length out.old ≤ length row.now }
+    requires at_least_8 { 8 ≤ length out.old }
+    ensures { (k : ℕ) → k < length out.old → slice_index_or out.new k (pos 0)
+        ≡ slice_index_or row.now (at + k) (pos 0) }
+{
+    let last = out.len() - 8;
+    let eights = (last + 7) / 8;
+    for i in 0..eights {
+        let mut lanes = [0i16; 8];
+        put_widened(row, at + 8 * i, &mut lanes, out, 8 * i);
+    }
+    let mut lanes = [0i16; 8];
+    put_widened(row, at + last, &mut lanes, out, last);
+}
+
+/// The samples of a row from place `at` on: eight side by side.
+#[inline(always)]
+fn copy_row(row: &[i8], at: usize, out: &mut [i16])
+    requires inside { at + length out.old ≤ length row.now }
+    ensures { (k : ℕ) → k < length out.old → slice_index_or out.new k (pos 0)
+        ≡ slice_index_or row.now (at + k) (pos 0) }
+{
+    if out.len() >= 8 {
+        copy_by_eights(row, at, out);
+    } else {
+        copy_widened(row, at, out);
+    }
+}
+
 /// The samples at every second place of row `down`, from a place on that may lie outside.
 fn clamped_places(table: &Phases, across: i64, down: i64, out: &mut [i16])
     requires across { unsigned_abs across ≤ 2 ^ 34 }
@@ -297,15 +341,17 @@ fn column(across: i64) -> usize
 }
 
 /// The samples at every second place of row `down`, where all lie inside the row.
+#[inline(always)]
 fn inner_places(table: &Phases, across: i64, down: i64, out: &mut [i16])
     requires inside { (pos 0 ≤ℤ across) × ((across +ℤ pos (2 * length out.old)) ≤ℤ pos table.now.width) }
     ensures { ArePlaces table.now across down out.new }
 {
     let row = table.nearest_row(down);
-    copy_widened(row, held_at(row.len(), column(across)), out);
+    copy_row(row, held_at(row.len(), column(across)), out);
 }
 
 /// The samples at every second place of row `down`, from place `across` on.
+#[inline(always)]
 pub fn places(table: &Phases, across: i64, down: i64, out: &mut [i16])
     requires samples { All IsSample table.now.values }
     requires across { unsigned_abs across ≤ 2 ^ 34 }
@@ -434,7 +480,72 @@ fn eight_columns(
     }
 }
 
+/// Whether rows of so many places from place `across` on are eights of them, and reach beyond the rows of the table.
+fn are_cut_eights(table: &Phases, across: i64, width: usize) -> bool
+    requires across { unsigned_abs across ≤ 2 ^ 33 }
+    ensures { IsTrue result → (width % 8 ≡ 0) × (width ≤ LARGEST_SIDE) }
+{
+    width % 8 == 0 && width <= LARGEST_SIDE as usize && !is_inside(across, width, table.width())
+}
+
+/// The samples behind every second place of every second row, from place `across` of row `down` on: rows of eights of
+/// places, so that each eight of them that lies inside is read as one.
+fn columns_of_parts(
+    table: &Phases,
+    rests: Rests,
+    across: i64,
+    down: i64,
+    width: usize,
+    out: &mut [i16],
+)
+    requires samples { All IsSample table.now.values }
+    requires rests { AreRests rests }
+    requires across { unsigned_abs across ≤ 2 ^ 33 }
+    requires down { unsigned_abs down ≤ 2 ^ 34 }
+    requires at_least_1 { 1 ≤ width }
+    requires eights { width % 8 ≡ 0 }
+    requires width_at_most_4096 { width ≤ LARGEST_SIDE }
+    requires whole_rows { length out.old % width ≡ 0 }
+    requires at_most_4096 { length out.old ≤ LARGEST_SIDE }
+    ensures { ArePartsByRows table.now rests.bits across down rests.right rests.below width out.new }
+{
+    for c in 0..width / 8 {
+        eight_columns(table, rests, ahead(across, 8 * c), down, width, 8 * c, out);
+    }
+}
+
+/// The samples behind every second place of every second row, from place `across` of row `down` on, row by row.
+fn whole_rows_of_parts(
+    table: &Phases,
+    rests: Rests,
+    across: i64,
+    down: i64,
+    width: usize,
+    out: &mut [i16],
+)
+    requires samples { All IsSample table.now.values }
+    requires rests { AreRests rests }
+    requires across { unsigned_abs across ≤ 2 ^ 33 }
+    requires down { unsigned_abs down ≤ 2 ^ 34 }
+    requires at_least_1 { 1 ≤ width }
+    requires whole_rows { length out.old % width ≡ 0 }
+    requires at_most_4096 { length out.old ≤ LARGEST_SIDE }
+    ensures { ArePartsByRows table.now rests.bits across down rests.right rests.below width out.new }
+{
+    for j in 0..out.len() / width {
+        let start = j * width;
+        row_parts(
+            table,
+            rests,
+            across,
+            ahead(down, j),
+            &mut out[start..start + width],
+        );
+    }
+}
+
 /// The samples behind every second place of every second row, from place `across` of row `down` on: rows of `width`.
+/// Rows that lie inside the table's rows are read whole.
 pub fn rows_of_parts(
     table: &Phases,
     rests: Rests,
@@ -452,21 +563,10 @@ pub fn rows_of_parts(
     requires at_most_4096 { length out.old ≤ LARGEST_SIDE }
     ensures { ArePartsByRows table.now rests.bits across down rests.right rests.below width out.new }
 {
-    if width % 8 == 0 && width <= LARGEST_SIDE as usize {
-        for c in 0..width / 8 {
-            eight_columns(table, rests, ahead(across, 8 * c), down, width, 8 * c, out);
-        }
-        return;
-    }
-    for j in 0..out.len() / width {
-        let start = j * width;
-        row_parts(
-            table,
-            rests,
-            across,
-            ahead(down, j),
-            &mut out[start..start + width],
-        );
+    if are_cut_eights(table, across, width) {
+        columns_of_parts(table, rests, across, down, width, out);
+    } else {
+        whole_rows_of_parts(table, rests, across, down, width, out);
     }
 }
 
