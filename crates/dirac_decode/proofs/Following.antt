@@ -20,7 +20,8 @@ use Rattle.dirac_decode.specs.Shown.{ends_with}
 use Rattle.dirac_decode.specs.Decoding.{Decoding, LeadsTo, decoding}
 use Rattle.dirac_decode.specs.Advancing.{Brings, Settles}
 use Rattle.dirac_decode.proofs.Passing.{front_before, told_end}
-use Rattle.dirac_decode.proofs.Leading.{ended_outcome, leads_same, leads_unit}
+use Rattle.dirac_decode.proofs.Leading.{end_alone, ended_outcome, fault_alone, leads_same, leads_unit, not_ended, not_faulted}
+use Rattle.dirac_decode.proofs.Alone.{part_taken_more}
 
 -- bytes ahead of known ones, and more behind them
 ahead_more : (ahead more : List ℕ) (known : Option (List ℕ)) → prepend_known ahead (append_known known more) ≡ append_known (prepend_known ahead known) more
@@ -78,18 +79,28 @@ front_told units held more end there is =
     (end_more units.unit_place more end (prepend_known units.ahead held) there is)
 
 -- the lawful end and a fault of the cutting, whatever follows the bytes held
-pub brings_end_more : (units units' : Progress) (state : StreamState) (held held' : Option (List ℕ)) (more : List ℕ) → IsThere units held → Ends units held held' None → Brings units units' state state (append_known held more) (append_known held' more) true stream_end.Ended []
-brings_end_more units units' state held held' more there ends given given' o comes = record {
-  rest = ends_with state None;
-  same = ended_outcome state None o comes.rest comes.same comes.remains;
-  remains = told_end (prepend_known units.ahead (append_known held more)) units.unit_place state None (front_told units held more None there ends.told);
+pub brings_end_more : (units units' : Progress) (state : StreamState) (held held' : Option (List ℕ)) (more : List ℕ) → units'.ahead ≡ [] → IsThere units held → Ends units held held' None → Brings units units' state state (append_known held more) (append_known held' more) true stream_end.Ended []
+brings_end_more units units' state held held' more none there ends given given' = record {
+  comes = λ o comes. record {
+    rest = ends_with state None;
+    same = ended_outcome state None o comes.rest comes.same comes.remains;
+    remains = told_end (prepend_known units.ahead (append_known held more)) units.unit_place state None (front_told units held more None there ends.told);
+  };
+  going = λ e. refl;
+  passed = λ e. absurd (not_ended e);
+  alone = end_alone units units' state (append_known held more) (append_known held' more) given given' none (part_taken_more units.ahead more held held' units.unit_place None ends.taken);
 }
 
-pub brings_fault_more : (units units' : Progress) (state : StreamState) (held held' : Option (List ℕ)) (more : List ℕ) (fault : Fault) → IsThere units held → Ends units held held' (Some fault) → Brings units units' state state (append_known held more) (append_known held' more) true (stream_end.Faulted fault) []
-brings_fault_more units units' state held held' more fault there ends given given' o comes = record {
-  rest = ends_with state (Some fault);
-  same = ended_outcome state (Some fault) o comes.rest comes.same comes.remains;
-  remains = told_end (prepend_known units.ahead (append_known held more)) units.unit_place state (Some fault) (front_told units held more (Some fault) there ends.told);
+pub brings_fault_more : (units units' : Progress) (state : StreamState) (held held' : Option (List ℕ)) (more : List ℕ) (fault : Fault) → units'.ahead ≡ [] → IsThere units held → Ends units held held' (Some fault) → Brings units units' state state (append_known held more) (append_known held' more) true (stream_end.Faulted fault) []
+brings_fault_more units units' state held held' more fault none there ends given given' = record {
+  comes = λ o comes. record {
+    rest = ends_with state (Some fault);
+    same = ended_outcome state (Some fault) o comes.rest comes.same comes.remains;
+    remains = told_end (prepend_known units.ahead (append_known held more)) units.unit_place state (Some fault) (front_told units held more (Some fault) there ends.told);
+  };
+  going = λ e. refl;
+  passed = λ e. absurd (not_faulted fault e);
+  alone = fault_alone units units' state (append_known held more) (append_known held' more) fault given given' none (part_taken_more units.ahead more held held' units.unit_place (Some fault) ends.taken);
 }
 
 -- a decoder at which nothing was due took a unit

@@ -9,3 +9,6 @@ pub mod Listing
 pub mod Covering
 pub mod Flushing
 pub mod Following
+pub mod Passed
+pub mod Alone
+mod Examples

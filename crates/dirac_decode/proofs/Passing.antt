@@ -28,10 +28,10 @@ unfolding unit_step
 moved_kept state info bytes = chosen (fields_are_read info.code) state info.code (slice_range bytes 13 (span_of info))
 
 -- the unit with its payload as it stands in the bytes
-abbrev text_of : ParseInfo → List ℕ → UnitText
+abbrev pub text_of : ParseInfo → List ℕ → UnitText
 text_of info bytes = record { info = info; payload = slice_range bytes 13 (span_of info) }
 
-moved_text : (state : StreamState) (unit : Unit) (bytes : List ℕ) (read : Result StreamStep Refusal) → unit.payload ≡ kept_payload true unit.info bytes → unit_step state unit.info.code unit.payload ≡ read → unit_step state unit.info.code (text_of unit.info bytes).payload ≡ read
+pub moved_text : (state : StreamState) (unit : Unit) (bytes : List ℕ) (read : Result StreamStep Refusal) → unit.payload ≡ kept_payload true unit.info bytes → unit_step state unit.info.code unit.payload ≡ read → unit_step state unit.info.code (text_of unit.info bytes).payload ≡ read
 moved_text state unit bytes read payload is =
     sym (moved_kept state unit.info bytes) ∙ ap (unit_step state unit.info.code) (sym payload) ∙ is
 

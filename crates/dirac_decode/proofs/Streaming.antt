@@ -1,7 +1,7 @@
 -- What was written of a stream, and what its decoding answers at the end.
 use Rattle.std.proofs.Common.{◌≡◌, ◌∙◌, ℕ, ◌+◌, List, [], ◌∷◌, ◌++◌, length, Option, None, Some, refl, sym, ap, subst, append_assoc, length-append}
 use Rattle.std.specs.Prelude.{IfSome}
-use Rattle.std.specs.Io.KnownBytes.{Appends, prepend_known}
+use Rattle.std.specs.Io.KnownBytes.{Appends, Consumes, prepend_known}
 use Rattle.std.proofs.KnownBytes.{Appends-nil, Appends-trans}
 use Rattle.std.proofs.lemmas.Grind.{flat_map-append}
 use Rattle.std.proofs.lemmas.List.{append-nil}
@@ -15,9 +15,12 @@ use Rattle.dirac_units.specs.Cut.{EachHasACut, IsCut, UnitText}
 use Rattle.dirac_units.specs.Progress.{Progress}
 use Rattle.dirac_decode.specs.declared.answers.Decoded.TheVariants as decoded
 use Rattle.dirac_decode.specs.declared.answers.Next.TheVariants as next
-use Rattle.dirac_decode.specs.StreamState.{StreamState}
+use Rattle.dirac_decode.specs.StreamState.{StreamState, begun as course_begun}
 use Rattle.dirac_decode.specs.Shown.{IsShown, Outcome, Shows, outcome, tally_of, with_front}
-use Rattle.dirac_decode.specs.Decoding.{Comes, Decoding, Gives, LeadsTo, Remains, begun, tally}
+use Rattle.dirac_decode.specs.Decoding.{BreaksIn, BreaksOff, BringsAlone, Comes, ComesIn, Decoding, Gives, LeadsTo, Passed, Remains, RemainsIn, StopsIn, begun, tally}
+use Rattle.dirac_decode.specs.Leaving.{IsBrokenOff, IsFrontOfRead, leaving}
+use Rattle.dirac_decode.proofs.Alone.{alone_on}
+use Rattle.dirac_decode.proofs.Passed.{passed_on}
 use Rattle.dirac_decode.specs.Raw.{raw, raws}
 use Rattle.dirac_decode.specs.Decoded.{IsDecoded}
 use Rattle.dirac_decode.proofs.Leading.{leads_same}
@@ -50,7 +53,14 @@ front_more given p o =
 pub streamed_more : (d d' : Decoding) (p : Picture) (held held' held'' taken taken' taken'' : Option (List ℕ)) → IsStreamed d held held' taken taken' → Gives (next.Shown p) d d' held' held'' → Appends taken' taken'' (raw p) → IsStreamed d' held held'' taken taken''
 streamed_more d d' p held held' held'' taken taken' taken'' so gives written = record {
   given = so.given ++ p ∷ [];
-  leads = λ o comes. subst (λ (x : Outcome). Comes begun held x) (front_more so.given p o) (so.leads (with_front (p ∷ []) o) (gives.0 o comes));
+  leads = record {
+    comes = λ o comes. subst (λ (x : Outcome). Comes begun held x) (front_more so.given p o) (so.leads.comes (with_front (p ∷ []) o) (gives.0.comes o comes));
+    going = λ e. so.leads.going (gives.0.going e);
+    passed = λ e.
+        passed_on (prepend_known begun.units.ahead held) (prepend_known d.units.ahead held') (prepend_known d'.units.ahead held'') begun d d' so.given (p ∷ []) (so.leads.passed (gives.0.going e)) (gives.0.passed e);
+    alone =
+        alone_on (prepend_known begun.units.ahead held) (prepend_known d.units.ahead held') (prepend_known d'.units.ahead held'') begun d d' so.given (p ∷ []) so.leads.going gives.0.going so.leads.alone gives.0.alone;
+  };
   counted = gives.1 ∙ ap (λ n. n + 1) so.counted ∙ sym (length-append so.given (p ∷ []));
   written = subst (λ (t : List ℕ). Appends taken taken'' t) (sym (raws_more so.given p)) (Appends-trans taken taken' taken'' (raws so.given) (raw p) so.written written);
 }
@@ -76,7 +86,7 @@ ends_shown bytes given d d' held' held'' end leads last none remains =
     let make : List Picture → Outcome = λ shown. record { shown = shown; most = d'.state.most; end = end } in
     let o : Outcome = closed d'.state.most end in
     subst (λ (x : Outcome). IsShown bytes x) (ap make (append-nil given))
-    (comes_shown bytes (with_front given o) (leads o (last o (closed_comes d' held'' end none remains))))
+    (comes_shown bytes (with_front given o) (leads.comes o (last.comes o (closed_comes d' held'' end none remains))))
 
 remains_ended : (d : Decoding) (held : Option (List ℕ)) → d.stream_end ≡ stream_end.Ended → Remains d.stream_end d.state d.units held (closed d.state.most None)
 remains_ended d held is = subst (λ (m : StreamEnd). Remains m d.state d.units held (closed d.state.most None)) (sym is) refl
@@ -135,7 +145,7 @@ cut_off d None held' taken taken' cuts moving so = tt
 cut_off d (Some bytes) held' taken taken' cuts moving so =
     let later : (o : Outcome) × Comes d held' o = comes_some d held' cuts moving in (
       with_front so.given later.0,
-      comes_shown bytes (with_front so.given later.0) (so.leads later.0 later.1),
+      comes_shown bytes (with_front so.given later.0) (so.leads.comes later.0 later.1),
       (raws so.given, raws later.0.shown, raws_front so.given later.0.shown, so.written),
     )
 
@@ -151,6 +161,121 @@ cut_off_in d d' p (Some bytes) held' held'' taken taken' taken'' cuts moving so 
     ∙ ap (λ t. raws so.given ++ t) (append_assoc front.0 front.1 (raws later.0.shown))
     ∙ sym (append_assoc (raws so.given) front.0 (front.1 ++ raws later.0.shown)) in (
       o,
-      comes_shown bytes o (so.leads (with_front (p ∷ []) later.0) (gives.0 later.0 later.1)),
+      comes_shown bytes o (so.leads.comes (with_front (p ∷ []) later.0) (gives.0.comes later.0 later.1)),
       (raws so.given ++ front.0, front.1 ++ raws later.0.shown, text, Appends-trans taken taken' taken'' (raws so.given) front.0 so.written front.3),
     )
+
+-- a read failed: just what leaves while the units that were read whole are taken was written
+broken_in : (bytes : List ℕ) (d : Decoding) (given : List Picture) (known held' taken taken' : Option (List ℕ)) → Passed begun d bytes known given → IfSome known (λ rest. BreaksIn d rest held') → Appends taken taken' (raws given) → IsBrokenOff bytes held' taken taken'
+broken_in bytes d given known held' taken taken' p breaks written =
+    let b : BreaksIn d p.rest held' = subst (λ (k : Option (List ℕ)). IfSome k (λ rest. BreaksIn d rest held')) p.holds breaks in
+    let all : leaving course_begun (p.units ++ b.units) ≡ given =
+    p.leaves b.units ∙ ap (λ l. given ++ l) b.none_due ∙ append-nil given in
+    record {
+      read = p.read ++ b.read;
+      rest = b.rest;
+      parts = p.parts ∙ ap (λ l. p.read ++ l) b.parts ∙ sym (append_assoc p.read b.read b.rest);
+      holds = b.holds;
+      units = p.units ++ b.units;
+      end = b.end;
+      cut = p.cut b.read b.units b.end b.cut;
+      delivered = subst (λ (ps : List Picture). Appends taken taken' (raws ps)) (sym all) written;
+    }
+
+pub broken_off : (d : Decoding) (held held' held'' taken taken' : Option (List ℕ)) → IsStreamed d held held' taken taken' → BreaksOff d held' held'' → IfSome held (λ bytes. IsBrokenOff bytes held'' taken taken')
+broken_off d None held' held'' taken taken' so breaks = tt
+broken_off d (Some bytes) held' held'' taken taken' so breaks =
+    broken_in bytes d so.given (prepend_known d.units.ahead held') held'' taken taken' (so.leads.passed breaks.going) breaks.told so.written
+
+-- ---- what was written is a front of what the bytes read show by themselves
+
+remains_in_some : (m : StreamEnd) (c : StreamState) (unit_place : UnitPlace) (bytes : List ℕ) → EachHasACut → (m ≡ stream_end.Stopped → ⊥) → (o : Outcome) × RemainsIn m c unit_place bytes o
+remains_in_some stream_end.Going c unit_place bytes cuts moving =
+    let cut : (units : List UnitText) × (end : Option Fault) × IsCut unit_place bytes units end = cuts unit_place bytes in
+    (outcome c unit_place cut.0 cut.1, record { units = cut.0; end = cut.1; cut = cut.2; same = refl })
+remains_in_some stream_end.Ended c unit_place bytes cuts moving = (closed c.most None, refl)
+remains_in_some (stream_end.Faulted fault) c unit_place bytes cuts moving = (closed c.most (Some fault), refl)
+remains_in_some stream_end.Stopped c unit_place bytes cuts moving = absurd (moving refl)
+
+comes_in_some : (d : Decoding) (bytes : List ℕ) → EachHasACut → (d.stream_end ≡ stream_end.Stopped → ⊥) → (o : Outcome) × ComesIn d bytes o
+comes_in_some d bytes cuts moving =
+    let later : (o : Outcome) × RemainsIn d.stream_end d.state d.units.unit_place bytes o = remains_in_some d.stream_end d.state d.units.unit_place bytes cuts moving in
+    (with_front d.due later.0, record { rest = later.0; same = refl; remains = later.1 })
+
+left_behind : (bytes part : List ℕ) (held' : Option (List ℕ)) → Consumes (Some bytes) held' part → (rest : List ℕ) × (held' ≡ Some rest) × (bytes ≡ part ++ rest)
+left_behind bytes part None is = absurd is
+left_behind bytes part (Some rest) is = (rest, refl, is)
+
+shown_of_read : (bytes : List ℕ) (d : Decoding) (given : List Picture) (known held' taken taken' : Option (List ℕ)) (part : List ℕ) → EachHasACut → (d.stream_end ≡ stream_end.Stopped → ⊥) → BringsAlone begun d bytes known given → Consumes known held' part
+    → ((d.stream_end ≡ stream_end.Going → ⊥) → part ≡ []) → ((more : List Picture) → AppendsFront taken taken' (raws (given ++ more))) → IsFrontOfRead bytes held' taken taken'
+shown_of_read bytes d given known held' taken taken' part cuts moving p takes still front =
+    let later : (o : Outcome) × ComesIn d part o = comes_in_some d part cuts moving in
+    let comes : ComesIn begun (p.read ++ part) (with_front given later.0) = p.alone part still later.0 later.1 in
+    let left = left_behind p.rest part held' (subst (λ (k : Option (List ℕ)). Consumes k held' part) p.holds takes) in
+    record {
+      read = p.read ++ part;
+      rest = left.0;
+      parts = p.parts ∙ ap (λ (l : List ℕ). p.read ++ l) left.2 ∙ sym (append_assoc p.read part left.0);
+      holds = left.1;
+      shows = with_front given later.0;
+      shown = subst (λ (x : Outcome). IsShown (p.read ++ part) x) (sym comes.same) comes.remains;
+      delivered = front later.0.shown;
+    }
+
+of_read : (d : Decoding) (given : List Picture) (held known held' taken taken' : Option (List ℕ)) (part : List ℕ) → EachHasACut → (d.stream_end ≡ stream_end.Stopped → ⊥) → IfSome (prepend_known begun.units.ahead held) (λ bytes. BringsAlone begun d bytes known given) → Consumes known held' part
+    → ((d.stream_end ≡ stream_end.Going → ⊥) → part ≡ []) → ((more : List Picture) → AppendsFront taken taken' (raws (given ++ more))) → IfSome held (λ bytes. IsFrontOfRead bytes held' taken taken')
+of_read d given None known held' taken taken' part cuts moving alone takes still front = tt
+of_read d given (Some bytes) known held' taken taken' part cuts moving alone takes still front =
+    shown_of_read bytes d given known held' taken taken' part cuts moving alone takes still front
+
+-- nothing more was taken
+none_taken : (ahead : List ℕ) (held : Option (List ℕ)) → ahead ≡ [] → Consumes (prepend_known ahead held) held []
+none_taken ahead None none = tt
+none_taken ahead (Some bytes) none = ap (λ (l : List ℕ). l ++ bytes) none
+
+written_front : (given : List Picture) (taken taken' : Option (List ℕ)) → Appends taken taken' (raws given) → (more : List Picture) → AppendsFront taken taken' (raws (given ++ more))
+written_front given taken taken' written more = (raws given, raws more, raws_front given more, written)
+
+-- while a picture was written
+written_in : (given : List Picture) (p : Picture) (taken taken' taken'' : Option (List ℕ)) → Appends taken taken' (raws given) → AppendsFront taken' taken'' (raw p) → (more : List Picture) → AppendsFront taken taken'' (raws ((given ++ p ∷ []) ++ more))
+written_in given p taken taken' taken'' written front more =
+    let text : raws ((given ++ p ∷ []) ++ more) ≡ (raws given ++ front.0) ++ (front.1 ++ raws more) =
+    raws_front (given ++ p ∷ []) more
+    ∙ ap (λ t. t ++ raws more) (raws_more given p ∙ ap (λ t. raws given ++ t) front.2 ∙ sym (append_assoc (raws given) front.0 front.1))
+    ∙ append_assoc (raws given ++ front.0) front.1 (raws more) in
+    (raws given ++ front.0, front.1 ++ raws more, text, Appends-trans taken taken' taken'' (raws given) front.0 written front.3)
+
+pub read_in : (d d' : Decoding) (p : Picture) (held held' held'' taken taken' taken'' : Option (List ℕ)) → EachHasACut → (d.stream_end ≡ stream_end.Stopped → ⊥) → d'.units.ahead ≡ [] → IsStreamed d held held' taken taken' → Gives (next.Shown p) d d' held' held'' → AppendsFront taken' taken'' (raw p)
+    → IfSome held (λ bytes. IsFrontOfRead bytes held'' taken taken'')
+read_in d d' p held held' held'' taken taken' taken'' cuts moving none so gives front =
+    of_read d' (so.given ++ p ∷ []) held (prepend_known d'.units.ahead held'') held'' taken taken'' [] cuts (λ e. moving (gives.2 e))
+    (alone_on (prepend_known begun.units.ahead held) (prepend_known d.units.ahead held') (prepend_known d'.units.ahead held'') begun d d' so.given (p ∷ []) so.leads.going gives.0.going so.leads.alone gives.0.alone)
+    (none_taken d'.units.ahead held'' none) (λ ne. refl) (written_in so.given p taken taken' taken'' so.written front)
+
+-- at the end or a fault
+pub read_out : (d d' : Decoding) (held held' held'' taken taken' : Option (List ℕ)) → EachHasACut → (d'.stream_end ≡ stream_end.Stopped → ⊥) → d'.units.ahead ≡ [] → IsStreamed d held held' taken taken' → LeadsTo d d' held' held'' []
+    → IfSome held (λ bytes. IsFrontOfRead bytes held'' taken taken')
+read_out d d' held held' held'' taken taken' cuts moving none so last =
+    of_read d' (so.given ++ []) held (prepend_known d'.units.ahead held'') held'' taken taken' [] cuts moving
+    (alone_on (prepend_known begun.units.ahead held) (prepend_known d.units.ahead held') (prepend_known d'.units.ahead held'') begun d d' so.given [] so.leads.going last.going so.leads.alone last.alone)
+    (none_taken d'.units.ahead held'' none) (λ ne. refl) (written_front (so.given ++ []) taken taken' (subst (λ (ps : List Picture). Appends taken taken' (raws ps)) (sym (append-nil so.given)) so.written))
+
+pub not_stopped_by_end : (m : StreamEnd) → m ≡ stream_end.Ended → m ≡ stream_end.Stopped → ⊥
+not_stopped_by_end m is e = let both : stream_end.Ended ≡ stream_end.Stopped = sym is ∙ e in cc
+
+pub not_stopped_by_fault : (m : StreamEnd) (fault : Fault) → m ≡ stream_end.Faulted fault → m ≡ stream_end.Stopped → ⊥
+not_stopped_by_fault m fault is e = let both : stream_end.Faulted fault ≡ stream_end.Stopped = sym is ∙ e in cc
+
+-- where a read failed or memory was wanting
+pub read_some : (d : Decoding) (held held' held'' taken taken' : Option (List ℕ)) → EachHasACut → (d.stream_end ≡ stream_end.Stopped → ⊥) → IsStreamed d held held' taken taken' → StopsIn d held' held''
+    → IfSome held (λ bytes. IsFrontOfRead bytes held'' taken taken')
+read_some d held held' held'' taken taken' cuts moving so stops =
+    of_read d so.given held (prepend_known d.units.ahead held') held'' taken taken' stops.1.0 cuts moving so.leads.alone stops.1.1 (λ ne. absurd (ne stops.0)) (written_front so.given taken taken' so.written)
+
+break_taken : (d : Decoding) (known held' : Option (List ℕ)) → IfSome known (λ bytes. BreaksIn d bytes held') → (part : List ℕ) × Consumes known held' part
+break_taken d None held' breaks = ([], tt)
+break_taken d (Some bytes) held' breaks =
+    (breaks.read, subst (λ (k : Option (List ℕ)). Consumes (Some bytes) k breaks.read) (sym breaks.holds) breaks.parts)
+
+pub stops_at_break : (d : Decoding) (held held' : Option (List ℕ)) → BreaksOff d held held' → StopsIn d held held'
+stops_at_break d held held' breaks = (breaks.going, break_taken d (prepend_known d.units.ahead held) held' breaks.told)

@@ -1,16 +1,20 @@
 -- A decoder as its contracts see it, and what its answers say of the pictures that are still to come.
-use Rattle.std.specs.Prelude.{◌≡◌, ℕ, ◌+◌, Bool, if◌then◌else◌, List, [], ◌∷◌, Option, None, Some, IfSome, ⊤}
+use Rattle.std.specs.Prelude.{◌≡◌, ℕ, ◌+◌, Bool, if◌then◌else◌, List, [], ◌∷◌, ◌++◌, Option, None, Some, IfSome, ⊤}
 use Rattle.std.specs.Io.KnownBytes.{prepend_known}
+use Rattle.dirac_common.specs.declared.faults.Fault.{Fault}
 use Rattle.dirac_common.specs.declared.picture.Picture.{Picture}
 use Rattle.dirac_units.specs.declared.unit.StreamEnd.{StreamEnd}
 use Rattle.dirac_units.specs.declared.unit.StreamEnd.TheVariants as stream_end
-use Rattle.dirac_units.specs.Progress.{Progress, begun as units_begun}
+use Rattle.dirac_units.specs.Cut.{IsCut, UnitText}
+use Rattle.dirac_units.specs.declared.unit_place.UnitPlace.{UnitPlace}
+use Rattle.dirac_units.specs.Progress.{Progress, TakesSome, begun as units_begun}
 use Rattle.dirac_refs.specs.Delivery.{flushed}
 use Rattle.dirac_decode.specs.declared.answers.Next.{Next}
 use Rattle.dirac_decode.specs.declared.answers.Next.TheVariants as next
 use Rattle.dirac_decode.specs.declared.answers.Tally.{Tally}
 use Rattle.dirac_decode.specs.StreamState.{StreamState, begun as course_begun}
 use Rattle.dirac_decode.specs.Shown.{Outcome, Shows, with_front}
+use Rattle.dirac_decode.specs.Leaving.{leaving}
 
 -- the units cut so far, the course of their content, pictures that leave before the next unit is read,
 -- how many were given, and the end, fault or stop that was met
@@ -57,9 +61,79 @@ pub record Comes (d : Decoding) (held : Option (List ℕ)) (o : Outcome) : Type 
   pub same : o ≡ with_front d.due rest
   pub remains : Remains d.stream_end d.state d.units held rest
 
+-- what comes behind the due pictures of just these bytes: what they show, or what was met
+abbrev pub RemainsIn : StreamEnd → StreamState → UnitPlace → List ℕ → Outcome → Type 0
+RemainsIn stream_end.Going state unit_place bytes o = Shows state unit_place bytes o
+RemainsIn stream_end.Ended state unit_place bytes o = o ≡ record { shown = []; most = state.most; end = None }
+RemainsIn (stream_end.Faulted fault) state unit_place bytes o =
+    o ≡ record { shown = []; most = state.most; end = Some fault }
+RemainsIn stream_end.Stopped state unit_place bytes o = ⊥
+
+-- this is still to come of just these bytes
+pub record ComesIn (d : Decoding) (bytes : List ℕ) (o : Outcome) : Type 0 where
+  pub rest : Outcome
+  pub same : o ≡ with_front d.due rest
+  pub remains : RemainsIn d.stream_end d.state d.units.unit_place bytes rest
+
+-- of these bytes some were read and just the others are held; what comes of those read, by themselves, and while units
+-- are taken whatever follows them, comes behind these pictures
+pub record BringsAlone (old new : Decoding) (bytes : List ℕ) (known : Option (List ℕ)) (given : List Picture)
+    : Type 0 where
+  pub read : List ℕ
+  pub rest : List ℕ
+  pub parts : bytes ≡ read ++ rest
+  pub holds : known ≡ Some rest
+  pub still : (old.stream_end ≡ stream_end.Going → ⊥) → read ≡ []
+  pub alone : (behind : List ℕ) → ((new.stream_end ≡ stream_end.Going → ⊥) → behind ≡ []) → (o : Outcome)
+      → ComesIn new behind o → ComesIn old (read ++ behind) (with_front given o)
+
+-- of these bytes whole units were read between two decoders and just the others are held, while these pictures were
+-- given: what follows is cut behind those units, and what leaves behind them is given behind these pictures
+pub record Passed (old new : Decoding) (bytes : List ℕ) (known : Option (List ℕ)) (given : List Picture) : Type 0 where
+  pub read : List ℕ
+  pub rest : List ℕ
+  pub units : List UnitText
+  pub parts : bytes ≡ read ++ rest
+  pub holds : known ≡ Some rest
+  pub cut : (behind : List ℕ) (more : List UnitText) (end : Option Fault)
+      → IsCut new.units.unit_place behind more end → IsCut old.units.unit_place (read ++ behind) (units ++ more) end
+  pub leaves : (more : List UnitText)
+      → old.due ++ leaving old.state (units ++ more) ≡ given ++ (new.due ++ leaving new.state more)
+
 -- whatever is still to come came behind these pictures
-abbrev pub LeadsTo : Decoding → Decoding → Option (List ℕ) → Option (List ℕ) → List Picture → Type 0
-LeadsTo old new held held' given = (o : Outcome) → Comes new held' o → Comes old held (with_front given o)
+abbrev pub ComesBehind : Decoding → Decoding → Option (List ℕ) → Option (List ℕ) → List Picture → Type 0
+ComesBehind old new held held' given = (o : Outcome) → Comes new held' o → Comes old held (with_front given o)
+
+-- whatever is still to come came behind these pictures, also what comes of the bytes read alone; while units are taken,
+-- whole ones were read meanwhile
+pub record LeadsTo (old new : Decoding) (held held' : Option (List ℕ)) (given : List Picture) : Type 0 where
+  pub comes : ComesBehind old new held held' given
+  pub going : new.stream_end ≡ stream_end.Going → old.stream_end ≡ stream_end.Going
+  pub passed : new.stream_end ≡ stream_end.Going → IfSome (prepend_known old.units.ahead held)
+      (λ bytes. Passed old new bytes (prepend_known new.units.ahead held') given)
+  pub alone : IfSome (prepend_known old.units.ahead held)
+      (λ bytes. BringsAlone old new bytes (prepend_known new.units.ahead held') given)
+
+-- of these bytes some were read and just the others are held, and none leaves while the whole units of those read are
+-- taken
+pub record BreaksIn (old : Decoding) (bytes : List ℕ) (held' : Option (List ℕ)) : Type 0 where
+  pub read : List ℕ
+  pub rest : List ℕ
+  pub parts : bytes ≡ read ++ rest
+  pub holds : held' ≡ Some rest
+  pub units : List UnitText
+  pub end : Option Fault
+  pub cut : IsCut old.units.unit_place read units end
+  pub none_due : old.due ++ leaving old.state units ≡ []
+
+-- a decoder is stopped while it takes units
+pub record BreaksOff (old : Decoding) (held held' : Option (List ℕ)) : Type 0 where
+  pub going : old.stream_end ≡ stream_end.Going
+  pub told : IfSome (prepend_known old.units.ahead held) (λ bytes. BreaksIn old bytes held')
+
+-- memory was wanting while units were taken: some bytes were read, and just the others are held
+abbrev pub StopsIn : Decoding → Option (List ℕ) → Option (List ℕ) → Type 0
+StopsIn old held held' = (old.stream_end ≡ stream_end.Going) × TakesSome old.units held held'
 
 -- what an answer says of the decoder before and behind it
 abbrev pub Gives : Next → Decoding → Decoding → Option (List ℕ) → Option (List ℕ) → Type 0

@@ -12,3 +12,4 @@ pub mod Rebuilding
 pub mod Moved
 pub mod Doubled
 pub mod Stepping
+pub mod Leaving

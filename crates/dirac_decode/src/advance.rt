@@ -2,6 +2,7 @@ ghost use Rattle.std.specs.Prelude.{◌≡◌, ℕ, ◌+◌, ◌<◌, ◌≤◌,
 ghost use Rattle.std.specs.Option.{option_to_list};
 ghost use Rattle.std.specs.Io.KnownBytes.{IsAtEnd};
 ghost use Rattle.dirac_io.specs.Faults.{Rose};
+ghost use Rattle.dirac_units.specs.Progress.{TakesPart, TakesSome};
 ghost use Rattle.dirac_refs.specs.Delivery.{flushed};
 ghost use Rattle.dirac_picture.specs.Reading.{ReadsPlanes};
 ghost use Rattle.dirac_decode.specs.Decoding.{due_of};
@@ -47,6 +48,8 @@ pub(crate) fn advance_by_unit<
     ensures fits { units.new.unit_place.index < 2 ^ 64 }
     ensures greatest_never_falls { state.old.most ≤ state.new.most }
     ensures whole { result ≡ Err Halt.End → IsAtEnd (S.held source.new) }
+    ensures part { result ≡ Err Halt.ReadFault → TakesPart units.old (S.held source.old) (S.held source.new) }
+    ensures taken { result ≡ Err Halt.NoMemory → TakesSome units.old (S.held source.old) (S.held source.new) }
     ensures read { result ≡ Err Halt.ReadFault → Rose (S.faults source.old) (S.faults source.new) }
     ensures count { S.faults source.old ≤ S.faults source.new }
     ensures no_overflow_result { units.new.unit_place.at + length units.new.ahead + S.left source.new

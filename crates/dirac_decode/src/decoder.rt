@@ -2,7 +2,7 @@ ghost use Rattle.std.specs.Prelude.{◌≡◌, ℕ, ◌+◌, ◌<◌, ◌≤◌,
 ghost use Rattle.std.specs.Io.KnownBytes.{IsAtEnd};
 ghost use Rattle.dirac_io.specs.Faults.{Rose};
 ghost use Rattle.dirac_picture.specs.Reading.{ReadsPlanes};
-ghost use Rattle.dirac_decode.specs.Decoding.{begun, tally, Answers, Gives};
+ghost use Rattle.dirac_decode.specs.Decoding.{begun, tally, Answers, BreaksOff, Gives, StopsIn};
 ghost use Rattle.dirac_decode.specs.Rebuilding.{Rebuilds};
 
 mod stepping;
@@ -93,6 +93,11 @@ impl Decoder {
         ensures repeats_without_reading { (self.old.stream_end ≡ StreamEnd.Going → ⊥) → source.new ≡ source.old }
         ensures whole { (self.old.stream_end ≡ StreamEnd.Ended → IsAtEnd (S.held source.old)) → self.new.stream_end
             ≡ StreamEnd.Ended → IsAtEnd (S.held source.new) }
+        // Where a read failed, no picture is due by the units that were read whole; where memory was wanting, what
+        // wasn't read is held too.
+        ensures broken_off { result ≡ Next.ReadFault → BreaksOff self.old (S.held source.old) (S.held source.new) }
+        ensures stops { result ≡ Next.NoMemory → StopsIn self.old (S.held source.old) (S.held source.new) }
+        ensures none_ahead { self.old.units.ahead ≡ [] → self.new.units.ahead ≡ [] }
         ensures read { result ≡ Next.ReadFault → Rose (S.faults source.old) (S.faults source.new) }
         ensures count { S.faults source.old ≤ S.faults source.new }
         ensures fits { self.new.given < 2 ^ 64 }
@@ -120,6 +125,11 @@ impl Decoder {
         ensures repeats_without_reading { (self.old.stream_end ≡ StreamEnd.Going → ⊥) → source.new ≡ source.old }
         ensures whole { (self.old.stream_end ≡ StreamEnd.Ended → IsAtEnd (S.held source.old)) → self.new.stream_end
             ≡ StreamEnd.Ended → IsAtEnd (S.held source.new) }
+        // Where a read failed, no picture is due by the units that were read whole; where memory was wanting, what
+        // wasn't read is held too.
+        ensures broken_off { result ≡ Next.ReadFault → BreaksOff self.old (S.held source.old) (S.held source.new) }
+        ensures stops { result ≡ Next.NoMemory → StopsIn self.old (S.held source.old) (S.held source.new) }
+        ensures none_ahead { self.old.units.ahead ≡ [] → self.new.units.ahead ≡ [] }
         ensures read { result ≡ Next.ReadFault → Rose (S.faults source.old) (S.faults source.new) }
         ensures count { S.faults source.old ≤ S.faults source.new }
         ensures fits { self.new.given < 2 ^ 64 }

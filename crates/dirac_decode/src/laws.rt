@@ -1,4 +1,5 @@
 //! What holds of all streams, as the contract of a function that does nothing.
+ghost use Rattle.dirac_decode.specs.Leaving.{WhatLeavesIsShown};
 ghost use Rattle.dirac_decode.specs.Sequences.{EachIsFlushed, LastIsFlushed};
 
 /// A law of the definitions: a stream shows the pictures of each of its sequences in the order of delivery, one
@@ -6,4 +7,10 @@ ghost use Rattle.dirac_decode.specs.Sequences.{EachIsFlushed, LastIsFlushed};
 pub fn a_stream_shows_its_sequences()
     ensures each { EachIsFlushed }
     ensures last { LastIsFlushed }
+{}
+
+/// A law of the definitions: what a stream shows begins with the pictures that leave while its first units are taken,
+/// whatever follows these.
+pub fn what_leaves_is_shown()
+    ensures { WhatLeavesIsShown }
 {}

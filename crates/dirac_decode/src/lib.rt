@@ -24,7 +24,7 @@ pub use compensate::{
 };
 pub use decoder::Decoder;
 pub use dirac_picture::{CodedMotion, CodedPicture, CodedResidual, PlaneBands, read_picture};
-pub use laws::a_stream_shows_its_sequences;
+pub use laws::{a_stream_shows_its_sequences, what_leaves_is_shown};
 pub use opened::Opened;
 pub use picture::{predicted_samples, rebuild};
 pub use planes::{height_of, plane_of, residual_of, width_of};

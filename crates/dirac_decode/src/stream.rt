@@ -4,6 +4,7 @@ ghost use Rattle.dirac_io.specs.Faults.{Rose};
 ghost use Rattle.dirac_picture.specs.Reading.{ReadsPlanes};
 ghost use Rattle.dirac_decode.specs.Decoding.{begun};
 ghost use Rattle.dirac_decode.specs.Decoded.{IfDone, IfTally, IsDecoded};
+ghost use Rattle.dirac_decode.specs.Leaving.{IsBrokenOff, IsFrontOfRead};
 ghost use Rattle.dirac_decode.specs.Rebuilding.{Rebuilds};
 
 use crate::answers::{Decoded, Next};
@@ -23,6 +24,12 @@ use std::alloc::Global;
 /// Decodes a whole stream, and writes its pictures as raw pictures in order of delivery, up to the first fault.
 pub fn decode_stream<S: Source, K: Sink>(alloc: Global, source: &mut S, out: &mut K) -> Decoded
     ensures decoded { IfSome (S.held source.old) (λ bytes. IsDecoded bytes result (K.taken out.old) (K.taken out.new)) }
+    // Where a read failed, just what leaves while the units that were read whole are taken was written.
+    ensures broken_off { result ≡ Decoded.ReadFault → IfSome (S.held source.old) (λ bytes. IsBrokenOff bytes
+        (S.held source.new) (K.taken out.old) (K.taken out.new)) }
+    // Whatever is answered, what was written is a front of what the bytes read show by themselves.
+    ensures front_of_read { IfSome (S.held source.old) (λ bytes. IsFrontOfRead bytes (S.held source.new)
+        (K.taken out.old) (K.taken out.new)) }
     ensures whole { IfDone result (IsAtEnd (S.held source.new)) }
     ensures at_most_8_references { IfTally result (λ tally. tally.references ≤ MOST_REFERENCES) }
     ensures read { result ≡ Decoded.ReadFault → Rose (S.faults source.old) (S.faults source.new) }
@@ -46,6 +53,12 @@ pub fn decode_stream_by<
     requires reads { ReadsPlanes (P.pre planes.now) (P.post planes.now) }
     requires rebuilds { Rebuilds (F.pre make.now) (F.post make.now) }
     ensures decoded { IfSome (S.held source.old) (λ bytes. IsDecoded bytes result (K.taken out.old) (K.taken out.new)) }
+    // Where a read failed, just what leaves while the units that were read whole are taken was written.
+    ensures broken_off { result ≡ Decoded.ReadFault → IfSome (S.held source.old) (λ bytes. IsBrokenOff bytes
+        (S.held source.new) (K.taken out.old) (K.taken out.new)) }
+    // Whatever is answered, what was written is a front of what the bytes read show by themselves.
+    ensures front_of_read { IfSome (S.held source.old) (λ bytes. IsFrontOfRead bytes (S.held source.new)
+        (K.taken out.old) (K.taken out.new)) }
     ensures whole { IfDone result (IsAtEnd (S.held source.new)) }
     ensures at_most_8_references { IfTally result (λ tally. tally.references ≤ MOST_REFERENCES) }
     ensures read { result ≡ Decoded.ReadFault → Rose (S.faults source.old) (S.faults source.new) }
@@ -76,6 +89,12 @@ fn write_pictures<
     requires rebuilds { Rebuilds (F.pre make.now) (F.post make.now) }
     requires new { decoder.old ≡ begun }
     ensures decoded { IfSome (S.held source.old) (λ bytes. IsDecoded bytes result (K.taken out.old) (K.taken out.new)) }
+    // Where a read failed, just what leaves while the units that were read whole are taken was written.
+    ensures broken_off { result ≡ Decoded.ReadFault → IfSome (S.held source.old) (λ bytes. IsBrokenOff bytes
+        (S.held source.new) (K.taken out.old) (K.taken out.new)) }
+    // Whatever is answered, what was written is a front of what the bytes read show by themselves.
+    ensures front_of_read { IfSome (S.held source.old) (λ bytes. IsFrontOfRead bytes (S.held source.new)
+        (K.taken out.old) (K.taken out.new)) }
     ensures whole { IfDone result (IsAtEnd (S.held source.new)) }
     ensures at_most_8_references { IfTally result (λ tally. tally.references ≤ MOST_REFERENCES) }
     ensures read { result ≡ Decoded.ReadFault → Rose (S.faults source.old) (S.faults source.new) }

@@ -8,7 +8,7 @@ use Rattle.dirac_units.specs.declared.unit.StreamEnd.TheVariants as stream_end
 use Rattle.dirac_units.specs.Progress.{Progress}
 use Rattle.dirac_decode.specs.declared.answers.Next.{Next}
 use Rattle.dirac_decode.specs.declared.answers.Next.TheVariants as next
-use Rattle.dirac_decode.specs.Decoding.{Comes, Decoding, LeadsTo, Remains}
+use Rattle.dirac_decode.specs.Decoding.{Comes, ComesBehind, Decoding, Remains}
 use Rattle.dirac_decode.specs.Shown.{IsShown, Outcome, with_front}
 use Rattle.dirac_decode.specs.Stepping.{DueGives, IsThere, IsWholeUnit, StepGives, StepGivesBefore}
 use Rattle.dirac_push.specs.declared.answer.Answer.{Answer}
@@ -69,9 +69,9 @@ passes_due old new p due there finished = record {
 }
 
 -- nothing follows, or whatever does
-lead_by : (f : Bool) (old new : Pushed) (given : List Picture) → old.is_finished ≡ f → new.is_finished ≡ old.is_finished → LeadsTo old.decoder new.decoder (Some old.there) (Some new.there) given
-    → (f ≡ false → (more : List ℕ) → LeadsTo old.decoder new.decoder (Some (old.there ++ more)) (Some (new.there ++ more)) given)
-    → (more : List ℕ) → MayFollow new more → LeadsTo old.decoder new.decoder (Some (old.there ++ more)) (Some (new.there ++ more)) given
+lead_by : (f : Bool) (old new : Pushed) (given : List Picture) → old.is_finished ≡ f → new.is_finished ≡ old.is_finished → ComesBehind old.decoder new.decoder (Some old.there) (Some new.there) given
+    → (f ≡ false → (more : List ℕ) → ComesBehind old.decoder new.decoder (Some (old.there ++ more)) (Some (new.there ++ more)) given)
+    → (more : List ℕ) → MayFollow new more → ComesBehind old.decoder new.decoder (Some (old.there ++ more)) (Some (new.there ++ more)) given
 lead_by true old new given is same plain before more may o comes =
     let none : more ≡ [] = may (same ∙ is) in
     let end : (xs : List ℕ) → xs ++ more ≡ xs = λ xs. ap (λ (ys : List ℕ). xs ++ ys) none ∙ append-nil xs in
@@ -79,8 +79,8 @@ lead_by true old new given is same plain before more may o comes =
     (plain o (subst (λ (xs : List ℕ). Comes new.decoder (Some xs) o) (end new.there) comes))
 lead_by false old new given is same plain before more may o comes = before refl more o comes
 
-pub passes_by : (old new : Pushed) (given : List Picture) → new.is_finished ≡ old.is_finished → LeadsTo old.decoder new.decoder (Some old.there) (Some new.there) given
-    → (old.is_finished ≡ false → (more : List ℕ) → LeadsTo old.decoder new.decoder (Some (old.there ++ more)) (Some (new.there ++ more)) given) → Passes old new [] given
+pub passes_by : (old new : Pushed) (given : List Picture) → new.is_finished ≡ old.is_finished → ComesBehind old.decoder new.decoder (Some old.there) (Some new.there) given
+    → (old.is_finished ≡ false → (more : List ℕ) → ComesBehind old.decoder new.decoder (Some (old.there ++ more)) (Some (new.there ++ more)) given) → Passes old new [] given
 passes_by old new given same plain before = record {
   leads = lead_by old.is_finished old new given refl same plain before;
   finished = λ e. (same ∙ e, refl);
@@ -104,13 +104,13 @@ pub step_passes : (answer : Option Next) (old new : Pushed) → StepGives answer
     → (IsThere old.decoder.units (Some old.there) → StepGivesBefore answer old.decoder new.decoder (Some old.there) (Some new.there))
     → old.decoder.units.ahead ≡ [] → (old.is_finished ≡ false → IsWholeUnit old.there) → new.is_finished ≡ old.is_finished → StepPasses answer old new
 step_passes None old new gives before none there same =
-    passes_by old new [] same gives.0 (λ e more. (before (there_by old.decoder.units old.there none (there e)) more).0)
+    passes_by old new [] same gives.0.comes (λ e more. (before (there_by old.decoder.units old.there none (there e)) more).0.comes)
 step_passes (Some (next.Shown p)) old new gives before none there same =
-    passes_by old new (p ∷ []) same gives.0 (λ e more. (before (there_by old.decoder.units old.there none (there e)) more).0)
+    passes_by old new (p ∷ []) same gives.0.comes (λ e more. (before (there_by old.decoder.units old.there none (there e)) more).0.comes)
 step_passes (Some next.End) old new gives before none there same =
-    passes_by old new [] same gives.0 (λ e more. (before (there_by old.decoder.units old.there none (there e)) more).0)
+    passes_by old new [] same gives.0.comes (λ e more. (before (there_by old.decoder.units old.there none (there e)) more).0.comes)
 step_passes (Some (next.Fault fault)) old new gives before none there same =
-    passes_by old new [] same gives.0 (λ e more. (before (there_by old.decoder.units old.there none (there e)) more).0)
+    passes_by old new [] same gives.0.comes (λ e more. (before (there_by old.decoder.units old.there none (there e)) more).0.comes)
 step_passes (Some next.ReadFault) old new gives before none there same = tt
 step_passes (Some next.NoMemory) old new gives before none there same = tt
 step_passes (Some next.Stopped) old new gives before none there same = tt

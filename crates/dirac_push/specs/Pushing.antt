@@ -6,7 +6,7 @@ use Rattle.dirac_sequence_header.specs.declared.sequence.Sequence.{Sequence}
 use Rattle.dirac_units.specs.declared.unit.StreamEnd.{StreamEnd}
 use Rattle.dirac_units.specs.declared.unit.StreamEnd.TheVariants as stream_end
 use Rattle.dirac_decode.specs.declared.opened.Opened.{Opened}
-use Rattle.dirac_decode.specs.Decoding.{Decoding, LeadsTo, begun as decoding_begun}
+use Rattle.dirac_decode.specs.Decoding.{ComesBehind, Decoding, begun as decoding_begun}
 use Rattle.dirac_decode.specs.Shown.{IsShown}
 use Rattle.dirac_decode.specs.Stepping.{IsFurther, IsWholeUnit}
 use Rattle.dirac_push.specs.declared.answer.Answer.{Answer}
@@ -40,7 +40,7 @@ MayFollow p more = p.is_finished ≡ true → more ≡ []
 -- these bytes were sent and these pictures given: whatever follows, what is then still to come came behind the pictures
 pub record Passes (old new : Pushed) (sent : List ℕ) (given : List Picture) : Type 0 where
   pub leads : (more : List ℕ) → MayFollow new more
-      → LeadsTo old.decoder new.decoder (Some (old.there ++ (sent ++ more))) (Some (new.there ++ more)) given
+      → ComesBehind old.decoder new.decoder (Some (old.there ++ (sent ++ more))) (Some (new.there ++ more)) given
   pub finished : old.is_finished ≡ true → (new.is_finished ≡ true) × (sent ≡ [])
 
 -- no picture and no fault is due, the next unit isn't there as a whole, and more bytes may follow

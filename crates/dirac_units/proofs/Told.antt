@@ -1,7 +1,7 @@
 -- What was taken of a source is what it began with.
-use Rattle.std.proofs.Common.{◌≡◌, ℕ, ◌+◌, ◌-◌, ◌≤◌, ◌<◌, List, [], ◌++◌, length, take, drop, sym, ap, ◌∙◌, refl, arith, Option, None, Some, IfSome, Ok, Err, append_assoc, append-nil, length-append, Bool, true, false, if◌then◌else◌, nat_lt, ◌==◌, subst}
+use Rattle.std.proofs.Common.{◌≡◌, ℕ, ◌+◌, ◌-◌, ◌≤◌, ◌<◌, List, [], ◌++◌, length, take, drop, sym, ap, ◌∙◌, refl, arith, Option, None, Some, IfSome, Result, Ok, Err, append_assoc, append-nil, length-append, Bool, true, false, if◌then◌else◌, nat_lt, ◌==◌, subst}
 use Rattle.std.proofs.lemmas.Bool.{le-ltb, ne_eqb, lt-ltb}
-use Rattle.std.proofs.lemmas.List.{take_at}
+use Rattle.std.proofs.lemmas.List.{length-take-le, take_at}
 use Rattle.std.proofs.Math.Seq.{drop-append_seam}
 use Rattle.std.proofs.KnownBytes.{Consumes-trans}
 use Rattle.std.specs.Prelude.{slice_range, ◌&&◌}
@@ -14,7 +14,7 @@ use Rattle.dirac_units.specs.declared.unit_place.UnitPlace.{UnitPlace}
 use Rattle.dirac_units.specs.declared.unit.Unit.{Unit}
 use Rattle.dirac_units.specs.Info.{info_read, span_of, fields_are_read}
 use Rattle.dirac_units.specs.Cut.{front_of, unit_front, fault_at}
-use Rattle.dirac_units.specs.Progress.{IsFirstUnit}
+use Rattle.dirac_units.specs.Progress.{IsFirstUnit, IsPartTaken}
 use Rattle.dirac_units.specs.Taking.{CutsPayload, TakesInfo, TakesNone, TakesPayload}
 use Rattle.dirac_units.specs.declared.take.NoUnit.{NoUnit}
 use Rattle.dirac_units.specs.declared.take.NoUnit.TheVariants as none
@@ -82,6 +82,60 @@ told_unit keep unit unit_place header more (Some xs) (Some ys) (Some zs) first l
       ap Some (sym (ap (drop span) whole ∙ ap (λ n. drop n ((header ++ more) ++ zs)) (sym long) ∙ drop-append_seam (header ++ more) zs)),
     )
 
+-- where fewer bytes were taken than a parse info has, no unit stands in them
+no_unit_first : {A B : Type 0} (b : Bool) (x : B) (y : Result A B) → ((b ≡ false) → (e : B) × (y ≡ Err e)) → (e : B) × ((if b then Err x else y) ≡ Err e)
+no_unit_first true x y later = (x, refl)
+no_unit_first false x y later = later refl
+
+short_stands : (unit_place : UnitPlace) (bytes : List ℕ) → length bytes < 13 → (end : Option Fault) × (front_of unit_place bytes ≡ Err end)
+short_stands unit_place bytes short =
+    no_unit_first (length bytes == 0) _ _ (λ some. (Some (fault_at unit_place (length bytes) Truncated), chosen_so (nat_lt (length bytes) 13) _ _ (lt-ltb (length bytes) 13 short)))
+
+pub told_part : (unit_place : UnitPlace) (part : List ℕ) (held held' : Option (List ℕ)) (end : Option Fault) → Consumes held held' part → front_of unit_place part ≡ Err end → IfSome held (λ all. IsPartTaken unit_place end all held')
+told_part unit_place part None held' end taken is = tt
+told_part unit_place part (Some xs) None end taken is = absurd taken
+told_part unit_place part (Some xs) (Some ys) end taken is = record { part = part; rest = ys; no_unit = is; parts = taken; holds = refl }
+
+some_part : (unit_place : UnitPlace) (held held' : Option (List ℕ)) (end : Option Fault) → IfSome held (λ all. IsPartTaken unit_place end all held') → IfSome held (λ all. (e : Option Fault) × IsPartTaken unit_place e all held')
+some_part unit_place None held' end is = tt
+some_part unit_place (Some xs) held' end is = (end, is)
+
+-- a parse info that is refused, as what was taken
+pub told_part_of_refusal : (unit_place : UnitPlace) (header : List ℕ) (held held' : Option (List ℕ)) (refusal : Refusal) → Consumes held held' header → length header ≡ 13
+    → info_read header ≡ Err refusal → IfSome held (λ all. IsPartTaken unit_place (Some (fault_at unit_place refusal.at refusal.cause)) all held')
+told_part_of_refusal unit_place header held held' refusal taken len read =
+    told_part unit_place header held held' (Some (fault_at unit_place refusal.at refusal.cause)) taken
+    (told_refusal unit_place header (Some header) (Some []) refusal (sym (append-nil header)) len read)
+
+-- a read failed in a parse info
+pub told_part_of_info : (unit_place : UnitPlace) (buf : List ℕ) (n : ℕ) (held held' : Option (List ℕ)) → n < 13 → length buf ≡ 13 → Consumes held held' (take n buf) → IfSome held (λ all. (e : Option Fault) × IsPartTaken unit_place e all held')
+told_part_of_info unit_place buf n held held' short size taken =
+    let front = short_stands unit_place (take n buf) (omega (arith, length-take-le n buf (omega (arith, size, short)), short)) in
+    some_part unit_place held held' front.0 (told_part unit_place (take n buf) held held' front.0 taken front.1)
+
+-- what was taken of a unit whose payload is cut
+told_part_of_payload : (unit_place : UnitPlace) (info : ParseInfo) (header more : List ℕ) (held mid held' : Option (List ℕ)) → Consumes held mid header → length header ≡ 13
+    → info_read header ≡ Ok info → Consumes mid held' more → length more + 13 < span_of info → IfSome held (λ all. IsPartTaken unit_place (Some (fault_at unit_place (13 + length more) Truncated)) all held')
+told_part_of_payload unit_place info header more held mid held' first len read rest short =
+    let size : length (header ++ more) ≡ 13 + length more = length-append header more ∙ omega (arith, len) in
+    subst (λ n. IfSome held (λ all. IsPartTaken unit_place (Some (fault_at unit_place n Truncated)) all held')) size
+    (told_part unit_place (header ++ more) held held' (Some (fault_at unit_place (length (header ++ more)) Truncated)) (Consumes-trans held mid held' header more first rest)
+    (short_front unit_place (header ++ more) info (omega (arith, size)) (ap info_read (take_at header more 13 len) ∙ read) (omega (arith, size, short))))
+
+-- the piece in which a read failed
+pub piece_failed : (count n size m : ℕ) (keep : Bool) (payload buf : List ℕ) (unit_place : UnitPlace) (held mid held' : Option (List ℕ))
+    → TakesPayload n keep payload held mid → Consumes mid held' (take m buf) → m < size → length buf ≡ size → n + size ≤ count → CutsPayload none.ReadFault unit_place count held held'
+piece_failed count n size m keep payload buf unit_place held mid held' so got few long fits =
+    let part : length (take m buf) ≡ m = length-take-le m buf (omega (arith, few, long)) in (
+      so.0 ++ take m buf,
+      omega (arith, length-append so.0 (take m buf), so.1, part, few, fits),
+      Consumes-trans held mid held' so.0 (take m buf) so.3 got,
+    )
+
+-- the piece for which memory was wanting
+pub piece_lost : (n : ℕ) (keep : Bool) (payload piece : List ℕ) (held mid held' : Option (List ℕ)) → TakesPayload n keep payload held mid → Consumes mid held' piece → (bytes : List ℕ) × Consumes held held' bytes
+piece_lost n keep payload piece held mid held' so got = (so.0 ++ piece, Consumes-trans held mid held' so.0 piece so.3 got)
+
 -- the unit whose payload was taken
 pub told_taken : (keep kept : Bool) (unit : Unit) (unit_place : UnitPlace) (held mid held' : Option (List ℕ)) → TakesInfo unit.info held mid
     → TakesPayload (span_of unit.info - 13) kept unit.payload mid held' → 13 ≤ span_of unit.info → kept ≡ (keep && fields_are_read unit.info.code)
@@ -102,9 +156,12 @@ told_none (none.End end) info unit_place held mid held' taken cut = (
   subst (λ (e : Option Fault). IfSome held (λ all. front_of unit_place all ≡ Err e)) (sym cut.2)
       (told_cut unit_place info taken.0 cut.0 held mid held' taken.3 taken.1 taken.2 cut.3 cut.4 (omega (arith, cut.1))),
   λ e. cut.4,
+  subst (λ (e : Option Fault). IfSome held (λ all. IsPartTaken unit_place e all held')) (sym cut.2)
+      (told_part_of_payload unit_place info taken.0 cut.0 held mid held' taken.3 taken.1 taken.2 cut.3 (omega (arith, cut.1))),
 )
-told_none none.ReadFault info unit_place held mid held' taken cut = tt
-told_none none.NoMemory info unit_place held mid held' taken cut = tt
+told_none none.ReadFault info unit_place held mid held' taken cut =
+    some_part unit_place held held' (Some (fault_at unit_place (13 + length cut.0) Truncated)) (told_part_of_payload unit_place info taken.0 cut.0 held mid held' taken.3 taken.1 taken.2 cut.2 (omega (arith, cut.1)))
+told_none none.NoMemory info unit_place held mid held' taken cut = (taken.0 ++ cut.0, Consumes-trans held mid held' taken.0 cut.0 taken.3 cut.1)
 
 -- one more piece of a payload
 pub piece_taken : (n k m : ℕ) (keep : Bool) (payload payload' piece : List ℕ) (held mid held' : Option (List ℕ)) → TakesPayload n keep payload held mid

@@ -1,7 +1,7 @@
 -- How far the cutting of a source came, and what its next step gives.
-use Rattle.std.specs.Prelude.{◌≡◌, ℕ, ◌+◌, ◌≤◌, length, Bool, ◌&&◌, if◌then◌else◌, List, [], drop, slice_range, Option}
-use Rattle.std.specs.Prelude.{None, Some, IfSome, Ok, Err, ⊤}
-use Rattle.std.specs.Io.KnownBytes.{prepend_known, IsAtEnd}
+use Rattle.std.specs.Prelude.{◌≡◌, ℕ, ◌+◌, ◌≤◌, length, Bool, ◌&&◌, if◌then◌else◌, List, [], ◌++◌, drop, slice_range}
+use Rattle.std.specs.Prelude.{Option, None, Some, IfSome, Ok, Err, ⊤}
+use Rattle.std.specs.Io.KnownBytes.{prepend_known, Consumes, IsAtEnd}
 use Rattle.dirac_common.specs.declared.faults.Fault.{Fault}
 use Rattle.dirac_units.specs.declared.info.ParseInfo.{ParseInfo}
 use Rattle.dirac_units.specs.declared.unit_place.UnitPlace.{UnitPlace}
@@ -49,10 +49,30 @@ abbrev pub HoldsWhatFollows : Unit → Progress → Option (List ℕ) → Option
 HoldsWhatFollows unit old held held' =
     IfSome (prepend_known old.ahead held) (λ bytes. held' ≡ Some (drop (span_of unit.info) bytes))
 
--- no unit is left, but this end or fault; at the lawful end the source was read to its end
+-- in what was taken of these bytes no whole unit stands, but this end or fault, and just what follows it is held
+pub record IsPartTaken (unit_place : UnitPlace) (end : Option Fault) (bytes : List ℕ) (held' : Option (List ℕ))
+    : Type 0 where
+  pub part : List ℕ
+  pub rest : List ℕ
+  pub no_unit : front_of unit_place part ≡ Err end
+  pub parts : bytes ≡ part ++ rest
+  pub holds : held' ≡ Some rest
+
+-- so it is, with some end or fault, with the bytes ahead and those held
+abbrev pub TakesPart : Progress → Option (List ℕ) → Option (List ℕ) → Type 0
+TakesPart old held held' =
+    IfSome (prepend_known old.ahead held) (λ bytes. (end : Option Fault) × IsPartTaken old.unit_place end bytes held')
+
+-- some of the bytes ahead and those held were taken, and just the others are held
+abbrev pub TakesSome : Progress → Option (List ℕ) → Option (List ℕ) → Type 0
+TakesSome old held held' = (part : List ℕ) × Consumes (prepend_known old.ahead held) held' part
+
+-- no unit is left, but this end or fault, which stands in what was taken too; at the lawful end the source was read to
+-- its end
 pub record Ends (old : Progress) (held held' : Option (List ℕ)) (end : Option Fault) : Type 0 where
   pub told : IfSome (prepend_known old.ahead held) (λ bytes. front_of old.unit_place bytes ≡ Err end)
   pub whole : end ≡ None → IsAtEnd held'
+  pub taken : IfSome (prepend_known old.ahead held) (λ bytes. IsPartTaken old.unit_place end bytes held')
 
 -- a fact on the unit, where one was given
 abbrev pub IfUnit : UnitStep → (Unit → Type 0) → Type 0

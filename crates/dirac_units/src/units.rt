@@ -1,6 +1,7 @@
 ghost use Rattle.std.specs.Prelude.{◌≡◌, ℕ, ◌+◌, ◌<◌, ◌≤◌, ◌^◌, length, [], Option, None, Some};
 ghost use Rattle.dirac_io.specs.Faults.{Rose};
 ghost use Rattle.dirac_units.specs.Progress.{begun, Ends, GivesUnit, HoldsWhatFollows, IfUnit, met_after, Repeats};
+ghost use Rattle.dirac_units.specs.Progress.{TakesPart, TakesSome};
 
 use crate::take::{NoUnit, take_unit};
 use crate::unit::{StreamEnd, UnitStep};
@@ -51,6 +52,9 @@ impl Units {
             (S.held source.new)) }
         // Behind a unit nothing was taken beyond it.
         ensures rest { IfUnit result (λ unit. HoldsWhatFollows unit self.old (S.held source.old) (S.held source.new)) }
+        // Where a read failed, no whole unit was taken; where memory was wanting, some bytes were.
+        ensures part { result ≡ UnitStep.ReadFault → TakesPart self.old (S.held source.old) (S.held source.new) }
+        ensures taken { result ≡ UnitStep.NoMemory → TakesSome self.old (S.held source.old) (S.held source.new) }
         ensures none_ahead { self.new.ahead ≡ [] }
         ensures end { self.old.stream_end ≡ StreamEnd.Going → result ≡ UnitStep.End
             → Ends self.old (S.held source.old) (S.held source.new) None }

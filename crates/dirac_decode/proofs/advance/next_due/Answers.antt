@@ -1,4 +1,4 @@
-use Rattle.dirac_decode.proofs.Leading.{due_pop, settles_pop}
+use Rattle.dirac_decode.proofs.Leading.{due_pop, settles_not, settles_pop}
 use Rattle.dirac_decode.proofs.advance.next_due.Goals as goal
 
 pub returns-then-draining-clause-settles : goal.returns-then-draining-clause-settles
@@ -8,3 +8,6 @@ returns-then-draining-clause-settles c =
 pub returns-then-draining-clause-due : goal.returns-then-draining-clause-due
 returns-then-draining-clause-due c =
     due_pop c.pop.result c.args.state.now c.pop.new.self c.args.draining c.if-draining.true c.pop.ensures
+
+pub returns-clause-settles : goal.returns-clause-settles
+returns-clause-settles c = settles_not c.args.state.now c.args.draining c.if-draining.false

@@ -5,7 +5,7 @@ use Rattle.dirac_decode.specs.declared.answers.Decoded.TheVariants as decoded
 use Rattle.dirac_decode.specs.declared.answers.Tally.{Tally}
 use Rattle.dirac_decode.specs.Decoded.{IsDecoded}
 use Rattle.dirac_decode.specs.Decoding.{Decoding, begun}
-use Rattle.dirac_decode.proofs.Streaming.{cut_off, cut_off_in, streamed_done, streamed_fault, streamed_more, streamed_none}
+use Rattle.dirac_decode.proofs.Streaming.{broken_off, cut_off, cut_off_in, not_stopped_by_end, not_stopped_by_fault, read_in, read_out, read_some, stops_at_break, streamed_done, streamed_fault, streamed_more, streamed_none}
 use Rattle.dirac_decode.proofs.Passing.{each_has_a_cut}
 use Rattle.dirac_decode.proofs.stream.write_pictures.Goals as goal
 
@@ -17,6 +17,7 @@ pictures-init g c =
       moving = λ e. let going : c.args.decoder.now.stream_end ≡ stream_end.Going = ap (λ (d : Decoding). d.stream_end) same in cc;
       whole = λ e. let going : c.args.decoder.now.stream_end ≡ stream_end.Going = ap (λ (d : Decoding). d.stream_end) same in cc;
       room = rw same (omega arith);
+      none_ahead = ap (λ (d : Decoding). d.units.ahead) same;
       reads = omega arith;
       writes = omega arith;
     }
@@ -35,6 +36,7 @@ pictures-preserved g c = record {
   moving = λ e. c.pictures.invariant.moving (c.in-Shown.ensures.gives.2 e);
   whole = c.in-Shown.ensures.whole c.pictures.invariant.whole;
   room = omega (arith, c.pictures.invariant.room, c.in-Shown.ensures.no_overflow);
+  none_ahead = c.in-Shown.ensures.none_ahead c.pictures.invariant.none_ahead;
   reads = omega (arith, c.pictures.invariant.reads, c.in-Shown.ensures.count);
   writes = omega (arith, c.pictures.invariant.writes, c.in-All.ensures.count);
 }
@@ -81,3 +83,47 @@ pub returns-in-NoMemory-clause-decoded : goal.returns-in-NoMemory-clause-decoded
 returns-in-NoMemory-clause-decoded g c =
     cut_off c.pictures.decoder (g.S.Source.held c.args.source.now) (g.S.Source.held c.pictures.source) (g.K.Sink.taken c.args.out.now) (g.K.Sink.taken c.pictures.out)
     each_has_a_cut c.pictures.invariant.moving c.pictures.invariant.streamed
+
+pub returns-in-ReadFault-clause-broken_off : goal.returns-in-ReadFault-clause-broken_off
+returns-in-ReadFault-clause-broken_off g c = λ fault.
+    broken_off c.pictures.decoder (g.S.Source.held c.args.source.now) (g.S.Source.held c.pictures.source) (g.S.Source.held c.next_picture_by.new.source)
+    (g.K.Sink.taken c.args.out.now) (g.K.Sink.taken c.pictures.out) c.pictures.invariant.streamed (c.in-ReadFault.ensures.broken_off refl)
+
+pub returns-in-Failed-clause-front_of_read : goal.returns-in-Failed-clause-front_of_read
+returns-in-Failed-clause-front_of_read g c =
+    read_in c.pictures.decoder c.next_picture_by.new.self c.in-Shown.picture
+    (g.S.Source.held c.args.source.now) (g.S.Source.held c.pictures.source) (g.S.Source.held c.next_picture_by.new.source)
+    (g.K.Sink.taken c.args.out.now) (g.K.Sink.taken c.pictures.out) (g.K.Sink.taken c.put_picture.new.out)
+    each_has_a_cut c.pictures.invariant.moving (c.in-Shown.ensures.none_ahead c.pictures.invariant.none_ahead) c.pictures.invariant.streamed c.in-Shown.ensures.gives c.in-Failed.ensures.front
+
+pub returns-in-NoMemory-put_picture-clause-front_of_read : goal.returns-in-NoMemory-put_picture-clause-front_of_read
+returns-in-NoMemory-put_picture-clause-front_of_read g c =
+    read_in c.pictures.decoder c.next_picture_by.new.self c.in-Shown.picture
+    (g.S.Source.held c.args.source.now) (g.S.Source.held c.pictures.source) (g.S.Source.held c.next_picture_by.new.source)
+    (g.K.Sink.taken c.args.out.now) (g.K.Sink.taken c.pictures.out) (g.K.Sink.taken c.put_picture.new.out)
+    each_has_a_cut c.pictures.invariant.moving (c.in-Shown.ensures.none_ahead c.pictures.invariant.none_ahead) c.pictures.invariant.streamed c.in-Shown.ensures.gives c.in-NoMemory-put_picture.ensures.front
+
+pub returns-in-End-clause-front_of_read : goal.returns-in-End-clause-front_of_read
+returns-in-End-clause-front_of_read g c =
+    read_out c.pictures.decoder c.next_picture_by.new.self
+    (g.S.Source.held c.args.source.now) (g.S.Source.held c.pictures.source) (g.S.Source.held c.next_picture_by.new.source)
+    (g.K.Sink.taken c.args.out.now) (g.K.Sink.taken c.pictures.out)
+    each_has_a_cut (not_stopped_by_end c.next_picture_by.new.self.stream_end c.in-End.ensures.gives.1) (c.in-End.ensures.none_ahead c.pictures.invariant.none_ahead) c.pictures.invariant.streamed c.in-End.ensures.gives.0
+
+pub returns-in-Fault-clause-front_of_read : goal.returns-in-Fault-clause-front_of_read
+returns-in-Fault-clause-front_of_read g c =
+    read_out c.pictures.decoder c.next_picture_by.new.self
+    (g.S.Source.held c.args.source.now) (g.S.Source.held c.pictures.source) (g.S.Source.held c.next_picture_by.new.source)
+    (g.K.Sink.taken c.args.out.now) (g.K.Sink.taken c.pictures.out)
+    each_has_a_cut (not_stopped_by_fault c.next_picture_by.new.self.stream_end c.in-Fault.fault c.in-Fault.ensures.gives.1) (c.in-Fault.ensures.none_ahead c.pictures.invariant.none_ahead) c.pictures.invariant.streamed c.in-Fault.ensures.gives.0
+
+pub returns-in-ReadFault-clause-front_of_read : goal.returns-in-ReadFault-clause-front_of_read
+returns-in-ReadFault-clause-front_of_read g c =
+    read_some c.pictures.decoder (g.S.Source.held c.args.source.now) (g.S.Source.held c.pictures.source) (g.S.Source.held c.next_picture_by.new.source)
+    (g.K.Sink.taken c.args.out.now) (g.K.Sink.taken c.pictures.out) each_has_a_cut c.pictures.invariant.moving c.pictures.invariant.streamed
+    (stops_at_break c.pictures.decoder (g.S.Source.held c.pictures.source) (g.S.Source.held c.next_picture_by.new.source) (c.in-ReadFault.ensures.broken_off refl))
+
+pub returns-in-NoMemory-clause-front_of_read : goal.returns-in-NoMemory-clause-front_of_read
+returns-in-NoMemory-clause-front_of_read g c =
+    read_some c.pictures.decoder (g.S.Source.held c.args.source.now) (g.S.Source.held c.pictures.source) (g.S.Source.held c.next_picture_by.new.source)
+    (g.K.Sink.taken c.args.out.now) (g.K.Sink.taken c.pictures.out) each_has_a_cut c.pictures.invariant.moving c.pictures.invariant.streamed (c.in-NoMemory.ensures.stops refl)

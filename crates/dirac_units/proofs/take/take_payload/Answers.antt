@@ -1,6 +1,6 @@
 use Rattle.std.proofs.Common.{◌≡◌, ◌∙◌, ◌+◌, ◌-◌, ◌<◌, ◌++◌, length, take, arith, refl, if◌then◌else◌}
 use Rattle.std.proofs.lemmas.List.{length-take-le}
-use Rattle.dirac_units.proofs.Told.{piece_cut, piece_taken}
+use Rattle.dirac_units.proofs.Told.{piece_cut, piece_failed, piece_lost, piece_taken}
 use Rattle.dirac_units.proofs.take.take_payload.Goals.{else-keep-via-then-keep+else-is_err, else-keep-via-else-keep}
 use Rattle.dirac_units.proofs.take.take_payload.Goals as goal
 
@@ -32,3 +32,16 @@ pieces-preserved g c =
       left = omega (arith, c.pieces.invariant.left, c.in-Whole.ensures.lowers refl, room, size, c.min.ensures, c.pieces.invariant.rest);
       count = omega (arith, c.pieces.invariant.count, c.fill.ensures.count);
     }
+
+pub returns-in-Failed-clause-cut : goal.returns-in-Failed-clause-cut
+returns-in-Failed-clause-cut g c =
+    let room : length (take c.min.result c.pieces.buf) ≡ c.min.result = length-take-le c.min.result c.pieces.buf (omega (arith, c.min.ensures, c.min.array_long)) in
+    let front = c.in-Failed.ensures.front refl in
+    piece_failed c.args.count (c.args.count - c.pieces.rest) c.min.result front.0 c.args.keep c.pieces.payload.items c.fill.new.buf c.args.unit_place
+    (g.S.Source.held c.args.source.now) (g.S.Source.held c.pieces.source) (g.S.Source.held c.fill.new.source) c.pieces.invariant.taken front.2
+    (omega (arith, front.1, room)) (c.fill.ensures.size ∙ room) (omega (arith, c.min.ensures, c.pieces.invariant.rest))
+
+pub returns-then-is_err-clause-cut : goal.returns-then-is_err-clause-cut
+returns-then-is_err-clause-cut g c =
+    piece_lost (c.args.count - c.pieces.rest) c.args.keep c.pieces.payload.items c.fill.new.buf (g.S.Source.held c.args.source.now) (g.S.Source.held c.pieces.source) (g.S.Source.held c.fill.new.source)
+    c.pieces.invariant.taken (c.in-Whole.ensures.whole refl)

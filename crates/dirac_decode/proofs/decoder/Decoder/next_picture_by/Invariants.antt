@@ -17,6 +17,7 @@ invariant-units g l = record {
   still : (l.fn.self.stream_end ≡ stream_end.Going → ⊥) → (l.source ≡ l.initial.source) × (decoding l.self-inside.units l.self-inside.state l.self-inside.draining l.self-inside.given l.self-inside.stream_end ≡ l.fn.self);
   whole : (l.fn.self.stream_end ≡ stream_end.Ended → IsAtEnd (g.S.Source.held l.initial.source)) → l.self-inside.stream_end ≡ stream_end.Ended → IsAtEnd (g.S.Source.held l.source);
   room : l.self-inside.units.unit_place.at + length l.self-inside.units.ahead + g.S.Source.left l.source ≤ l.fn.self.units.unit_place.at + length l.fn.self.units.ahead + g.S.Source.left l.initial.source;
+  ahead : l.fn.self.units.ahead ≡ [] → l.self-inside.units.ahead ≡ [];
   count : g.S.Source.faults l.initial.source ≤ g.S.Source.faults l.source;
 }
 

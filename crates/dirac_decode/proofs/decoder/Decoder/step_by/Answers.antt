@@ -1,13 +1,14 @@
-use Rattle.std.proofs.Common.{◌≡◌, ◌+◌, ◌∙◌, ap, arith, false, length, subst, sym, [], ◌∷◌, Ok}
+use Rattle.std.proofs.Common.{◌≡◌, ◌+◌, ◌∙◌, ap, arith, false, true, length, refl, subst, sym, [], ◌∷◌, Ok, Err}
 use Rattle.std.specs.Io.KnownBytes.{append_known}
 use Rattle.dirac_units.specs.declared.unit.StreamEnd.TheVariants as stream_end
 use Rattle.dirac_units.specs.Progress.{Progress}
+use Rattle.dirac_decode.specs.declared.step.Halt.{Halt}
 use Rattle.dirac_decode.specs.declared.step.Step.{Step}
 use Rattle.dirac_decode.specs.Advancing.{Advances}
 use Rattle.dirac_decode.specs.Decoding.{Decoding, decoding}
 use Rattle.dirac_decode.specs.Stepping.{IsThere}
 use Rattle.dirac_decode.specs.Taking.{shown_in}
-use Rattle.dirac_decode.proofs.Leading.{most_of, answers_any, leads_going, leads_same}
+use Rattle.dirac_decode.proofs.Leading.{most_of, answers_any, leads_going, leads_on, leads_same, leads_unit, not_ended, not_faulted}
 use Rattle.dirac_decode.proofs.decoder.Decoder.step_by.Goals as goal
 
 pub returns-in-Ok-Shown : goal.returns-in-Ok-Shown
@@ -47,3 +48,196 @@ returns-in-Ok-Shown g c =
       greatest = omega (arith, ap (λ (d : Decoding). d.state.most) c.self.view_is, most_of c.self.inside.draining c.self.inside.state, c.in-None.ensures.greatest_stays, c.in-Ok-Shown.ensures.greatest_never_falls);
       no_overflow = omega (arith, ap (λ (d : Decoding). d.units.unit_place.at + length d.units.ahead) c.self.view_is, c.in-Ok-Shown.ensures.no_overflow_result);
     }
+
+pub returns-in-Some-clause-gives : goal.returns-in-Some-clause-gives
+returns-in-Some-clause-gives g c =
+    let a = c.args.self.now in
+    let held = g.S.Source.held c.args.source.now in
+    let here = decoding c.self.inside.units c.self.inside.state c.self.inside.draining c.self.inside.given c.self.inside.stream_end in (
+      leads_on a here (decoding c.self.inside.units c.next_due.new.state c.self.inside.draining (c.self.inside.given + 1) c.self.inside.stream_end) held held held (c.in-Some.picture ∷ [])
+          (leads_same a here held c.self.view_is) (c.in-Some.ensures.settles c.self.inside.units c.self.inside.given (c.self.inside.given + 1) c.self.inside.stream_end held),
+      ap (λ (d : Decoding). d.given + 1) c.self.view_is,
+      λ (e : c.self.inside.stream_end ≡ stream_end.Stopped). sym (ap (λ (d : Decoding). d.stream_end) c.self.view_is) ∙ e,
+    )
+
+pub returns-in-Some-clause-before_more : goal.returns-in-Some-clause-before_more
+returns-in-Some-clause-before_more g c =
+    let a = c.args.self.now in
+    let held = g.S.Source.held c.args.source.now in
+    let here = decoding c.self.inside.units c.self.inside.state c.self.inside.draining c.self.inside.given c.self.inside.stream_end in
+    λ there more. (
+      leads_on a here (decoding c.self.inside.units c.next_due.new.state c.self.inside.draining (c.self.inside.given + 1) c.self.inside.stream_end) (append_known held more) (append_known held more) (append_known held more) (c.in-Some.picture ∷ [])
+          (leads_same a here (append_known held more) c.self.view_is) (c.in-Some.ensures.settles c.self.inside.units c.self.inside.given (c.self.inside.given + 1) c.self.inside.stream_end (append_known held more)),
+      ap (λ (d : Decoding). d.given + 1) c.self.view_is,
+      λ (e : c.self.inside.stream_end ≡ stream_end.Stopped). sym (ap (λ (d : Decoding). d.stream_end) c.self.view_is) ∙ e,
+    )
+
+pub returns-in-Ended-clause-gives : goal.returns-in-Ended-clause-gives
+returns-in-Ended-clause-gives g c =
+    let a = c.args.self.now in
+    let held = g.S.Source.held c.args.source.now in
+    let here = decoding c.self.inside.units c.self.inside.state c.self.inside.draining c.self.inside.given c.self.inside.stream_end in (
+      leads_on a here (decoding c.self.inside.units c.next_due.new.state false c.self.inside.given c.self.inside.stream_end) held held held []
+          (leads_same a here held c.self.view_is) (c.in-None.ensures.settles c.self.inside.units c.self.inside.given c.self.inside.given c.self.inside.stream_end held),
+      c.in-Ended.is,
+      refl,
+      ap (λ (d : Decoding). d.given) c.self.view_is,
+    )
+
+pub returns-in-Ended-clause-before_more : goal.returns-in-Ended-clause-before_more
+returns-in-Ended-clause-before_more g c =
+    let a = c.args.self.now in
+    let held = g.S.Source.held c.args.source.now in
+    let here = decoding c.self.inside.units c.self.inside.state c.self.inside.draining c.self.inside.given c.self.inside.stream_end in
+    λ there more. (
+      leads_on a here (decoding c.self.inside.units c.next_due.new.state false c.self.inside.given c.self.inside.stream_end) (append_known held more) (append_known held more) (append_known held more) []
+          (leads_same a here (append_known held more) c.self.view_is) (c.in-None.ensures.settles c.self.inside.units c.self.inside.given c.self.inside.given c.self.inside.stream_end (append_known held more)),
+      c.in-Ended.is,
+      refl,
+      ap (λ (d : Decoding). d.given) c.self.view_is,
+    )
+
+pub returns-in-Faulted-clause-gives : goal.returns-in-Faulted-clause-gives
+returns-in-Faulted-clause-gives g c =
+    let a = c.args.self.now in
+    let held = g.S.Source.held c.args.source.now in
+    let here = decoding c.self.inside.units c.self.inside.state c.self.inside.draining c.self.inside.given c.self.inside.stream_end in (
+      leads_on a here (decoding c.self.inside.units c.next_due.new.state false c.self.inside.given c.self.inside.stream_end) held held held []
+          (leads_same a here held c.self.view_is) (c.in-None.ensures.settles c.self.inside.units c.self.inside.given c.self.inside.given c.self.inside.stream_end held),
+      c.in-Faulted.is,
+      refl,
+      ap (λ (d : Decoding). d.given) c.self.view_is,
+    )
+
+pub returns-in-Faulted-clause-before_more : goal.returns-in-Faulted-clause-before_more
+returns-in-Faulted-clause-before_more g c =
+    let a = c.args.self.now in
+    let held = g.S.Source.held c.args.source.now in
+    let here = decoding c.self.inside.units c.self.inside.state c.self.inside.draining c.self.inside.given c.self.inside.stream_end in
+    λ there more. (
+      leads_on a here (decoding c.self.inside.units c.next_due.new.state false c.self.inside.given c.self.inside.stream_end) (append_known held more) (append_known held more) (append_known held more) []
+          (leads_same a here (append_known held more) c.self.view_is) (c.in-None.ensures.settles c.self.inside.units c.self.inside.given c.self.inside.given c.self.inside.stream_end (append_known held more)),
+      c.in-Faulted.is,
+      refl,
+      ap (λ (d : Decoding). d.given) c.self.view_is,
+    )
+
+pub returns-in-Ok-On-clause-gives : goal.returns-in-Ok-On-clause-gives
+returns-in-Ok-On-clause-gives g c =
+    let a = c.args.self.now in
+    let held = g.S.Source.held c.args.source.now in
+    let here = decoding c.self.inside.units c.self.inside.state c.self.inside.draining c.self.inside.given c.self.inside.stream_end in (
+      leads_going a c.self.inside.units c.advance_by_unit.new.units c.self.inside.state c.next_due.new.state c.advance_by_unit.new.state c.self.inside.draining false c.self.inside.given c.self.inside.given c.self.inside.stream_end
+          held held (g.S.Source.held c.advance_by_unit.new.source) [] (leads_same a here held c.self.view_is) c.in-None.ensures.settles c.in-Going.is
+          (subst (λ (s : Step). Advances (Ok s) c.self.inside.units c.advance_by_unit.new.units c.next_due.new.state c.advance_by_unit.new.state held (g.S.Source.held c.advance_by_unit.new.source)) c.in-Ok-On.field-0-is c.in-Ok-On.ensures.advances),
+      (sym (ap (λ (d : Decoding). d.stream_end) c.self.view_is) ∙ c.in-Going.is),
+      λ (e : c.self.inside.stream_end ≡ stream_end.Stopped). let both : stream_end.Going ≡ stream_end.Stopped = sym c.in-Going.is ∙ e in cc,
+      ap (λ (d : Decoding). d.given) c.self.view_is,
+      λ (e : c.self.inside.stream_end ≡ stream_end.Going). omega (arith, ap (λ (d : Decoding). d.units.unit_place.at) c.self.view_is, c.in-Ok-On.ensures.goes_on.1),
+    )
+
+pub returns-in-Ok-On-clause-before_more : goal.returns-in-Ok-On-clause-before_more
+returns-in-Ok-On-clause-before_more g c =
+    let a = c.args.self.now in
+    let held = g.S.Source.held c.args.source.now in
+    let here = decoding c.self.inside.units c.self.inside.state c.self.inside.draining c.self.inside.given c.self.inside.stream_end in
+    λ there more. (
+      leads_going a c.self.inside.units c.advance_by_unit.new.units c.self.inside.state c.next_due.new.state c.advance_by_unit.new.state c.self.inside.draining false c.self.inside.given c.self.inside.given c.self.inside.stream_end
+          (append_known held more) (append_known held more) (append_known (g.S.Source.held c.advance_by_unit.new.source) more) [] (leads_same a here (append_known held more) c.self.view_is) c.in-None.ensures.settles c.in-Going.is
+          (subst (λ (s : Step). Advances (Ok s) c.self.inside.units c.advance_by_unit.new.units c.next_due.new.state c.advance_by_unit.new.state (append_known held more) (append_known (g.S.Source.held c.advance_by_unit.new.source) more)) c.in-Ok-On.field-0-is
+          (c.in-Ok-On.ensures.advances_before_more (subst (λ (u : Progress). IsThere u held) (sym (ap (λ (d : Decoding). d.units) c.self.view_is)) there) more)),
+      (sym (ap (λ (d : Decoding). d.stream_end) c.self.view_is) ∙ c.in-Going.is),
+      λ (e : c.self.inside.stream_end ≡ stream_end.Stopped). let both : stream_end.Going ≡ stream_end.Stopped = sym c.in-Going.is ∙ e in cc,
+      ap (λ (d : Decoding). d.given) c.self.view_is,
+      λ (e : c.self.inside.stream_end ≡ stream_end.Going). omega (arith, ap (λ (d : Decoding). d.units.unit_place.at) c.self.view_is, c.in-Ok-On.ensures.goes_on.1),
+    )
+
+pub returns-in-Ok-Drains-clause-gives : goal.returns-in-Ok-Drains-clause-gives
+returns-in-Ok-Drains-clause-gives g c =
+    let a = c.args.self.now in
+    let held = g.S.Source.held c.args.source.now in
+    let here = decoding c.self.inside.units c.self.inside.state c.self.inside.draining c.self.inside.given c.self.inside.stream_end in (
+      leads_going a c.self.inside.units c.advance_by_unit.new.units c.self.inside.state c.next_due.new.state c.advance_by_unit.new.state c.self.inside.draining true c.self.inside.given c.self.inside.given c.self.inside.stream_end
+          held held (g.S.Source.held c.advance_by_unit.new.source) [] (leads_same a here held c.self.view_is) c.in-None.ensures.settles c.in-Going.is
+          (subst (λ (s : Step). Advances (Ok s) c.self.inside.units c.advance_by_unit.new.units c.next_due.new.state c.advance_by_unit.new.state held (g.S.Source.held c.advance_by_unit.new.source)) c.in-Ok-Drains.field-0-is c.in-Ok-Drains.ensures.advances),
+      (sym (ap (λ (d : Decoding). d.stream_end) c.self.view_is) ∙ c.in-Going.is),
+      λ (e : c.self.inside.stream_end ≡ stream_end.Stopped). let both : stream_end.Going ≡ stream_end.Stopped = sym c.in-Going.is ∙ e in cc,
+      ap (λ (d : Decoding). d.given) c.self.view_is,
+      λ (e : c.self.inside.stream_end ≡ stream_end.Going). omega (arith, ap (λ (d : Decoding). d.units.unit_place.at) c.self.view_is, c.in-Ok-Drains.ensures.goes_on.1),
+    )
+
+pub returns-in-Ok-Drains-clause-before_more : goal.returns-in-Ok-Drains-clause-before_more
+returns-in-Ok-Drains-clause-before_more g c =
+    let a = c.args.self.now in
+    let held = g.S.Source.held c.args.source.now in
+    let here = decoding c.self.inside.units c.self.inside.state c.self.inside.draining c.self.inside.given c.self.inside.stream_end in
+    λ there more. (
+      leads_going a c.self.inside.units c.advance_by_unit.new.units c.self.inside.state c.next_due.new.state c.advance_by_unit.new.state c.self.inside.draining true c.self.inside.given c.self.inside.given c.self.inside.stream_end
+          (append_known held more) (append_known held more) (append_known (g.S.Source.held c.advance_by_unit.new.source) more) [] (leads_same a here (append_known held more) c.self.view_is) c.in-None.ensures.settles c.in-Going.is
+          (subst (λ (s : Step). Advances (Ok s) c.self.inside.units c.advance_by_unit.new.units c.next_due.new.state c.advance_by_unit.new.state (append_known held more) (append_known (g.S.Source.held c.advance_by_unit.new.source) more)) c.in-Ok-Drains.field-0-is
+          (c.in-Ok-Drains.ensures.advances_before_more (subst (λ (u : Progress). IsThere u held) (sym (ap (λ (d : Decoding). d.units) c.self.view_is)) there) more)),
+      (sym (ap (λ (d : Decoding). d.stream_end) c.self.view_is) ∙ c.in-Going.is),
+      λ (e : c.self.inside.stream_end ≡ stream_end.Stopped). let both : stream_end.Going ≡ stream_end.Stopped = sym c.in-Going.is ∙ e in cc,
+      ap (λ (d : Decoding). d.given) c.self.view_is,
+      λ (e : c.self.inside.stream_end ≡ stream_end.Going). omega (arith, ap (λ (d : Decoding). d.units.unit_place.at) c.self.view_is, c.in-Ok-Drains.ensures.goes_on.1),
+    )
+
+pub returns-in-Err-End-clause-gives : goal.returns-in-Err-End-clause-gives
+returns-in-Err-End-clause-gives g c =
+    let a = c.args.self.now in
+    let held = g.S.Source.held c.args.source.now in
+    let here = decoding c.self.inside.units c.self.inside.state c.self.inside.draining c.self.inside.given c.self.inside.stream_end in (
+      leads_unit a c.self.inside.units c.advance_by_unit.new.units c.self.inside.state c.next_due.new.state c.advance_by_unit.new.state c.self.inside.draining true c.self.inside.given c.self.inside.given c.self.inside.stream_end stream_end.Ended
+          held held (g.S.Source.held c.advance_by_unit.new.source) [] (leads_same a here held c.self.view_is) c.in-None.ensures.settles c.in-Going.is
+          (subst (λ (s : Halt). Advances (Err s) c.self.inside.units c.advance_by_unit.new.units c.next_due.new.state c.advance_by_unit.new.state held (g.S.Source.held c.advance_by_unit.new.source)) c.in-Err-End.field-0-is c.in-Err-End.ensures.advances),
+      (sym (ap (λ (d : Decoding). d.stream_end) c.self.view_is) ∙ c.in-Going.is),
+      λ (e : stream_end.Ended ≡ stream_end.Stopped). cc,
+      ap (λ (d : Decoding). d.given) c.self.view_is,
+      λ (e : stream_end.Ended ≡ stream_end.Going). absurd (not_ended e),
+    )
+
+pub returns-in-Err-End-clause-before_more : goal.returns-in-Err-End-clause-before_more
+returns-in-Err-End-clause-before_more g c =
+    let a = c.args.self.now in
+    let held = g.S.Source.held c.args.source.now in
+    let here = decoding c.self.inside.units c.self.inside.state c.self.inside.draining c.self.inside.given c.self.inside.stream_end in
+    λ there more. (
+      leads_unit a c.self.inside.units c.advance_by_unit.new.units c.self.inside.state c.next_due.new.state c.advance_by_unit.new.state c.self.inside.draining true c.self.inside.given c.self.inside.given c.self.inside.stream_end stream_end.Ended
+          (append_known held more) (append_known held more) (append_known (g.S.Source.held c.advance_by_unit.new.source) more) [] (leads_same a here (append_known held more) c.self.view_is) c.in-None.ensures.settles c.in-Going.is
+          (subst (λ (s : Halt). Advances (Err s) c.self.inside.units c.advance_by_unit.new.units c.next_due.new.state c.advance_by_unit.new.state (append_known held more) (append_known (g.S.Source.held c.advance_by_unit.new.source) more)) c.in-Err-End.field-0-is
+          (c.in-Err-End.ensures.advances_before_more (subst (λ (u : Progress). IsThere u held) (sym (ap (λ (d : Decoding). d.units) c.self.view_is)) there) more)),
+      (sym (ap (λ (d : Decoding). d.stream_end) c.self.view_is) ∙ c.in-Going.is),
+      λ (e : stream_end.Ended ≡ stream_end.Stopped). cc,
+      ap (λ (d : Decoding). d.given) c.self.view_is,
+      λ (e : stream_end.Ended ≡ stream_end.Going). absurd (not_ended e),
+    )
+
+pub returns-in-Err-Fault-clause-gives : goal.returns-in-Err-Fault-clause-gives
+returns-in-Err-Fault-clause-gives g c =
+    let a = c.args.self.now in
+    let held = g.S.Source.held c.args.source.now in
+    let here = decoding c.self.inside.units c.self.inside.state c.self.inside.draining c.self.inside.given c.self.inside.stream_end in (
+      leads_unit a c.self.inside.units c.advance_by_unit.new.units c.self.inside.state c.next_due.new.state c.advance_by_unit.new.state c.self.inside.draining true c.self.inside.given c.self.inside.given c.self.inside.stream_end (stream_end.Faulted c.in-Err-Fault.fault)
+          held held (g.S.Source.held c.advance_by_unit.new.source) [] (leads_same a here held c.self.view_is) c.in-None.ensures.settles c.in-Going.is
+          (subst (λ (s : Halt). Advances (Err s) c.self.inside.units c.advance_by_unit.new.units c.next_due.new.state c.advance_by_unit.new.state held (g.S.Source.held c.advance_by_unit.new.source)) c.in-Err-Fault.field-0-is c.in-Err-Fault.ensures.advances),
+      (sym (ap (λ (d : Decoding). d.stream_end) c.self.view_is) ∙ c.in-Going.is),
+      λ (e : (stream_end.Faulted c.in-Err-Fault.fault) ≡ stream_end.Stopped). cc,
+      ap (λ (d : Decoding). d.given) c.self.view_is,
+      λ (e : (stream_end.Faulted c.in-Err-Fault.fault) ≡ stream_end.Going). absurd (not_faulted c.in-Err-Fault.fault e),
+    )
+
+pub returns-in-Err-Fault-clause-before_more : goal.returns-in-Err-Fault-clause-before_more
+returns-in-Err-Fault-clause-before_more g c =
+    let a = c.args.self.now in
+    let held = g.S.Source.held c.args.source.now in
+    let here = decoding c.self.inside.units c.self.inside.state c.self.inside.draining c.self.inside.given c.self.inside.stream_end in
+    λ there more. (
+      leads_unit a c.self.inside.units c.advance_by_unit.new.units c.self.inside.state c.next_due.new.state c.advance_by_unit.new.state c.self.inside.draining true c.self.inside.given c.self.inside.given c.self.inside.stream_end (stream_end.Faulted c.in-Err-Fault.fault)
+          (append_known held more) (append_known held more) (append_known (g.S.Source.held c.advance_by_unit.new.source) more) [] (leads_same a here (append_known held more) c.self.view_is) c.in-None.ensures.settles c.in-Going.is
+          (subst (λ (s : Halt). Advances (Err s) c.self.inside.units c.advance_by_unit.new.units c.next_due.new.state c.advance_by_unit.new.state (append_known held more) (append_known (g.S.Source.held c.advance_by_unit.new.source) more)) c.in-Err-Fault.field-0-is
+          (c.in-Err-Fault.ensures.advances_before_more (subst (λ (u : Progress). IsThere u held) (sym (ap (λ (d : Decoding). d.units) c.self.view_is)) there) more)),
+      (sym (ap (λ (d : Decoding). d.stream_end) c.self.view_is) ∙ c.in-Going.is),
+      λ (e : (stream_end.Faulted c.in-Err-Fault.fault) ≡ stream_end.Stopped). cc,
+      ap (λ (d : Decoding). d.given) c.self.view_is,
+      λ (e : (stream_end.Faulted c.in-Err-Fault.fault) ≡ stream_end.Going). absurd (not_faulted c.in-Err-Fault.fault e),
+    )
