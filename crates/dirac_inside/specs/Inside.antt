@@ -1,8 +1,8 @@
 -- Vectors that lead from a block to samples of the reference alone, and to half samples between them.
-use Rattle.std.specs.Prelude.{ℕ, zero, suc, ℤ, pos, ◌+◌, ◌-◌, ◌*◌, ◌/◌, ◌^◌, ◌+ℤ◌, ◌*ℤ◌, nat_le, nat_lt, int_le}
+use Rattle.std.specs.Prelude.{ℕ, zero, suc, ℤ, pos, ◌-◌, ◌*◌, ◌/◌, ◌+ℤ◌, ◌*ℤ◌, int_le}
 use Rattle.std.specs.Prelude.{int_lt, Bool, true, not, ◌&&◌, ◌||◌, ◌==◌, if◌then◌else◌, IsTrue}
-use Rattle.std.specs.Int.{int_div_euclid}
 use Rattle.dirac_common.specs.declared.formats.Vector.{Vector}
+pub use Rattle.dirac_upconvert.specs.Places.{holds, position}
 use Rattle.dirac_upconvert.specs.SubSamples.{place_at, rest_at}
 use Rattle.dirac_inside.specs.declared.picture_blocks.PictureBlocks.{PictureBlocks}
 
@@ -10,12 +10,6 @@ use Rattle.dirac_inside.specs.declared.picture_blocks.PictureBlocks.{PictureBloc
 abbrev pub all_below : (ℕ → Bool) → ℕ → Bool
 all_below is zero = true
 all_below is (suc n) = all_below is n && is n
-
--- whether a block holds place x of its plane: it is longer than its own part, by as much on either side
-abbrev pub holds : ℕ → ℕ → ℕ → ℕ → Bool
-holds block len separation x =
-    nat_le (block * separation) (x + (len - separation) / 2)
-    && nat_lt (x + (len - separation) / 2) (block * separation + len)
 
 -- the last half sample that a position takes: the one at or before it, and the next where the position is behind that
 abbrev pub last_taken : ℕ → ℤ → ℤ
@@ -28,10 +22,6 @@ is_inside precision size p =
     if precision == 0
     then int_le (pos 0) p && int_le p (pos (size - 1))
     else int_le (pos 0) (place_at p (precision - 1)) && int_le (last_taken (precision - 1) p) (pos (2 * size - 2))
-
--- the position to which a vector's part leads from a place of a plane whose samples stand for `ratio` luma samples each
-abbrev pub position : ℕ → ℕ → ℕ → ℤ → ℤ
-position precision ratio place part = pos (2 ^ precision * place) +ℤ int_div_euclid part (pos ratio)
 
 -- whether a vector takes nothing outside from the block's sample in column x of row y of a plane
 abbrev pub sample_keeps : PictureBlocks → ℕ → ℕ → ℕ → Vector → ℕ → ℕ → Bool

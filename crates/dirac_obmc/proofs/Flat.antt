@@ -14,7 +14,7 @@ weigh_more a b (pos n) = omega (arith, ints, add-mul a b n)
 weigh_more a b (negsuc n) = omega (arith, ints, add-mul a b (suc n))
 
 -- a sum of weights times one value
-total_weighed : (f : ℕ → ℤ) (w : ℕ → ℕ) (v : ℤ) (n : ℕ) → ((i : ℕ) → i < n → f i ≡ pos (w i) *ℤ v) → total f n ≡ pos (sum_below w n) *ℤ v
+pub total_weighed : (f : ℕ → ℤ) (w : ℕ → ℕ) (v : ℤ) (n : ℕ) → ((i : ℕ) → i < n → f i ≡ pos (w i) *ℤ v) → total f n ≡ pos (sum_below w n) *ℤ v
 total_weighed f w v zero h = sym (zero-*ℤ v)
 total_weighed f w v (suc n) h =
     ap (λ z. z +ℤ f n) (total_weighed f w v n (λ i l. h i (omega arith))) ∙ ap (λ z. pos (sum_below w n) *ℤ v +ℤ z) (h n (omega arith))

@@ -12,6 +12,7 @@ pub mod Predictions
 pub mod Ramps
 pub mod Rounding
 pub mod RowsAdded
+pub mod Runs
 pub mod SamplesPredicted
 pub mod Shares
 pub mod SixtyFour

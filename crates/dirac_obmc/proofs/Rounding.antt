@@ -6,6 +6,7 @@ use Rattle.std.proofs.lemmas.Nat.{mul-le, one_shl, div_below}
 use Rattle.std.proofs.Math.Pow.{pow_mono}
 use lib.Signed.{shr_z}
 use Rattle.dirac_common.proofs.Shifts.{shr_sum_is}
+use Rattle.dirac_vectors.specs.Neighbours.{IsShort}
 use Rattle.dirac_upconvert.specs.HalfSamples.{IsSample}
 use Rattle.dirac_upconvert.specs.SubSamples.{rounded}
 
@@ -32,6 +33,21 @@ rounded_small z bits some few l =
     let two : 2 ^ 1 ≤ 2 ^ bits = pow_mono {i = 1} {j = bits} some in
     let most : 2 ^ bits ≤ 2 ^ 8 = pow_mono {i = bits} {j = 8} few in
     shifted_small (z +ℤ pos (2 ^ bits / 2)) (2 ^ bits) (omega (arith, two)) (omega (arith, ints, most))
+
+-- what is left of a sum of weighted samples has 16 bits
+shifted_short : (z : ℤ) (m : ℕ) → 2 ≤ m → unsigned_abs z ≤ 65500 → IsShort (shr_z z m)
+shifted_short (pos n) m two l =
+    let few : n / m < 32768 = div_below n m 32768 (omega arith) (omega (arith, ints, l, mul-le 32768 2 32768 m (omega arith) two)) in
+    record { least = omega (arith, ints, few); most = omega (arith, ints, few) }
+shifted_short (negsuc n) m two l =
+    let few : n / m < 32768 = div_below n m 32768 (omega arith) (omega (arith, ints, l, mul-le 32768 2 32768 m (omega arith) two)) in
+    record { least = omega (arith, ints, few); most = omega (arith, ints, few) }
+
+pub rounded_short : (z : ℤ) (bits : ℕ) → 1 ≤ bits → bits ≤ 8 → unsigned_abs z ≤ 65280 → IsShort (rounded bits z)
+rounded_short z bits some few l =
+    let two : 2 ^ 1 ≤ 2 ^ bits = pow_mono {i = 1} {j = bits} some in
+    let most : 2 ^ bits ≤ 2 ^ 8 = pow_mono {i = bits} {j = 8} few in
+    shifted_short (z +ℤ pos (2 ^ bits / 2)) (2 ^ bits) (omega (arith, two)) (omega (arith, ints, l, most))
 
 -- a power of two, as the code shifts it
 power_is : (m : ℕ) → m ≤ 8 → to_z w32 (1 * 2 ^ m % 2 ^ 32) ≡ pos (2 ^ m)

@@ -30,7 +30,7 @@ one_is v = whole (v *ℤ pos 2 +ℤ pos 1) v refl where
   whole (pos n) b s = omega (arith, ints)
   whole (negsuc n) b s = omega (arith, ints)
 
-from_one_is : (p : Prediction) (v : ℤ) → HasDefaultWeights p → from_one p v ≡ v
+pub from_one_is : (p : Prediction) (v : ℤ) → HasDefaultWeights p → from_one p v ≡ v
 from_one_is p v h = rw (h.weight_bits, h.weight1, h.weight2) (one_is v)
 
 half_sample : (z : ℤ) → negsuc 254 ≤ℤ z → z ≤ℤ pos 255 → IsSample (int_shr z 1)
@@ -40,6 +40,10 @@ half_sample (negsuc n) low high = record { least = omega (arith, ints); most = o
 times_one : (v : ℤ) → v *ℤ pos 1 ≡ v
 times_one (pos n) = omega (arith, ints)
 times_one (negsuc n) = omega (arith, ints)
+
+-- and two samples are their mean
+pub from_two_mean : (p : Prediction) (v w : ℤ) → HasDefaultWeights p → from_two p v w ≡ int_shr ((v +ℤ w) +ℤ pos 1) 1
+from_two_mean p v w h = rw (h.weight_bits, h.weight1, h.weight2, times_one v, times_one w) refl
 
 from_two_is : (p : Prediction) (v w : ℤ) → HasDefaultWeights p → IsSample v → IsSample w → IsSample (from_two p v w)
 from_two_is p v w h a b =

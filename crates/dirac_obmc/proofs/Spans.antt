@@ -12,6 +12,8 @@ pub span_is : (block count len separation least most start end place : ℕ) → 
     → end ≡ min (block * separation + len - (len - separation) / 2) most → place ≡ block * len + (start + (len - separation) / 2 - block * separation)
     → IsSpan block count len separation least most (record { start = start; end = end; weights = place })
 span_is block count len separation least most start end place o inside es ee ep = record {
+  start_is = es;
+  end_is = ee;
   from = omega (arith, es);
   to = omega (arith, ee);
   within_block = omega (arith, es, ee);

@@ -10,19 +10,17 @@ use borrow.Rule.Slice.PartMut.{put_mid}
 use Rattle.std.proofs.lemmas.Nat.{div-add-mod', div-mul-add, div_below, mod-mul-add, mod_below, mul-le, row_fits}
 use Rattle.dirac_blocks.specs.declared.block.Block.{Block}
 use Rattle.dirac_blocks.specs.Tables.{block_at}
-use Rattle.dirac_obmc.specs.declared.room.BlockRoom.{BlockRoom}
-use Rattle.dirac_obmc.specs.declared.rows.Columns.{Columns}
 use Rattle.dirac_obmc.specs.declared.rows.Lines.{Lines}
 use Rattle.dirac_obmc.specs.declared.rows.Part.{Part}
 use Rattle.dirac_obmc.specs.declared.rows.Span.{Span}
 use Rattle.dirac_obmc.specs.Adding.{Adds, AddsPart}
-use Rattle.dirac_obmc.specs.Compensation.{Compensation, IsMotion, blocks_across, blocks_down, predicts, term, x_length, x_separation, y_length, y_separation}
-use Rattle.dirac_obmc.specs.Directions.{IsColumns, IsSound}
-use Rattle.dirac_obmc.specs.Strips.{IsLines, IsPart, IsRoom, IsSpan, added_at}
+use Rattle.dirac_obmc.specs.Compensation.{Compensation, IsMotion, blocks_across, blocks_down, predicts, x_length, x_separation, y_length, y_separation}
+use Rattle.dirac_obmc.specs.Directions.{IsSound}
+use Rattle.dirac_obmc.specs.Strips.{IsLines, IsPart, IsRun, IsSpan, run_added_at, run_share, run_term}
 use Rattle.dirac_obmc.specs.Weights.{share}
 use Rattle.dirac_obmc.proofs.AddLemmas.{add_zero, adds_none}
-use Rattle.dirac_obmc.proofs.Added.{nothing_across, nothing_down, term_is}
-use Rattle.dirac_obmc.proofs.Bounds.{block_is, predicts_small, term_within}
+use Rattle.dirac_obmc.proofs.Bounds.{block_is, predicts_small}
+use Rattle.dirac_obmc.proofs.Runs.{run_is, run_nothing_across, run_nothing_down, run_small}
 
 -- the sums below place n have grown by f, all others are as they were
 pub record AddsBelow (f : ℕ → ℤ) (n : ℕ) (old new : List ℤ) : Type 0 where
@@ -101,92 +99,103 @@ row_behind w e p some h = elim (cases_lt (p / w) e) [
   | inr high ↦ high
 ]
 
-added_row : (m : Compensation) (first r x j i : ℕ) → x < m.width → added_at m first j i (r * m.width + x) ≡ term m x (first + r) j i
-added_row m first r x j i l =
-    ap (λ a. term m a (first + (r * m.width + x) / m.width) j i) (mod-mul-add r m.width x l) ∙ ap (λ b. term m x (first + b) j i) (div-mul-add r m.width x l)
+run_row : (m : Compensation) (first r x j i n : ℕ) → x < m.width → run_added_at m first j i n (r * m.width + x) ≡ run_term m x (first + r) j i n
+run_row m first r x j i n l =
+    ap (λ a. run_term m a (first + (r * m.width + x) / m.width) j i n) (mod-mul-add r m.width x l) ∙ ap (λ b. run_term m x (first + b) j i n) (div-mul-add r m.width x l)
 
--- above the rows of a block and below them nothing is added
-pub part_above : (m : Compensation) (first end : ℕ) (part : Part) (p : ℕ) → IsMotion m → IsPart m first end part → p < (part.down.start - first) * m.width → added_at m first part.j part.i p ≡ pos 0
+-- above the rows of a run and below them nothing is added
+pub part_above : (m : Compensation) (first end : ℕ) (part : Part) (p : ℕ) → IsMotion m → IsPart m first end part → p < (part.down.start - first) * m.width
+    → run_added_at m first part.run.j part.run.i part.run.count p ≡ pos 0
 part_above m first end part p h s l =
     let row = div_below p m.width (part.down.start - first) (omega (arith, h.some_across)) l in
-    nothing_down m (p % m.width) (first + p / m.width) part.j part.i (s.rows.before (first + p / m.width) (omega arith) (omega (arith, row)))
+    run_nothing_down m (p % m.width) (first + p / m.width) part.run.j part.run.i part.run.count (s.rows.before (first + p / m.width) (omega arith) (omega (arith, row)))
 
 pub part_below : (m : Compensation) (first end : ℕ) (part : Part) (p : ℕ) → IsMotion m → IsPart m first end part → (part.down.end - first) * m.width ≤ p → p < m.width * (end - first)
-    → added_at m first part.j part.i p ≡ pos 0
+    → run_added_at m first part.run.j part.run.i part.run.count p ≡ pos 0
 part_below m first end part p h s past l =
     let row = row_behind m.width (part.down.end - first) p (omega (arith, h.some_across)) past in
-    nothing_down m (p % m.width) (first + p / m.width) part.j part.i
+    run_nothing_down m (p % m.width) (first + p / m.width) part.run.j part.run.i part.run.count
     (s.rows.behind (first + p / m.width) (omega (arith, row)) (omega (arith, row_inside m first end p h l)))
 
--- what a block adds to a row
-pub part_row : (m : Compensation) (c : Columns) (ls : Lines) (part : Part) (y : ℕ) (xs ys zs : List ℤ) → IsMotion m → IsColumns m c → IsLines m ls → IsPart m ls.first ls.end part → part.down.start ≤ y → y < part.down.end
-    → AddsBelow (added_at m ls.first part.j part.i) ((y - ls.first) * m.width) xs ys
-    → AddsPart ((y - ls.first) * m.width + part.across.start)
-    (λ k. pos (get_or c.weights.now (part.across.weights + k) 0 * get_or ls.weights.now (part.down.weights + (y - part.down.start)) 0) *ℤ get_or part.values.now ((y - part.down.start) * part.width + k) (pos 0))
-    (part.across.end - part.across.start) ys zs
-    → AddsBelow (added_at m ls.first part.j part.i) ((y + 1 - ls.first) * m.width) xs zs
-part_row m c ls part y xs ys zs h cs hs s from to a b =
+-- what a run adds to a row
+weighed_same : (a b c d : ℕ) (v w : ℤ) → a ≡ b → c ≡ d → v ≡ w → pos (a * c) *ℤ v ≡ pos (b * d) *ℤ w
+weighed_same a b c d v w ea ec ev = ap (λ s. pos (s * c) *ℤ v) ea ∙ ap (λ s. pos (b * s) *ℤ v) ec ∙ ap (λ z. pos (b * d) *ℤ z) ev
+
+pub part_row : (m : Compensation) (ls : Lines) (part : Part) (y : ℕ) (xs ys zs : List ℤ) → IsMotion m → IsLines m ls → IsPart m ls.first ls.end part → part.down.start ≤ y → y < part.down.end
+    → AddsBelow (run_added_at m ls.first part.run.j part.run.i part.run.count) ((y - ls.first) * m.width) xs ys
+    → AddsPart ((y - ls.first) * m.width + part.left)
+    (λ k. pos (get_or part.weights.now (0 + k) 0 * get_or ls.weights.now (part.down.weights + (y - part.down.start)) 0) *ℤ get_or part.values.now ((y - part.down.start) * part.width + k) (pos 0))
+    (part.right - part.left) ys zs
+    → AddsBelow (run_added_at m ls.first part.run.j part.run.i part.run.count) ((y + 1 - ls.first) * m.width) xs zs
+part_row m ls part y xs ys zs h hs s from to a b =
     let first = ls.first in
+    let i = part.run.i in
+    let j = part.run.j in
+    let n = part.run.count in
     let row : first + (y - ls.first) ≡ y = omega (arith, from, s.rows.from) in
     let next : (y + 1 - ls.first) * m.width ≡ suc (y - ls.first) * m.width = ap (λ n. n * m.width) (omega (arith, from, s.rows.from)) in
-    let down : get_or ls.weights.now (part.down.weights + (y - part.down.start)) 0 ≡ share part.j (blocks_down m) (y_length m) (y_separation m) y =
-    s.rows.weight ls.weights.now (y - part.down.start) hs.weights (omega (arith, from, to)) ∙ ap (share part.j (blocks_down m) (y_length m) (y_separation m)) (omega (arith, from)) in
-    let told : (x : ℕ) → x < m.width → added_at m first part.j part.i ((y - ls.first) * m.width + x) ≡ term m x y part.j part.i =
-    λ x l. added_row m first (y - ls.first) x part.j part.i l ∙ ap (λ n. term m x n part.j part.i) row in
-    below_row (added_at m first part.j part.i) _ m.width (y - ls.first) part.across.start (part.across.end - part.across.start) _ xs ys zs a b (omega (arith, s.some_columns, s.columns.to)) (omega (arith, next, suc-mul (y - ls.first) m.width))
-    (λ k l. term_is m (part.across.start + k) y part.j part.i _ _ _ (s.columns.weight c.weights.now k cs.weights l) down
-    (s.values (y - part.down.start) k (omega (arith, from, to)) (omega (arith, l, s.fits)) ∙ ap (predicts m (block_at m.blocks part.i part.j) (part.across.start + k)) (omega (arith, from)))
-    ∙ sym (told (part.across.start + k) (omega (arith, l, s.columns.to))))
-    (λ x l w. told x w ∙ nothing_across m x y part.j part.i (s.columns.before x (omega arith) l))
-    (λ x l w. told x w ∙ nothing_across m x y part.j part.i (s.columns.behind x (omega (arith, l, s.some_columns)) w))
+    let down : get_or ls.weights.now (part.down.weights + (y - part.down.start)) 0 ≡ share j (blocks_down m) (y_length m) (y_separation m) y =
+    s.rows.weight ls.weights.now (y - part.down.start) hs.weights (omega (arith, from, to)) ∙ ap (share j (blocks_down m) (y_length m) (y_separation m)) (omega (arith, from)) in
+    let told : (x : ℕ) → x < m.width → run_added_at m first j i n ((y - ls.first) * m.width + x) ≡ run_term m x y j i n =
+    λ x l. run_row m first (y - ls.first) x j i n l ∙ ap (λ b. run_term m x b j i n) row in
+    let weight : (k : ℕ) → k < part.right - part.left → get_or part.weights.now (0 + k) 0 ≡ run_share (blocks_across m) (x_length m) (x_separation m) i n (part.left + k) =
+    λ k l. ap (λ p. get_or part.weights.now p 0) (omega arith) ∙ s.columns.weight k l in
+    below_row (run_added_at m first j i n) _ m.width (y - ls.first) part.left (part.right - part.left) _ xs ys zs a b (omega (arith, s.some_columns, s.columns.to)) (omega (arith, next, suc-mul (y - ls.first) m.width))
+    (λ k l. weighed_same _ _ _ _ _ _ (weight k l) down
+    (s.values (y - part.down.start) k (omega (arith, from, to)) (omega (arith, l, s.fits)) ∙ ap (predicts m (block_at m.blocks i j) (part.left + k)) (omega (arith, from)))
+    ∙ sym (run_is m (part.left + k) y j i n s.run.same)
+    ∙ sym (told (part.left + k) (omega (arith, l, s.columns.to))))
+    (λ x l w. told x w ∙ run_nothing_across m x y j i n s.run.same (s.columns.before x l))
+    (λ x l w. told x w ∙ run_nothing_across m x y j i n s.run.same (s.columns.behind x (omega (arith, l, s.some_columns)) w))
 
 -- how much it adds
 pub part_small : (m : Compensation) (ls : Lines) (part : Part) (p : ℕ) → IsMotion m → IsSound m → IsLines m ls → IsPart m ls.first ls.end part → p < m.width * (ls.end - ls.first)
-    → unsigned_abs (added_at m ls.first part.j part.i p) ≤ 2 ^ 22
+    → unsigned_abs (run_added_at m ls.first part.run.j part.run.i part.run.count p) ≤ 2 ^ 22
 part_small m ls part p h sound hs s l =
-    term_within m (p % m.width) (ls.first + p / m.width) part.j part.i h sound (column_inside m p h) (omega (arith, row_inside m ls.first ls.end p h l, hs.inside)) s.down s.across
+    run_small m (p % m.width) (ls.first + p / m.width) part.run.j part.run.i part.run.count h sound (column_inside m p h) (omega (arith, row_inside m ls.first ls.end p h l, hs.inside)) s.run.down s.run.across
 
 -- where its values, its weights and its sums stand
 pub part_fits : (m : Compensation) (first end : ℕ) (part : Part) (y : ℕ) → IsPart m first end part → part.down.start ≤ y → y < part.down.end
-    → ((y - first) * m.width + part.across.start) + (part.across.end - part.across.start) ≤ m.width * (end - first)
+    → ((y - first) * m.width + part.left) + (part.right - part.left) ≤ m.width * (end - first)
 part_fits m first end part y s from to =
     omega (arith, row_fits (y - first) m.width (end - first) m.width (omega (arith, from, to, s.rows.from, s.rows.to)) (omega arith), s.columns.to, s.some_columns, mul_comm m.width (end - first))
 
 pub part_enough : (m : Compensation) (first end : ℕ) (part : Part) (y : ℕ) → IsPart m first end part → part.down.start ≤ y → y < part.down.end
-    → (y - part.down.start) * part.width + (part.across.end - part.across.start) ≤ length part.values.now
+    → (y - part.down.start) * part.width + (part.right - part.left) ≤ length part.values.now
 part_enough m first end part y s from to =
     omega (arith, row_fits (y - part.down.start) part.width (part.down.end - part.down.start) part.width (omega (arith, from, to)) (omega arith), s.whole, s.fits)
 
-pub part_values : (m : Compensation) (first end : ℕ) (part : Part) (y k : ℕ) → IsMotion m → IsSound m → IsPart m first end part → part.down.start ≤ y → y < part.down.end → k < part.across.end - part.across.start
+pub part_values : (m : Compensation) (first end : ℕ) (part : Part) (y k : ℕ) → IsMotion m → IsSound m → IsPart m first end part → part.down.start ≤ y → y < part.down.end → k < part.right - part.left
     → unsigned_abs (get_or part.values.now ((y - part.down.start) * part.width + k) (pos 0)) ≤ 2 ^ 15
 part_values m first end part y k h sound s from to l =
     rw (s.values (y - part.down.start) k (omega (arith, from, to)) (omega (arith, l, s.fits)))
-    (predicts_small m _ _ _ _ h sound (block_is m part.i part.j sound s.across s.down))
+    (predicts_small m _ _ _ _ h sound (block_is m part.run.i part.run.j sound (omega (arith, s.run.some, s.run.across)) s.run.down))
 
--- a block that holds no column or no row adds nothing
-pub no_columns : (m : Compensation) (first end i j : ℕ) (s : Span) (xs : List ℤ) → IsMotion m → IsSpan i (blocks_across m) (x_length m) (x_separation m) 0 m.width s → s.end ≤ s.start
-    → Adds (added_at m first j i) (m.width * (end - first)) xs xs
-no_columns m first end i j s xs h a none =
-    adds_none (added_at m first j i) (m.width * (end - first)) xs
-    (λ p l. nothing_across m (p % m.width) (first + p / m.width) j i
-    (elim (cases_lt (p % m.width) s.start) [
-      | inl left ↦ a.before (p % m.width) (omega arith) left
-      | inr right ↦ a.behind (p % m.width) (omega (arith, right, none)) (column_inside m p h)
+-- a run that holds no column or no row adds nothing
+pub no_columns : (m : Compensation) (first end i j n left right : ℕ) (xs : List ℤ) → IsMotion m → IsRun m i n j → right ≤ left
+    → ((x : ℕ) → x < left → run_share (blocks_across m) (x_length m) (x_separation m) i n x ≡ 0)
+    → ((x : ℕ) → right ≤ x → x < m.width → run_share (blocks_across m) (x_length m) (x_separation m) i n x ≡ 0) → Adds (run_added_at m first j i n) (m.width * (end - first)) xs xs
+no_columns m first end i j n left right xs h r none before behind =
+    adds_none (run_added_at m first j i n) (m.width * (end - first)) xs
+    (λ p l. run_nothing_across m (p % m.width) (first + p / m.width) j i n r.same
+    (elim (cases_lt (p % m.width) left) [
+      | inl here ↦ before (p % m.width) here
+      | inr past ↦ behind (p % m.width) (omega (arith, past, none)) (column_inside m p h)
     ]))
 
-pub no_rows : (m : Compensation) (first end i j : ℕ) (s : Span) (xs : List ℤ) → IsMotion m → IsSpan j (blocks_down m) (y_length m) (y_separation m) first end s → s.end ≤ s.start
-    → Adds (added_at m first j i) (m.width * (end - first)) xs xs
-no_rows m first end i j s xs h a none =
-    adds_none (added_at m first j i) (m.width * (end - first)) xs
-    (λ p l. nothing_down m (p % m.width) (first + p / m.width) j i
+pub no_rows : (m : Compensation) (first end i j n : ℕ) (s : Span) (xs : List ℤ) → IsMotion m → IsSpan j (blocks_down m) (y_length m) (y_separation m) first end s → s.end ≤ s.start
+    → Adds (run_added_at m first j i n) (m.width * (end - first)) xs xs
+no_rows m first end i j n s xs h a none =
+    adds_none (run_added_at m first j i n) (m.width * (end - first)) xs
+    (λ p l. run_nothing_down m (p % m.width) (first + p / m.width) j i n
     (elim (cases_lt (first + p / m.width) s.start) [
       | inl above ↦ a.before (first + p / m.width) (omega arith) above
       | inr below ↦ a.behind (first + p / m.width) (omega (arith, below, none)) (omega (arith, row_inside m first end p h l))
     ]))
 
 -- room for so many rows
-pub room_rows : (columns rows n : ℕ) (r : BlockRoom) → IsRoom columns rows r → n ≤ rows → n * r.width ≤ r.width * rows
-room_rows columns rows n r h few = omega (arith, mul-le n r.width rows r.width few (omega arith), mul_comm rows r.width)
+pub room_rows : (rows n w : ℕ) → n ≤ rows → w ≤ 64 → n * w ≤ 64 * rows
+room_rows rows n w few small = omega (arith, mul-le n w rows 64 few small, mul_comm rows 64)
 
 -- so many rows are whole rows
 pub whole_rows : (len n w : ℕ) → len ≡ n * w → 1 ≤ w → len % w ≡ 0

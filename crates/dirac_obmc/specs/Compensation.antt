@@ -1,7 +1,7 @@
 -- What the blocks of a plane predict: overlapped block motion compensation, Dirac specification.
-use Rattle.std.specs.Prelude.{◌≡◌, ℕ, zero, suc, ℤ, pos, ◌+◌, ◌-◌, ◌*◌, ◌/◌, ◌^◌, ◌<◌, ◌≤◌, ◌+ℤ◌, ◌*ℤ◌, false}
+use Rattle.std.specs.Prelude.{◌≡◌, ℕ, zero, suc, ℤ, pos, ◌+◌, ◌-◌, ◌*◌, ◌/◌, ◌<◌, ◌≤◌, ◌+ℤ◌, ◌*ℤ◌, false}
 use Rattle.std.specs.Prelude.{if◌then◌else◌, Option, Some, None, IsSome, IsTrue, unsigned_abs}
-use Rattle.std.specs.Int.{int_div_euclid, int_shr}
+use Rattle.std.specs.Int.{int_shr}
 use Rattle.std.specs.Option.{ForSome}
 use Rattle.dirac_common.specs.declared.limits.TheConstants.{LARGEST_SIDE}
 use Rattle.dirac_common.specs.Table.{Table, table_of}
@@ -12,6 +12,7 @@ use Rattle.dirac_header.specs.Prediction.{is_grid}
 use Rattle.dirac_header.specs.declared.prediction.Prediction.{Prediction}
 use Rattle.dirac_blocks.specs.Tables.{BlockTable, block_at}
 use Rattle.dirac_blocks.specs.declared.block.Block.{Block}
+pub use Rattle.dirac_upconvert.specs.Places.{position}
 use Rattle.dirac_upconvert.specs.SubSamples.{Up, rounded, sub_sample}
 use Rattle.dirac_common.specs.declared.formats.Component.{Component}
 use Rattle.dirac_common.specs.declared.formats.Component.TheVariants as component
@@ -65,10 +66,6 @@ blocks_across m = 4 * m.blocks.across
 -- how many stand one below the other
 abbrev pub blocks_down : Compensation → ℕ
 blocks_down m = 4 * m.blocks.down
-
--- the position, in 2 ^ precision parts of a sample, to which a vector's part in this direction leads from a place
-abbrev pub position : ℕ → ℕ → ℕ → ℤ → ℤ
-position precision ratio place vector = pos (2 ^ precision * place) +ℤ int_div_euclid vector (pos ratio)
 
 -- the sample of a reference to which a vector leads from column x of row y
 unfoldable pub moved_sample : Compensation → Up → Vector → ℕ → ℕ → ℤ

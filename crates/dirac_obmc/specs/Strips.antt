@@ -1,15 +1,16 @@
 -- Some rows of a plane as one list, and what its blocks add to them.
 use Rattle.std.specs.Prelude.{◌≡◌, ℕ, ℤ, pos, ◌+◌, ◌-◌, ◌*◌, ◌/◌, ◌%◌, ◌<◌, ◌≤◌, List, length, slice_index}
-use Rattle.std.specs.Prelude.{slice_index_or, vec_len}
+use Rattle.std.specs.Prelude.{slice_index_or, vec_len, max, min}
+use Rattle.std.specs.List.{All}
 use Rattle.dirac_blocks.specs.Tables.{block_at}
 use Rattle.dirac_obmc.specs.declared.room.BlockRoom.{BlockRoom}
 use Rattle.dirac_obmc.specs.declared.rows.Lines.{Lines}
 use Rattle.dirac_obmc.specs.declared.rows.Part.{Part}
 use Rattle.dirac_obmc.specs.declared.rows.Span.{Span}
-use Rattle.dirac_obmc.specs.Compensation.{Compensation, blocks_across, blocks_down, predicts, term, x_length}
+use Rattle.dirac_obmc.specs.Compensation.{Compensation, blocks_across, blocks_down, predicts, term, total, x_length}
 use Rattle.dirac_obmc.specs.Compensation.{x_separation, y_length, y_separation}
 use Rattle.dirac_obmc.specs.Directions.{IsDown, IsWeights}
-use Rattle.dirac_obmc.specs.Weights.{share}
+use Rattle.dirac_obmc.specs.Weights.{share, sum_below}
 
 -- what block i of row j adds at place p of the rows of a plane from row `first` on
 abbrev pub added_at : Compensation → ℕ → ℕ → ℕ → ℕ → ℤ
@@ -24,6 +25,8 @@ pub record IsLines (m : Compensation) (l : Lines) : Type 0 where
 
 -- the places from `least` to `most - 1` that a block holds, and where their weights stand
 pub record IsSpan (block count len separation least most : ℕ) (s : Span) : Type 0 where
+  pub start_is : s.start ≡ max (block * separation - (len - separation) / 2) least
+  pub end_is : s.end ≡ min (block * separation + len - (len - separation) / 2) most
   pub from : least ≤ s.start
   pub to : s.end ≤ most
   pub within_block : s.end - s.start ≤ len
@@ -33,31 +36,59 @@ pub record IsSpan (block count len separation least most : ℕ) (s : Span) : Typ
   pub weight : (ws : List ℕ) (k : ℕ) → IsWeights count len separation ws → k < s.end - s.start
       → slice_index ws (s.weights + k) ≡ share block count len separation (s.start + k)
 
--- what block i of row j predicts in some columns and rows
+-- what `count` blocks from block i on of row j add together at column x of row y
+abbrev pub run_term : Compensation → ℕ → ℕ → ℕ → ℕ → ℕ → ℤ
+run_term m x y j i count = total (λ k. term m x y j (i + k)) count
+
+-- what they add at place p of the rows of a plane from row `first` on
+abbrev pub run_added_at : Compensation → ℕ → ℕ → ℕ → ℕ → ℕ → ℤ
+run_added_at m first j i count p = run_term m (p % m.width) (first + p / m.width) j i count
+
+-- the weight that `many` blocks from block i on have together at place x, where `count` blocks stand side by side
+abbrev pub run_share : ℕ → ℕ → ℕ → ℕ → ℕ → ℕ → ℕ
+run_share count len separation i many x = sum_below (λ k. share (i + k) count len separation x) many
+
+-- `count` blocks from block i on of row j are all alike, and have at most 64 columns together
+pub record IsRun (m : Compensation) (i count j : ℕ) : Type 0 where
+  pub some : 1 ≤ count
+  pub across : i + count ≤ blocks_across m
+  pub down : j < blocks_down m
+  pub same : (k : ℕ) → k < count → block_at m.blocks (i + k) j ≡ block_at m.blocks i j
+  pub fits : (count - 1) * x_separation m + x_length m ≤ 64
+
+-- the places from `left` to `right` - 1, which alone of a plane's `size` places `many` blocks from block i on hold, and
+-- the weights that those blocks have there together
+pub record AreRunWeights (count len separation size i many left right : ℕ) (ws : List ℕ) : Type 0 where
+  pub to : right ≤ size
+  pub before : (x : ℕ) → x < left → run_share count len separation i many x ≡ 0
+  pub behind : (x : ℕ) → right ≤ x → x < size → run_share count len separation i many x ≡ 0
+  pub enough : right - left ≤ length ws
+  pub weight : (k : ℕ) → k < right - left → slice_index ws k ≡ run_share count len separation i many (left + k)
+  pub small : All (λ w. w ≤ 8) ws
+
+-- what a run of blocks predicts in some columns and rows
 pub record IsPart (m : Compensation) (first end : ℕ) (p : Part) : Type 0 where
-  pub across : p.i < blocks_across m
-  pub down : p.j < blocks_down m
-  pub columns : IsSpan p.i (blocks_across m) (x_length m) (x_separation m) 0 m.width p.across
-  pub rows : IsSpan p.j (blocks_down m) (y_length m) (y_separation m) first end p.down
-  pub some_columns : p.across.start < p.across.end
+  pub run : IsRun m p.run.i p.run.count p.run.j
+  pub columns : AreRunWeights (blocks_across m) (x_length m) (x_separation m) m.width p.run.i p.run.count p.left p.right
+      p.weights.now
+  pub rows : IsSpan p.run.j (blocks_down m) (y_length m) (y_separation m) first end p.down
+  pub some_columns : p.left < p.right
   pub some_rows : p.down.start < p.down.end
-  pub fits : p.across.end - p.across.start ≤ p.width
+  pub fits : p.right - p.left ≤ p.width
   pub whole : (p.down.end - p.down.start) * p.width ≤ length p.values.now
   pub values : (r k : ℕ) → r < p.down.end - p.down.start → k < p.width → slice_index_or p.values.now (r * p.width + k)
-      (pos 0) ≡ predicts m (block_at m.blocks p.i p.j) (p.across.start + k) (p.down.start + r)
+      (pos 0) ≡ predicts m (block_at m.blocks p.run.i p.run.j) (p.left + k) (p.down.start + r)
 
--- room for blocks of that many columns and rows
-pub record IsRoom (columns rows : ℕ) (r : BlockRoom) : Type 0 where
-  pub fits : columns ≤ r.width
-  pub some : 1 ≤ r.width
-  pub at_most_64 : r.width ≤ 64
+-- room for blocks of that many rows
+pub record IsRoom (rows : ℕ) (r : BlockRoom) : Type 0 where
   pub few_rows : rows ≤ 64
-  pub first : vec_len r.first ≡ r.width * rows
-  pub second : vec_len r.second ≡ r.width * rows
-  pub values : vec_len r.values ≡ r.width * rows
+  pub first : vec_len r.first ≡ 64 * rows
+  pub second : vec_len r.second ≡ 64 * rows
+  pub values : vec_len r.values ≡ 64 * rows
+  pub weights : vec_len r.weights ≡ 64
 
--- room that holds what block i of row j predicts in that many rows from a column and a row on
-abbrev pub AreValues : Compensation → ℕ → ℕ → ℕ → ℕ → ℕ → BlockRoom → Type 0
-AreValues m i j x y rows room =
-    (r k : ℕ) → r < rows → k < room.width → slice_index_or room.values.items (r * room.width + k) (pos 0)
+-- room that holds what block i of row j predicts in that many rows from a column and a row on, `width` in each
+abbrev pub AreValues : Compensation → ℕ → ℕ → ℕ → ℕ → ℕ → ℕ → BlockRoom → Type 0
+AreValues m i j x y rows width room =
+    (r k : ℕ) → r < rows → k < width → slice_index_or room.values.items (r * width + k) (pos 0)
     ≡ predicts m (block_at m.blocks i j) (x + k) (y + r)

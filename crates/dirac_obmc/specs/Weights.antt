@@ -1,10 +1,7 @@
 -- How much a block counts at a sample of its plane: overlapped blocks, Dirac specification.
 use Rattle.std.specs.Prelude.{◌≡◌, ℕ, zero, suc, ◌+◌, ◌-◌, ◌*◌, ◌/◌, ◌%◌, ◌≤◌, ◌==◌, nat_lt, nat_le, ◌&&◌}
-use Rattle.std.specs.Prelude.{if◌then◌else◌, Bool}
-
--- how far a block reaches beyond its own part, on either side
-abbrev pub margin : ℕ → ℕ → ℕ
-margin length separation = (length - separation) / 2
+use Rattle.std.specs.Prelude.{if◌then◌else◌}
+pub use Rattle.dirac_upconvert.specs.Places.{holds, margin}
 
 -- the weights that rise over an overlap of twice the margin
 abbrev pub ramp : ℕ → ℕ → ℕ
@@ -21,12 +18,6 @@ weight_at block count length separation t =
     else if nat_lt t (2 * margin length separation) then ramp (margin length separation) t
     else if nat_lt (length - 1 - 2 * margin length separation) t then ramp (margin length separation) (length - 1 - t)
     else 8
-
--- whether a block holds place x of its plane: it starts the margin before its own part
-abbrev pub holds : ℕ → ℕ → ℕ → ℕ → Bool
-holds block length separation x =
-    nat_le (block * separation) (x + margin length separation)
-    && nat_lt (x + margin length separation) (block * separation + length)
 
 -- the weight of a block at place x of its plane; a block that doesn't hold the place counts nothing
 unfoldable pub share : ℕ → ℕ → ℕ → ℕ → ℕ → ℕ

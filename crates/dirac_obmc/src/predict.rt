@@ -88,7 +88,7 @@ pub fn predict_rows_with(
         first,
         end,
     };
-    let mut room = block_room(alloc, columns.blocks, blocks)?;
+    let mut room = block_room(alloc, blocks)?;
     let mut predicted = Predicted::try_new(alloc, motion.width, end - first, 0)?;
     predict_lines(motion, columns, lines, &mut room, predicted.values_mut());
     Ok(predicted)

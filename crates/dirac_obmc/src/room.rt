@@ -6,39 +6,43 @@ use crate::direction::Direction;
 use dirac_common::NoMemory;
 use std::alloc::Global;
 
-/// Room for a block, in rows of `width`: the samples of its two references, and its values.
+/// The most columns of blocks that are predicted together.
+pub const MOST_COLUMNS: u32 = 64;
+
+/// Room for blocks that are predicted together: the samples of their two references, their values, and the weights of
+/// their columns.
 #[derive(Drop)]
 pub struct BlockRoom {
-    pub width: usize,
     pub first: Vec<i16>,
     pub second: Vec<i16>,
-    pub values: Vec<i32>,
+    pub values: Vec<i16>,
+    pub weights: Vec<u8>,
 }
 
+/// So many values 0.
 fn no_samples(alloc: Global, count: u32) -> Result<Vec<i16>, NoMemory>
     ensures { IfOk result (λ v. length v.items ≡ count) }
 {
     Ok(vec![in alloc; 0; count as usize]?)
 }
 
-fn no_values(alloc: Global, count: u32) -> Result<Vec<i32>, NoMemory>
+/// So many weights 0.
+fn no_weights(alloc: Global, count: u32) -> Result<Vec<u8>, NoMemory>
     ensures { IfOk result (λ v. length v.items ≡ count) }
 {
     Ok(vec![in alloc; 0; count as usize]?)
 }
 
-/// Room for blocks that stand so: a row has as many eights of places as a block's row needs.
-pub fn block_room(alloc: Global, across: Direction, down: Direction) -> Result<BlockRoom, NoMemory>
-    requires across { IsOverlap across.length across.separation }
-    requires down { IsOverlap down.length down.separation }
-    ensures { IfOk result (IsRoom across.length down.length) }
+/// Room for blocks of as many rows as these.
+pub fn block_room(alloc: Global, down: Direction) -> Result<BlockRoom, NoMemory>
+    requires { IsOverlap down.length down.separation }
+    ensures { IfOk result (IsRoom down.length) }
 {
-    let width = (across.length + 7) / 8 * 8;
-    let count = width * down.length;
+    let count = MOST_COLUMNS * down.length;
     Ok(BlockRoom {
-        width: width as usize,
         first: no_samples(alloc, count)?,
         second: no_samples(alloc, count)?,
-        values: no_values(alloc, count)?,
+        values: no_samples(alloc, count)?,
+        weights: no_weights(alloc, MOST_COLUMNS)?,
     })
 }

@@ -1,20 +1,24 @@
 ghost use Rattle.std.specs.Prelude.{◌≡◌, ℕ, pos, ◌+◌, ◌-◌, ◌*◌, ◌/◌, ◌%◌, ◌^◌, ◌<◌, ◌≤◌, unsigned_abs, length};
-ghost use Rattle.std.specs.Prelude.{slice_index_or};
+ghost use Rattle.std.specs.Prelude.{slice_index, slice_index_or, IsTrue, true};
 ghost use Rattle.std.specs.List.{All};
+ghost use Rattle.dirac_blocks.specs.Tables.{block_at};
 ghost use Rattle.dirac_obmc.specs.Adding.{Adds};
 ghost use Rattle.dirac_obmc.specs.Blending.{IsBlending};
 ghost use Rattle.dirac_obmc.specs.Compensation.{IsMotion, blended, blocks_across, blocks_down, predicted_at, total};
-ghost use Rattle.dirac_obmc.specs.Compensation.{x_length, y_length};
+ghost use Rattle.dirac_obmc.specs.Compensation.{y_length};
+ghost use Rattle.dirac_obmc.specs.Directions.{IsAcross, IsSound, IsWeights};
 ghost use Rattle.dirac_obmc.specs.Given.{given};
-ghost use Rattle.dirac_obmc.specs.Strips.{AreValues, IsPart, IsRoom, IsSpan, added_at};
-ghost use Rattle.dirac_obmc.specs.Weights.{IsOverlap, margin};
+ghost use Rattle.dirac_obmc.specs.Strips.{AreValues, IsLines, IsPart, IsRoom, IsRun, IsSpan, added_at, run_added_at};
+ghost use Rattle.dirac_obmc.specs.Strips.{run_share};
+ghost use Rattle.dirac_obmc.specs.Weights.{IsOverlap, margin, share};
 
 use crate::direction::Direction;
 use crate::motion::Motion;
-use crate::room::BlockRoom;
+use crate::room::{BlockRoom, MOST_COLUMNS};
 use crate::sums::{Weighed, add_values, divide_sums};
 use crate::values::{Window, block_front};
-use dirac_common::LARGEST_SIDE;
+use dirac_blocks::Block;
+use dirac_common::{LARGEST_SIDE, Vector};
 
 /// The blocks of a plane from left to right, with the weights of each.
 #[derive(Clone, Copy)]
@@ -42,14 +46,24 @@ pub struct Span {
     pub weights: u32,
 }
 
-/// What block `i` of row `j` predicts in the columns of `across` and the rows of `down`: `width` values for each row.
+/// So many blocks from block `i` of row `j` on, all alike.
+#[derive(Clone, Copy)]
+pub struct Run {
+    pub i: u32,
+    pub count: u32,
+    pub j: u32,
+}
+
+/// What a run of blocks predicts in the columns from `left` to `right - 1`, in each of which its blocks have a weight
+/// together, and in the rows of `down`: `width` values for each row.
 #[derive(Clone, Copy)]
 pub struct Part<'a> {
-    pub i: u32,
-    pub j: u32,
-    pub across: Span,
+    pub run: Run,
+    pub left: u32,
+    pub right: u32,
+    pub weights: &'a [u8],
     pub down: Span,
-    pub values: &'a [i32],
+    pub values: &'a [i16],
     pub width: usize,
 }
 
@@ -72,20 +86,68 @@ fn held(blocks: Direction, block: u32, least: u32, most: u32) -> Span
     }
 }
 
-/// Adds to the sums of all rows what a block predicts.
-fn add_part(
-    motion: &Motion<'_>,
-    columns: Columns<'_>,
-    lines: Lines<'_>,
-    part: Part<'_>,
-    sums: &mut [i32],
-)
-    requires blending { IsBlending (given motion.now) columns lines }
+/// Adds the weights of a block to those of the places from `left` to `right - 1`.
+fn add_shares(columns: Columns<'_>, block: u32, left: u32, right: u32, out: &mut [u8])
+    requires overlap { IsOverlap columns.blocks.length columns.blocks.separation }
+    requires block { block < columns.blocks.count }
+    requires count { columns.blocks.count ≤ LARGEST_SIDE }
+    requires weights { IsWeights columns.blocks.count columns.blocks.length columns.blocks.separation
+        columns.weights.now }
+    requires right { right ≤ LARGEST_SIDE }
+    requires left { left ≤ LARGEST_SIDE }
+    requires len { right - left ≤ length out.old }
+    requires small { (k : ℕ) → slice_index out.old k ≤ 8 }
+    requires both_small { (k : ℕ) → k < right - left → slice_index out.old k + share block columns.blocks.count
+        columns.blocks.length columns.blocks.separation (left + k) ≤ 8 }
+    ensures added { (k : ℕ) → k < right - left → slice_index out.new k ≡ slice_index out.old k + share block
+        columns.entry.blocks.count columns.entry.blocks.length columns.entry.blocks.separation (left + k) }
+    ensures small { (k : ℕ) → slice_index out.new k ≤ 8 }
+{
+    let span = held(columns.blocks, block, left, right);
+    for x in span.start..span.end {
+        out[(x - left) as usize] += columns.weights[(span.weights + (x - span.start)) as usize];
+    }
+}
+
+fn clear_weights(out: &mut [u8])
+    ensures { (k : ℕ) → slice_index out.new k ≡ 0 }
+{
+    for k in 0..out.len() {
+        out[k] = 0;
+    }
+}
+
+/// The weights that the blocks of a run have together at the places from `left` to `right - 1`.
+fn run_weights(columns: Columns<'_>, run: Run, left: u32, right: u32, out: &mut [u8])
+    requires overlap { IsOverlap columns.blocks.length columns.blocks.separation }
+    requires run { run.i + run.count ≤ columns.blocks.count }
+    requires count { columns.blocks.count ≤ LARGEST_SIDE }
+    requires weights { IsWeights columns.blocks.count columns.blocks.length columns.blocks.separation
+        columns.weights.now }
+    requires right { right ≤ LARGEST_SIDE }
+    requires left { left ≤ LARGEST_SIDE }
+    requires covers { right ≤ columns.blocks.count * columns.blocks.separation }
+    requires len { right - left ≤ length out.old }
+    ensures weight { (k : ℕ) → k < right - left → slice_index out.new k ≡ run_share columns.entry.blocks.count
+        columns.entry.blocks.length columns.entry.blocks.separation run.i run.count (left + k) }
+    ensures small { (k : ℕ) → slice_index out.new k ≤ 8 }
+{
+    clear_weights(out);
+    for n in 0..run.count {
+        add_shares(columns, run.i + n, left, right, out);
+    }
+}
+
+/// Adds to the sums of all rows what a run of blocks predicts.
+fn add_part(motion: &Motion<'_>, lines: Lines<'_>, part: Part<'_>, sums: &mut [i32])
+    requires motion { IsMotion (given motion.now) }
+    requires sound { IsSound (given motion.now) }
+    requires lines { IsLines (given motion.now) lines }
     requires part { IsPart (given motion.now) lines.first lines.end part }
     requires len { length sums.old ≡ motion.now.width * (lines.end - lines.first) }
     requires sums { All (λ v. unsigned_abs v ≤ 2 ^ 22) sums.old }
-    ensures { Adds (added_at (given motion.now) lines.entry.first part.entry.j part.entry.i) (motion.now.width
-        * (lines.entry.end - lines.entry.first)) sums.old sums.new }
+    ensures { Adds (run_added_at (given motion.now) lines.entry.first part.entry.run.j part.entry.run.i
+        part.entry.run.count) (motion.now.width * (lines.entry.end - lines.entry.first)) sums.old sums.new }
 {
     for y in part.down.start..part.down.end {
         let row = (y - part.down.start) as usize;
@@ -93,45 +155,48 @@ fn add_part(
         let weighed = Weighed {
             values: part.values,
             at: row * part.width,
-            weights: columns.weights,
-            first: part.across.weights as usize,
+            weights: part.weights,
+            first: 0,
             down: lines.weights[part.down.weights as usize + row],
         };
         add_values(
             sums,
-            place + part.across.start as usize,
+            place + part.left as usize,
             weighed,
-            (part.across.end - part.across.start) as usize,
+            (part.right - part.left) as usize,
         );
     }
 }
 
-/// Writes what block `i` of row `j` predicts in that many columns and rows.
-fn predict_block(
+/// Writes what the blocks of a run predict in `width` columns from column `left` on.
+fn predict_run(
     motion: &Motion<'_>,
-    i: u32,
-    j: u32,
-    across: Span,
+    run: Run,
+    left: u32,
+    width: usize,
     down: Span,
     room: &mut BlockRoom,
 )
     requires motion { IsMotion (given motion.now) }
-    requires across { i < blocks_across (given motion.now) }
-    requires down { j < blocks_down (given motion.now) }
-    requires columns { across.start < motion.now.width }
+    requires across { run.i < blocks_across (given motion.now) }
+    requires down { run.j < blocks_down (given motion.now) }
+    requires columns { left < motion.now.width }
     requires rows { (down.start < down.end) × (down.end ≤ motion.now.height) }
     requires few_rows { down.end - down.start ≤ y_length (given motion.now) }
-    requires room_fits { IsRoom (x_length (given motion.now)) (y_length (given motion.now)) room.old }
-    ensures room_fits { IsRoom (x_length (given motion.now)) (y_length (given motion.now)) room.new }
-    ensures values { AreValues (given motion.now) i j across.start down.start (down.end - down.start) room.new }
+    requires some { 1 ≤ width }
+    requires at_most_64 { width ≤ 64 }
+    requires room_fits { IsRoom (y_length (given motion.now)) room.old }
+    ensures room_fits { IsRoom (y_length (given motion.now)) room.new }
+    ensures weights { room.new.weights.items ≡ room.old.weights.items }
+    ensures values { AreValues (given motion.now) run.i run.j left down.start (down.end - down.start) width room.new }
 {
-    let block = motion.blocks.at(i, j);
+    let block = motion.blocks.at(run.i, run.j);
     let window = Window {
-        x: across.start,
+        x: left,
         y: down.start,
-        width: room.width,
+        width,
     };
-    let count = (down.end - down.start) as usize * room.width;
+    let count = (down.end - down.start) as usize * width;
     block_front(
         motion,
         &block,
@@ -143,47 +208,156 @@ fn predict_block(
     );
 }
 
-/// Adds to the sums of all rows what block `i` of row `j` adds.
-fn add_block(
+/// As many columns as there are, rounded up to eights.
+fn in_eights(columns: u32) -> usize
+    requires { columns ≤ 64 }
+    ensures fits { columns ≤ result }
+    ensures at_most_64 { result ≤ 64 }
+{
+    ((columns + 7) / 8 * 8) as usize
+}
+
+/// Adds to the sums of all rows what the blocks of a run add.
+fn add_run(
     motion: &Motion<'_>,
     columns: Columns<'_>,
     lines: Lines<'_>,
-    i: u32,
-    j: u32,
+    run: Run,
     room: &mut BlockRoom,
     sums: &mut [i32],
 )
     requires blending { IsBlending (given motion.now) columns lines }
-    requires across { i < blocks_across (given motion.now) }
-    requires down { j < blocks_down (given motion.now) }
-    requires room_fits { IsRoom (x_length (given motion.now)) (y_length (given motion.now)) room.old }
+    requires run { IsRun (given motion.now) run.i run.count run.j }
+    requires room_fits { IsRoom (y_length (given motion.now)) room.old }
     requires len { length sums.old ≡ motion.now.width * (lines.end - lines.first) }
     requires sums { All (λ v. unsigned_abs v ≤ 2 ^ 22) sums.old }
-    ensures room_fits { IsRoom (x_length (given motion.now)) (y_length (given motion.now)) room.new }
-    ensures sums { Adds (added_at (given motion.now) lines.entry.first j i) (motion.now.width * (lines.entry.end
-        - lines.entry.first)) sums.old sums.new }
+    ensures room_fits { IsRoom (y_length (given motion.now)) room.new }
+    ensures sums { Adds (run_added_at (given motion.now) lines.entry.first run.j run.i run.count) (motion.now.width
+        * (lines.entry.end - lines.entry.first)) sums.old sums.new }
 {
-    let across = held(columns.blocks, i, 0, motion.width);
-    let down = held(lines.blocks, j, lines.first, lines.end);
-    if across.end <= across.start {
+    let first = held(columns.blocks, run.i, 0, motion.width);
+    let last = held(columns.blocks, run.i + run.count - 1, 0, motion.width);
+    let down = held(lines.blocks, run.j, lines.first, lines.end);
+    if last.end <= first.start {
         return;
     }
     if down.end <= down.start {
         return;
     }
-    predict_block(motion, i, j, across, down, room);
+    run_weights(
+        columns,
+        run,
+        first.start,
+        last.end,
+        room.weights.as_mut_slice(),
+    );
+    let width = in_eights(last.end - first.start);
+    predict_run(motion, run, first.start, width, down, room);
     let part = Part {
-        i,
-        j,
-        across,
+        run,
+        left: first.start,
+        right: last.end,
+        weights: room.weights.as_slice(),
         down,
         values: room.values.as_slice(),
-        width: room.width,
+        width,
     };
-    add_part(motion, columns, lines, part, sums);
+    add_part(motion, lines, part, sums);
 }
 
-/// Adds to the sums of all rows what the blocks of row `j` add.
+/// Whether two blocks use the same references.
+fn have_same_references(a: Block, b: Block) -> bool
+    ensures first { result ≡ true → a.ref1 ≡ b.ref1 }
+    ensures second { result ≡ true → a.ref2 ≡ b.ref2 }
+{
+    a.ref1 == b.ref1 && a.ref2 == b.ref2
+}
+
+fn are_same(a: Vector, b: Vector) -> bool
+    ensures { result ≡ true → a ≡ b }
+{
+    a.x == b.x && a.y == b.y
+}
+
+/// Whether two blocks have the same vectors.
+fn have_same_vectors(a: Block, b: Block) -> bool
+    ensures first { result ≡ true → a.v1 ≡ b.v1 }
+    ensures second { result ≡ true → a.v2 ≡ b.v2 }
+{
+    are_same(a.v1, b.v1) && are_same(a.v2, b.v2)
+}
+
+/// Whether two blocks have the same DC values.
+fn have_same_values(a: Block, b: Block) -> bool
+    ensures y { result ≡ true → a.dc_y ≡ b.dc_y }
+    ensures u { result ≡ true → a.dc_u ≡ b.dc_u }
+    ensures v { result ≡ true → a.dc_v ≡ b.dc_v }
+{
+    a.dc_y == b.dc_y && a.dc_u == b.dc_u && a.dc_v == b.dc_v
+}
+
+/// Whether two blocks are alike.
+fn are_alike(a: Block, b: Block) -> bool
+    ensures { result ≡ true → a ≡ b }
+{
+    if have_same_references(a, b) {
+        if have_same_vectors(a, b) {
+            return have_same_values(a, b);
+        }
+    }
+    false
+}
+
+/// Whether the next block goes on with a run.
+fn goes_on(motion: &Motion<'_>, blocks: Direction, run: Run) -> bool
+    requires motion { IsMotion (given motion.now) }
+    requires blocks { IsAcross (given motion.now) blocks }
+    requires run { IsRun (given motion.now) run.i run.count run.j }
+    ensures inside { IsTrue result → run.i + run.count < blocks.count }
+    ensures fits { IsTrue result → run.count * blocks.separation + blocks.length ≤ 64 }
+    ensures same { IsTrue result → block_at motion.now.blocks.now (run.i + run.count) run.j
+        ≡ block_at motion.now.blocks.now run.i run.j }
+{
+    run.i + run.count < blocks.count
+        && run.count * blocks.separation + blocks.length <= MOST_COLUMNS
+        && are_alike(
+            motion.blocks.at(run.i + run.count, run.j),
+            motion.blocks.at(run.i, run.j),
+        )
+}
+
+/// Adds to the sums of all rows what the blocks of a run add, where the next block doesn't go on with it; of how many
+/// blocks that is.
+fn add_ended(
+    motion: &Motion<'_>,
+    columns: Columns<'_>,
+    lines: Lines<'_>,
+    run: Run,
+    room: &mut BlockRoom,
+    sums: &mut [i32],
+) -> u32
+    requires blending { IsBlending (given motion.now) columns lines }
+    requires run { IsRun (given motion.now) run.i run.count run.j }
+    requires room_fits { IsRoom (y_length (given motion.now)) room.old }
+    requires len { length sums.old ≡ motion.now.width * (lines.end - lines.first) }
+    requires sums { All (λ v. unsigned_abs v ≤ 2 ^ 22) sums.old }
+    ensures room_fits { IsRoom (y_length (given motion.now)) room.new }
+    ensures within { result ≤ run.count }
+    ensures last { run.i + run.count ≡ blocks_across (given motion.now) → result ≡ run.count }
+    ensures next { run.i + run.count < blocks_across (given motion.now) → IsRun (given motion.now) (run.i + result)
+        (run.count + 1 - result) run.j }
+    ensures sums { Adds (run_added_at (given motion.now) lines.entry.first run.j run.i result) (motion.now.width
+        * (lines.entry.end - lines.entry.first)) sums.old sums.new }
+{
+    if goes_on(motion, columns.blocks, run) {
+        return 0;
+    }
+    add_run(motion, columns, lines, run, room, sums);
+    run.count
+}
+
+/// Adds to the sums of all rows what the blocks of row `j` add. Blocks that stand side by side and are alike are
+/// predicted together.
 fn add_blocks(
     motion: &Motion<'_>,
     columns: Columns<'_>,
@@ -194,15 +368,21 @@ fn add_blocks(
 )
     requires blending { IsBlending (given motion.now) columns lines }
     requires down { j < blocks_down (given motion.now) }
-    requires room_fits { IsRoom (x_length (given motion.now)) (y_length (given motion.now)) room.old }
+    requires room_fits { IsRoom (y_length (given motion.now)) room.old }
     requires len { length sums.old ≡ motion.now.width * (lines.end - lines.first) }
     requires sums { All (λ v. unsigned_abs v ≤ 2 ^ 21) sums.old }
-    ensures room_fits { IsRoom (x_length (given motion.now)) (y_length (given motion.now)) room.new }
+    ensures room_fits { IsRoom (y_length (given motion.now)) room.new }
     ensures sums { Adds (λ p. total (λ i. added_at (given motion.now) lines.entry.first j i p) (blocks_across (given
         motion.now))) (motion.now.width * (lines.entry.end - lines.entry.first)) sums.old sums.new }
 {
+    let mut begin = 0;
     for i in 0..columns.blocks.count {
-        add_block(motion, columns, lines, i, j, room, sums);
+        let run = Run {
+            i: begin,
+            count: i + 1 - begin,
+            j,
+        };
+        begin += add_ended(motion, columns, lines, run, room, sums);
     }
 }
 
@@ -241,10 +421,10 @@ fn add_rows(
     sums: &mut [i32],
 )
     requires blending { IsBlending (given motion.now) columns lines }
-    requires room_fits { IsRoom (x_length (given motion.now)) (y_length (given motion.now)) room.old }
+    requires room_fits { IsRoom (y_length (given motion.now)) room.old }
     requires len { length sums.old ≡ motion.now.width * (lines.end - lines.first) }
     requires sums { (p : ℕ) → slice_index_or sums.old p (pos 0) ≡ pos 0 }
-    ensures room_fits { IsRoom (x_length (given motion.now)) (y_length (given motion.now)) room.new }
+    ensures room_fits { IsRoom (y_length (given motion.now)) room.new }
     ensures value { (p : ℕ) → p < length sums.old → slice_index_or sums.new p (pos 0)
         ≡ blended (given motion.now) (p % motion.now.width) (lines.entry.first + p / motion.now.width) }
     ensures magnitudes_at_most_2_21 { All (λ v. unsigned_abs v ≤ 2 ^ 21) sums.new }
@@ -263,7 +443,7 @@ pub fn predict_lines(
     out: &mut [i32],
 )
     requires blending { IsBlending (given motion.now) columns lines }
-    requires room_fits { IsRoom (x_length (given motion.now)) (y_length (given motion.now)) room.old }
+    requires room_fits { IsRoom (y_length (given motion.now)) room.old }
     requires len { length out.old ≡ motion.now.width * (lines.end - lines.first) }
     requires out { (p : ℕ) → slice_index_or out.old p (pos 0) ≡ pos 0 }
     ensures { (p : ℕ) → p < length out.old → slice_index_or out.new p (pos 0)

@@ -4,16 +4,26 @@ ghost use Rattle.std.specs.Int.{int_shr};
 ghost use Rattle.std.specs.List.{All};
 ghost use Rattle.dirac_obmc.specs.Adding.{AddsPart, PutOver};
 
+/// The weight of a value, from those across and down.
+#[inline(always)]
+fn both(weight: u8, down: u8) -> i16
+    requires weight { weight ≤ 8 }
+    requires down { down ≤ 8 }
+    ensures { result ≡ pos (weight * down) }
+{
+    i16::from(weight) * i16::from(down)
+}
+
 /// A value times its weights across and down.
 #[inline(always)]
-fn weigh(weight: u8, down: u8, value: i32) -> i32
+fn weigh(weight: u8, down: u8, value: i16) -> i32
     requires weight { weight ≤ 8 }
     requires down { down ≤ 8 }
     requires value { unsigned_abs value ≤ 2 ^ 15 }
     ensures value { result ≡ pos (weight * down) *ℤ value }
     ensures at_most_2_21 { unsigned_abs result ≤ 2 ^ 21 }
 {
-    i32::from(weight * down) * value
+    i32::from(both(weight, down)) * i32::from(value)
 }
 
 #[inline(always)]
@@ -28,7 +38,7 @@ fn sum(sum: i32, more: i32) -> i32
 /// Values of a row, from place `at` on, with their weights across, from place `first` on, and their weight down.
 #[derive(Clone, Copy)]
 pub struct Weighed<'a> {
-    pub values: &'a [i32],
+    pub values: &'a [i16],
     pub at: usize,
     pub weights: &'a [u8],
     pub first: usize,

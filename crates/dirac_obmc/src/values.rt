@@ -1,15 +1,17 @@
 ghost use Rattle.std.specs.Prelude.{◌≡◌, ℕ, pos, ◌+◌, ◌*◌, ◌/◌, ◌%◌, ◌^◌, ◌<◌, ◌≤◌, ◌+ℤ◌, ◌*ℤ◌, unsigned_abs, length};
-ghost use Rattle.std.specs.Prelude.{slice_index_or};
-ghost use Rattle.std.specs.Int.{int_div_euclid};
+ghost use Rattle.std.specs.Prelude.{slice_index_or, IsTrue};
+ghost use Rattle.std.specs.Int.{int_div_euclid, int_shr};
 ghost use Rattle.std.specs.List.{All};
 ghost use Rattle.dirac_vectors.specs.Neighbours.{IsShort};
 ghost use Rattle.dirac_vectors.specs.Predictions.{IsShortVector};
 ghost use Rattle.dirac_blocks.specs.Tables.{IsBlock};
 ghost use Rattle.dirac_upconvert.specs.HalfSamples.{IsSample};
+ghost use Rattle.dirac_upconvert.specs.Places;
 ghost use Rattle.dirac_upconvert.specs.SubSamples.{rounded};
 ghost use Rattle.dirac_obmc.specs.Compensation.{IsMotion, dc_of, from_one, from_two, moved_sample, predicts};
 ghost use Rattle.dirac_obmc.specs.Compensation.{second_sample};
 ghost use Rattle.dirac_obmc.specs.Given.{given};
+ghost use Rattle.dirac_obmc.specs.OfSamples.{HasDefaultWeights};
 ghost use Rattle.dirac_obmc.specs.Windows.{IsWindow};
 
 use crate::direction::{across_ratio, down_ratio};
@@ -56,7 +58,7 @@ fn position(precision: u8, ratio: u32, place: u32, vector: i32) -> i64
     requires ratio { (1 ≤ ratio) × (ratio ≤ 2) }
     requires place { place ≤ LARGEST_TABLE_SIDE }
     requires vector { IsShort vector }
-    ensures value { result ≡ Rattle.dirac_obmc.specs.Compensation.position precision ratio place vector }
+    ensures value { result ≡ Places.position precision ratio place vector }
     ensures at_most_2_17 { unsigned_abs result ≤ 2 ^ 17 }
 {
     in_parts(precision, place) + divided(vector, ratio)
@@ -110,13 +112,22 @@ fn clear(out: &mut [i16])
     }
 }
 
+/// A value in sixteen bits.
+#[inline(always)]
+fn short(value: i32) -> i16
+    requires { IsShort value }
+    ensures { result ≡ value }
+{
+    value as i16
+}
+
 /// A sum divided by 2 to the power `bits`, to the nearest.
 #[inline(always)]
 fn rounded(sum: i32, bits: u8) -> i32
     requires sum { unsigned_abs sum ≤ 65280 }
     requires bits { (1 ≤ bits) × (bits ≤ 8) }
     ensures value { result ≡ Rattle.dirac_upconvert.specs.SubSamples.rounded bits sum }
-    ensures at_most_2_15 { unsigned_abs result ≤ 2 ^ 15 }
+    ensures short { IsShort result }
 {
     let half = (1i32 << u32::from(bits)) >> 1;
     (sum + half) >> u32::from(bits)
@@ -135,13 +146,13 @@ fn times(sample: i16, weight: i32) -> i32
 
 /// A sample times its weight, divided by 2 to the power `bits`.
 #[inline(always)]
-fn weighted(sample: i16, weight: i32, bits: u8) -> i32
+fn weighted(sample: i16, weight: i32, bits: u8) -> i16
     requires sample { IsSample sample }
     requires weight { unsigned_abs weight ≤ 510 }
     requires bits { (1 ≤ bits) × (bits ≤ 8) }
     ensures { result ≡ Rattle.dirac_upconvert.specs.SubSamples.rounded bits (sample *ℤ weight) }
 {
-    rounded(times(sample, weight), bits)
+    short(rounded(times(sample, weight), bits))
 }
 
 #[inline(always)]
@@ -156,7 +167,7 @@ fn sum(a: i32, b: i32) -> i32
 
 /// Two samples, each times its weight, divided by 2 to the power `bits`.
 #[inline(always)]
-fn weighted_both(first: i16, weight1: i32, second: i16, weight2: i32, bits: u8) -> i32
+fn weighted_both(first: i16, weight1: i32, second: i16, weight2: i32, bits: u8) -> i16
     requires first { IsSample first }
     requires weight1 { unsigned_abs weight1 ≤ 255 }
     requires second { IsSample second }
@@ -164,7 +175,58 @@ fn weighted_both(first: i16, weight1: i32, second: i16, weight2: i32, bits: u8) 
     requires bits { (1 ≤ bits) × (bits ≤ 8) }
     ensures { result ≡ Rattle.dirac_upconvert.specs.SubSamples.rounded bits (first *ℤ weight1 +ℤ second *ℤ weight2) }
 {
-    rounded(sum(times(first, weight1), times(second, weight2)), bits)
+    short(rounded(sum(times(first, weight1), times(second, weight2)), bits))
+}
+
+/// Whether both references count alike, so that one sample weighs as itself and two as their mean.
+fn has_default_weights(p: &Prediction) -> bool
+    ensures { IsTrue result → HasDefaultWeights p.now }
+{
+    p.weight_bits == 1 && p.weight1 == 1 && p.weight2 == 1
+}
+
+#[inline(always)]
+fn sample_sum(a: i16, b: i16) -> i16
+    requires a { IsSample a }
+    requires b { IsSample b }
+    ensures value { result ≡ a +ℤ b }
+    ensures at_most_256 { unsigned_abs result ≤ 256 }
+{
+    a + b
+}
+
+/// A sum of two samples divided by 2, halves up.
+#[inline(always)]
+fn halved(sum: i16) -> i16
+    requires { unsigned_abs sum ≤ 256 }
+    ensures { result ≡ int_shr (sum +ℤ pos 1) 1 }
+{
+    (sum + 1) >> 1
+}
+
+/// The mean of the samples at place `k` of two lists.
+#[inline(always)]
+fn mean_at(first: &[i16], second: &[i16], k: usize) -> i16
+    requires inside { (k < length first.now) × (k < length second.now) }
+    requires first { All IsSample first.now }
+    requires second { All IsSample second.now }
+    ensures { result ≡ int_shr ((slice_index_or first.now k (pos 0) +ℤ slice_index_or second.now k (pos 0)) +ℤ pos 1)
+        1 }
+{
+    halved(sample_sum(first[k], second[k]))
+}
+
+/// The means of the samples of two lists.
+fn means(first: &[i16], second: &[i16], out: &mut [i16])
+    requires len { (length first.now ≡ length out.old) × (length second.now ≡ length out.old) }
+    requires first { All IsSample first.now }
+    requires second { All IsSample second.now }
+    ensures { (k : ℕ) → k < length out.old → slice_index_or out.new k (pos 0)
+        ≡ int_shr ((slice_index_or first.now k (pos 0) +ℤ slice_index_or second.now k (pos 0)) +ℤ pos 1) 1 }
+{
+    for k in 0..out.len() {
+        out[k] = mean_at(first, second, k);
+    }
 }
 
 fn weight_of_one(p: &Prediction) -> i32
@@ -176,7 +238,7 @@ fn weight_of_one(p: &Prediction) -> i32
 }
 
 /// The values of a block with one reference.
-fn weigh_one(p: &Prediction, samples: &[i16], out: &mut [i32])
+fn weigh_one(p: &Prediction, samples: &[i16], out: &mut [i16])
     requires bits { (1 ≤ p.now.weight_bits) × (p.now.weight_bits ≤ 8) }
     requires weights { (unsigned_abs p.now.weight1 ≤ 255) × (unsigned_abs p.now.weight2 ≤ 255) }
     requires len { length samples.now ≡ length out.old }
@@ -184,6 +246,10 @@ fn weigh_one(p: &Prediction, samples: &[i16], out: &mut [i32])
     ensures { (k : ℕ) → k < length out.old → slice_index_or out.new k (pos 0)
         ≡ from_one p.now (slice_index_or samples.now k (pos 0)) }
 {
+    if has_default_weights(p) {
+        out.copy_from_slice(samples);
+        return;
+    }
     let weight = weight_of_one(p);
     let bits = p.weight_bits;
     for k in 0..out.len() {
@@ -201,7 +267,7 @@ struct Weighing {
 
 /// The value at place `k` of a block with two references.
 #[inline(always)]
-fn value_of_two(weighing: Weighing, first: &[i16], second: &[i16], k: usize) -> i32
+fn value_of_two(weighing: Weighing, first: &[i16], second: &[i16], k: usize) -> i16
     requires bits { (1 ≤ weighing.bits) × (weighing.bits ≤ 8) }
     requires weight1 { unsigned_abs weighing.weight1 ≤ 255 }
     requires weight2 { unsigned_abs weighing.weight2 ≤ 255 }
@@ -221,7 +287,7 @@ fn value_of_two(weighing: Weighing, first: &[i16], second: &[i16], k: usize) -> 
 }
 
 /// The values of a block with two references.
-fn weigh_two(p: &Prediction, first: &[i16], second: &[i16], out: &mut [i32])
+fn weigh_two(p: &Prediction, first: &[i16], second: &[i16], out: &mut [i16])
     requires bits { (1 ≤ p.now.weight_bits) × (p.now.weight_bits ≤ 8) }
     requires weights { (unsigned_abs p.now.weight1 ≤ 255) × (unsigned_abs p.now.weight2 ≤ 255) }
     requires len { (length first.now ≡ length out.old) × (length second.now ≡ length out.old) }
@@ -230,6 +296,10 @@ fn weigh_two(p: &Prediction, first: &[i16], second: &[i16], out: &mut [i32])
     ensures { (k : ℕ) → k < length out.old → slice_index_or out.new k (pos 0)
         ≡ from_two p.now (slice_index_or first.now k (pos 0)) (slice_index_or second.now k (pos 0)) }
 {
+    if has_default_weights(p) {
+        means(first, second, out);
+        return;
+    }
     let weighing = Weighing {
         weight1: p.weight1,
         weight2: p.weight2,
@@ -241,17 +311,20 @@ fn weigh_two(p: &Prediction, first: &[i16], second: &[i16], out: &mut [i32])
 }
 
 /// The DC value of a block for this part.
-fn dc(component: Component, block: &Block) -> i32
+fn dc(component: Component, block: &Block) -> i16
+    requires y { IsShort block.now.dc_y }
+    requires u { IsShort block.now.dc_u }
+    requires v { IsShort block.now.dc_v }
     ensures { result ≡ dc_of component block.now }
 {
     match component {
-        Component::Y => block.dc_y,
-        Component::U => block.dc_u,
-        Component::V => block.dc_v,
+        Component::Y => short(block.dc_y),
+        Component::U => short(block.dc_u),
+        Component::V => short(block.dc_v),
     }
 }
 
-fn set_all(value: i32, out: &mut [i32])
+fn set_all(value: i16, out: &mut [i16])
     ensures { (k : ℕ) → k < length out.old → slice_index_or out.new k (pos 0) ≡ value }
 {
     for k in 0..out.len() {
@@ -266,7 +339,7 @@ fn block_values(
     window: Window,
     first: &mut [i16],
     second: &mut [i16],
-    out: &mut [i32],
+    out: &mut [i16],
 )
     requires motion { IsMotion (given motion.now) }
     requires block { IsBlock motion.now.blocks.now.refs block.now }
@@ -302,7 +375,7 @@ pub fn block_front(
     count: usize,
     first: &mut [i16],
     second: &mut [i16],
-    out: &mut [i32],
+    out: &mut [i16],
 )
     requires motion { IsMotion (given motion.now) }
     requires block { IsBlock motion.now.blocks.now.refs block.now }

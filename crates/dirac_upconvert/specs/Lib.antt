@@ -1,5 +1,6 @@
 pub mod Around
 pub mod HalfSamples
 pub mod Phases
+pub mod Places
 pub mod Rests
 pub mod SubSamples

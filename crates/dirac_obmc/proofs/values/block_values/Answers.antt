@@ -1,5 +1,5 @@
 use Rattle.std.proofs.Common.{ℕ, ◌+◌, ◌/◌, ◌%◌, arith, sym, subst, ◌∙◌}
-use Rattle.std.specs.Int.{w32}
+use Rattle.std.specs.Int.{w16}
 use Rattle.std.proofs.lemmas.Int.{to_z-of_z}
 use Rattle.dirac_obmc.specs.Given.{given}
 use Rattle.dirac_obmc.specs.Windows.{IsWindow}
@@ -35,5 +35,5 @@ returns-then-block-3 c k l =
 
 pub returns : goal.returns
 returns c k l =
-    c.set_all.ensures k l ∙ to_z-of_z w32 _ (record { sfits = c.dc.type_inv }) ∙ c.dc.ensures
+    c.set_all.ensures k l ∙ to_z-of_z w16 _ (record { sfits = c.dc.type_inv }) ∙ c.dc.ensures
     ∙ by_value (given c.args.motion.now) c.args.block.now (c.args.window.x + k % c.args.window.width) (c.args.window.y + k / c.args.window.width) c.if-block.false c.if-block-3.false
