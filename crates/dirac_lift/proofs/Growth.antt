@@ -25,7 +25,7 @@ abs-change s b xs n h =
       div_mono (unsigned_abs (weighted s.taps (value_read s.parity s.lead xs n) (length s.taps)) + 2 ^ s.shift / 2) (sum_by unsigned_abs s.taps * b + 2 ^ s.shift / 2) (2 ^ s.shift) (pow_pos s.shift) (omega (arith, sum)),
     )
 
-abs-new : (s : Step) (a b : ℕ) (xs : List ℤ) (n : ℕ) → PlacesWithin a s.parity xs → PlacesWithin b (1 - s.parity) xs → unsigned_abs (new_at s xs n) ≤ grown s a b
+pub abs-new : (s : Step) (a b : ℕ) (xs : List ℤ) (n : ℕ) → PlacesWithin a s.parity xs → PlacesWithin b (1 - s.parity) xs → unsigned_abs (new_at s xs n) ≤ grown s a b
 abs-new s a b xs n ha hb =
     omega (arith, abs-moved s.minus (get_or xs (own s.parity n) (pos 0)) (change_at s xs n), ha n, abs-change s b xs n hb)
 

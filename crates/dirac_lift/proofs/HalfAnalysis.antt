@@ -74,7 +74,7 @@ row_from_halves w half x row line e a = elim (cases_lt x half) [
       (ap (λ i. get_or row i (pos 0)) place ∙ sym (get_or-drop half row (x - half) (pos 0)) ∙ sym (a.read (x - half)) ∙ ap (λ h. get_or line (2 * (x - h) + 1) (pos 0)) e)
 ]
 
-column_place : (w x : ℕ) → x < w → w % 2 ≡ 0 → column_of w (place_of w x) ≡ x
+pub column_place : (w x : ℕ) → x < w → w % 2 ≡ 0 → column_of w (place_of w x) ≡ x
 column_place w x l wide = elim (cases_eq (x % 2) 0) [
   | inl even ↦
       ap (column_of w) (place_even w (x / 2) x (omega (arith, even)))

@@ -84,27 +84,8 @@ column_halves w h es os x l =
 abbrev pub lifted_columns : ℕ → ℕ → ℕ → List ℤ → List ℤ → Table
 lifted_columns k w h es os = columns_by (synth k) (from_halves w h es os)
 
-column_ran : (k w h : ℕ) (es os new_es new_os : List ℤ) (x : ℕ) → HalvesRun (steps_of k) w h es os new_es new_os → x < w → w % 2 ≡ 0 → AreHalves 0 (column new_es w h (place_of w x)) (column new_os w h (place_of w x)) (synth k (column (from_halves w h es os).values w (2 * h) x))
-unfolding synth
-column_ran k w h es os new_es new_os x r l even =
-    r.each (place_of w x) (column (from_halves w h es os).values w (2 * h) x) (place_in w x l even) (column_halves w h es os x l)
-
-lifted_even : (k w h : ℕ) (es os new_es new_os : List ℤ) (x n : ℕ) → HalvesRun (steps_of k) w h es os new_es new_os → x < w → w % 2 ≡ 0 → n < h → get_or (lifted_columns k w h es os).values ((2 * n) * w + x) (pos 0) ≡ get_or new_es (n * w + place_of w x) (pos 0)
-lifted_even k w h es os new_es new_os x n r l even inside =
-    let place : 2 * n ≡ own 0 n = omega arith in
-    filled_at (λ x y. get_or (synth k (column (from_halves w h es os).values w (2 * h) x)) y (pos 0)) w (2 * h) x (2 * n) l (omega (arith, inside))
-    ∙ ap (λ i. get_or (synth k (column (from_halves w h es os).values w (2 * h) x)) i (pos 0)) place
-    ∙ (column_ran k w h es os new_es new_os x r l even).changed n
-    ∙ column_at new_es w h (place_of w x) n inside
-
-lifted_odd : (k w h : ℕ) (es os new_es new_os : List ℤ) (x n : ℕ) → HalvesRun (steps_of k) w h es os new_es new_os → x < w → w % 2 ≡ 0 → n < h → get_or (lifted_columns k w h es os).values ((2 * n + 1) * w + x) (pos 0) ≡ get_or new_os (n * w + place_of w x) (pos 0)
-lifted_odd k w h es os new_es new_os x n r l even inside =
-    filled_at (λ x y. get_or (synth k (column (from_halves w h es os).values w (2 * h) x)) y (pos 0)) w (2 * h) x (2 * n + 1) l (omega (arith, inside))
-    ∙ (column_ran k w h es os new_es new_os x r l even).read n
-    ∙ column_at new_os w h (place_of w x) n inside
-
 -- a row by its halves
-row_halves : (w : ℕ) (ps es : List ℤ) (n y : ℕ) → w % 2 ≡ 0 → length (row_in ps w y) ≡ w → length (row_in es w n) ≡ w → ((x : ℕ) → x < w → get_or ps (y * w + x) (pos 0) ≡ get_or es (n * w + place_of w x) (pos 0)) → AreHalves 0 (take (w / 2) (row_in es w n)) (drop (w / 2) (row_in es w n)) (row_in ps w y)
+pub row_halves : (w : ℕ) (ps es : List ℤ) (n y : ℕ) → w % 2 ≡ 0 → length (row_in ps w y) ≡ w → length (row_in es w n) ≡ w → ((x : ℕ) → x < w → get_or ps (y * w + x) (pos 0) ≡ get_or es (n * w + place_of w x) (pos 0)) → AreHalves 0 (take (w / 2) (row_in es w n)) (drop (w / 2) (row_in es w n)) (row_in ps w y)
 row_halves w ps es n y even lp le each =
     let front : length (take (w / 2) (row_in es w n)) ≡ w / 2 = length-take-le (w / 2) (row_in es w n) (omega (arith, le)) in
     let back : length (drop (w / 2) (row_in es w n)) ≡ w / 2 = omega (arith, length-drop (w / 2) (row_in es w n), le, even) in
@@ -165,35 +146,15 @@ unfolding filled
 filled_len w h f = length-map-range_with_len (λ p. f (p % w) (p / w)) 0 (w * h)
 
 -- a line that is finished from its halves is a row of the level
-line_at : (k w h y x : ℕ) (es os line half_es half_os : List ℤ) → ((whole : List ℤ) → AreHalves 0 half_es half_os whole → line ≡ ended k (synth k whole))
+pub line_at : (k w h y x : ℕ) (es os line half_es half_os : List ℤ) → ((whole : List ℤ) → AreHalves 0 half_es half_os whole → line ≡ ended k (synth k whole))
     → AreHalves 0 half_es half_os (row_in (lifted_columns k w h es os).values w y)
     → get_or line x (pos 0) ≡ level_at k w h es os x y
 line_at k w h y x es os line half_es half_os each a =
     ap (λ zs. get_or zs x (pos 0)) (each (row_in (lifted_columns k w h es os).values w y) a)
     ∙ ended_with (has_shift k) (synth k (row_in (lifted_columns k w h es os).values w y)) x
 
-pub even_line : (k w h n x : ℕ) (es os new_es new_os line : List ℤ) → HalvesRun (steps_of k) w h es os new_es new_os → w % 2 ≡ 0 → n < h → length new_es ≡ w * h
-    → ((whole : List ℤ) → AreHalves 0 (take (w / 2) (row_in new_es w n)) (drop (w / 2) (row_in new_es w n)) whole → line ≡ ended k (synth k whole))
-    → get_or line x (pos 0) ≡ level_at k w h es os x (2 * n)
-even_line k w h n x es os new_es new_os line r even inside len each =
-    let ps = (lifted_columns k w h es os).values in
-    let whole : length ps ≡ w * (2 * h) = filled_len w (2 * h) (λ x y. get_or (synth k (column (from_halves w h es os).values w (2 * h) x)) y (pos 0)) in
-    line_at k w h (2 * n) x es os line (take (w / 2) (row_in new_es w n)) (drop (w / 2) (row_in new_es w n)) each
-    (row_halves w ps new_es n (2 * n) even (length-row ps w (2 * h) (2 * n) whole (omega (arith, inside))) (length-row new_es w h n len inside)
-    (λ i l. lifted_even k w h es os new_es new_os i n r l even inside))
-
-pub odd_line : (k w h n x : ℕ) (es os new_es new_os line : List ℤ) → HalvesRun (steps_of k) w h es os new_es new_os → w % 2 ≡ 0 → n < h → length new_os ≡ w * h
-    → ((whole : List ℤ) → AreHalves 0 (take (w / 2) (row_in new_os w n)) (drop (w / 2) (row_in new_os w n)) whole → line ≡ ended k (synth k whole))
-    → get_or line x (pos 0) ≡ level_at k w h es os x (2 * n + 1)
-odd_line k w h n x es os new_es new_os line r even inside len each =
-    let ps = (lifted_columns k w h es os).values in
-    let whole : length ps ≡ w * (2 * h) = filled_len w (2 * h) (λ x y. get_or (synth k (column (from_halves w h es os).values w (2 * h) x)) y (pos 0)) in
-    line_at k w h (2 * n + 1) x es os line (take (w / 2) (row_in new_os w n)) (drop (w / 2) (row_in new_os w n)) each
-    (row_halves w ps new_os n (2 * n + 1) even (length-row ps w (2 * h) (2 * n + 1) whole (omega (arith, inside))) (length-row new_os w h n len inside)
-    (λ i l. lifted_odd k w h es os new_es new_os i n r l even inside))
-
 -- after the columns 32 bits are still enough for each row
-row_narrow : (k w n e : ℕ) (es : List ℤ) → stays_narrow (steps_of k) (e, e) ≡ true → w % 2 ≡ 0 → 0 < w → length (row_in es w n) ≡ w → All (λ v. unsigned_abs v ≤ e) es → AreNarrow (steps_of k) 1 (w / 2) (take (w / 2) (row_in es w n)) (drop (w / 2) (row_in es w n))
+pub row_narrow : (k w n e : ℕ) (es : List ℤ) → stays_narrow (steps_of k) (e, e) ≡ true → w % 2 ≡ 0 → 0 < w → length (row_in es w n) ≡ w → All (λ v. unsigned_abs v ≤ e) es → AreNarrow (steps_of k) 1 (w / 2) (take (w / 2) (row_in es w n)) (drop (w / 2) (row_in es w n))
 row_narrow k w n e es test even some le all = record {
   some = omega arith;
   evens_len = length-take-le (w / 2) (row_in es w n) (omega (arith, le)) ∙ omega arith;
@@ -203,11 +164,3 @@ row_narrow k w n e es test even some le all = record {
   odd_bound = All-drop (λ v. unsigned_abs v ≤ e) (w / 2) (row_in es w n) (row_bound e es w n all);
   test = test;
 }
-
-pub even_row_narrow : (k w h n : ℕ) (es os new_es new_os : List ℤ) → k ≤ 6 → HalvesRun (steps_of k) w h es os new_es new_os → w % 2 ≡ 0 → 0 < w → n < h → length new_es ≡ w * h → All (λ v. unsigned_abs v ≤ 4095) es → All (λ v. unsigned_abs v ≤ 4095) os → AreNarrow (steps_of k) 1 (w / 2) (take (w / 2) (row_in new_es w n)) (drop (w / 2) (row_in new_es w n))
-even_row_narrow k w h n es os new_es new_os l r even some inside len he ho =
-    row_narrow k w n (after_steps (steps_of k) (4095, 4095)).0 new_es (rows_narrow k l).0 even some (length-row new_es w h n len inside) (r.grow (4095, 4095) he ho).0
-
-pub odd_row_narrow : (k w h n : ℕ) (es os new_es new_os : List ℤ) → k ≤ 6 → HalvesRun (steps_of k) w h es os new_es new_os → w % 2 ≡ 0 → 0 < w → n < h → length new_os ≡ w * h → All (λ v. unsigned_abs v ≤ 4095) es → All (λ v. unsigned_abs v ≤ 4095) os → AreNarrow (steps_of k) 1 (w / 2) (take (w / 2) (row_in new_os w n)) (drop (w / 2) (row_in new_os w n))
-odd_row_narrow k w h n es os new_es new_os l r even some inside len he ho =
-    row_narrow k w n (after_steps (steps_of k) (4095, 4095)).1 new_os (rows_narrow k l).1 even some (length-row new_os w h n len inside) (r.grow (4095, 4095) he ho).1

@@ -56,7 +56,7 @@ even_step minus shift lead taps = record { parity = 0; minus = minus; shift = sh
 abbrev odd_step : Bool → ℕ → ℕ → List ℤ → Step
 odd_step minus shift lead taps = record { parity = 1; minus = minus; shift = shift; lead = lead; taps = taps }
 
-narrow_parts : (s : Step) (changed read : ℕ) → is_narrow s changed read ≡ true → (s.shift ≤ 12) × (changed ≤ 2 ^ 21) × (sum_by unsigned_abs s.taps * read ≤ 2 ^ 31 - 2 ^ 22)
+pub narrow_parts : (s : Step) (changed read : ℕ) → is_narrow s changed read ≡ true → (s.shift ≤ 12) × (changed ≤ 2 ^ 21) × (sum_by unsigned_abs s.taps * read ≤ 2 ^ 31 - 2 ^ 22)
 narrow_parts s changed read t =
     let a = and_parts (nat_le s.shift 12) (nat_le changed (2 ^ 21) && nat_le (sum_by unsigned_abs s.taps * read) (2 ^ 31 - 2 ^ 22)) t in
     let b = and_parts (nat_le changed (2 ^ 21)) (nat_le (sum_by unsigned_abs s.taps * read) (2 ^ 31 - 2 ^ 22)) a.1 in

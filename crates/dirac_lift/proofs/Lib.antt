@@ -16,10 +16,14 @@ pub mod Lifted
 pub mod MapLemmas
 pub mod NarrowLevels
 pub mod PairLemmas
+pub mod RingLevels
+pub mod RingRows
+pub mod RingRuns
 pub mod RowLemmas
 pub mod Runs
 pub mod Signed
 pub mod Strips
+pub mod TurnBounds
 pub mod Turns
 pub mod Undone
 pub mod Weighted

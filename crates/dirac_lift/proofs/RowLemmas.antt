@@ -53,25 +53,6 @@ rows_more f w h xs ys n k ws r len l ek ew e =
           ∙ r.rest y (omega (arith, b));
     }
 
--- the rows from row n on are as they were
-pub record RowsLeft (w : ℕ) (xs ys : List ℤ) (n : ℕ) : Type 0 where
-  pub len : length ys ≡ length xs
-  pub rest : (y : ℕ) → n ≤ y → row_in ys w y ≡ row_in xs w y
-
-pub left_none : (w : ℕ) (xs : List ℤ) → RowsLeft w xs xs 0
-left_none w xs = record { len = refl; rest = λ y l. refl }
-
-pub left_more : (w h : ℕ) (xs ys : List ℤ) (n k : ℕ) (ws : List ℤ) → RowsLeft w xs ys n → length xs ≡ w * h → n < h → k ≡ w → length ws ≡ w → RowsLeft w xs (put_mid (n * w) k ys ws) (n + 1)
-left_more w h xs ys n k ws r len l ek ew =
-    let fits : n * w + w ≤ length ys = omega (arith, r.len, len, row_fits n w h w l (omega arith)) in
-    let mid : length (mid_of (n * w) k ys) ≡ w = simp (length-take, length-drop) (omega (arith, fits, ek)) in
-    record {
-      len = same_len_mid (n * w) k ys ws (ew ∙ sym mid) ∙ r.len;
-      rest = λ y b.
-          ap (take (y * w + w - y * w)) (drop-put_mid (n * w) k ys ws (y * w) (omega (arith, ek, row_fits n w y w (omega (arith, b)) (omega arith))) (omega (arith, fits)) (omega (arith, ew, ek)))
-          ∙ r.rest y (omega (arith, b));
-    }
-
 -- the values of a plane by its rows
 pub rows_values : (f : List ℤ → List ℤ) (w h : ℕ) (xs ys : List ℤ) → RowsBecome f w h xs ys → length xs ≡ w * h → 0 < w → ys ≡ filled w h (λ x y. get_or (f (row_in xs w y)) x (pos 0))
 unfolding filled

@@ -10,25 +10,25 @@ use Rattle.dirac_lift.proofs.Runs.{by_wavelet, has_parities, parities_back, pari
 
 -- a step behind another that waits no less: of the same parity, or so far behind that neither reads what the other
 -- changes
-abbrev apart : Timed → Timed → Bool
+abbrev pub apart : Timed → Timed → Bool
 apart s t =
     nat_le s.wait t.wait
     && (if s.step.parity == t.step.parity then true else (nat_le (s.wait + s.step.lead) t.wait && nat_le (s.wait + length t.step.taps) (t.wait + t.step.lead + 1)))
 
-abbrev all_apart : Timed → List Timed → Bool
+abbrev pub all_apart : Timed → List Timed → Bool
 all_apart s [] = true
 all_apart s (t ∷ ts) = apart s t && all_apart s ts
 
-abbrev in_time : List Timed → Bool
+abbrev pub in_time : List Timed → Bool
 in_time [] = true
 in_time (t ∷ ts) = all_apart t ts && in_time ts
 
-abbrev steps_in : List Timed → List Step
+abbrev pub steps_in : List Timed → List Step
 steps_in [] = []
 steps_in (t ∷ ts) = t.step ∷ steps_in ts
 
 -- sums of the same values are the same
-weighted_below : (taps : List ℤ) (f g : ℕ → ℤ) (m : ℕ) → ((k : ℕ) → k < m → f k ≡ g k) → weighted taps f m ≡ weighted taps g m
+pub weighted_below : (taps : List ℤ) (f g : ℕ → ℤ) (m : ℕ) → ((k : ℕ) → k < m → f k ≡ g k) → weighted taps f m ≡ weighted taps g m
 weighted_below taps f g zero h = refl
 weighted_below taps f g (suc m) h =
     ap (λ a. a +ℤ get_or taps m (pos 0) *ℤ f m) (weighted_below taps f g m (λ k l. h k (omega (arith, l))))
@@ -60,7 +60,7 @@ pairs_swap s t i k xs ne sr tr =
     ∙ sym (ap (set (set xs (own s.parity i) u) (own t.parity k)) (new_same t k (own s.parity i) u xs ne tr))
 
 -- a step changes a pair in a turn, or none
-turn_case : (t : Timed) (m h : ℕ) → ((t.wait ≤ m) × (m - t.wait < h)) ⊎ (((ys : List ℤ) → length ys / 2 ≡ h → in_turn t m ys ≡ ys) × (min (m - t.wait) h ≡ min (m + 1 - t.wait) h))
+pub turn_case : (t : Timed) (m h : ℕ) → ((t.wait ≤ m) × (m - t.wait < h)) ⊎ (((ys : List ℤ) → length ys / 2 ≡ h → in_turn t m ys ≡ ys) × (min (m - t.wait) h ≡ min (m + 1 - t.wait) h))
 turn_case t m h = elim (cases_lt m t.wait) [
   | inl early ↦ inr (λ ys e. rw (lt-leb t.wait m early) refl, omega (arith, early))
   | inr come ↦ elim (cases_lt (m - t.wait) h) [
@@ -69,10 +69,10 @@ turn_case t m h = elim (cases_lt m t.wait) [
   ]
 ]
 
-changed_in_turn : (t : Timed) (m h : ℕ) (ys : List ℤ) → length ys / 2 ≡ h → t.wait ≤ m → m - t.wait < h → in_turn t m ys ≡ pair_changed t.step (m - t.wait) ys
+pub changed_in_turn : (t : Timed) (m h : ℕ) (ys : List ℤ) → length ys / 2 ≡ h → t.wait ≤ m → m - t.wait < h → in_turn t m ys ≡ pair_changed t.step (m - t.wait) ys
 changed_in_turn t m h ys e come inside = rw (le-leb t.wait m come, lt-ltb (m - t.wait) (length ys / 2) (omega (arith, inside, e))) refl
 
-length-in_turn : (t : Timed) (m : ℕ) (xs : List ℤ) → length (in_turn t m xs) ≡ length xs
+pub length-in_turn : (t : Timed) (m : ℕ) (xs : List ℤ) → length (in_turn t m xs) ≡ length xs
 length-in_turn t m xs = elim (turn_case t m (length xs / 2)) [
   | inl busy ↦ rw (changed_in_turn t m (length xs / 2) xs refl busy.0 busy.1) (length-set xs (own t.step.parity (m - t.wait)) (new_at t.step xs (m - t.wait)))
   | inr idle ↦ rw (idle.0 xs refl) refl
@@ -82,7 +82,7 @@ length-turn : (ts : List Timed) (m : ℕ) (xs : List ℤ) → length (turn ts m 
 length-turn [] m xs = refl
 length-turn (t ∷ ts) m xs = length-turn ts m (in_turn t m xs) ∙ length-in_turn t m xs
 
-length-turns : (ts : List Timed) (m : ℕ) (xs : List ℤ) → length (turns ts m xs) ≡ length xs
+pub length-turns : (ts : List Timed) (m : ℕ) (xs : List ℤ) → length (turns ts m xs) ≡ length xs
 length-turns ts zero xs = refl
 length-turns ts (suc m) xs = length-turn ts m (turns ts m xs) ∙ length-turns ts m xs
 
@@ -142,20 +142,20 @@ turn_behind t (u ∷ us) m k xs e p fit l =
     turn_behind t us m k (in_turn u k xs) parts.1 p fits.1 l
     ∙ ap (turn us k) (swap t u m k xs parts.0 p (leb-true u.step.parity 1 fits.0) l)
 
-turns_behind : (t : Timed) (ts : List Timed) (m k : ℕ) (xs : List ℤ) → all_apart t ts ≡ true → t.step.parity ≤ 1 → has_parities (steps_in ts) ≡ true → k ≤ m → in_turn t m (turns ts k xs) ≡ turns ts k (in_turn t m xs)
+pub turns_behind : (t : Timed) (ts : List Timed) (m k : ℕ) (xs : List ℤ) → all_apart t ts ≡ true → t.step.parity ≤ 1 → has_parities (steps_in ts) ≡ true → k ≤ m → in_turn t m (turns ts k xs) ≡ turns ts k (in_turn t m xs)
 turns_behind t ts m zero xs e p fit l = refl
 turns_behind t ts m (suc k) xs e p fit l =
     turn_behind t ts m k (turns ts k xs) e p fit (omega (arith, l)) ∙ ap (turn ts k) (turns_behind t ts m k xs e p fit (omega (arith, l)))
 
 -- so the step in front can take all its turns before the others
-front_first : (t : Timed) (ts : List Timed) (m : ℕ) (xs : List ℤ) → all_apart t ts ≡ true → t.step.parity ≤ 1 → has_parities (steps_in ts) ≡ true → turns (t ∷ ts) m xs ≡ turns ts m (turns (t ∷ []) m xs)
+pub front_first : (t : Timed) (ts : List Timed) (m : ℕ) (xs : List ℤ) → all_apart t ts ≡ true → t.step.parity ≤ 1 → has_parities (steps_in ts) ≡ true → turns (t ∷ ts) m xs ≡ turns ts m (turns (t ∷ []) m xs)
 front_first t ts zero xs e p fit = refl
 front_first t ts (suc m) xs e p fit =
     ap (λ ys. turn ts m (in_turn t m ys)) (front_first t ts m xs e p fit)
     ∙ ap (turn ts m) (turns_behind t ts m m (turns (t ∷ []) m xs) e p fit (omega arith))
 
 -- and alone it changes one pair after another
-alone_below : (t : Timed) (m : ℕ) (xs : List ℤ) → t.step.parity ≤ 1 → LiftedBelow t.step xs (turns (t ∷ []) m xs) (min (m - t.wait) (length xs / 2))
+pub alone_below : (t : Timed) (m : ℕ) (xs : List ℤ) → t.step.parity ≤ 1 → LiftedBelow t.step xs (turns (t ∷ []) m xs) (min (m - t.wait) (length xs / 2))
 alone_below t zero xs p = subst (LiftedBelow t.step xs xs) (omega arith) (below_none t.step xs)
 alone_below t (suc m) xs p =
     let ys = turns (t ∷ []) m xs in
@@ -178,12 +178,12 @@ alone_all : (t : Timed) (m : ℕ) (xs : List ℤ) → t.step.parity ≤ 1 → le
 alone_all t m xs p even late =
     below_end t.step xs (turns (t ∷ []) m xs) (min (m - t.wait) (length xs / 2)) (alone_below t m xs p) (omega (arith, late)) p even
 
-no_turns : (m : ℕ) (xs : List ℤ) → turns [] m xs ≡ xs
+pub no_turns : (m : ℕ) (xs : List ℤ) → turns [] m xs ≡ xs
 no_turns zero xs = refl
 no_turns (suc m) xs = no_turns m xs
 
 -- all steps
-turns_run : (ts : List Timed) (m : ℕ) (xs : List ℤ) → in_time ts ≡ true → has_parities (steps_in ts) ≡ true → length xs % 2 ≡ 0 → length xs / 2 + longest_wait ts ≤ m → turns ts m xs ≡ run (steps_in ts) xs
+pub turns_run : (ts : List Timed) (m : ℕ) (xs : List ℤ) → in_time ts ≡ true → has_parities (steps_in ts) ≡ true → length xs % 2 ≡ 0 → length xs / 2 + longest_wait ts ≤ m → turns ts m xs ≡ run (steps_in ts) xs
 turns_run [] m xs e fit even late = no_turns m xs
 turns_run (t ∷ ts) m xs e fit even late =
     let parts = and_parts (all_apart t ts) (in_time ts) e in
@@ -208,14 +208,14 @@ stays_turn (t ∷ ts) m p xs fit l =
     let fits = and_parts (nat_le t.step.parity 1) (has_parities (steps_in ts)) fit in
     stays_turn ts m p (in_turn t m xs) fits.1 (omega (arith, l)) ∙ stays_in_turn t m p xs (leb-true t.step.parity 1 fits.0) (omega (arith, l))
 
-stays : (ts : List Timed) (more m p : ℕ) (xs : List ℤ) → has_parities (steps_in ts) ≡ true → p / 2 + longest_wait ts < m → get_or (turns ts (m + more) xs) p (pos 0) ≡ get_or (turns ts m xs) p (pos 0)
+pub stays : (ts : List Timed) (more m p : ℕ) (xs : List ℤ) → has_parities (steps_in ts) ≡ true → p / 2 + longest_wait ts < m → get_or (turns ts (m + more) xs) p (pos 0) ≡ get_or (turns ts m xs) p (pos 0)
 stays ts zero m p xs fit l = ap (λ n. get_or (turns ts n xs) p (pos 0)) (omega arith)
 stays ts (suc more) m p xs fit l =
     let next : m + suc more ≡ suc (m + more) = omega arith in
     rw next (stays_turn ts (m + more) p (turns ts (m + more) xs) fit (omega (arith, l)) ∙ stays ts more m p xs fit l)
 
 -- the steps of a wavelet
-steps_behind : (before : Step) (wait : ℕ) (ss : List Step) → steps_in (timed_behind before wait ss) ≡ ss
+pub steps_behind : (before : Step) (wait : ℕ) (ss : List Step) → steps_in (timed_behind before wait ss) ≡ ss
 steps_behind before wait [] = refl
 steps_behind before wait (s ∷ ss) = ap (λ rest. s ∷ rest) (steps_behind s (wait + distance before s) ss)
 

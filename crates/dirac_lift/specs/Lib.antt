@@ -9,6 +9,7 @@ pub mod Level
 pub mod Liftables
 pub mod Lifting
 pub mod Places
+pub mod Rings
 pub mod Running
 pub mod Safety
 pub mod Wavelets

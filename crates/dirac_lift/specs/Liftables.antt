@@ -1,12 +1,15 @@
--- The three kinds of lines that steps are run on: when a step can be run, and what it makes of them.
-use Rattle.std.specs.Prelude.{◌≡◌, ℤ, ◌*◌, ◌%◌, ◌^◌, ◌≤◌, ◌==◌, List, length, if◌then◌else◌, unsigned_abs}
+-- The four kinds of lines that steps are run on: when a step can be run, and what it makes of them.
+use Rattle.std.specs.Prelude.{◌≡◌, ℤ, ◌+◌, ◌-◌, ◌*◌, ◌%◌, ◌^◌, ◌≤◌, ◌==◌, List, length, if◌then◌else◌, max, unsigned_abs}
 use Rattle.std.specs.List.{All}
+use Rattle.dirac_common.specs.declared.limits.TheConstants.{LARGEST_TABLE_SIDE}
 use Rattle.dirac_lift.specs.declared.columns.Columns.{Columns}
 use Rattle.dirac_lift.specs.declared.halves.Halves.{Halves}
 use Rattle.dirac_lift.specs.declared.lines.Line.{Line}
+use Rattle.dirac_lift.specs.declared.rings.Rings.{Rings}
 use Rattle.dirac_lift.specs.Halves.{HalfLifted, IsReadable}
 use Rattle.dirac_lift.specs.Lifting.{Step, PlacesWithin, lift}
 use Rattle.dirac_lift.specs.Places.{ColumnsBecome, ColumnsSmall}
+use Rattle.dirac_lift.specs.Rings.{RowLifted}
 use Rattle.dirac_lift.specs.Safety.{IsFit}
 
 -- a line in place
@@ -56,3 +59,31 @@ pub record HalvesLifted (h : Halves) (s : Step) (after : Halves) : Type 0 where
   pub half : after.half ≡ h.half
   pub changed : HalfLifted s h.width h.half (half_changed s h) (half_taken s h) (half_changed s after)
   pub kept : half_taken s after ≡ half_taken s h
+
+-- the ring that a step changes, and the one that it reads
+abbrev pub ring_changed : Step → Rings → List ℤ
+ring_changed s r = if s.parity == 0 then r.evens.now else r.odds.now
+
+abbrev pub ring_taken : Step → Rings → List ℤ
+ring_taken s r = if s.parity == 0 then r.odds.now else r.evens.now
+
+-- rows in rings, of which a step changes the one that has come to it in a turn
+pub record CanLiftRings (s : Step) (r : Rings) : Type 0 where
+  pub parity : s.parity ≤ 1
+  pub shift : s.shift ≤ 12
+  pub down : r.size.half ≤ LARGEST_TABLE_SIDE
+  pub late : r.wait + r.lead + s.lead + length s.taps ≤ 2 ^ 20
+  pub evens_len : length r.evens.now ≡ r.size.width * 16
+  pub odds_len : length r.odds.now ≡ r.size.width * 16
+  pub read : IsReadable s.taps (ring_taken s r)
+  pub changed : All (λ v. unsigned_abs v ≤ 2 ^ 21) (ring_changed s r)
+
+pub record RingsLifted (r : Rings) (s : Step) (after : Rings) : Type 0 where
+  pub same_evens : after.evens.ghost_name ≡ r.evens.ghost_name
+  pub same_odds : after.odds.ghost_name ≡ r.odds.ghost_name
+  pub size : after.size ≡ r.size
+  pub turn : after.turn ≡ r.turn
+  pub wait : after.wait ≡ r.wait + max r.lead (length s.taps - 1 - s.lead)
+  pub lead : after.lead ≡ s.lead
+  pub changed : RowLifted s r.size.width r.size.half r.turn after.wait (ring_changed s r) (ring_taken s r) (ring_changed s after)
+  pub kept : ring_taken s after ≡ ring_taken s r

@@ -13,7 +13,7 @@ use crate::step::{Change, Step};
 
 /// One more tap of a weighted sum.
 #[inline(always)]
-fn multiply_add(sum: i32, tap: i32, value: i32) -> i32
+pub fn multiply_add(sum: i32, tap: i32, value: i32) -> i32
     requires { unsigned_abs sum + unsigned_abs tap * unsigned_abs value ≤ 2 ^ 31 - 2 ^ 22 }
     ensures { result ≡ sum +ℤ tap *ℤ value }
 {
@@ -47,7 +47,7 @@ fn moved_value(value: i32, change: i32, minus: bool) -> i32
 
 /// Changes one value by a weighted sum.
 #[inline(always)]
-fn put_changed(own: &mut [i32], at: usize, sum: i32, step: Step)
+pub fn put_changed(own: &mut [i32], at: usize, sum: i32, step: Step)
     requires inside { at < length own.old }
     requires shift { step.shift ≤ 12 }
     requires sum { unsigned_abs sum ≤ 2 ^ 31 - 2 ^ 22 }

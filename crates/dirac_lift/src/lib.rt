@@ -16,11 +16,12 @@ mod levels;
 mod liftable;
 mod lines;
 mod narrow_levels;
+mod rings;
 mod step;
 mod tables;
 mod wavelets;
 
-pub use half_levels::synth_halves_level;
+pub use half_levels::{RowPairs, synth_level_by_lines};
 pub use half_rows::{HalfRows, analyse_halves_level};
 pub use held::{Held, is_narrow};
 pub use laws::{lines_come_in_turn, zeros_stay_zeros};

@@ -2,17 +2,18 @@
 use Rattle.std.proofs.Common.{◌≡◌, ℕ, ℤ, pos, ◌+◌, ◌-◌, ◌*◌, ◌/◌, ◌%◌, ◌<◌, ◌≤◌, ◌==◌, if◌then◌else◌, unsigned_abs, List, length, drop, get_or, set, arith, refl, inl, inr, ap, sym, ◌∙◌, eq-eqb}
 use Rattle.std.specs.List.{All}
 use Rattle.std.proofs.lemmas.Bool.{cases_eq, cases_lt, ne_eqb, lt-ltb, le-ltb}
-use Rattle.std.proofs.lemmas.List.{get_or-set_same, get_or-set_other, get_or-map}
+use Rattle.std.proofs.lemmas.List.{ext_get_or, get_or-set_same, get_or-set_other, get_or-map}
 use Rattle.std.proofs.lemmas.Nat.{mul-add-lt}
 use Rattle.std.proofs.lemmas.List.Elements.{All-take, All-drop, All-map}
 use Rattle.dirac_common.specs.declared.formats.Kind.{Kind}
 use Rattle.dirac_common.specs.Table.{Table, row_of, table_at}
 use Rattle.dirac_common.proofs.Bounds.{told_bound, values_bound}
-use Rattle.dirac_common.proofs.Rows.{filled_at, rows_all}
+use Rattle.dirac_common.proofs.Rows.{filled_at, row_at, rows_all}
 use Rattle.dirac_quant.specs.Quantiser.{factor_of, offset_of, restored, scaled}
 use Rattle.dirac_bands.specs.Interleaving.{joined, joined_at}
 use Rattle.dirac_coeffs.specs.declared.layout.CodedBand.{CodedBand}
 use Rattle.dirac_lift.specs.Halves.{from_halves, place_of}
+use Rattle.dirac_lift.proofs.RowLemmas.{length-row}
 use Rattle.dirac_synthesis.specs.Halves.{IsNarrowBand, beside, beside_at}
 use Rattle.dirac_synthesis.specs.Codeblocks.{restored_by_one}
 use Rattle.dirac_synthesis.proofs.ZeroBands.{length-filled}
@@ -46,6 +47,18 @@ beside_row a b x y line left right l = elim (cases_lt x a.width) [
       let place : x ≡ a.width + (x - a.width) = omega (arith, past) in
       ap (λ i. get_or line i (pos 0)) place ∙ right (x - a.width) (omega (arith, l, past)) ∙ sym (beside_right a b (x - a.width) x y place)
 ]
+
+-- a line that is such a row
+pub is_beside_row : (a b : Table) (y : ℕ) (line : List ℤ) → length line ≡ 2 * a.width → y < a.height → ((n : ℕ) → n < a.width → get_or line n (pos 0) ≡ table_at a n y) → ((n : ℕ) → n < a.width → get_or line (a.width + n) (pos 0) ≡ table_at b n y) → line ≡ row_of (beside a b) y
+is_beside_row a b y line len inside left right =
+    let row : length (row_of (beside a b) y) ≡ 2 * a.width = length-row (beside a b).values (2 * a.width) a.height y (length-filled (2 * a.width) a.height (beside_at a b)) inside in
+    ext_get_or (pos 0) line (row_of (beside a b) y) (len ∙ sym row) (λ x l.
+    let across : x < 2 * a.width = omega (arith, l, len) in
+    beside_row a b x y line left right across
+    ∙ sym (row_at (beside a b) x y across ∙ filled_at (beside_at a b) (2 * a.width) a.height x y across inside))
+
+pub beside_len : (a b : Table) → length (beside a b).values ≡ 2 * a.width * a.height
+beside_len a b = length-filled (2 * a.width) a.height (beside_at a b)
 
 pub beside_bound : (most : ℕ) (a b : Table) → All (λ v. unsigned_abs v ≤ most) a.values → All (λ v. unsigned_abs v ≤ most) b.values → All (λ v. unsigned_abs v ≤ most) (beside a b).values
 beside_bound most a b ha hb =

@@ -4,19 +4,20 @@ ghost use Rattle.std.specs.Prelude.{◌≡◌, ℕ, pos, true, ◌+◌, ◌*◌,
 ghost use Rattle.std.specs.Prelude.{unsigned_abs, IfOk};
 ghost use Rattle.std.specs.List.{All};
 ghost use Rattle.dirac_common.specs.Limits.{IsIndex};
-ghost use Rattle.dirac_common.specs.Table.{table_at};
+ghost use Rattle.dirac_common.specs.Table.{row_of, table_at};
 ghost use Rattle.dirac_quant.specs.Quantiser.{scaled};
 ghost use Rattle.dirac_lift.specs.Level.{synthesised};
 ghost use Rattle.dirac_synthesis.specs.Fits.{IsBesides};
 ghost use Rattle.dirac_synthesis.specs.Halves.{IsNarrowBand, IsRestorable, beside};
+ghost use Rattle.dirac_synthesis.specs.NarrowLevels.{IsNarrowLevel};
 ghost use Rattle.dirac_synthesis.specs.Codeblocks.{restored_by_one};
 ghost use Rattle.dirac_synthesis.specs.Levels.{IsLevel, joined_by};
 
 use crate::bands::{LevelBands, Synthesis};
 use crate::scale::{Scale, scale_of};
 use dirac_coeffs::{CodedBand, Coefficients};
-use dirac_common::{Kind, LARGEST_NARROW, LARGEST_SIDE, Narrow, NoMemory};
-use dirac_lift::synth_halves_level;
+use dirac_common::{Kind, LARGEST_NARROW, Narrow, NoMemory};
+use dirac_lift::{RowPairs, synth_level_by_lines};
 use dirac_quant::{narrow_limit, restore_narrow};
 use std::alloc::Global;
 
@@ -117,45 +118,64 @@ fn copy_to_front(values: &[i32], line: &mut [i32])
     }
 }
 
-/// The even rows of a level's plane: those of LL, each before that of HL.
-fn even_rows(alloc: Global, low: &Narrow, hl: &CodedBand, kind: Kind) -> Result<Narrow, NoMemory>
-    requires across { low.now.width ≤ LARGEST_SIDE }
-    requires down { low.now.height ≤ LARGEST_SIDE }
+/// Writes an even row of a level's plane: that of LL, before that of HL.
+#[inline(always)]
+fn even_row(low: &Narrow, hl: &CodedBand, kind: Kind, y: u32, line: &mut [i32])
+    requires inside { y < low.now.height }
+    requires line { length line.old ≡ 2 * low.now.width }
     requires hl { IsBesides low.now hl.now }
     requires narrow { IsNarrowBand kind hl.now }
-    ensures { IfOk result (λ t. t ≡ beside low.now (restored_by_one kind hl.now)) }
+    ensures { line.new ≡ row_of (beside low.now (restored_by_one kind hl.now)) y }
 {
-    let width = low.width();
     let scale = scale_of(hl.index, kind);
-    let mut rows = Narrow::try_new(alloc, 2 * width, low.height(), 0)?;
-    for y in 0..low.height() {
-        let line = rows.row_mut(y);
-        copy_to_front(low.row(y), line);
-        restore_row_from(&hl.table, scale, y, width as usize, line);
-    }
-    Ok(rows)
+    copy_to_front(low.row(y), line);
+    restore_row_from(&hl.table, scale, y, low.width() as usize, line);
 }
 
-/// The odd rows of a level's plane: those of LH, each before that of HH.
-fn odd_rows(alloc: Global, lh: &CodedBand, hh: &CodedBand, kind: Kind) -> Result<Narrow, NoMemory>
-    requires across { lh.now.table.width ≤ LARGEST_SIDE }
-    requires down { lh.now.table.height ≤ LARGEST_SIDE }
+/// Writes an odd row of a level's plane: that of LH, before that of HH.
+#[inline(always)]
+fn odd_row(lh: &CodedBand, hh: &CodedBand, kind: Kind, y: u32, line: &mut [i32])
+    requires inside { y < lh.now.table.height }
+    requires line { length line.old ≡ 2 * lh.now.table.width }
     requires hh { IsBesides lh.now.table hh.now }
     requires index { IsIndex lh.now.index }
     requires left { IsNarrowBand kind lh.now }
     requires right { IsNarrowBand kind hh.now }
-    ensures { IfOk result (λ t. t ≡ beside (restored_by_one kind lh.now) (restored_by_one kind hh.now)) }
+    ensures { line.new ≡ row_of (beside (restored_by_one kind lh.now) (restored_by_one kind hh.now)) y }
 {
-    let width = lh.table.width();
     let left_scale = scale_of(lh.index, kind);
     let right_scale = scale_of(hh.index, kind);
-    let mut rows = Narrow::try_new(alloc, 2 * width, lh.table.height(), 0)?;
-    for y in 0..lh.table.height() {
-        let line = rows.row_mut(y);
-        restore_row_from(&lh.table, left_scale, y, 0, line);
-        restore_row_from(&hh.table, right_scale, y, width as usize, line);
+    restore_row_from(&lh.table, left_scale, y, 0, line);
+    restore_row_from(&hh.table, right_scale, y, lh.table.width() as usize, line);
+}
+
+/// The rows of a level: those of its LL band, and beside and below them those of the coded bands, each of which is
+/// restored as it is asked for.
+#[derive(Clone, Copy)]
+struct RestoredRows<'a> {
+    low: &'a Narrow,
+    bands: LevelBands<'a>,
+    kind: Kind,
+}
+
+impl RowPairs for RestoredRows<'_> {
+    ghost lawful = { λ r. IsNarrowLevel r.kind r.low.now r.bands };
+
+    ghost columns = { λ r. 2 * r.low.now.width };
+
+    ghost pairs = { λ r. r.low.now.height };
+
+    ghost evens = { λ r. (beside r.low.now (restored_by_one r.kind r.bands.hl.now)).values };
+
+    ghost odds = {
+        λ r. (beside (restored_by_one r.kind r.bands.lh.now) (restored_by_one r.kind r.bands.hh.now)).values
+    };
+
+    #[inline(always)]
+    fn put_pair(&self, pair: u32, even: &mut [i32], odd: &mut [i32]) {
+        even_row(self.low, self.bands.hl, self.kind, pair, even);
+        odd_row(self.bands.lh, self.bands.hh, self.kind, pair, odd);
     }
-    Ok(rows)
 }
 
 /// The LL band of the next level, where the codeblocks of each band have its index.
@@ -172,16 +192,10 @@ pub fn narrow_level(
     requires at_most_4095 { All (λ v. unsigned_abs v ≤ LARGEST_NARROW) low.now.values }
     ensures { IfOk result (λ t. t ≡ synthesised by.wavelet (joined_by (restored_by_one by.kind) low.now bands.entry)) }
 {
-    let mut evens = even_rows(alloc, low, bands.hl, by.kind)?;
-    let mut odds = odd_rows(alloc, bands.lh, bands.hh, by.kind)?;
-    let width = evens.width();
-    let height = evens.height();
-    synth_halves_level(
-        alloc,
-        by.wavelet,
-        evens.values_mut(),
-        odds.values_mut(),
-        width,
-        height,
-    )
+    let rows = RestoredRows {
+        low,
+        bands,
+        kind: by.kind,
+    };
+    synth_level_by_lines(alloc, by.wavelet, &rows, 2 * low.width(), low.height())
 }
