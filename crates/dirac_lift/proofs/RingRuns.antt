@@ -298,8 +298,7 @@ pub turn_ran : (k : ℕ) (r after : Rings) (lines : ℕ → List ℤ) → k ≤ 
 turn_ran k r after lines l lead wait down narrow hold he ho folds =
     let done = ran coming (steps_of k) (most_of k) r after lines (at_start k r lines l lead wait down narrow hold he ho) folds in
     let one : suc r.turn ≡ r.turn + 1 = omega arith in
-    let held = subst (λ n. RingsHold 0 r.size.width r.size.half (r.turn + 1 - 16) (r.turn + 1) (λ x. turns (timed_behind coming n (steps_of k)) (suc r.turn) (lines x)) after.evens.now after.odds.now) wait done.hold in
-    (
+    let held = subst (λ n. RingsHold 0 r.size.width r.size.half (r.turn + 1 - 16) (r.turn + 1) (λ x. turns (timed_behind coming n (steps_of k)) (suc r.turn) (lines x)) after.evens.now after.odds.now) wait done.hold in (
       done.same_evens,
       done.same_odds,
       subst (λ m. RingsHold 0 r.size.width r.size.half (r.turn + 1 - 16) (r.turn + 1) (λ x. turns (waiting k) m (lines x)) after.evens.now after.odds.now) one held,

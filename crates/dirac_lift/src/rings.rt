@@ -124,7 +124,9 @@ impl Liftable for Rings<'_> {
 
     #[inline(always)]
     fn lift(&mut self, change: Change, shift: u32, lead: usize, taps: &[i32]) {
-        self.wait += self.lead.max(taps.len().saturating_sub(1).saturating_sub(lead));
+        self.wait += self
+            .lead
+            .max(taps.len().saturating_sub(1).saturating_sub(lead));
         self.lead = lead;
         let Rings {
             evens,

@@ -59,28 +59,28 @@ loop-turn-preserved g c =
     let f = level_at k across h es os in
     elim c.if-turn-wait.branch [
       | then-turn-wait w ↦ rw (w.plane-is, w.work-is) (record {
-          across = c.loop-turn.invariant.across;
-          down = c.loop-turn.invariant.down;
-          work = omega (arith, c.loop-turn.invariant.work, w.finish_from_ring.auto.work, w.finish_from_ring-then-turn-wait.auto.work);
-          hold = held;
-          evens_bound = c.run_turn.ensures.evens_bound;
-          odds_bound = c.run_turn.ensures.odds_bound;
-          rows =
-              rows_more f _ _ _ (2 * n + 1) (2 * (m + 1 - c.turns_to_wait-wait.result)) _
-              (rows_more f _ _ _ (2 * n) (2 * n + 1) _ c.loop-turn.invariant.rows (omega (arith, c.loop-turn.invariant.down, c.loop-turn-test.true, w.if-turn-wait.true)) refl (omega (arith, w.finish_from_ring.auto.line, w.row_mut.ensures.len))
-              (λ x l. even_from_ring k across h m n x es os _ _ _ c.requires.wavelet even held (omega (arith, c.turns_to_wait-wait.ensures.at_most_7)) (omega (arith, c.turns_to_wait-wait.ensures.enough, w.if-turn-wait.true)) (omega (arith, c.loop-turn-test.true, w.if-turn-wait.true)) w.finish_from_ring.ensures))
-              (omega (arith, c.loop-turn.invariant.down, c.loop-turn-test.true, w.if-turn-wait.true)) (omega (arith, w.if-turn-wait.true)) (omega (arith, w.finish_from_ring-then-turn-wait.auto.line, w.row_mut-then-turn-wait.ensures.len))
-              (λ x l. odd_from_ring k across h m n x es os _ _ _ c.requires.wavelet even held (omega (arith, c.turns_to_wait-wait.ensures.at_most_7)) (omega (arith, c.turns_to_wait-wait.ensures.enough, w.if-turn-wait.true)) (omega (arith, c.loop-turn-test.true, w.if-turn-wait.true)) w.finish_from_ring-then-turn-wait.ensures);
-        })
+        across = c.loop-turn.invariant.across;
+        down = c.loop-turn.invariant.down;
+        work = omega (arith, c.loop-turn.invariant.work, w.finish_from_ring.auto.work, w.finish_from_ring-then-turn-wait.auto.work);
+        hold = held;
+        evens_bound = c.run_turn.ensures.evens_bound;
+        odds_bound = c.run_turn.ensures.odds_bound;
+        rows =
+            rows_more f _ _ _ (2 * n + 1) (2 * (m + 1 - c.turns_to_wait-wait.result)) _
+            (rows_more f _ _ _ (2 * n) (2 * n + 1) _ c.loop-turn.invariant.rows (omega (arith, c.loop-turn.invariant.down, c.loop-turn-test.true, w.if-turn-wait.true)) refl (omega (arith, w.finish_from_ring.auto.line, w.row_mut.ensures.len))
+            (λ x l. even_from_ring k across h m n x es os _ _ _ c.requires.wavelet even held (omega (arith, c.turns_to_wait-wait.ensures.at_most_7)) (omega (arith, c.turns_to_wait-wait.ensures.enough, w.if-turn-wait.true)) (omega (arith, c.loop-turn-test.true, w.if-turn-wait.true)) w.finish_from_ring.ensures))
+            (omega (arith, c.loop-turn.invariant.down, c.loop-turn-test.true, w.if-turn-wait.true)) (omega (arith, w.if-turn-wait.true)) (omega (arith, w.finish_from_ring-then-turn-wait.auto.line, w.row_mut-then-turn-wait.ensures.len))
+            (λ x l. odd_from_ring k across h m n x es os _ _ _ c.requires.wavelet even held (omega (arith, c.turns_to_wait-wait.ensures.at_most_7)) (omega (arith, c.turns_to_wait-wait.ensures.enough, w.if-turn-wait.true)) (omega (arith, c.loop-turn-test.true, w.if-turn-wait.true)) w.finish_from_ring-then-turn-wait.ensures);
+      })
       | else-turn-wait w ↦ rw (w.plane-is, w.work-is) (record {
-          across = c.loop-turn.invariant.across;
-          down = c.loop-turn.invariant.down;
-          work = c.loop-turn.invariant.work;
-          hold = held;
-          evens_bound = c.run_turn.ensures.evens_bound;
-          odds_bound = c.run_turn.ensures.odds_bound;
-          rows = record { len = c.loop-turn.invariant.rows.len; done = λ x y a b. absurd (omega (arith, b, w.if-turn-wait.false)) };
-        })
+        across = c.loop-turn.invariant.across;
+        down = c.loop-turn.invariant.down;
+        work = c.loop-turn.invariant.work;
+        hold = held;
+        evens_bound = c.run_turn.ensures.evens_bound;
+        odds_bound = c.run_turn.ensures.odds_bound;
+        rows = record { len = c.loop-turn.invariant.rows.len; done = λ x y a b. absurd (omega (arith, b, w.if-turn-wait.false)) };
+      })
     ]
 
 pub returns : goal.returns
