@@ -5,6 +5,7 @@ ghost use Rattle.dirac_io.specs.Faults.{Rose};
 ghost use Rattle.dirac_picture.specs.Reading.{CanBeRead, ReadsThem};
 ghost use Rattle.dirac_decode.specs.Content.{rebuilt};
 ghost use Rattle.dirac_decode.specs.Decoded.{IfDone, IfTally, IsDecoded};
+ghost use Rattle.dirac_decode.specs.Leaving.{IsBrokenOff, IsFrontOfRead};
 ghost use Rattle.dirac_decode.specs.Rebuilding.{CanBeRebuilt};
 
 use crate::planes::read_planes_rows;
@@ -33,6 +34,12 @@ pub fn decode_rows<R: Threads + Sync, S: Source, K: Sink, G: RowGate>(
 ) -> Decoded
     requires { (1 ≤ workers) × (workers ≤ 64) }
     ensures decoded { IfSome (S.held source.old) (λ bytes. IsDecoded bytes result (K.taken out.old) (K.taken out.new)) }
+    // Where a read failed, just what leaves while the units that were read whole are taken was written.
+    ensures broken_off { result ≡ Decoded.ReadFault → IfSome (S.held source.old) (λ bytes. IsBrokenOff bytes
+        (S.held source.new) (K.taken out.old) (K.taken out.new)) }
+    // Whatever is answered, what was written is a front of what the bytes read show by themselves.
+    ensures front_of_read { IfSome (S.held source.old) (λ bytes. IsFrontOfRead bytes (S.held source.new)
+        (K.taken out.old) (K.taken out.new)) }
     ensures whole { IfDone result (IsAtEnd (S.held source.new)) }
     ensures at_most_8_references { IfTally result (λ tally. tally.references ≤ MOST_REFERENCES) }
     ensures read { result ≡ Decoded.ReadFault → Rose (S.faults source.old) (S.faults source.new) }
