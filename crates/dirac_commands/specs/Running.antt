@@ -4,6 +4,7 @@ use Rattle.std.specs.Io.KnownBytes.{IsAtEnd}
 use Rattle.dirac_types.specs.declared.settings.BadSetting.{BadSetting}
 use Rattle.dirac_types.specs.declared.settings.Settings.{Settings}
 use Rattle.dirac_types.specs.Settings.{first_bad, table}
+use Rattle.dirac_decode.specs.Leaving.{IsBrokenOff, IsFrontOfRead}
 use Rattle.dirac_encode_laws.specs.Alike.{AreShownAlike}
 use Rattle.dirac_encode_laws.specs.Coding.{own_index}
 use Rattle.dirac_encode_laws.specs.Encoding.{encoding, encoding_under}
@@ -43,12 +44,16 @@ pub record Lists (old new : Held) (answer : Ended) : Type 0 where
   pub side : new.side ≡ old.side
   pub fault_inside : IfSome old.held (IsFaultInside answer)
 
--- `decode`: the pictures that the bytes held show, and their tally
+-- `decode`: the pictures that the bytes held show, and their tally; what wasn't read is still held, and whatever is
+-- answered, a front of what the bytes read show by themselves was written; where a read fails, just the pictures that
+-- leave while the units that were read whole are taken
 pub record Decodes (old new : Held) (answer : Ended) : Type 0 where
   pub answers : IsDecodeAnswer answer
   pub decoded : IfSome old.held (λ bytes. IsDecoded bytes answer old.out new.out old.side new.side)
   pub tells_at_most_8_references : IfSome old.held (TellsFew answer)
   pub whole : answer ≡ ended.Done → IsAtEnd new.held
+  pub front_of_read : IfSome old.held (λ bytes. IsFrontOfRead bytes new.held old.out new.out)
+  pub broken_off : answer ≡ ended.ReadFault → IfSome old.held (λ bytes. IsBrokenOff bytes new.held old.out new.out)
   pub fault_inside : IfSome old.held (IsFaultInside answer)
 
 -- `pardecode`: what `decode` leaves, or the number of workers is out of its range, is answered and nothing is read or

@@ -4,6 +4,7 @@ ghost use Rattle.dirac_io.specs.Faults.{Rose};
 ghost use Rattle.dirac_io.specs.Writing.{AppendsFront};
 ghost use Rattle.dirac_types.specs.Settings.{verdict};
 ghost use Rattle.dirac_decode.specs.Decoded.{IfDone, IfTally, IsDecoded as IsStreamDecoded};
+ghost use Rattle.dirac_decode.specs.Leaving.{IsBrokenOff, IsFrontOfRead};
 ghost use Rattle.dirac_commands.specs.Decoding.{IsDecodeAnswer, IsDecoded, TellsFew, tally_line};
 ghost use Rattle.dirac_commands.specs.Inside.{IsFaultInside};
 ghost use Rattle.dirac_commands.specs.Workers.{bad_workers};
@@ -48,6 +49,10 @@ fn decoded_by<R: Threads + Sync, S: Source, K: Sink, G: RowGate>(
     requires { IfSome workers (λ n. (1 ≤ n) × (n ≤ 64)) }
     ensures decoded { IfSome (S.held source.old) (λ bytes. IsStreamDecoded bytes result
         (K.taken out.old) (K.taken out.new)) }
+    ensures broken_off { result ≡ Decoded.ReadFault → IfSome (S.held source.old) (λ bytes. IsBrokenOff bytes
+        (S.held source.new) (K.taken out.old) (K.taken out.new)) }
+    ensures front_of_read { IfSome (S.held source.old) (λ bytes. IsFrontOfRead bytes (S.held source.new)
+        (K.taken out.old) (K.taken out.new)) }
     ensures whole { IfDone result (IsAtEnd (S.held source.new)) }
     ensures at_most_8_references { IfTally result (λ tally. tally.references ≤ MOST_REFERENCES) }
     ensures read { result ≡ Decoded.ReadFault → Rose (S.faults source.old) (S.faults source.new) }
@@ -79,6 +84,12 @@ pub fn decode<R: Threads + Sync, S: Source, K: Sink, N: Sink, G: RowGate>(
     ensures tells_at_most_8_references { IfSome (S.held source.old) (TellsFew result) }
     ensures fault_inside { IfSome (S.held source.old) (IsFaultInside result) }
     ensures whole { result ≡ Ended.Done → IsAtEnd (S.held source.new) }
+    // Whatever is answered, what was written is a front of what the bytes read show by themselves.
+    ensures front_of_read { IfSome (S.held source.old) (λ bytes. IsFrontOfRead bytes (S.held source.new)
+        (K.taken out.old) (K.taken out.new)) }
+    // Where a read failed, just the pictures that leave while the units that were read whole are taken were written.
+    ensures broken_off { result ≡ Ended.ReadFault → IfSome (S.held source.old) (λ bytes. IsBrokenOff bytes
+        (S.held source.new) (K.taken out.old) (K.taken out.new)) }
     ensures read { result ≡ Ended.ReadFault → Rose (S.faults source.old) (S.faults source.new) }
     ensures write { result ≡ Ended.WriteFault → Rose (K.faults out.old) (K.faults out.new) }
     ensures side { result ≡ Ended.SideFault → Rose (N.faults side.old) (N.faults side.new) }
