@@ -10,6 +10,7 @@ use Rattle.dirac_encode_laws.specs.Coding.{own_index}
 use Rattle.dirac_encode_laws.specs.Encoding.{encoding, encoding_under}
 use Rattle.dirac_encode_laws.specs.Fit.{AllFitOrNone, fit}
 use Rattle.dirac_encode_laws.specs.Standing.{jobs_in}
+use Rattle.dirac_encode.specs.Alone.{WritesDue, WritesFrontOfRead}
 use Rattle.dirac_choice_laws.specs.Insides.{HaveVectorsInside}
 use Rattle.dirac_choice_laws.specs.Pictures.{AreLeastInters}
 use Rattle.dirac_choice_laws.specs.Workers.{with_workers}
@@ -63,12 +64,17 @@ DecodesUnless (Some bad) old new answer = (answer ≡ ended.BadSettings bad) × 
 DecodesUnless None old new answer = Decodes old new answer
 
 -- `encode` with accepted settings: the stream of the raw pictures that the bytes held are, and their reconstructions,
--- which are just what the stream shows; each inter picture costs least, and the number of workers changes nothing; where
--- the settings ask for it each inter picture has a residual and vectors that keep inside, so that decoders which differ
--- from the standard show it alike
+-- which are just what the stream shows; each inter picture costs least, and the number of workers changes nothing;
+-- where the settings ask for it each inter picture has a residual and vectors that keep inside, so that decoders which
+-- differ from the standard show it alike; what wasn't read is still held, and whatever is answered, fronts of the
+-- encoding of the bytes read by themselves were written; where a read fails, all but the pictures that may wait
 pub record Encodes (t : Settings) (old new : Held) (answer : Ended) : Type 0 where
   pub answers : IsEncodeAnswer answer
   pub encoded : IfSome old.held (λ bytes. IsEncoded t bytes answer old.out new.out old.side new.side)
+  pub front_of_read : IfSome old.held (λ bytes. WritesFrontOfRead own_index t bytes new.held old.out new.out
+      old.side new.side)
+  pub due : answer ≡ ended.ReadFault → IfSome old.held (λ bytes. WritesDue own_index t bytes new.held old.out new.out
+      old.side new.side)
   pub whole : answer ≡ ended.Done → IsAtEnd new.held
   pub partial : (n : ℕ) → answer ≡ ended.PartialPicture n → (1 ≤ n) × IsAtEnd new.held
   pub shows : IfSome old.held (λ bytes. EndsStream answer → SideGetsShown (encoding t bytes) old.side new.side)
@@ -101,6 +107,10 @@ MakesUnless None t count old new answer = Makes t count old new answer
 pub record Rates (t : Settings) (budget : ℕ) (old new : Held) (answer : Ended) : Type 0 where
   pub answers : IsEncodeAnswer answer
   pub rated : IfSome old.held (λ bytes. IsRated t budget bytes answer old.out new.out old.side new.side)
+  pub front_of_read : IfSome old.held (λ bytes. WritesFrontOfRead (fit budget) t bytes new.held old.out new.out
+      old.side new.side)
+  pub due : answer ≡ ended.ReadFault → IfSome old.held (λ bytes. WritesDue (fit budget) t bytes new.held old.out
+      new.out old.side new.side)
   pub fits : (bytes : List ℕ) → AllFitOrNone budget t [] (jobs_in t bytes)
   pub whole : answer ≡ ended.Done → IsAtEnd new.held
   pub partial : (n : ℕ) → answer ≡ ended.PartialPicture n → (1 ≤ n) × IsAtEnd new.held

@@ -6,6 +6,7 @@ ghost use Rattle.dirac_encode_laws.specs.Alike.{AreShownAlike};
 ghost use Rattle.dirac_encode_laws.specs.Encoding.{encoding_under};
 ghost use Rattle.dirac_encode_laws.specs.Fit.{AllFitOrNone, fit};
 ghost use Rattle.dirac_encode_laws.specs.Standing.{jobs_in};
+ghost use Rattle.dirac_encode.specs.Alone.{WritesDue, WritesFrontOfRead};
 ghost use Rattle.dirac_choice_laws.specs.Insides.{HaveVectorsInside};
 ghost use Rattle.dirac_choice_laws.specs.Pictures.{AreLeastInters};
 ghost use Rattle.dirac_choice_laws.specs.Workers.{with_workers};
@@ -61,6 +62,13 @@ pub fn rate<R: Threads + Sync, S: Source, K: Sink, N: Sink, G: RowGate>(
     ensures rated { IfSome (S.held source.old) (λ bytes. IsRated settings.now budget bytes result
         (K.taken out.old) (K.taken out.new) (N.taken side.old) (N.taken side.new)) }
     ensures fits { (bytes : List ℕ) → AllFitOrNone budget settings.now [] (jobs_in settings.now bytes) }
+    // Whatever is answered, what was written is a front of the encoding of the bytes read by themselves.
+    ensures front_of_read { IfSome (S.held source.old) (λ bytes. WritesFrontOfRead (fit budget) settings.now bytes
+        (S.held source.new) (K.taken out.old) (K.taken out.new) (N.taken side.old) (N.taken side.new)) }
+    // Where a read failed, all that was due was written: of the whole pictures read no more are left than may wait.
+    ensures due { result ≡ Ended.ReadFault → IfSome (S.held source.old) (λ bytes. WritesDue
+        (fit budget) settings.now bytes (S.held source.new)
+        (K.taken out.old) (K.taken out.new) (N.taken side.old) (N.taken side.new)) }
     ensures whole { result ≡ Ended.Done → IsAtEnd (S.held source.new) }
     ensures partial { (n : ℕ) → result ≡ Ended.PartialPicture n → (1 ≤ n) × IsAtEnd (S.held source.new) }
     // Behind a whole stream the side got just what the stream shows.
@@ -108,6 +116,11 @@ fn rated<R: Threads + Sync, S: Source, K: Sink, N: Sink, G: RowGate>(
     ensures fits { (bytes : List ℕ) → AllFitOrNone budget settings.now [] (jobs_in settings.now bytes) }
     ensures alike { (bytes : List ℕ) → settings.now.alike ≡ 1
         → AreShownAlike (fit budget) settings.now [] (jobs_in settings.now bytes) }
+    ensures front_of_read { IfSome (S.held source.old) (λ bytes. WritesFrontOfRead (fit budget) settings.now bytes
+        (S.held source.new) (K.taken out.old) (K.taken out.new) (N.taken side.old) (N.taken side.new)) }
+    ensures due { result ≡ Ended.ReadFault → IfSome (S.held source.old) (λ bytes. WritesDue
+        (fit budget) settings.now bytes (S.held source.new)
+        (K.taken out.old) (K.taken out.new) (N.taken side.old) (N.taken side.new)) }
     ensures whole { result ≡ Ended.Done → IsAtEnd (S.held source.new) }
     ensures partial { (n : ℕ) → result ≡ Ended.PartialPicture n → (1 ≤ n) × IsAtEnd (S.held source.new) }
     ensures read { result ≡ Ended.ReadFault → Rose (S.faults source.old) (S.faults source.new) }

@@ -4,3 +4,4 @@ pub mod Going
 pub mod Finding
 pub mod AtIndex
 pub mod Reading
+pub mod OfRead

@@ -103,7 +103,7 @@ pub record Closes (t : Settings) (bytes : List ℕ) (n : ℕ) (answer : Encoded)
   pub all : n ≡ length (sources t bytes)
   pub answers : ending t bytes ≡ answer
 
-closes_part : (t : Settings) (bytes : List ℕ) (n k : ℕ) (chunk left : List ℕ) → drop (n * raw_length t) bytes ≡ chunk ++ left → left ≡ [] → length chunk ≡ k → k < raw_length t → n * raw_length t ≤ length bytes → n ≤ t.pictures → Closes t bytes n (behind k)
+pub closes_part : (t : Settings) (bytes : List ℕ) (n k : ℕ) (chunk left : List ℕ) → drop (n * raw_length t) bytes ≡ chunk ++ left → left ≡ [] → length chunk ≡ k → k < raw_length t → n * raw_length t ≤ length bytes → n ≤ t.pictures → Closes t bytes n (behind k)
 closes_part t bytes n k chunk left is none count short fit few =
     let r = raw_length t in
     let len : length (drop (n * r) bytes) ≡ length chunk = ap length is ∙ ap (λ l. length (chunk ++ l)) none ∙ ap length (append-nil chunk) in

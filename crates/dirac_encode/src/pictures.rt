@@ -11,6 +11,7 @@ ghost use Rattle.dirac_plan.specs.Planning.{empty_planning};
 ghost use Rattle.dirac_encode_laws.specs.Encoding.{AnswersEncode, EndsStream, IsRecoveredUnder, behind, encoding_under};
 ghost use Rattle.dirac_encode_laws.specs.Fit.{rule_of};
 ghost use Rattle.dirac_encode_laws.specs.Steps.{no_progress};
+ghost use Rattle.dirac_encode.specs.Alone.{WritesDue, WritesFrontOfRead};
 ghost use Rattle.dirac_encode.specs.Going.{so_far};
 
 use crate::coder::Coder;
@@ -61,6 +62,14 @@ pub(crate) fn put_pictures<R: Threads + Sync, S: Source, K: Sink, N: Sink, G: Ro
         (K.taken out.old) (K.taken out.new) (N.taken side.old) (N.taken side.new)) }
     ensures recovered { IfSome (S.held source.old) (λ held.
         EndsStream result → IsRecoveredUnder (rule_of coder.now.budget) coder.now.settings.now held) }
+    // Whatever is answered, what was written is a front of the encoding of the bytes read by themselves.
+    ensures front_of_read { IfSome (S.held source.old) (λ held. WritesFrontOfRead
+        (rule_of coder.now.budget) coder.now.settings.now held (S.held source.new)
+        (K.taken out.old) (K.taken out.new) (N.taken side.old) (N.taken side.new)) }
+    // Where a read failed, all that was due was written: of the whole pictures read no more are left than may wait.
+    ensures due { result ≡ Encoded.ReadFault → IfSome (S.held source.old) (λ held. WritesDue
+        (rule_of coder.now.budget) coder.now.settings.now held (S.held source.new)
+        (K.taken out.old) (K.taken out.new) (N.taken side.old) (N.taken side.new)) }
     ensures whole { result ≡ Encoded.Done → IsAtEnd (S.held source.new) }
     ensures partial { (n : ℕ) → result ≡ Encoded.PartialPicture n → (1 ≤ n) × IsAtEnd (S.held source.new) }
     ensures read { result ≡ Encoded.ReadFault → Rose (S.faults source.old) (S.faults source.new) }

@@ -1,10 +1,10 @@
 //! All pictures that a planner gives, coded.
 
-ghost use Rattle.std.specs.Prelude.{◌≡◌, ◌≤◌, Ok, Err, IfErr, OnOk, true, false};
+ghost use Rattle.std.specs.Prelude.{◌≡◌, ◌+◌, ◌≤◌, length, Ok, Err, IfErr, OnOk, true, false};
 ghost use Rattle.dirac_io.specs.Faults.{Rose};
 ghost use Rattle.dirac_types.specs.Settings.{IsAccepted};
 ghost use Rattle.dirac_sequence.specs.Written.{sequence_payload};
-ghost use Rattle.dirac_plan.specs.Planning.{is_closed};
+ghost use Rattle.dirac_plan.specs.Planning.{is_closed, waiting_places};
 ghost use Rattle.dirac_encode_laws.specs.Fit.{rule_of};
 ghost use Rattle.dirac_encode_laws.specs.Steps.{StopsCoding};
 ghost use Rattle.dirac_encode.specs.Going.{LeadsOn, Lists, Stops, so_far};
@@ -40,6 +40,8 @@ pub(crate) fn put_planned<R: Threads + Sync, K: Sink, N: Sink, G: RowGate>(
     // Once the pictures have ended, all that were accepted are coded; else the next one will be accepted.
     ensures all_given { OnOk result (ended ≡ true → planner.new.given ≡ planner.new.accepted) }
     ensures opened { OnOk result (ended ≡ false → is_closed planner.new ≡ false) }
+    ensures counts { OnOk result (planner.new.accepted ≡ planner.new.given + length planner.new.waiting) }
+    ensures waiting_fit { OnOk result (length planner.new.waiting ≤ waiting_places planner.new.settings) }
     ensures told { OnOk result (planner.new.ended ≡ ended) }
     ensures accepted { planner.new.accepted ≡ planner.old.accepted }
     ensures settings { planner.new.settings ≡ coder.now.settings.now }

@@ -10,6 +10,7 @@ ghost use Rattle.dirac_encode_laws.specs.Encoding.{AnswersEncode, EndsStream, Is
 ghost use Rattle.dirac_encode_laws.specs.Encoding.{encoding_under};
 ghost use Rattle.dirac_encode_laws.specs.Fit.{rule_of};
 ghost use Rattle.dirac_encode_laws.specs.Standing.{jobs_in};
+ghost use Rattle.dirac_encode.specs.Alone.{WritesDue, WritesFrontOfRead};
 
 use crate::coder::Coder;
 use crate::pictures::put_pictures;
@@ -45,6 +46,13 @@ pub fn encode_stream<R: Threads + Sync, S: Source, K: Sink, N: Sink, G: RowGate>
     // Where the settings ask for it, other decoders find in each picture what they need to show it alike.
     ensures alike { (bytes : List ℕ) → settings.now.alike ≡ 1
         → AreShownAlike own_index settings.now [] (jobs_in settings.now bytes) }
+    // Whatever is answered, what was written is a front of the encoding of the bytes read by themselves.
+    ensures front_of_read { IfSome (S.held source.old) (λ bytes. WritesFrontOfRead own_index settings.now bytes
+        (S.held source.new) (K.taken out.old) (K.taken out.new) (N.taken side.old) (N.taken side.new)) }
+    // Where a read failed, all that was due was written: of the whole pictures read no more are left than may wait.
+    ensures due { result ≡ Encoded.ReadFault → IfSome (S.held source.old) (λ bytes. WritesDue
+        own_index settings.now bytes (S.held source.new)
+        (K.taken out.old) (K.taken out.new) (N.taken side.old) (N.taken side.new)) }
     ensures whole { result ≡ Encoded.Done → IsAtEnd (S.held source.new) }
     ensures partial { (n : ℕ) → result ≡ Encoded.PartialPicture n → (1 ≤ n) × IsAtEnd (S.held source.new) }
 
@@ -100,6 +108,14 @@ pub fn encode_by<R: Threads + Sync, S: Source, K: Sink, N: Sink, G: RowGate>(
     // A whole stream is decoded to what the side got, and with index 0 for all pictures to the input.
     ensures recovered { IfSome (S.held source.old) (λ bytes.
         EndsStream result → IsRecoveredUnder (rule_of coder.now.budget) coder.now.settings.now bytes) }
+    // Whatever is answered, what was written is a front of the encoding of the bytes read by themselves.
+    ensures front_of_read { IfSome (S.held source.old) (λ bytes. WritesFrontOfRead
+        (rule_of coder.now.budget) coder.now.settings.now bytes (S.held source.new)
+        (K.taken out.old) (K.taken out.new) (N.taken side.old) (N.taken side.new)) }
+    // Where a read failed, all that was due was written: of the whole pictures read no more are left than may wait.
+    ensures due { result ≡ Encoded.ReadFault → IfSome (S.held source.old) (λ bytes. WritesDue
+        (rule_of coder.now.budget) coder.now.settings.now bytes (S.held source.new)
+        (K.taken out.old) (K.taken out.new) (N.taken side.old) (N.taken side.new)) }
     ensures whole { result ≡ Encoded.Done → IsAtEnd (S.held source.new) }
     ensures partial { (n : ℕ) → result ≡ Encoded.PartialPicture n → (1 ≤ n) × IsAtEnd (S.held source.new) }
     ensures read { result ≡ Encoded.ReadFault → Rose (S.faults source.old) (S.faults source.new) }

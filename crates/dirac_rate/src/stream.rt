@@ -8,6 +8,7 @@ ghost use Rattle.dirac_encode_laws.specs.Alike.{AreShownAlike};
 ghost use Rattle.dirac_encode_laws.specs.Encoding.{AnswersEncode, EndsStream, IsRecoveredUnder, encoding_under};
 ghost use Rattle.dirac_encode_laws.specs.Fit.{AllFitOrNone, fit};
 ghost use Rattle.dirac_encode_laws.specs.Standing.{jobs_in};
+ghost use Rattle.dirac_encode.specs.Alone.{WritesDue, WritesFrontOfRead};
 
 use dirac_common::RowGate;
 use dirac_encode::{Encoded, StreamCoder, encode_by, streams_show_their_pictures};
@@ -43,6 +44,13 @@ pub fn rate_stream<R: Threads + Sync, S: Source, K: Sink, N: Sink, G: RowGate>(
     // Where the settings ask for it, other decoders find in each picture what they need to show it alike.
     ensures alike { (bytes : List ℕ) → settings.now.alike ≡ 1
         → AreShownAlike (fit budget) settings.now [] (jobs_in settings.now bytes) }
+    // Whatever is answered, what was written is a front of the encoding of the bytes read by themselves.
+    ensures front_of_read { IfSome (S.held source.old) (λ bytes. WritesFrontOfRead (fit budget) settings.now bytes
+        (S.held source.new) (K.taken out.old) (K.taken out.new) (N.taken side.old) (N.taken side.new)) }
+    // Where a read failed, all that was due was written: of the whole pictures read no more are left than may wait.
+    ensures due { result ≡ Encoded.ReadFault → IfSome (S.held source.old) (λ bytes. WritesDue
+        (fit budget) settings.now bytes (S.held source.new)
+        (K.taken out.old) (K.taken out.new) (N.taken side.old) (N.taken side.new)) }
     ensures whole { result ≡ Encoded.Done → IsAtEnd (S.held source.new) }
     ensures partial { (n : ℕ) → result ≡ Encoded.PartialPicture n → (1 ≤ n) × IsAtEnd (S.held source.new) }
 

@@ -1,0 +1,35 @@
+-- What was written of an encoding while its raw pictures still came.
+use Rattle.std.specs.Prelude.{◌≡◌, ℕ, ◌+◌, ◌≤◌, List, ◌++◌, length, take, Option, Some}
+use Rattle.std.specs.Io.KnownBytes.{Appends}
+use Rattle.dirac_types.specs.declared.settings.Settings.{Settings}
+use Rattle.dirac_decode.specs.Raw.{raws}
+use Rattle.dirac_plan.specs.Planning.{waiting_places}
+use Rattle.dirac_sources.specs.Sources.{sources}
+use Rattle.dirac_encode_laws.specs.Coding.{IndexRule}
+use Rattle.dirac_encode_laws.specs.Encoding.{WritesFront, encoding_under}
+use Rattle.dirac_encode_laws.specs.Standing.{coding_in, pushed_now}
+use Rattle.dirac_encode_laws.specs.Stream.{units_of}
+
+-- of these bytes some were read and just the others are held, and both sinks took fronts of the encoding of those read
+-- by themselves
+pub record WritesFrontOfRead (f : IndexRule) (t : Settings) (bytes : List ℕ)
+    (held' out out' side side' : Option (List ℕ)) : Type 0 where
+  pub read : List ℕ
+  pub rest : List ℕ
+  pub parts : bytes ≡ read ++ rest
+  pub holds : held' ≡ Some rest
+  pub written : WritesFront (encoding_under f t read) out out' side side'
+
+-- of these bytes some were read and just the others are held; of the encoding of those read just the units of the first
+-- pictures in coding order were written, and just the reconstructions that leave while these are coded were delivered;
+-- of the whole pictures read no more are left than may wait to be coded
+pub record WritesDue (f : IndexRule) (t : Settings) (bytes : List ℕ) (held' out out' side side' : Option (List ℕ))
+    : Type 0 where
+  pub read : List ℕ
+  pub rest : List ℕ
+  pub parts : bytes ≡ read ++ rest
+  pub holds : held' ≡ Some rest
+  pub count : ℕ
+  pub few_wait : length (sources t read) ≤ count + waiting_places t
+  pub written : Appends out out' (units_of t 0 (take count (coding_in f t read)))
+  pub delivered : Appends side side' (raws (pushed_now (take count (coding_in f t read))).gone)
