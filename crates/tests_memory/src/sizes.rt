@@ -39,16 +39,16 @@ fn finds_memory_to_make_pictures(rt: HostRuntime) -> Result<(), Fail> {
     let made = done(
         &rt,
         alloc,
-        &["make", "--base=8", "--count=6", "--index=0", "--workers=1"],
+        &["make", "--base=8", "--count=12", "--index=0", "--workers=1"],
         &[],
     )?;
     let line = made.out.taken();
-    assert!(rt; line.starts_with(b"pictures=6 stream="));
-    assert!(rt; line.ends_with(b" raw=4976640 exact=6\n"));
+    assert!(rt; line.starts_with(b"pictures=12 stream="));
+    assert!(rt; line.ends_with(b" raw=9953280 exact=12\n"));
     let by_four = done(
         &rt,
         alloc,
-        &["make", "--base=8", "--count=6", "--index=0", "--workers=4"],
+        &["make", "--base=8", "--count=12", "--index=0", "--workers=4"],
         &[],
     )?;
     assert_eq!(rt; by_four.out.taken(), line);
