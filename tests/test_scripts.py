@@ -8,6 +8,7 @@ import shutil
 import struct
 import subprocess
 import sys
+import tempfile
 import unittest
 import zlib
 
@@ -116,6 +117,20 @@ class Documents(unittest.TestCase):
         for command, without, with_library in [*rows, ("python3 capi/check.py", 1, 0)]:
             found = [check_documents.is_left_out(command, has_library) for has_library in (False, True)]
             self.assertEqual(found, [bool(without), bool(with_library)], command)
+
+    def test_the_program_is_built_where_no_source_is_newer(self):
+        with tempfile.TemporaryDirectory() as name:
+            top = pathlib.Path(name)
+            source = top / "crates" / "a" / "src" / "lib.rt"
+            program = top / "crates" / "dirac_tool" / "out" / "dirac_tool"
+            for path, time in [(top / "crates.txt", 10), (source, 20), (program.parent / "later", 40), (program, 30)]:
+                self.assertFalse(check_documents.is_built(top))
+                path.parent.mkdir(parents=True, exist_ok=True)
+                path.write_text("")
+                os.utime(path, (time, time))
+            self.assertTrue(check_documents.is_built(top))
+            os.utime(source, (31, 31))
+            self.assertFalse(check_documents.is_built(top))
 
     def test_times_of_a_container(self):
         even = [n / 25 for n in range(10)]

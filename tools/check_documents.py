@@ -4,8 +4,9 @@
 check_documents.py [DOCUMENT...]        README.md, docs/*.md and the README.md of bench, conformance and examples where
                                         none is given
 
-Run it with the program built and ffmpeg there; the files that the commands write at the top of the repository are
-ignored by git. In a block of lines those that begin with `$ ` are commands, and what follows one is what it writes to
+Run it with ffmpeg and mkvmerge there and the program built: where it isn't, it says so and runs nothing, since `./run`
+would prove the program first. The files that the commands write at the top of the repository are ignored by git. In a
+block of lines those that begin with `$ ` are commands, and what follows one is what it writes to
 both outputs, in any order. In a block without such a line, those that begin with python3, ./run, ./dirac or bench/ are
 commands, of which only the status is looked at, and 1 is fine with `--pictures`, where another decoder may differ.
 Commands with ffplay or `play` are left out, for want of a screen, and those with capi/ where the library isn't built
@@ -13,6 +14,7 @@ Commands with ffplay or `play` are left out, for want of a screen, and those wit
 ffmpeg. Of a container that a command writes the times are looked at by ffprobe: its packets come one after another,
 evenly, and it lasts as long. Ends with 1 where a command differs.
 """
+import os
 import pathlib
 import re
 import shutil
@@ -25,6 +27,18 @@ LIBRARY = TOP / "capi" / "out" / "libjevmutzal.a"
 CONTAINER = re.compile(r"(?:^|[\s>])(\w+\.(?:mkv|mp4|avi|mov))(?=$|\s)")
 # the most that a container rounds a time by, in seconds, and how many pictures its duration may be off
 ROUNDED, SPARE = 0.002, 1.5
+
+
+def is_built(top):
+    """Whether `./run` runs the program as it is: it is there, and no source is newer."""
+    program = top / "crates" / "dirac_tool" / "out" / "dirac_tool"
+    if not program.is_file():
+        return False
+    sources = [top / "crates.txt"]
+    for folder, folders, names in os.walk(top / "crates"):
+        folders[:] = [name for name in folders if name != "out"]
+        sources += [pathlib.Path(folder, name) for name in names]
+    return all(path.stat().st_mtime <= program.stat().st_mtime for path in sources)
 
 
 def blocks(text):
@@ -83,8 +97,8 @@ def wrong_container(name):
         subprocess.run([*words, "-show_entries", entries, name], cwd=TOP, capture_output=True, text=True).stdout
         for entries in ("packet=pts_time", "format=duration")
     ]
-    times = [float(time) for time in re.findall(r"[0-9.]+", told[0])]
-    return wrong_times(times, float(told[1]))
+    times, duration = ([float(time) for time in re.findall(r"[0-9.]+", text)] for text in told)
+    return wrong_times(times, duration[0]) if duration else "ffprobe tells no duration"
 
 
 def difference(command, expected):
@@ -110,6 +124,8 @@ def is_left_out(command, has_library):
 
 
 def main():
+    if not is_built(TOP):
+        sys.exit("check_documents.py: the program isn't built of this text: `./run list < /dev/null` builds it")
     folders = [TOP, TOP / "docs", TOP / "bench", TOP / "conformance", TOP / "examples"]
     paths = [pathlib.Path(word) for word in sys.argv[1:]]
     paths = paths or [path for folder in folders for path in sorted(folder.glob("*.md"))]
