@@ -27,4 +27,8 @@ pub mod TurnBounds
 pub mod Turns
 pub mod Undone
 pub mod Weighted
+mod WindowExamples
+pub mod WindowHalves
+pub mod WindowLines
+pub mod Windows
 pub mod ZerosKept

@@ -13,4 +13,5 @@ pub mod Rings
 pub mod Running
 pub mod Safety
 pub mod Wavelets
+pub mod Windows
 pub mod Zeros

@@ -1,5 +1,6 @@
 //! What holds of the transforms of all lines and planes, as the contracts of functions that do nothing.
 ghost use Rattle.dirac_lift.specs.ByLines.{AnalysisByLines, LinesFinish, SynthesisByLines};
+ghost use Rattle.dirac_lift.specs.Windows.{WindowsHaveRows, WindowsHaveStrips};
 ghost use Rattle.dirac_lift.specs.Zeros.{LevelsStayZeros, LinesStayZeros};
 
 /// The synthesis of zeros has zeros alone, whatever the wavelet: each sum and each rounding of zeros is 0.
@@ -14,4 +15,11 @@ pub fn lines_come_in_turn()
     ensures synthesis { SynthesisByLines }
     ensures analysis { AnalysisByLines }
     ensures finished { LinesFinish }
+{}
+
+/// A level can be synthesised in strips: of a window of its pairs of rows, a few pairs wider than a strip where the
+/// level goes on, the rows of the strip come out as they do of the whole level.
+pub fn windows_of_rows_synthesise_alike()
+    ensures rows { WindowsHaveRows }
+    ensures strips { WindowsHaveStrips }
 {}

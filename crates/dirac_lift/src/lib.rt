@@ -24,7 +24,7 @@ mod wavelets;
 pub use half_levels::{RowPairs, synth_level_by_lines};
 pub use half_rows::{HalfRows, analyse_halves_level};
 pub use held::{Held, is_narrow};
-pub use laws::{lines_come_in_turn, zeros_stay_zeros};
+pub use laws::{lines_come_in_turn, windows_of_rows_synthesise_alike, zeros_stay_zeros};
 pub use levels::{analyse_level, synth_level};
 pub use lines::{analyse_line, synth_line};
 pub use narrow_levels::synth_level_narrow;
