@@ -1,15 +1,15 @@
 -- What operations on eight lanes leave in each of them.
-use Rattle.std.proofs.Common.{◌≡◌, ℕ, suc, ℤ, pos, negsuc, ◌+◌, ◌^◌, ◌<◌, ◌≤◌, ◌+ℤ◌, ◌-ℤ◌, unsigned_abs, List, [], ◌∷◌, length, get_or, map, to_z, of_z, arith, ap, ap₂, sym, refl, subst, ◌∙◌}
+use Rattle.std.proofs.Common.{◌≡◌, ℕ, zero, suc, ℤ, pos, negsuc, ◌+◌, ◌*◌, ◌^◌, ◌<◌, ◌≤◌, ◌+ℤ◌, ◌-ℤ◌, unsigned_abs, List, [], ◌∷◌, ◌++◌, length, get_or, map, to_z, of_z, arith, ap, ap₂, sym, refl, subst, ◌∙◌}
 use Rattle.std.specs.Int.{w32, int_shr}
 use Rattle.std.proofs.lemmas.Int.{ints, to_z-of_z, fits_signed_from_abs}
-use Rattle.std.proofs.lemmas.List.{length-map, get_or-map}
+use Rattle.std.proofs.lemmas.List.{length-map, get_or-map, get_or_append_left, get_or-append-add}
 use Rattle.std.proofs.lemmas.Nat.{pow_pos}
 use Rattle.std.proofs.lemmas.Simd.{get_or-chunk, length-chunk, get_or-put_chunk_at, get_or-put_chunk_below, get_or-put_chunk_above, length-put_chunk, get_or-zip2, length-zip2}
 use Rattle.std.proofs.Math.Nat.{div-le_self}
-use lib.Lanes.{zip2, Each2, chunk, put_chunk}
+use lib.Lanes.{zip2, Each2, chunk, pick_l, put_chunk}
 use lib.Signed.{shr_z}
 use mir.Val.{SFits}
-use Rattle.dirac_lift.specs.Lanes.{AreLanes, IsEight, RunPut, lane}
+use Rattle.dirac_lift.specs.Lanes.{AreInTurn, AreLanes, IsEight, RunPut, lane}
 
 -- lanes that hold f, lane by lane
 pub lanes_same : (f g : ℕ → ℤ) (v : List ℤ) → AreLanes f v → ((j : ℕ) → j < 8 → f j ≡ g j) → AreLanes g v
@@ -133,3 +133,54 @@ run_of_lanes at xs v room e =
 
 pub run_same : (at count : ℕ) (f g : ℕ → ℤ) (xs ys : List ℤ) → RunPut at count f xs ys → ((j : ℕ) → j < count → f j ≡ g j) → RunPut at count g xs ys
 run_same at count f g xs ys r h = record { len = r.len; inside = λ j l. r.inside j l ∙ h j l; before = r.before; behind = r.behind }
+
+-- lanes of two vectors, one behind the other
+abbrev both : List ℤ → List ℤ → List ℕ
+both a b = map (of_z w32) a ++ map (of_z w32) b
+
+in_first : (a b : List ℤ) → IsEight a → (j : ℕ) → j < 8 → to_z w32 (get_or (both a b) j 0) ≡ lane a j
+in_first a b e j l =
+    ap (to_z w32) (get_or_append_left (map (of_z w32) a) (map (of_z w32) b) 0 j (omega (arith, l, (own_bits a e).count)))
+    ∙ bits_value (lane a) (map (of_z w32) a) (own_bits a e) j l
+
+in_second : (a b : List ℤ) → IsEight a → IsEight b → (j : ℕ) → j < 8 → to_z w32 (get_or (both a b) (8 + j) 0) ≡ lane b j
+in_second a b e f j l =
+    ap (λ n. to_z w32 (get_or (both a b) (n + j) 0)) (sym (own_bits a e).count)
+    ∙ ap (to_z w32) (get_or-append-add (map (of_z w32) a) (map (of_z w32) b) j 0)
+    ∙ bits_value (lane b) (map (of_z w32) b) (own_bits b f) j l
+
+-- a fact of each lane of a few
+each_of_4 : (P : ℕ → Type 0) → P 0 → P 1 → P 2 → P 3 → (j : ℕ) → j < 4 → P j
+each_of_4 P a b c d zero l = a
+each_of_4 P a b c d (suc zero) l = b
+each_of_4 P a b c d (suc (suc zero)) l = c
+each_of_4 P a b c d (suc (suc (suc zero))) l = d
+each_of_4 P a b c d (suc (suc (suc (suc j)))) l = absurd (omega (arith, l))
+
+each_of_8 : (P : ℕ → Type 0) → P 0 → P 1 → P 2 → P 3 → P 4 → P 5 → P 6 → P 7 → (j : ℕ) → j < 8 → P j
+each_of_8 P a b c d e f g h zero l = a
+each_of_8 P a b c d e f g h (suc zero) l = b
+each_of_8 P a b c d e f g h (suc (suc zero)) l = c
+each_of_8 P a b c d e f g h (suc (suc (suc zero))) l = d
+each_of_8 P a b c d e f g h (suc (suc (suc (suc j)))) l = each_of_4 (λ k. P (suc (suc (suc (suc k))))) e f g h j (omega (arith, l))
+
+-- lanes that are picked from two vectors in turn
+abbrev picked : List ℤ → List ℤ → List ℕ → List ℤ
+picked a b ks = map (to_z w32) (pick_l 0 (both a b) ks)
+
+pub four_in_turn : (a b : List ℤ) (m : ℕ) → IsEight a → IsEight b → m ≤ 4 → AreInTurn m a b (picked a b (m ∷ (8 + m) ∷ (m + 1) ∷ (8 + (m + 1)) ∷ (m + 2) ∷ (8 + (m + 2)) ∷ (m + 3) ∷ (8 + (m + 3)) ∷ []))
+four_in_turn a b m e f l =
+    let ks : List ℕ = m ∷ (8 + m) ∷ (m + 1) ∷ (8 + (m + 1)) ∷ (m + 2) ∷ (8 + (m + 2)) ∷ (m + 3) ∷ (8 + (m + 3)) ∷ [] in
+    let one : (i : ℕ) → i < 8 → SFits w32 (to_z w32 (get_or (both a b) i 0)) = λ i h. subst (SFits w32) (sym (in_first a b e i h)) (e.fit i h) in
+    let two : (i : ℕ) → i < 8 → SFits w32 (to_z w32 (get_or (both a b) (8 + i) 0)) = λ i h. subst (SFits w32) (sym (in_second a b e f i h)) (f.fit i h) in
+    record {
+      eight = record {
+        count = refl;
+        fit = each_of_8 (λ j. SFits w32 (lane (picked a b ks) j)) (one m (omega (arith, l))) (two m (omega (arith, l))) (one (m + 1) (omega (arith, l))) (two (m + 1) (omega (arith, l)))
+            (one (m + 2) (omega (arith, l))) (two (m + 2) (omega (arith, l))) (one (m + 3) (omega (arith, l))) (two (m + 3) (omega (arith, l)));
+      };
+      even = each_of_4 (λ j. lane (picked a b ks) (2 * j) ≡ lane a (m + j)) (in_first a b e m (omega (arith, l)) ∙ ap (lane a) (omega arith)) (in_first a b e (m + 1) (omega (arith, l)))
+          (in_first a b e (m + 2) (omega (arith, l))) (in_first a b e (m + 3) (omega (arith, l)));
+      odd = each_of_4 (λ j. lane (picked a b ks) (2 * j + 1) ≡ lane b (m + j)) (in_second a b e f m (omega (arith, l)) ∙ ap (lane b) (omega arith)) (in_second a b e f (m + 1) (omega (arith, l)))
+          (in_second a b e f (m + 2) (omega (arith, l))) (in_second a b e f (m + 3) (omega (arith, l)));
+    }

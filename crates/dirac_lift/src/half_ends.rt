@@ -2,60 +2,66 @@ ghost use Rattle.std.specs.Prelude.{◌≡◌, ℕ, ℤ, List, pos, ◌+◌, ◌
 ghost use Rattle.std.specs.Prelude.{slice_set, unsigned_abs};
 ghost use Rattle.std.specs.List.{All};
 ghost use Rattle.dirac_lift.specs.Halves.{AreHalves};
-ghost use Rattle.dirac_lift.specs.Level.{ended, halved};
+ghost use Rattle.dirac_lift.specs.Lanes.{EightPairsPut};
+ghost use Rattle.dirac_lift.specs.Level.{ended};
+ghost use Rattle.dirac_lift.specs.Lifting.{rounded};
 
+use crate::half_lanes::rounded_lanes;
 use crate::halves::rounded_sum;
+use crate::lanes::{first_in_turn, lanes_at, last_in_turn, put_lanes};
 use crate::wavelets::halves;
 
-/// Puts pair `n` of a line, each value halved, to the nearest.
+/// Puts eight pairs of a line from pair `n` on, each value divided by 2 to the power `shift`, to the nearest.
 #[inline(always)]
-fn put_halved_pair(low: &[i32], high: &[i32], line: &mut [i32], n: usize)
-    requires pair { n < length low.now }
+fn put_eight_pairs(low: &[i32], high: &[i32], line: &mut [i32], n: usize, shift: u32)
+    requires inside { n + 8 ≤ length low.now }
     requires alike { length high.now ≡ length low.now }
     requires line { length line.old ≡ 2 * length low.now }
-    requires low { unsigned_abs (slice_index_or low.now n (pos 0)) ≤ 2 ^ 31 - 2 ^ 22 }
-    requires high { unsigned_abs (slice_index_or high.now n (pos 0)) ≤ 2 ^ 31 - 2 ^ 22 }
-    ensures { line.new ≡ slice_set (slice_set line.old (2 * n) (halved (slice_index_or low.now n (pos 0)))) (2 * n + 1)
-        (halved (slice_index_or high.now n (pos 0))) }
-{
-    line[2 * n] = rounded_sum(low[n], 1);
-    line[2 * n + 1] = rounded_sum(high[n], 1);
-}
-
-/// A line from its two halves, each value halved, to the nearest.
-fn put_halved(low: &[i32], high: &[i32], line: &mut [i32])
-    requires alike { length high.now ≡ length low.now }
-    requires line { length line.old ≡ 2 * length low.now }
+    requires shift { shift ≤ 12 }
     requires low { All (λ v. unsigned_abs v ≤ 2 ^ 31 - 2 ^ 22) low.now }
     requires high { All (λ v. unsigned_abs v ≤ 2 ^ 31 - 2 ^ 22) high.now }
-    ensures { (whole : List ℤ) → AreHalves 0 low.now high.now whole → line.new ≡ map halved whole }
+    ensures { EightPairsPut n (λ j. rounded shift (slice_index_or low.now (n + j) (pos 0)))
+        (λ j. rounded shift (slice_index_or high.now (n + j) (pos 0))) line.old line.new }
 {
-    for n in 0..low.len() {
-        put_halved_pair(low, high, line, n);
-    }
+    let evens = rounded_lanes(lanes_at(low, n), shift);
+    let odds = rounded_lanes(lanes_at(high, n), shift);
+    put_lanes(line, 2 * n, first_in_turn(evens, odds));
+    put_lanes(line, 2 * n + 8, last_in_turn(evens, odds));
 }
 
-/// Puts pair `n` of a line.
+/// Puts pair `n` of a line, each value divided by 2 to the power `shift`, to the nearest.
 #[inline(always)]
-fn put_pair(low: &[i32], high: &[i32], line: &mut [i32], n: usize)
+fn put_pair(low: &[i32], high: &[i32], line: &mut [i32], n: usize, shift: u32)
     requires pair { n < length low.now }
     requires alike { length high.now ≡ length low.now }
     requires line { length line.old ≡ 2 * length low.now }
-    ensures { line.new ≡ slice_set (slice_set line.old (2 * n) (slice_index_or low.now n (pos 0))) (2 * n + 1)
-        (slice_index_or high.now n (pos 0)) }
+    requires shift { shift ≤ 12 }
+    requires low { unsigned_abs (slice_index_or low.now n (pos 0)) ≤ 2 ^ 31 - 2 ^ 22 }
+    requires high { unsigned_abs (slice_index_or high.now n (pos 0)) ≤ 2 ^ 31 - 2 ^ 22 }
+    ensures { line.new ≡ slice_set (slice_set line.old (2 * n) (rounded shift (slice_index_or low.now n (pos 0))))
+        (2 * n + 1) (rounded shift (slice_index_or high.now n (pos 0))) }
 {
-    line[2 * n] = low[n];
-    line[2 * n + 1] = high[n];
+    line[2 * n] = rounded_sum(low[n], shift);
+    line[2 * n + 1] = rounded_sum(high[n], shift);
 }
 
-/// A line from its two halves.
-fn put_in_turn(low: &[i32], high: &[i32], line: &mut [i32])
+/// A line from its two halves, each value divided by 2 to the power `shift`, to the nearest: eight pairs at a time in
+/// lanes, and those that are left one by one.
+#[inline(always)]
+fn put_pairs(low: &[i32], high: &[i32], line: &mut [i32], shift: u32)
     requires alike { length high.now ≡ length low.now }
     requires line { length line.old ≡ 2 * length low.now }
-    ensures { (whole : List ℤ) → AreHalves 0 low.now high.now whole → line.new ≡ whole }
+    requires shift { shift ≤ 12 }
+    requires low { All (λ v. unsigned_abs v ≤ 2 ^ 31 - 2 ^ 22) low.now }
+    requires high { All (λ v. unsigned_abs v ≤ 2 ^ 31 - 2 ^ 22) high.now }
+    ensures { (whole : List ℤ) → AreHalves 0 low.now high.now whole → line.new ≡ map (rounded shift) whole }
 {
-    for n in 0..low.len() {
-        put_pair(low, high, line, n);
+    let eights = low.len() / 8;
+    'eights: for i in 0..eights {
+        put_eight_pairs(low, high, line, i * 8, shift);
+    }
+    'left: for n in eights * 8..low.len() {
+        put_pair(low, high, line, n, shift);
     }
 }
 
@@ -68,8 +74,8 @@ pub fn put_line(wavelet: u8, low: &[i32], high: &[i32], line: &mut [i32])
     ensures { (whole : List ℤ) → AreHalves 0 low.now high.now whole → line.new ≡ ended wavelet whole }
 {
     if halves(wavelet) {
-        put_halved(low, high, line);
+        put_pairs(low, high, line, 1);
     } else {
-        put_in_turn(low, high, line);
+        put_pairs(low, high, line, 0);
     }
 }

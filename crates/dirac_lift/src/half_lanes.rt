@@ -22,7 +22,7 @@ fn half_of(shift: u32) -> i32
 
 /// Eight sums divided by 2 to the power `shift`, to the nearest.
 #[inline(always)]
-fn rounded_lanes(sum: i32x8, shift: u32) -> i32x8
+pub fn rounded_lanes(sum: i32x8, shift: u32) -> i32x8
     requires shift { shift ≤ 12 }
     requires lanes { IsEight sum }
     requires sum { (j : ℕ) → j < 8 → unsigned_abs (lane sum j) ≤ 2 ^ 31 - 2 ^ 22 }

@@ -2,7 +2,7 @@
 ghost use Rattle.std.specs.Prelude.{◌≡◌, ℕ, ℤ, pos, ◌+◌, ◌-◌, ◌*◌, ◌^◌, ◌<◌, ◌≤◌, ◌+ℤ◌, ◌*ℤ◌, unsigned_abs, length};
 ghost use Rattle.std.specs.Prelude.{slice_index_or, FitsSigned};
 ghost use Rattle.std.specs.Int.{int_shr, w32};
-ghost use Rattle.dirac_lift.specs.Lanes.{AreLanes, IsEight, RunPut, lane};
+ghost use Rattle.dirac_lift.specs.Lanes.{AreInTurn, AreLanes, IsEight, RunPut, lane};
 ghost use Rattle.dirac_lift.specs.Lifting.{moved};
 
 use std::simd::prelude::*;
@@ -70,4 +70,22 @@ pub fn moved_lanes(value: i32x8, change: i32x8, minus: bool) -> i32x8
     } else {
         value.strict_add(change)
     }
+}
+
+/// The first four lanes of two vectors, in turn.
+#[inline(always)]
+pub fn first_in_turn(evens: i32x8, odds: i32x8) -> i32x8
+    requires lanes { IsEight evens × IsEight odds }
+    ensures { AreInTurn 0 evens odds result }
+{
+    evens.shuffle(odds, [0, 8, 1, 9, 2, 10, 3, 11])
+}
+
+/// The last four lanes of two vectors, in turn.
+#[inline(always)]
+pub fn last_in_turn(evens: i32x8, odds: i32x8) -> i32x8
+    requires lanes { IsEight evens × IsEight odds }
+    ensures { AreInTurn 4 evens odds result }
+{
+    evens.shuffle(odds, [4, 12, 5, 13, 6, 14, 7, 15])
 }
