@@ -27,6 +27,6 @@ pub use dirac_picture::{CodedMotion, CodedPicture, CodedResidual, PlaneBands, re
 pub use laws::{a_stream_shows_its_sequences, what_leaves_is_shown};
 pub use opened::Opened;
 pub use picture::{predicted_samples, rebuild};
-pub use planes::{height_of, plane_of, residual_of, width_of};
+pub use planes::{height_of, plane_of, residual_of, unfinished_of, width_of};
 pub use stream::{decode_stream, decode_stream_by};
 pub use written::{byte, put_picture};

@@ -15,13 +15,13 @@ ghost use Rattle.dirac_decode.specs.Rebuilding.{CanBeRebuilt, Rebuilds};
 ghost use Rattle.dirac_decode.specs.Taking.{IsRebuilt};
 
 use crate::compensate::{Moved, named_reference, predict_from};
-use crate::planes::residual_of;
+use crate::planes::unfinished_of;
 use dirac_common::{Kind, NoMemory, Picture, Plane};
 use dirac_obmc::Component;
 use dirac_picture::{CodedMotion, CodedPicture, CodedResidual};
 use dirac_refs::{RefBuffer, Reference, reference_of};
 use dirac_sequence_header::Sequence;
-use dirac_synthesis::{clipped, clipped_sum};
+use dirac_synthesis::{clipped_by_strips, clipped_sum_by_strips};
 use std::alloc::Global;
 
 /// The samples of a plane of an intra picture: its residual, clipped.
@@ -35,8 +35,8 @@ fn intra_samples(
     requires fits { IfSome residual.now (IsResidual sequence.now) }
     ensures value { IfOk result (λ t. t ≡ content.intra_samples sequence.now residual.now component) }
 {
-    let residual = residual_of(alloc, sequence, Kind::Intra, component, residual)?;
-    clipped(alloc, &residual)
+    let residual = unfinished_of(alloc, sequence, Kind::Intra, component, residual)?;
+    clipped_by_strips(alloc, &residual)
 }
 
 /// The samples of a plane of an inter picture, from what is predicted for them, by rows: each with its residual,
@@ -55,8 +55,8 @@ pub fn predicted_samples(
     ensures value { IfOk result (λ t. t ≡ clipped_table (with_prediction
         (content.residual_among sequence.now Inter component residual.now) predicted.now)) }
 {
-    let residual = residual_of(alloc, sequence, Kind::Inter, component, residual)?;
-    clipped_sum(alloc, &residual, predicted)
+    let residual = unfinished_of(alloc, sequence, Kind::Inter, component, residual)?;
+    clipped_sum_by_strips(alloc, &residual, predicted)
 }
 
 /// The samples of a plane of an inter picture: its residual and what its references predict, clipped.

@@ -8,7 +8,7 @@ use dirac_common::{Kind, LARGEST_SIDE, NoMemory, Picture, Plane};
 use dirac_obmc::Component;
 use dirac_picture::CodedResidual;
 use dirac_sequence_header::Sequence;
-use dirac_synthesis::{Residual, plane_residual};
+use dirac_synthesis::{Residual, Unfinished, plane_residual, unfinished_residual};
 use std::alloc::Global;
 
 /// The number of columns of a plane.
@@ -97,5 +97,60 @@ pub fn residual_of(
     match residual {
         None => zero_residual(alloc, sequence, kind, component),
         Some(residual) => coded_residual(alloc, sequence, kind, component, residual),
+    }
+}
+
+/// The residual of a plane that is coded, before its last level.
+fn coded_unfinished<'a>(
+    alloc: Global,
+    sequence: &Sequence,
+    kind: Kind,
+    component: Component,
+    residual: &'a CodedResidual,
+) -> Result<Unfinished<'a>, NoMemory>
+    requires sequence { IsSequence sequence.now }
+    requires fits { IsResidual sequence.now residual.now }
+    ensures { IfOk result (λ u. u ≡ content.residual_among sequence.now kind component (Some residual.now)) }
+{
+    unfinished_residual(
+        alloc,
+        &residual.transform,
+        kind,
+        residual.plane_bands(component).bands(),
+        width_of(sequence, component),
+        height_of(sequence, component),
+    )
+}
+
+/// A residual of zeros.
+fn zero_unfinished<'a>(
+    alloc: Global,
+    sequence: &Sequence,
+    kind: Kind,
+    component: Component,
+) -> Result<Unfinished<'a>, NoMemory>
+    requires { IsSequence sequence.now }
+    ensures { IfOk result (λ u. u ≡ content.residual_among sequence.now kind component None) }
+{
+    let width = width_of(sequence, component);
+    let height = height_of(sequence, component);
+    Unfinished::try_zeros(alloc, width, height)
+}
+
+/// The residual of a plane, of which the last level waits until rows are asked for; where none is coded it is 0.
+pub fn unfinished_of<'a>(
+    alloc: Global,
+    sequence: &Sequence,
+    kind: Kind,
+    component: Component,
+    residual: &'a Option<CodedResidual>,
+) -> Result<Unfinished<'a>, NoMemory>
+    requires sequence { IsSequence sequence.now }
+    requires fits { IfSome residual.now (IsResidual sequence.now) }
+    ensures { IfOk result (λ u. u ≡ content.residual_among sequence.now kind component residual.now) }
+{
+    match residual {
+        None => zero_unfinished(alloc, sequence, kind, component),
+        Some(residual) => coded_unfinished(alloc, sequence, kind, component, residual),
     }
 }

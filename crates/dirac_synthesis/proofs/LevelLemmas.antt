@@ -1,6 +1,7 @@
 -- The LL band of one level more.
 use Rattle.std.proofs.Common.{◌≡◌, ℕ, suc, ◌+◌, ◌*◌, ◌^◌, ◌<◌, ◌≤◌, List, slice_get, Some, unsigned_abs, arith, refl, ap, sym, ◌∙◌, subst}
 use Rattle.std.specs.List.{All}
+use Rattle.std.proofs.lemmas.Nat.{pow-add}
 use Rattle.dirac_common.specs.declared.formats.Kind.{Kind}
 use Rattle.dirac_common.specs.declared.formats.Kind.TheVariants.{Intra, Inter}
 use Rattle.dirac_common.specs.Limits.{IsWavelet}
@@ -15,7 +16,7 @@ use Rattle.dirac_synthesis.specs.Codeblocks.{HasIndices, restored_band}
 use Rattle.dirac_synthesis.specs.Fits.{AreBandsOf, IsBandOf, IsBesides}
 use Rattle.dirac_synthesis.specs.Levels.{IsLevel}
 use Rattle.dirac_synthesis.specs.Residual.{after_levels, restored_among, restored_at, summed}
-use Rattle.dirac_synthesis.proofs.Sizes.{level_length, quotient_bound}
+use Rattle.dirac_synthesis.proofs.Sizes.{level_length, quotient_bound, size_within}
 
 -- what a band of these counts stands for
 pub restored_is : (t : Transform) (kind : Kind) (bands : List CodedBand) (n level : ℕ) (counts : ℕ × ℕ) (b : CodedBand) → counts_at t.counts level ≡ counts → level_of n ≡ level → slice_get bands n ≡ Some b → restored_band kind counts b ≡ restored_at t kind bands n
@@ -89,3 +90,10 @@ stands_level t kind bands width height n counts low beside wavelet deep across d
       hh_indices = counts_given t (3 * n + 3) (n + 1) counts beside.hh.now (omega arith) told fd.indices;
       small = small;
     }
+
+-- twice the LL band before the last level is the plane with what was padded
+pub last_size : (size depth last low : ℕ) → depth ≡ last + 1 → low ≡ lowest_size size depth * 2 ^ last → size ≤ 2 * low
+last_size size depth last low next e =
+    let power : 2 ^ (last + 1) ≡ 2 ^ last * 2 = pow-add 2 last 1 in
+    let whole : lowest_size size depth * 2 ^ depth ≡ lowest_size size depth * (2 ^ last * 2) = ap (λ n. lowest_size size depth * 2 ^ n) next ∙ ap (λ p. lowest_size size depth * p) power in
+    omega (arith, e, whole, size_within size depth)

@@ -4,8 +4,10 @@ pub mod ByCodeblock
 pub mod Coefficients
 pub mod Cutting
 pub mod JoinedRows
+pub mod LastRows
 pub mod LevelBounds
 pub mod LevelLemmas
 pub mod Maps
 pub mod Sizes
+pub mod StripRows
 pub mod ZeroBands

@@ -1,7 +1,10 @@
 pub mod Codeblocks
 pub mod Fits
 pub mod Halves
+pub mod LastLevel
 pub mod Levels
 pub mod NarrowLevels
 pub mod Residual
+pub mod Strips
+pub mod Unfinished
 pub mod Zeros

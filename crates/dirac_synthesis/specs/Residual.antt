@@ -1,5 +1,5 @@
 -- From the quantised subbands of a plane to its residual, and from that and what is predicted to its samples.
-use Rattle.std.specs.Prelude.{◌≡◌, ℕ, zero, suc, ℤ, ◌+◌, ◌*◌, ◌+ℤ◌, List, [], map, Option, None, Some, slice_get}
+use Rattle.std.specs.Prelude.{◌≡◌, ℕ, zero, suc, ℤ, ◌+◌, ◌-◌, ◌*◌, ◌+ℤ◌, List, [], map, Option, None, Some, slice_get}
 use Rattle.std.specs.List.{All}
 use Rattle.std.specs.Simd.Lanes.{zip2}
 use Rattle.dirac_common.specs.declared.formats.Kind.{Kind}
@@ -38,6 +38,14 @@ after_levels t kind bands (suc n) =
 -- the first columns and rows of a table
 abbrev pub cut : ℕ → ℕ → Table → Table
 cut width height t = table_of width height (table_at t)
+
+-- the first columns of some rows of a table, from one on
+abbrev pub part_from : ℕ → ℕ → ℕ → Table → Table
+part_from first width height t = table_of width height (λ x y. table_at t x (first + y))
+
+-- rows from .. to of a table
+abbrev pub rows_between : ℕ → ℕ → Table → Table
+rows_between from to t = part_from from t.width (to - from) t
 
 -- the residual of a plane of this size, from its bands
 abbrev pub residual : Transform → Kind → List CodedBand → ℕ → ℕ → Table

@@ -34,7 +34,7 @@ fn clip_narrow_value(narrow: i32) -> i16
     narrow.min(127).max(-128) as i16
 }
 
-fn clip_narrow_values(values: &[i32], samples: &mut [i16])
+pub fn clip_narrow_values(values: &[i32], samples: &mut [i16])
     requires { length samples.old ≡ length values.now }
     ensures { samples.new ≡ map clip values.now }
 {
@@ -124,7 +124,7 @@ fn put_narrow_sum(residual: &[i32], predicted: &[i32], samples: &mut [i16], i: u
     samples[i] = clip_narrow_sum(residual[i], predicted[i]);
 }
 
-fn clip_narrow_sums(residual: &[i32], predicted: &[i32], samples: &mut [i16])
+pub fn clip_narrow_sums(residual: &[i32], predicted: &[i32], samples: &mut [i16])
     requires predicted { length predicted.now ≡ length residual.now }
     requires samples { length samples.old ≡ length residual.now }
     ensures { samples.new ≡ map clip (summed_with residual.now predicted.now) }

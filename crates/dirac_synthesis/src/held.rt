@@ -79,6 +79,13 @@ impl Residual {
         }
     }
 
+    /// What is held.
+    pub(crate) fn into_held(self) -> Held
+        ensures { held_table result ≡ self }
+    {
+        self.held
+    }
+
     /// Lends what is held.
     pub(crate) fn held(&self) -> &Held
         ensures { held_table result.now ≡ self.now }

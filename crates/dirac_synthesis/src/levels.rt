@@ -28,7 +28,7 @@ fn wide_plane(alloc: Global, by: Synthesis, low: &Wide, bands: LevelBands) -> Re
 }
 
 /// The LL band of the next level by wide numbers, held in 32 bits where these are enough for it.
-fn wide_level(
+pub fn wide_level(
     alloc: Global,
     by: Synthesis,
     low: &Wide,

@@ -152,10 +152,10 @@ fn odd_row(lh: &CodedBand, hh: &CodedBand, kind: Kind, y: u32, line: &mut [i32])
 /// The rows of a level: those of its LL band, and beside and below them those of the coded bands, each of which is
 /// restored as it is asked for.
 #[derive(Clone, Copy)]
-struct RestoredRows<'a> {
-    low: &'a Narrow,
-    bands: LevelBands<'a>,
-    kind: Kind,
+pub struct RestoredRows<'a> {
+    pub low: &'a Narrow,
+    pub bands: LevelBands<'a>,
+    pub kind: Kind,
 }
 
 impl RowPairs for RestoredRows<'_> {

@@ -2,11 +2,12 @@ ghost use Rattle.std.specs.Prelude.{◌≡◌, ℕ, true, ◌+◌, ◌-◌, ◌*
 ghost use Rattle.std.specs.Prelude.{slice_get, Some};
 ghost use Rattle.std.specs.List.{All};
 ghost use Rattle.dirac_common.specs.Limits.{IsDepth, IsIndex, IsWavelet};
+ghost use Rattle.dirac_bands.specs.Geometry.{lowest_size};
 ghost use Rattle.dirac_coeffs.specs.declared.layout.CodedBand.{CodedBand as TheBand};
 ghost use Rattle.dirac_lift.specs.Zeros.{AreZeros};
 ghost use Rattle.dirac_synthesis.specs.Codeblocks.{HasIndices, restored_band};
 ghost use Rattle.dirac_synthesis.specs.Fits.{AreBandsOf};
-ghost use Rattle.dirac_synthesis.specs.Residual.{residual, summed};
+ghost use Rattle.dirac_synthesis.specs.Residual.{after_levels, residual, summed};
 
 use crate::bands::{LevelBands, Synthesis};
 use crate::cut::cut_off;
@@ -43,7 +44,7 @@ fn lowest_band(
 }
 
 /// Whether all bands have zeros alone.
-fn have_zeros_alone(bands: &[CodedBand]) -> bool
+pub fn have_zeros_alone(bands: &[CodedBand]) -> bool
     ensures { result ≡ true → (n : ℕ) (band : TheBand) → slice_get bands.now n ≡ Some band →
         AreZeros band.table.values }
 {
@@ -54,6 +55,47 @@ fn have_zeros_alone(bands: &[CodedBand]) -> bool
         }
     }
     true
+}
+
+/// The LL band after the synthesis of the first `levels` levels.
+pub fn low_after(
+    alloc: Global,
+    transform: &Transform,
+    kind: Kind,
+    bands: &[CodedBand],
+    width: u32,
+    height: u32,
+    levels: u8,
+) -> Result<Residual, NoMemory>
+    requires wavelet { IsWavelet transform.now.wavelet }
+    requires depth { IsDepth transform.now.depth }
+    requires levels { length transform.now.counts ≡ transform.now.depth + 1 }
+    requires across { (1 ≤ width) × (width ≤ LARGEST_TABLE_SIDE) }
+    requires down { (1 ≤ height) × (height ≤ LARGEST_TABLE_SIDE) }
+    requires bands { AreBandsOf transform.now width height bands.now }
+    requires first { levels ≤ transform.now.depth }
+    ensures value { IfOk result (λ t. t ≡ after_levels transform.now kind bands.now levels) }
+    ensures across { IfOk result (λ t. t.width ≡ lowest_size width transform.now.depth * 2 ^ levels) }
+    ensures down { IfOk result (λ t. t.height ≡ lowest_size height transform.now.depth * 2 ^ levels) }
+    ensures bound { IfOk result (λ t. All (λ v. unsigned_abs v ≤ 2 ^ 77 * 73 ^ levels) t.values) }
+{
+    let lowest = lowest_band(alloc, &bands[0], transform.counts.at(0), kind)?;
+    let mut low = Residual::try_of(alloc, lowest)?;
+    for n in 0..levels as usize {
+        let by = Synthesis {
+            wavelet: transform.wavelet,
+            kind,
+            counts: transform.counts.at(n as u8 + 1),
+        };
+        let beside = LevelBands {
+            hl: &bands[3 * n + 1],
+            lh: &bands[3 * n + 2],
+            hh: &bands[3 * n + 3],
+        };
+        let next = next_level(alloc, by, &low, beside)?;
+        low = next;
+    }
+    Ok(low)
 }
 
 /// The residual of a plane of `width` by `height` samples from its subbands, which stand in the order LL, then HL, LH
@@ -79,21 +121,7 @@ pub fn plane_residual(
     if have_zeros_alone(bands) {
         return Residual::try_zeros(alloc, width, height);
     }
-    let lowest = lowest_band(alloc, &bands[0], transform.counts.at(0), kind)?;
-    let mut low = Residual::try_of(alloc, lowest)?;
-    for n in 0..transform.depth as usize {
-        let by = Synthesis {
-            wavelet: transform.wavelet,
-            kind,
-            counts: transform.counts.at(n as u8 + 1),
-        };
-        let beside = LevelBands {
-            hl: &bands[3 * n + 1],
-            lh: &bands[3 * n + 2],
-            hh: &bands[3 * n + 3],
-        };
-        let next = next_level(alloc, by, &low, beside)?;
-        low = next;
-    }
+    let depth = transform.depth;
+    let low = low_after(alloc, transform, kind, bands, width, height, depth)?;
     cut_off(alloc, low, width, height)
 }

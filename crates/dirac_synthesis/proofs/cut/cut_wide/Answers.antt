@@ -12,12 +12,12 @@ loop-y-preserved c = record {
       rows_more _ _ _ _ c.loop-y.y (c.loop-y.y + 1) _ c.loop-y.invariant.rows (omega arith) refl (omega arith)
       (λ x l.
       ap (λ zs. get_or zs x (pos 0)) c.copy_from_slice.ensures.after
-      ∙ get_or-take c.args.width c.row-line.result.now x (pos 0) (omega (arith, l))
-      ∙ ap (λ zs. get_or zs x (pos 0)) c.row-line.ensures.value
-      ∙ row_at c.args.table.now x c.loop-y.y (omega (arith, l)));
+      ∙ get_or-take c.args.width c.row-from.result.now x (pos 0) (omega (arith, l))
+      ∙ ap (λ zs. get_or zs x (pos 0)) c.row-from.ensures.value
+      ∙ row_at c.args.table.now x (c.args.first + c.loop-y.y) (omega (arith, l)));
 }
 
 pub returns : goal.returns
 returns c =
-    rows_all (table_at c.args.table.now) c.loop-y.part c.args.width c.args.height c.loop-y.y
+    rows_all (λ x y. table_at c.args.table.now x (c.args.first + y)) c.loop-y.part c.args.width c.args.height c.loop-y.y
     c.loop-y.invariant.across c.loop-y.invariant.down (omega arith) (omega arith) c.loop-y.invariant.rows

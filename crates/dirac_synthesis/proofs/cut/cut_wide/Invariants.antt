@@ -1,4 +1,4 @@
-use Rattle.std.proofs.Common.{◌≡◌}
+use Rattle.std.proofs.Common.{◌≡◌, ◌+◌}
 use Rattle.dirac_common.specs.Table.{table_at}
 use Rattle.dirac_common.proofs.Rows.{RowsFilled}
 use Rattle.dirac_synthesis.proofs.cut.cut_wide.Given as goal
@@ -7,5 +7,5 @@ abbrev pub invariant-loop-y : goal.invariant-loop-y
 invariant-loop-y l = record {
   across : l.part.width ≡ l.width;
   down : l.part.height ≡ l.height;
-  rows : RowsFilled (table_at l.table) l.part.width l.part.height l.part.values l.y;
+  rows : RowsFilled (λ x y. table_at l.table x (l.first + y)) l.part.width l.part.height l.part.values l.y;
 }

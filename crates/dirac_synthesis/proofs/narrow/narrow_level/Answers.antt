@@ -1,6 +1,4 @@
-use Rattle.std.proofs.Common.{◌≡◌, ◌*◌, arith, ap, refl, ◌∙◌}
-use Rattle.dirac_bands.specs.Interleaving.{joined}
-use Rattle.dirac_lift.specs.Halves.{from_halves}
+use Rattle.std.proofs.Common.{◌*◌, arith, ap, refl, ◌∙◌}
 use Rattle.dirac_lift.specs.Level.{synthesised}
 use Rattle.dirac_synthesis.specs.Codeblocks.{restored_by_one}
 use Rattle.dirac_synthesis.specs.Halves.{beside}

@@ -1,127 +1,35 @@
-use Rattle.std.proofs.Common.{◌≡◌, ℕ, ◌+◌, ◌*◌, ◌^◌, slice_get, Some, arith, ap, sym, ◌∙◌, subst}
-use Rattle.dirac_common.specs.Table.{Table}
+use Rattle.std.proofs.Common.{◌*◌, ◌^◌, arith, ap, sym, ◌∙◌}
 use Rattle.dirac_common.proofs.Bounds.{all_weaker}
-use Rattle.dirac_bands.specs.Geometry.{lowest_size}
-use Rattle.dirac_header.specs.Counts.{counts_among}
-use Rattle.dirac_synthesis.specs.Codeblocks.{HasIndices}
-use Rattle.dirac_synthesis.specs.Fits.{IsBandOf}
+use Rattle.dirac_synthesis.specs.Residual.{cut}
 use Rattle.dirac_synthesis.proofs.Bounds.{cut_bound}
-use Rattle.dirac_synthesis.proofs.LevelBounds.{bands_of, next_grows}
-use Rattle.dirac_synthesis.proofs.LevelLemmas.{first_level, more_levels, stands_level, summed_width, summed_height}
-use Rattle.dirac_synthesis.proofs.Maps.{got_band, ok_weaker}
-use Rattle.dirac_synthesis.proofs.Sizes.{lowest_length, level_some, quotient_bound, size_within, next_length, entry_bound, end_bound, bound_more, bound_least}
+use Rattle.dirac_synthesis.proofs.Maps.{ok_weaker}
+use Rattle.dirac_synthesis.proofs.Sizes.{size_within, end_bound}
 use Rattle.dirac_synthesis.proofs.ZeroBands.{zeros_bound, zeros_stand_in}
 use Rattle.dirac_synthesis.proofs.plane.plane_residual.Goals as goal
 
-pub lowest_band-requires-clause-across : goal.lowest_band-requires-clause-across
-lowest_band-requires-clause-across c =
-    let got : slice_get c.args.bands.now 0 ≡ Some c.index-bands-0.result = got_band c.args.bands.now 0 c.index-bands-0.result (omega (arith, c.requires.bands.count)) c.index-bands-0.is in
-    let fits : IsBandOf c.args.transform.now c.args.width c.args.height 0 c.index-bands-0.result = c.requires.bands.each 0 c.index-bands-0.result got in
-    omega (arith, fits.across, lowest_length c.args.width c.args.transform.now.depth, quotient_bound c.args.width c.args.transform.now.depth 0 c.requires.across.1 c.requires.depth.0 c.requires.depth.1)
-
-pub lowest_band-requires-clause-down : goal.lowest_band-requires-clause-down
-lowest_band-requires-clause-down c =
-    let got : slice_get c.args.bands.now 0 ≡ Some c.index-bands-0.result = got_band c.args.bands.now 0 c.index-bands-0.result (omega (arith, c.requires.bands.count)) c.index-bands-0.is in
-    let fits : IsBandOf c.args.transform.now c.args.width c.args.height 0 c.index-bands-0.result = c.requires.bands.each 0 c.index-bands-0.result got in
-    omega (arith, fits.down, lowest_length c.args.height c.args.transform.now.depth, quotient_bound c.args.height c.args.transform.now.depth 0 c.requires.down.1 c.requires.depth.0 c.requires.depth.1)
-
-pub lowest_band-requires-clause-index : goal.lowest_band-requires-clause-index
-lowest_band-requires-clause-index c =
-    let got : slice_get c.args.bands.now 0 ≡ Some c.index-bands-0.result = got_band c.args.bands.now 0 c.index-bands-0.result (omega (arith, c.requires.bands.count)) c.index-bands-0.is in
-    (c.requires.bands.each 0 c.index-bands-0.result got).index
-
-pub lowest_band-requires-clause-indices : goal.lowest_band-requires-clause-indices
-lowest_band-requires-clause-indices c =
-    let got : slice_get c.args.bands.now 0 ≡ Some c.index-bands-0.result = got_band c.args.bands.now 0 c.index-bands-0.result (omega (arith, c.requires.bands.count)) c.index-bands-0.is in
-    let fits : IsBandOf c.args.transform.now c.args.width c.args.height 0 c.index-bands-0.result = c.requires.bands.each 0 c.index-bands-0.result got in
-    subst (λ (counts : ℕ × ℕ). HasIndices counts c.index-bands-0.result) (ap counts_among c.at.ensures) fits.indices
-
-pub lowest_band-requires-clause-magnitudes_below_2_39 : goal.lowest_band-requires-clause-magnitudes_below_2_39
-lowest_band-requires-clause-magnitudes_below_2_39 c =
-    let got : slice_get c.args.bands.now 0 ≡ Some c.index-bands-0.result = got_band c.args.bands.now 0 c.index-bands-0.result (omega (arith, c.requires.bands.count)) c.index-bands-0.is in
-    let fits : IsBandOf c.args.transform.now c.args.width c.args.height 0 c.index-bands-0.result = c.requires.bands.each 0 c.index-bands-0.result got in
-    fits.small
-
-pub loop-n-init : goal.loop-n-init
-loop-n-init c =
-    let got : slice_get c.args.bands.now 0 ≡ Some c.index-bands-0.result = got_band c.args.bands.now 0 c.index-bands-0.result (omega (arith, c.requires.bands.count)) c.index-bands-0.is in
-    let fits : IsBandOf c.args.transform.now c.args.width c.args.height 0 c.index-bands-0.result = c.requires.bands.each 0 c.index-bands-0.result got in
-    record {
-      value = first_level c.args.transform.now c.args.kind c.args.bands.now c.at.result c.index-bands-0.result c.in_ok-low.low (ap counts_among c.at.ensures) got (c.in_ok-low.ensures ∙ c.in_ok-lowest.ensures.value);
-      across =
-          ap (λ (t : Table). t.width) (c.in_ok-low.ensures ∙ c.in_ok-lowest.ensures.value) ∙ summed_width c.args.kind _ ∙ fits.across ∙ lowest_length c.args.width c.args.transform.now.depth
-          ∙ omega arith;
-      down =
-          ap (λ (t : Table). t.height) (c.in_ok-low.ensures ∙ c.in_ok-lowest.ensures.value) ∙ summed_height c.args.kind _ ∙ fits.down ∙ lowest_length c.args.height c.args.transform.now.depth
-          ∙ omega arith;
-      bound = rw c.in_ok-low.ensures c.in_ok-lowest.ensures.bound;
-    }
-
-pub next_level-requires : goal.next_level-requires
-next_level-requires c =
-    let hl : slice_get c.args.bands.now (3 * c.loop-n.n + 1) ≡ Some c.index-bands-n.result =
-    got_band c.args.bands.now (3 * c.loop-n.n + 1) c.index-bands-n.result (omega (arith, c.requires.bands.count, c.loop-n-test.true)) c.index-bands-n.is in
-    let lh : slice_get c.args.bands.now (3 * c.loop-n.n + 2) ≡ Some c.index-bands-n-in-loop-n.result =
-    got_band c.args.bands.now (3 * c.loop-n.n + 2) c.index-bands-n-in-loop-n.result (omega (arith, c.requires.bands.count, c.loop-n-test.true)) c.index-bands-n-in-loop-n.is in
-    let hh : slice_get c.args.bands.now (3 * c.loop-n.n + 3) ≡ Some c.index-bands-n-in-loop-n-2.result =
-    got_band c.args.bands.now (3 * c.loop-n.n + 3) c.index-bands-n-in-loop-n-2.result (omega (arith, c.requires.bands.count, c.loop-n-test.true)) c.index-bands-n-in-loop-n-2.is in
-    stands_level c.args.transform.now c.args.kind c.args.bands.now c.args.width c.args.height c.loop-n.n c.at-in-loop-n.result c.loop-n.low _
-    c.requires.wavelet c.requires.depth.1 c.requires.across.1 c.requires.down.1 c.requires.bands c.loop-n-test.true c.at-in-loop-n.ensures
-    c.loop-n.invariant.across c.loop-n.invariant.down
-    (all_weaker (2 ^ 77 * 73 ^ c.loop-n.n) (2 ^ 103) c.loop-n.low.values (entry_bound c.loop-n.n (omega (arith, c.loop-n-test.true, c.requires.depth.1))) c.loop-n.invariant.bound)
-    hl lh hh
-
-pub loop-n-preserved : goal.loop-n-preserved
-loop-n-preserved c =
-    let hl : slice_get c.args.bands.now (3 * c.loop-n.n + 1) ≡ Some c.index-bands-n.result =
-    got_band c.args.bands.now (3 * c.loop-n.n + 1) c.index-bands-n.result (omega (arith, c.requires.bands.count, c.loop-n-test.true)) c.index-bands-n.is in
-    let lh : slice_get c.args.bands.now (3 * c.loop-n.n + 2) ≡ Some c.index-bands-n-in-loop-n.result =
-    got_band c.args.bands.now (3 * c.loop-n.n + 2) c.index-bands-n-in-loop-n.result (omega (arith, c.requires.bands.count, c.loop-n-test.true)) c.index-bands-n-in-loop-n.is in
-    let hh : slice_get c.args.bands.now (3 * c.loop-n.n + 3) ≡ Some c.index-bands-n-in-loop-n-2.result =
-    got_band c.args.bands.now (3 * c.loop-n.n + 3) c.index-bands-n-in-loop-n-2.result (omega (arith, c.requires.bands.count, c.loop-n-test.true)) c.index-bands-n-in-loop-n-2.is in
-    record {
-      value =
-          more_levels c.args.transform.now c.args.kind c.args.bands.now c.loop-n.n c.at-in-loop-n.result c.index-bands-n.result c.index-bands-n-in-loop-n.result c.index-bands-n-in-loop-n-2.result
-          c.loop-n.low c.in_ok-next.next (ap counts_among c.at-in-loop-n.ensures) c.loop-n.invariant.value hl lh hh c.in_ok-next.ensures;
-      across =
-          next_length (lowest_size c.args.width c.args.transform.now.depth) c.loop-n.n c.loop-n.low.width c.in_ok-next.next.width
-          (ap (λ (t : Table). t.width) c.in_ok-next.ensures) c.loop-n.invariant.across;
-      down =
-          next_length (lowest_size c.args.height c.args.transform.now.depth) c.loop-n.n c.loop-n.low.height c.in_ok-next.next.height
-          (ap (λ (t : Table). t.height) c.in_ok-next.ensures) c.loop-n.invariant.down;
-      bound =
-          all_weaker (72 * (2 ^ 77 * 73 ^ c.loop-n.n) + 40) (2 ^ 77 * 73 ^ (c.loop-n.n + 1)) c.in_ok-next.next.values (bound_more c.loop-n.n)
-          (next_grows (2 ^ 77 * 73 ^ c.loop-n.n) _ c.loop-n.low c.in_ok-next.next (bands_of c.index-bands-n.result c.index-bands-n-in-loop-n.result c.index-bands-n-in-loop-n-2.result) c.in_ok-next.ensures (bound_least c.loop-n.n)
-          (level_some c.args.width c.args.transform.now.depth c.loop-n.n c.loop-n.low.width c.requires.across.0 c.loop-n.invariant.across)
-          (stands_level c.args.transform.now c.args.kind c.args.bands.now c.args.width c.args.height c.loop-n.n c.at-in-loop-n.result c.loop-n.low _
-          c.requires.wavelet c.requires.depth.1 c.requires.across.1 c.requires.down.1 c.requires.bands c.loop-n-test.true c.at-in-loop-n.ensures
-          c.loop-n.invariant.across c.loop-n.invariant.down
-          (all_weaker (2 ^ 77 * 73 ^ c.loop-n.n) (2 ^ 103) c.loop-n.low.values (entry_bound c.loop-n.n (omega (arith, c.loop-n-test.true, c.requires.depth.1))) c.loop-n.invariant.bound)
-          hl lh hh)
-          c.loop-n.invariant.bound);
-    }
-
 pub cut_off-requires-clause-across : goal.cut_off-requires-clause-across
-cut_off-requires-clause-across c =
-    let last : c.loop-n.n ≡ c.args.transform.now.depth = omega arith in (
-      c.requires.across.0,
-      omega (arith, c.loop-n.invariant.across, ap (λ n. lowest_size c.args.width c.args.transform.now.depth * 2 ^ n) last, size_within c.args.width c.args.transform.now.depth),
-      c.requires.across.1,
-    )
+cut_off-requires-clause-across c = (
+  c.requires.across.0,
+  omega (arith, c.in_ok-low.ensures.across, size_within c.args.width c.args.transform.now.depth),
+  c.requires.across.1,
+)
 
 pub cut_off-requires-clause-down : goal.cut_off-requires-clause-down
-cut_off-requires-clause-down c =
-    let last : c.loop-n.n ≡ c.args.transform.now.depth = omega arith in (
-      c.requires.down.0,
-      omega (arith, c.loop-n.invariant.down, ap (λ n. lowest_size c.args.height c.args.transform.now.depth * 2 ^ n) last, size_within c.args.height c.args.transform.now.depth),
-      c.requires.down.1,
-    )
+cut_off-requires-clause-down c = (
+  c.requires.down.0,
+  omega (arith, c.in_ok-low.ensures.down, size_within c.args.height c.args.transform.now.depth),
+  c.requires.down.1,
+)
+
+pub returns-clause-value : goal.returns-clause-value
+returns-clause-value c =
+    ok_weaker c.cut_off.result (λ t e. e ∙ ap (cut c.args.width c.args.height) c.in_ok-low.ensures.value) c.cut_off.ensures
 
 pub returns-clause-bound : goal.returns-clause-bound
 returns-clause-bound c =
     ok_weaker c.cut_off.result
-    (λ t e. rw e (cut_bound (2 ^ 108) c.args.width c.args.height c.loop-n.low
-    (all_weaker (2 ^ 77 * 73 ^ c.loop-n.n) (2 ^ 108) c.loop-n.low.values (end_bound c.loop-n.n (omega (arith, c.requires.depth.1))) c.loop-n.invariant.bound)))
+    (λ t e. rw e (cut_bound (2 ^ 108) c.args.width c.args.height c.in_ok-low.low
+    (all_weaker (2 ^ 77 * 73 ^ c.args.transform.now.depth) (2 ^ 108) c.in_ok-low.low.values (end_bound c.args.transform.now.depth c.requires.depth.1) c.in_ok-low.ensures.bound)))
     c.cut_off.ensures
 
 pub returns-then-have_zeros_alone-clause-value : goal.returns-then-have_zeros_alone-clause-value

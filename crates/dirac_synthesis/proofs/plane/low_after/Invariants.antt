@@ -2,7 +2,7 @@ use Rattle.std.proofs.Common.{◌≡◌, ◌*◌, ◌^◌, ◌≤◌, unsigned_a
 use Rattle.std.specs.List.{All}
 use Rattle.dirac_bands.specs.Geometry.{lowest_size}
 use Rattle.dirac_synthesis.specs.Residual.{after_levels}
-use Rattle.dirac_synthesis.proofs.plane.plane_residual.Given as goal
+use Rattle.dirac_synthesis.proofs.plane.low_after.Given as goal
 
 abbrev pub invariant-loop-n : goal.invariant-loop-n
 invariant-loop-n l = record {

@@ -1,0 +1,34 @@
+-- The last level of a plane, before it is synthesised, and rows that are made of it.
+use Rattle.std.specs.Prelude.{◌≡◌, ℕ, ◌+◌, ◌-◌, ◌*◌, ◌<◌, ◌≤◌, unsigned_abs}
+use Rattle.std.specs.List.{All}
+use Rattle.dirac_common.specs.declared.limits.TheConstants.{LARGEST_NARROW, LARGEST_SIDE}
+use Rattle.dirac_common.specs.Limits.{IsWavelet}
+use Rattle.dirac_common.specs.Table.{Table, table_at}
+use Rattle.dirac_lift.specs.Level.{synthesised}
+use Rattle.dirac_synthesis.specs.declared.last.LastLevel.{LastLevel}
+use Rattle.dirac_synthesis.specs.declared.last.MadeRows.{MadeRows}
+use Rattle.dirac_synthesis.specs.Codeblocks.{restored_by_one}
+use Rattle.dirac_synthesis.specs.Levels.{joined_by}
+use Rattle.dirac_synthesis.specs.NarrowLevels.{IsNarrowLevel}
+use Rattle.dirac_synthesis.specs.Residual.{cut}
+
+-- the residual that a last level comes to
+abbrev pub last_residual : LastLevel → Table
+last_residual l = cut l.width l.height (synthesised l.wavelet (joined_by (restored_by_one l.kind) l.low l.bands))
+
+-- a last level of which rows can be made
+pub record IsLastLevel (l : LastLevel) : Type 0 where
+  pub wavelet : IsWavelet l.wavelet
+  pub level : IsNarrowLevel l.kind l.low l.bands
+  pub small : All (λ v. unsigned_abs v ≤ LARGEST_NARROW) l.low.values
+  pub columns : l.low.width ≤ LARGEST_SIDE
+  pub pairs : l.low.height ≤ LARGEST_SIDE
+  pub across : (1 ≤ l.width) × (l.width ≤ 2 * l.low.width)
+  pub down : (1 ≤ l.height) × (l.height ≤ 2 * l.low.height)
+
+-- rows from .. to of a table are among made rows
+pub record HoldsRows (whole : Table) (from to : ℕ) (made : MadeRows) : Type 0 where
+  pub across : whole.width ≤ made.rows.width
+  pub down : made.above + (to - from) ≤ made.rows.height
+  pub each : (x y : ℕ) → x < whole.width → from ≤ y → y < to
+      → table_at made.rows x (made.above + (y - from)) ≡ table_at whole x y
