@@ -1,3 +1,5 @@
-pub mod Sliced
+pub mod Strips
 pub mod Placed
+pub mod Three
+pub mod Preparing
 pub mod Oriented

@@ -6,19 +6,16 @@ use Rattle.dirac_common.specs.declared.picture.Picture.{Picture}
 use Rattle.dirac_common.specs.Table.{Table, filled}
 use Rattle.dirac_sequence_header.specs.declared.sequence.Sequence.{Sequence}
 use Rattle.dirac_sequence_header.specs.Lawful.{IsSequence}
-use Rattle.dirac_upconvert.specs.SubSamples.{Up}
 use Rattle.dirac_obmc.specs.Compensation.{Compensation, predicted_at}
 use Rattle.dirac_obmc.specs.Directions.{columns_of}
 use Rattle.dirac_picture.specs.declared.coded.CodedMotion.{CodedMotion}
 use Rattle.dirac_picture.specs.declared.coded.CodedResidual.{CodedResidual}
 use Rattle.dirac_picture.specs.Fits.{IsMotion, IsResidual}
 use Rattle.dirac_decode.specs.Content.{IsPicture, compensation, height_of, width_of}
-use Rattle.dirac_rows.specs.Answers.{AnswerRows}
 use Rattle.dirac_pardec.specs.declared.inter.Inter.{Inter}
 use Rattle.dirac_pardec.specs.declared.places.SlicePlace.{SlicePlace}
 use Rattle.dirac_pardec.specs.declared.weights.PlaneWeights.{PlaneWeights}
 use Rattle.dirac_pardec.specs.Places.{component_at, place_of}
-use Rattle.dirac_pardec.specs.Planes.{up_at, up_rows}
 use Rattle.dirac_pardec.specs.Slices.{slice_of}
 
 -- an inter picture: its parse code, its sequence, its prediction and residual, and the pictures that it refers to
@@ -50,10 +47,6 @@ pub record IsInter (g : Lent) : Type 0 where
   pub second : ForSome g.second (IsPicture g.sequence)
   pub two : g.motion.blocks.refs ≡ 2 → IsSome g.second
 
--- the planes of the pictures that an inter picture refers to, upconverted
-abbrev pub AreUps : Lent → List Up → Type 0
-AreUps g items = AnswerRows (λ r u. u ≡ up_at g.first g.second r) (up_rows g.second) items
-
 -- what the plane of this number of an inter picture is predicted from
 abbrev pub compensation_at : Lent → ℕ → Compensation
 compensation_at g plane = compensation g.sequence g.motion g.first g.second (component_at plane)
@@ -69,13 +62,3 @@ predicted_in g place =
     let c = component_at place.plane in
     slice_of (width_of g.sequence c) (height_of g.sequence c)
     (predicted_at (compensation g.sequence g.motion g.first g.second c)) place.slice
-
--- what is predicted for slice number r of an inter picture
-abbrev pub predicted_slice : Lent → ℕ → Table
-predicted_slice g r = predicted_in g (place_of g.sequence r)
-
--- what is predicted for a plane of an inter picture, by rows
-abbrev pub predicted_values : Lent → Component → List ℤ
-predicted_values g c =
-    filled (width_of g.sequence c) (height_of g.sequence c)
-    (predicted_at (compensation g.sequence g.motion g.first g.second c))

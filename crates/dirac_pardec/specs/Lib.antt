@@ -1,5 +1,6 @@
 pub mod Places
 pub mod Slices
-pub mod Planes
 pub mod Given
+pub mod Prepared
+pub mod Samples
 pub mod Bands

@@ -12,9 +12,9 @@ component_at zero = component.Y
 component_at (suc zero) = component.U
 component_at (suc (suc n)) = component.V
 
--- how many slices of 16 rows, the last one shorter, a plane has
+-- how many slices of 64 rows, the last one shorter, a plane has
 abbrev pub slices_in : Sequence → Component → ℕ
-slices_in s c = (height_of s c + 15) / 16
+slices_in s c = (height_of s c + 63) / 64
 
 -- how many slices there are: U and V have as many as one another
 abbrev pub slices_of_all : Sequence → ℕ

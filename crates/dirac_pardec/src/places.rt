@@ -9,10 +9,10 @@ use dirac_decode::height_of;
 use dirac_sequence_header::Sequence;
 
 /// How many rows of a picture a slice has, but the last one of a plane.
-pub const SLICE_ROWS: u32 = 16;
+pub const SLICE_ROWS: u32 = 64;
 
 /// How many slices a picture's largest plane has at most.
-pub const MOST_SLICES: u32 = 256;
+pub const MOST_SLICES: u32 = 64;
 
 /// One slice of a picture.
 #[derive(Clone, Copy)]
@@ -38,7 +38,7 @@ pub(crate) fn component_at(plane: u32) -> Component
 pub(crate) fn slices_in(sequence: &Sequence, component: Component) -> u32
     requires { IsSequence sequence.now }
     ensures value { result ≡ places.slices_in sequence.now component }
-    ensures at_most_256 { result ≤ MOST_SLICES }
+    ensures at_most_64 { result ≤ MOST_SLICES }
 {
     (height_of(sequence, component) + SLICE_ROWS - 1) / SLICE_ROWS
 }
@@ -55,7 +55,7 @@ pub(crate) fn slices_of_all(sequence: &Sequence) -> u32
 pub(crate) fn first_slice(sequence: &Sequence, plane: u32) -> u32
     requires { IsSequence sequence.now }
     ensures value { result ≡ places.first_slice sequence.now plane }
-    ensures at_most_512 { result ≤ 2 * MOST_SLICES }
+    ensures at_most_128 { result ≤ 2 * MOST_SLICES }
 {
     match plane {
         0 => 0,
@@ -70,7 +70,7 @@ pub(crate) fn place_of(sequence: &Sequence, row: u32) -> SlicePlace
     requires inside { row < places.slices_of_all sequence.now }
     ensures value { result ≡ places.place_of sequence.now row }
     ensures plane { result.plane < 3 }
-    ensures inside { 16 * result.slice < content.height_of sequence.now (places.component_at result.plane) }
+    ensures inside { 64 * result.slice < content.height_of sequence.now (places.component_at result.plane) }
 {
     let luma = slices_in(sequence, Component::Y);
     let chroma = slices_in(sequence, Component::U);
@@ -95,9 +95,9 @@ pub(crate) fn place_of(sequence: &Sequence, row: u32) -> SlicePlace
 /// The first row behind a slice of a plane of that many rows.
 pub(crate) fn end_of(height: u32, slice: u32) -> u32
     requires at_most_4096 { height ≤ 4096 }
-    requires inside { 16 * slice < height }
+    requires inside { 64 * slice < height }
     ensures value { result ≡ reach height (slice + 1) }
-    ensures not_empty { 16 * slice < result }
+    ensures not_empty { 64 * slice < result }
     ensures inside { result ≤ height }
 {
     height.min(SLICE_ROWS * (slice + 1))

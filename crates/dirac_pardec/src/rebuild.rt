@@ -6,13 +6,12 @@ ghost use Rattle.dirac_decode.specs.Predicting as predicting;
 ghost use Rattle.dirac_pardec.specs.Given.{given, IsInter};
 
 use crate::inter::{Inter, inter_of};
-use crate::intra::intra_picture;
-use crate::predict::predict_slices;
-use crate::residuals::residuals;
-use crate::slices::inter_samples;
+use crate::intra::{Intra, intra_picture};
+use crate::predict::sample_slices;
+use crate::prepared::prepare_rows;
+use crate::slices::joined_picture;
 use crate::small::workers_for;
-use crate::ups::ups;
-use dirac_common::{Kind, NoMemory, Picture, RowGate};
+use dirac_common::{NoMemory, Picture, RowGate};
 use dirac_header::PictureHeader;
 use dirac_picture::CodedPicture;
 use dirac_refs::RefBuffer;
@@ -21,8 +20,7 @@ use std::alloc::Global;
 use std::marker::Sync;
 use std::thread::Threads;
 
-/// An inter picture: its residual planes, the upconverted planes of its references and the slices of its predictions
-/// are made by workers.
+/// An inter picture: what its slices are made from, and its slices, are made by workers.
 fn inter_picture<R: Threads + Sync, G: RowGate>(
     rt: &R,
     alloc: Global,
@@ -36,26 +34,17 @@ fn inter_picture<R: Threads + Sync, G: RowGate>(
     ensures { IfOk result (λ p. p ≡ predicting.inter_picture (given inter.now).sequence (Some (given inter.now).first)
         (given inter.now).second header.now (given inter.now).motion (given inter.now).residual) }
 {
-    let residuals = residuals(
-        rt,
-        alloc,
-        inter.sequence,
-        Kind::Inter,
-        inter.residual,
-        workers,
-        gate,
-    )?;
-    let ups = ups(rt, alloc, inter, workers, gate)?;
-    let slices = predict_slices(rt, alloc, inter, ups.as_slice(), workers, gate)?;
-    let y = inter_samples(alloc, inter, residuals.as_slice(), slices.as_slice(), 0)?;
-    let u = inter_samples(alloc, inter, residuals.as_slice(), slices.as_slice(), 1)?;
-    let v = inter_samples(alloc, inter, residuals.as_slice(), slices.as_slice(), 2)?;
-    let number = header.number;
-    Ok(Picture { number, y, u, v })
+    let prepared = prepare_rows(rt, alloc, inter, workers, gate)?;
+    let slices = sample_slices(rt, alloc, inter, prepared.as_slice(), workers, gate)?;
+    let picture = joined_picture(alloc, header.number, inter.sequence, slices.as_slice())?;
+    Ok(picture)
 }
 
-/// The picture that a coded picture stands for, made by that many workers: its residual planes, the upconverted planes
-/// of its references, and slices of 16 rows of its predictions. Each worker passes the gate before it works on one.
+/// The picture that a coded picture stands for, made by that many workers in two maps of rows: first the residual
+/// planes, but for a last level that can wait, and the upconverted planes of its references; then slices of 64 rows of
+/// its samples. Each worker passes the gate before it works on one. Threads are started for each map, so twice for a
+/// picture, and once more where `read_planes_rows` reads its subbands. A small intra picture has one map alone, whose
+/// rows are its planes.
 pub fn rebuild_rows<R: Threads + Sync, G: RowGate>(
     rt: &R,
     alloc: Global,
@@ -74,7 +63,13 @@ pub fn rebuild_rows<R: Threads + Sync, G: RowGate>(
 {
     let workers = workers_for(sequence, workers);
     match &coded.motion {
-        None => intra_picture(rt, alloc, coded, sequence, workers, gate),
+        None => {
+            let intra = Intra {
+                sequence,
+                residual: &coded.residual,
+            };
+            intra_picture(rt, alloc, coded.header.number, &intra, workers, gate)
+        }
         Some(motion) => {
             let inter = inter_of(coded, motion, sequence, refs);
             inter_picture(rt, alloc, &coded.header, &inter, workers, gate)

@@ -8,4 +8,6 @@ fn are_shared() {
     is_shared::<crate::inter::Inter<'_>>();
     is_shared::<crate::places::SlicePlace>();
     is_shared::<crate::weights::PlaneWeights>();
+    is_shared::<crate::intra::Intra<'_>>();
+    is_shared::<crate::prepared::Prepared<'_>>();
 }

@@ -2,15 +2,15 @@ ghost use Rattle.std.specs.Prelude.{◌≡◌, ◌<◌, IfOk};
 ghost use Rattle.dirac_obmc.specs.Compensation.{IsPredictable};
 ghost use Rattle.dirac_obmc.specs.Directions.{columns_of};
 ghost use Rattle.dirac_obmc.specs.Given as motions;
-ghost use Rattle.dirac_pardec.specs.Given.{compensation_at, given, AreUps, AreWeights, IsInter};
+ghost use Rattle.dirac_pardec.specs.Given.{compensation_at, given, AreWeights, IsInter};
+ghost use Rattle.dirac_pardec.specs.Prepared.{ArePrepared};
 
 use crate::inter::Inter;
 use crate::places::component_at;
-use crate::ups::{first_up, second_up};
+use crate::prepared::{Prepared, first_up, second_up};
 use dirac_common::NoMemory;
 use dirac_decode::plane_motion;
 use dirac_obmc::{ColumnWeights, Motion, column_weights};
-use dirac_upconvert::UpPlane;
 use std::alloc::Global;
 
 /// The weights of the columns of a picture's planes; the blocks of both chroma planes stand alike. Workers share them.
@@ -21,9 +21,13 @@ pub struct PlaneWeights {
 }
 
 /// What the plane of this number is predicted from.
-pub(crate) fn motion_at<'a>(inter: &Inter<'a>, ups: &'a [UpPlane], plane: u32) -> Motion<'a>
+pub(crate) fn motion_at<'a>(
+    inter: &Inter<'a>,
+    prepared: &'a [Prepared<'_>],
+    plane: u32,
+) -> Motion<'a>
     requires inter { IsInter (given inter.now) }
-    requires ups { AreUps (given inter.now) ups.now }
+    requires prepared { ArePrepared (given inter.now) prepared.now }
     requires plane { plane < 3 }
     ensures value { motions.given result ≡ compensation_at (given inter.now) plane }
     ensures fits { IsPredictable (motions.given result) }
@@ -32,8 +36,8 @@ pub(crate) fn motion_at<'a>(inter: &Inter<'a>, ups: &'a [UpPlane], plane: u32) -
         inter.code,
         inter.sequence,
         inter.motion,
-        first_up(inter, ups, plane),
-        second_up(inter, ups, plane),
+        first_up(inter, prepared, plane),
+        second_up(inter, prepared, plane),
         component_at(plane),
     )
 }
@@ -42,15 +46,15 @@ pub(crate) fn motion_at<'a>(inter: &Inter<'a>, ups: &'a [UpPlane], plane: u32) -
 fn weights_in(
     alloc: Global,
     inter: &Inter<'_>,
-    ups: &[UpPlane],
+    prepared: &[Prepared<'_>],
     plane: u32,
 ) -> Result<ColumnWeights, NoMemory>
     requires inter { IsInter (given inter.now) }
-    requires ups { AreUps (given inter.now) ups.now }
+    requires prepared { ArePrepared (given inter.now) prepared.now }
     requires plane { plane < 3 }
     ensures { IfOk result (λ w. w ≡ columns_of (compensation_at (given inter.now) plane)) }
 {
-    let motion = motion_at(inter, ups, plane);
+    let motion = motion_at(inter, prepared, plane);
     let weights = column_weights(alloc, &motion)?;
     Ok(weights)
 }
@@ -59,15 +63,15 @@ fn weights_in(
 pub(crate) fn plane_weights(
     alloc: Global,
     inter: &Inter<'_>,
-    ups: &[UpPlane],
+    prepared: &[Prepared<'_>],
 ) -> Result<PlaneWeights, NoMemory>
     requires inter { IsInter (given inter.now) }
-    requires ups { AreUps (given inter.now) ups.now }
+    requires prepared { ArePrepared (given inter.now) prepared.now }
     ensures { IfOk result (AreWeights (given inter.now)) }
 {
     Ok(PlaneWeights {
-        luma: weights_in(alloc, inter, ups, 0)?,
-        chroma: weights_in(alloc, inter, ups, 1)?,
+        luma: weights_in(alloc, inter, prepared, 0)?,
+        chroma: weights_in(alloc, inter, prepared, 1)?,
     })
 }
 

@@ -1,19 +1,30 @@
-use Rattle.std.proofs.Common.{◌≡◌, ap, arith, rules, ◌∙◌}
-use Rattle.dirac_common.specs.Table.{Table}
+use Rattle.std.proofs.Common.{◌≡◌, ℕ, ℤ, pos, ◌+◌, ◌-◌, ◌*◌, ◌/◌, ◌%◌, ◌<◌, get_or, arith, refl, ap, sym, ◌∙◌}
+use Rattle.dirac_common.specs.Table.{Table, table_at}
+use Rattle.dirac_common.proofs.Rows.{rows_all, rows_more, row_at}
 use Rattle.dirac_pardec.specs.Slices.{slice_of}
-use Rattle.dirac_pardec.proofs.Sliced.{slices_none, slices_more, slices_all}
+use Rattle.dirac_pardec.proofs.Strips.{row_in_slice}
 use Rattle.dirac_pardec.proofs.slices.joined.Goals as goal
 
-pub loop-k-init : goal.loop-k-init
-loop-k-init c = λ w h f some count slices. slices_none w h f _ c.in_ok-values.ensures.items
-
-pub loop-k-preserved : goal.loop-k-preserved
-loop-k-preserved c = λ w h f some count slices.
-    slices_more w h c.loop-k.k f c.loop-k.values.items _ _ (omega (arith, some)) (omega (arith, count)) (c.loop-k.invariant w h f some count slices)
-    c.in_ok-extend_from_slice.ensures.items
-    (let got = slices c.loop-k.k c.index-slices-first.result (search rules) in let is = c.index-slices-first.is in
-    let at : c.index-slices-first.result ≡ slice_of w h f c.loop-k.k = search rules in
-    c.values.ensures.value ∙ ap (λ (t : Table). t.values) at)
+pub loop-y-preserved : goal.loop-y-preserved
+loop-y-preserved c = record {
+  across = c.loop-y.invariant.across;
+  down = c.loop-y.invariant.down;
+  rows = λ f are.
+      rows_more f c.loop-y.plane.width c.loop-y.plane.height c.loop-y.plane.values c.loop-y.y (c.loop-y.y + 1) c.copy_from_slice.new.self (c.loop-y.invariant.rows f are) (omega arith) refl (omega arith)
+      (λ x l.
+      let y = c.loop-y.y in
+      let slice : Table = c.index-slices-first.result in
+      let is : slice ≡ slice_of c.args.width c.args.height f (y / 64) = c.index-slices-first.is ∙ are (y / 64) slice (omega arith) in
+      let wide : x < c.args.width = omega arith in
+      let inside : x < slice.width = rw (ap (λ (t : Table). t.width) is) wide in
+      ap (λ zs. get_or zs x (pos 0)) c.copy_from_slice.ensures.after
+      ∙ ap (λ zs. get_or zs x (pos 0)) c.row.ensures.value
+      ∙ row_at slice x (y % 64) inside
+      ∙ ap (λ (t : Table). table_at t x (y % 64)) is
+      ∙ row_in_slice f c.args.width c.args.height x y wide (omega arith));
+}
 
 pub returns : goal.returns
-returns c = λ w h f some count slices. slices_all w h c.loop-k.k f _ (omega (arith, count)) (c.loop-k.invariant w h f some count slices)
+returns c = λ f are.
+    rows_all f c.loop-y.plane c.args.width c.args.height c.loop-y.y
+    c.loop-y.invariant.across c.loop-y.invariant.down (omega arith) (omega arith) (c.loop-y.invariant.rows f are)

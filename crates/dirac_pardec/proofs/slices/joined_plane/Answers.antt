@@ -1,15 +1,25 @@
-use Rattle.std.proofs.Common.{ap, ◌∙◌}
-use Rattle.dirac_pardec.specs.Given.{given}
-use Rattle.dirac_pardec.specs.Places.{slices_in}
-use Rattle.dirac_pardec.proofs.Placed.{plane_values, values_length}
+use Rattle.std.proofs.Common.{length, ap, ◌∙◌}
+use Rattle.dirac_decode.specs.Content.{height_of, width_of}
+use Rattle.dirac_pardec.proofs.Placed.{all_inside, have_sizes, joined_is}
 use Rattle.dirac_pardec.proofs.slices.joined_plane.Goals as goal
 
-pub returns-clause-value : goal.returns-clause-value
-returns-clause-value c =
-    plane_values (given c.args.inter.now) c.args.plane c.first_slice-first.result c.slices_in-count.result c.args.slices.now c.in_ok-values.values.items
-    c.requires.plane c.requires.inter.sequence c.first_slice-first.ensures.value
-    (c.slices_in-count.ensures.value ∙ ap (slices_in (given c.args.inter.now).sequence) c.component_at-component.ensures)
-    c.requires.slices c.in_ok-values.ensures
+pub joined-requires-clause-inside : goal.joined-requires-clause-inside
+joined-requires-clause-inside c =
+    let s = c.args.sequence.now in
+    all_inside s c.args.plane c.first_slice-first.result c.height_of-height.result (length c.args.slices.now) c.requires.plane c.first_slice-first.ensures.value
+    (c.height_of-height.ensures.value ∙ ap (height_of s) c.component_at-component.ensures) c.requires.sizes.0
 
-pub returns-clause-len : goal.returns-clause-len
-returns-clause-len c = values_length (given c.args.inter.now) c.args.plane c.in_ok-values.values.items (returns-clause-value c)
+pub joined-requires-clause-sizes : goal.joined-requires-clause-sizes
+joined-requires-clause-sizes c =
+    let s = c.args.sequence.now in
+    have_sizes s c.args.plane c.first_slice-first.result c.width_of-width.result c.height_of-height.result c.args.slices.now c.requires.plane c.first_slice-first.ensures.value
+    (c.width_of-width.ensures.value ∙ ap (width_of s) c.component_at-component.ensures)
+    (c.height_of-height.ensures.value ∙ ap (height_of s) c.component_at-component.ensures) c.requires.sizes
+
+pub returns : goal.returns
+returns c = λ planes are fit.
+    let s = c.args.sequence.now in
+    joined_is s planes c.args.plane c.first_slice-first.result c.width_of-width.result c.height_of-height.result c.args.slices.now c.in_ok-whole.whole c.requires.plane c.requires.sequence
+    c.first_slice-first.ensures.value
+    (c.width_of-width.ensures.value ∙ ap (width_of s) c.component_at-component.ensures)
+    (c.height_of-height.ensures.value ∙ ap (height_of s) c.component_at-component.ensures) are fit c.in_ok-whole.ensures
