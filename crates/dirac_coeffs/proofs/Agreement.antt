@@ -44,11 +44,6 @@ pub value_contexts : (f : Frame) (xs ys : List ℤ) (x y : ℕ) → x < f.width 
 value_contexts f xs ys x y h s t =
     rw (left_same f.width xs ys x y h s, above_same f.width xs ys x y h t, corner_same f.width xs ys x y h t) refl
 
--- the follow contexts too
-pub follow_same : (f : Frame) (xs ys : List ℤ) (x y : ℕ) → x < f.width → SameWithin f.width xs ys x (y + 1) → SameWithin f.width xs ys (x + 1) y → follow_here f xs x y ≡ follow_here f ys x y
-follow_same f xs ys x y h s t =
-    rw (left_same f.width xs ys x y h s, above_same f.width xs ys x y h t, corner_same f.width xs ys x y h t) refl
-
 value_same : (f : Frame) (xs ys : List ℤ) (x y : ℕ) → x < f.width → SameWithin f.width xs ys (x + 1) (y + 1) → value_part f xs x y ≡ value_part f ys x y
 value_same f xs ys x y h s =
     let here : value_at f.width xs x y ≡ value_at f.width ys x y = s.each x y h (omega arith) (omega arith) in

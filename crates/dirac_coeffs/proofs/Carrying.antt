@@ -2,9 +2,10 @@
 use Rattle.std.proofs.Common.{◌≡◌, ◌≢◌, ℕ, ℤ, pos, ◌+◌, ◌-◌, ◌*◌, ◌<◌, List, length, get_or, set, slice_set, Ok, refl, arith, inl, inr, ap, sym, ◌∙◌, eq-eqb}
 use Rattle.std.proofs.lemmas.Bool.{cases_eq, ne_eqb}
 use Rattle.std.proofs.lemmas.List.{get_or-set_same, get_or-set_other}
+use Rattle.dirac_arith.specs.Coded.{read}
 use Rattle.dirac_arith.specs.Deciding.{signed_read}
 use Rattle.dirac_arith.specs.Reading.{Reading}
-use Rattle.dirac_coeffs.specs.BandRead.{progress, value_step}
+use Rattle.dirac_coeffs.specs.BandRead.{value_step}
 use Rattle.dirac_coeffs.specs.Contexts.{above_of, bits_context, corner_of, left_of, value_at}
 use Rattle.dirac_coeffs.specs.Decisions.{Frame, follow_here, sign_here}
 
@@ -47,6 +48,6 @@ corner_next w xs x y n v above fits h e = h ∙ above_kept w xs x y v fits ∙ c
 
 -- a value that was read, put in its place
 pub value_put : (f : Frame) (x y : ℕ) (xs ys : List ℤ) (v : ℤ) (old new : Reading) → signed_read (follow_here f xs x y) bits_context (sign_here f xs x y) old ≡ Ok (v, new) → ys ≡ slice_set xs (y * f.width + x) v
-    → value_step f x y (progress xs old) ≡ Ok (progress ys new)
+    → read (value_step f x y xs) old ≡ Ok (ys, new)
 unfolding value_step
-value_put f x y xs ys v old new read put = rw (read, put) refl
+value_put f x y xs ys v old new found put = rw (found, put) refl

@@ -3,7 +3,7 @@ use Rattle.std.proofs.Common.{◌≡◌, ℕ, zero, suc, ℤ, pos, negsuc, ◌+�
 use Rattle.std.specs.List.{All}
 use Rattle.std.proofs.lemmas.List.Elements.{All-append}
 use Rattle.std.proofs.lemmas.Bool.{and_parts, cases_Bool, cases_eq, ne_eqb}
-use Rattle.std.proofs.lemmas.List.{get_or-append-add, get_or-replicate, get_or_append_left, get_or-set_other, get_or-set_same, length-replicate}
+use Rattle.std.proofs.lemmas.List.{get_or-append-add, get_or_append_left, get_or-set_other, get_or-set_same}
 use Rattle.dirac_common.specs.declared.limits.TheConstants.{LARGEST_TABLE_SIDE}
 use Rattle.dirac_coeffs.specs.declared.coefficients.NarrowRows.{NarrowRows}
 use Rattle.dirac_coeffs.specs.declared.coefficients.Held.TheVariants.{Narrow}
@@ -73,9 +73,6 @@ zeros_told largest xs is = elim (cases_Bool (is_zero_band xs)) [
       let zeros : is_zero_band xs ≡ true = band_of_zeros xs (all_zeros xs (rw none at is.bound)) in
       let e : true ≡ false = sym zeros ∙ some in absurd cc
 
-pub zeros_are_zeros : (n : ℕ) → All (λ v. v ≡ pos 0) (replicate n (pos 0))
-zeros_are_zeros n k d l = get_or-replicate n k (pos 0) d (omega (arith, l, length-replicate n (pos 0)))
-
 -- a list of zeros is told by its length
 pub zeros_replicated : (xs : List ℤ) (n : ℕ) → length xs ≡ n → All (λ v. v ≡ pos 0) xs → xs ≡ replicate n (pos 0)
 zeros_replicated [] zero e all = refl
@@ -144,9 +141,6 @@ pub record AreNarrowed (all : Bool) (largest : ℕ) (values xs : List ℤ) : Typ
   pub written : all ≡ true → values ≡ xs
   pub most : all ≡ true → IsLargest largest xs
   pub others : all ≡ false → (m : ℕ) → All (λ v. unsigned_abs v ≤ m) xs → 2 ^ 31 ≤ m
-
-pub none_narrowed : AreNarrowed true 0 [] []
-none_narrowed = record { written = λ e. refl; most = λ e. largest_none; others = λ e. absurd cc }
 
 pub row_narrowed : (t : Table) (y next : ℕ) (all one : Bool) (largest other new : ℕ) (values more : List ℤ) → next ≡ y + 1 → AreNarrowed all largest values (take (y * t.width) t.values) → (one ≡ true → more ≡ values ++ row_of t y)
     → (one ≡ true → IsLargest other (row_of t y)) → (one ≡ false → (m : ℕ) → All (λ v. unsigned_abs v ≤ m) (row_of t y) → 2 ^ 31 ≤ m) → new ≡ max largest other

@@ -10,7 +10,7 @@ use Rattle.dirac_common.specs.declared.faults.Stop.TheVariants as stop
 use Rattle.dirac_bits.specs.Answers.{ReadsOrStops}
 use Rattle.dirac_bits.specs.Cursor.{Cursor, place, aligned}
 use Rattle.dirac_bits.specs.Fields.{uint_at, block_at}
-use Rattle.dirac_bits.specs.Syntax.{done, block_then, uint, align, here, field, between, ◌>>=◌, read, refuse}
+use Rattle.dirac_bits.specs.Syntax.{done, block_then, align, here, between, ◌>>=◌, read, refuse}
 use Rattle.dirac_bits.specs.Then.{read_then}
 use Rattle.dirac_coeffs.specs.declared.layout.BandLayout.{BandLayout}
 use Rattle.dirac_coeffs.specs.declared.layout.CodedBand.{CodedBand}

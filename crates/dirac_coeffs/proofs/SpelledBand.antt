@@ -22,7 +22,7 @@ use Rattle.dirac_coeffs.specs.Layouts.{IsBandLayout}
 use Rattle.dirac_coeffs.specs.Written.{AreIndicesOf, marks_of, block_of, is_zero_band, with_block, with_band}
 use Rattle.dirac_coeffs.proofs.BlockLengths.{block_short}
 use Rattle.dirac_coeffs.proofs.Read.{ones_read}
-use Rattle.dirac_coeffs.proofs.Writing.{written_read, equal_of}
+use Rattle.dirac_coeffs.proofs.Writing.{written_read}
 use Rattle.dirac_coeffs.proofs.ZeroTests.{all_zeros}
 
 six_parts : (a b c d e f : List Bool) → ((((a ++ b) ++ c) ++ d) ++ e) ++ f ≡ a ++ (b ++ (c ++ (d ++ (e ++ f))))
@@ -119,11 +119,3 @@ band_spells layout parent b bits spot_is is of index indices =
       | inl zeros ↦ rw zeros (zeros_spelled layout parent b bits (zero_is layout b is (index zeros) (indices zeros) zeros))
       | inr others ↦ rw others (block_spelled layout parent b bits spot_is is of (block_short layout parent b.index b.table.values b.indices spot_is))
     ]
-
--- in mode 0 that needs nothing of the indices
-pub plain_of : (layout : BandLayout) (b : CodedBand) → IsCodedBand layout b → layout.mode ≡ 0 → AreIndicesOf layout b.index b.table.values b.indices
-plain_of layout b is mode =
-    subst (λ (l : List ℕ). AreIndicesOf layout b.index b.table.values l) (sym (is.plain mode)) (equal_of layout b.index b.table.values)
-
-pub plain_zeros : (layout : BandLayout) (b : CodedBand) → IsCodedBand layout b → layout.mode ≡ 0 → (is_zero_band b.table.values ≡ true → b.index ≡ 0) → is_zero_band b.table.values ≡ true → b.indices ≡ all_equal layout 0
-plain_zeros layout b is mode index zeros = is.plain mode ∙ ap (λ i. all_equal layout i) (index zeros)

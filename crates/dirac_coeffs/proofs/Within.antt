@@ -56,10 +56,6 @@ kept_join h h' k k' =
       under = λ x y p q. k.under x y p (omega arith) ∙ k'.under x y p (omega arith);
     }
 
--- a change within a part of the part
-pub kept_wider : {w left right top bottom l r t b : ℕ} {xs ys : List ℤ} → (left ≤ l) × (r ≤ right) × (top ≤ t) × (b ≤ bottom) → KeptOutside w l r t b xs ys → KeptOutside w left right top bottom xs ys
-kept_wider {l = l} {r = r} {t = t} {b = b} h k = kept_join {l' = l} {r' = r} {t' = t} {b' = b} h h k kept_refl
-
 -- a place of another column or row isn't this one
 other_place : (w x y i j : ℕ) → x < w → i < w → ((i ≡ x) × (j ≡ y) → ⊥) → j * w + i ≢ y * w + x
 other_place w x y i j p q apart e = let same : (j ≡ y) × (i ≡ x) = same_from_place j i y x w q p e in apart (same.1, same.0)

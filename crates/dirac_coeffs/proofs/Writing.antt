@@ -1,9 +1,6 @@
 -- What an encoder has written, and that it is read back.
-use Rattle.std.proofs.Common.{◌≡◌, ℕ, zero, suc, ℤ, pos, negsuc, ◌+◌, ◌-◌, ◌*◌, ◌+ℤ◌, ◌-ℤ◌, ◌<◌, min, Bool, true, false, List, [], ◌∷◌, ◌++◌, ◌&&◌, length, Ok, arith, lit<, refl, ap, sym, ◌∙◌}
+use Rattle.std.proofs.Common.{◌≡◌, ℕ, zero, suc, ℤ, pos, negsuc, ◌+◌, ◌-◌, ◌+ℤ◌, ◌-ℤ◌, ◌<◌, min, Bool, true, false, List, [], ◌∷◌, ◌++◌, ◌&&◌, length, Ok, arith, lit<, ap, sym, ◌∙◌}
 use Rattle.std.proofs.lemmas.Int.{ints}
-use Rattle.std.proofs.lemmas.List.{length-replicate}
-use Rattle.std.proofs.lemmas.List.Elements.{All-replicate}
-use Rattle.dirac_common.specs.Limits.{IsIndex}
 use Rattle.std.specs.List.{AllByRecursion}
 use Rattle.std.proofs.lemmas.List.Elements.{All-from_recursion}
 use Rattle.dirac_arith.specs.Interval.{Decision, InContexts, Interval, narrowed, narrowed_by}
@@ -14,9 +11,8 @@ use Rattle.dirac_arith.proofs.Numbers.{digits_none}
 use Rattle.dirac_bands.specs.Geometry.{edge_of}
 use Rattle.dirac_coeffs.specs.declared.layout.BandLayout.{BandLayout}
 use Rattle.dirac_coeffs.specs.BandRead.{band_read, content}
-use Rattle.dirac_coeffs.specs.Carried.{AreLawful, AreSmall, CarriesBand}
-use Rattle.dirac_coeffs.specs.Indices.{place_of, index_at, index_before, all_equal, offset_part}
-use Rattle.dirac_coeffs.proofs.Indexed.{equal_same}
+use Rattle.dirac_coeffs.specs.Carried.{AreLawful, CarriesBand}
+use Rattle.dirac_coeffs.specs.Indices.{place_of, index_at, index_before, offset_part}
 use Rattle.dirac_coeffs.specs.Contexts.{value_at, left_of, above_of, corner_of, parent_of, is_zero, follow_of, sign_of, sign_neighbour, bits_context}
 use Rattle.dirac_coeffs.specs.Decisions.{Frame, Mark, Marks, frame_of, follow_here, sign_here, value_part, row_part, rows_part, flagged_part, block_part, blocks_part, bands_part, band_decisions}
 use Rattle.dirac_coeffs.specs.Layouts.{IsBandLayout, span_of, is_flagged}
@@ -116,16 +112,3 @@ written_carried layout parent index xs is lawful of =
 -- so it reads to the band
 pub written_read : (layout : BandLayout) (parent : List ℤ) (index : ℕ) (xs : List ℤ) (is : List ℕ) → IsBandLayout layout → AreLawful layout index xs is → AreIndicesOf layout index xs is → band_read layout parent index (block_of layout parent index xs is) ≡ Ok (content xs is)
 written_read layout parent index xs is h lawful of = band_found layout parent index (block_of layout parent index xs is) xs is (marks_of layout index xs is) h (written_carried layout parent index xs is lawful of)
-
--- where all codeblocks have the band's index, as in mode 0
-pub equal_lawful : (layout : BandLayout) (index : ℕ) (xs : List ℤ) → length xs ≡ layout.width * layout.height → AreSmall xs → IsIndex index → AreLawful layout index xs (all_equal layout index)
-equal_lawful layout index xs len small few =
-    let n = layout.across * layout.down in
-    record { len = len; small = small; count = length-replicate n index; own = few; each = All-replicate IsIndex n index few }
-
-pub equal_of : (layout : BandLayout) (index : ℕ) (xs : List ℤ) → AreIndicesOf layout index xs (all_equal layout index)
-equal_of layout index xs =
-    record {
-      skipped = λ cy cx h l f z. equal_same layout index (all_equal layout index) cy cx refl h l;
-      plain = λ cy cx h l m. equal_same layout index (all_equal layout index) cy cx refl h l;
-    }

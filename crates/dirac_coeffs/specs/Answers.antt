@@ -4,6 +4,7 @@ use Rattle.dirac_common.specs.declared.faults.Cause.{Cause}
 use Rattle.dirac_common.specs.declared.faults.Refusal.{Refusal}
 use Rattle.dirac_common.specs.declared.faults.Stop.{Stop}
 use Rattle.dirac_common.specs.declared.faults.Stop.TheVariants as stop
+use Rattle.dirac_arith.specs.Reading.{Reading}
 use Rattle.dirac_coeffs.specs.declared.layout.BandLayout.{BandLayout}
 use Rattle.dirac_coeffs.specs.declared.layout.BandBlock.{BandBlock}
 use Rattle.dirac_coeffs.specs.declared.store.Unread.{Unread}
@@ -11,20 +12,20 @@ use Rattle.dirac_coeffs.specs.declared.store.Unread.TheVariants as unread
 use Rattle.dirac_coeffs.specs.BandRead.{Content, content}
 use Rattle.dirac_coeffs.specs.Grammar.{band_table}
 
--- the answer is this step's, which came so far; nothing is said of that after a refusal
-abbrev pub Moves : {A P : Type 0} → Result A Cause → P → Result P Cause → Type 0
-Moves (Ok x) p step = step ≡ Ok p
-Moves (Err cause) p step = step ≡ Err cause
+-- the answer is what is read, from which the state and the reading come; nothing is said of them after a refusal
+abbrev pub Moves : {A S : Type 0} → Result A Cause → S → Reading → Result (S × Reading) Cause → Type 0
+Moves (Ok x) new behind read = read ≡ Ok (new, behind)
+Moves (Err cause) new behind read = read ≡ Err cause
 
--- the same of a reading that may stop at a value that doesn't fit, of which then nothing is said
-abbrev pub RefusedBy : {P : Type 0} → Unread → Result P Cause → Type 0
-RefusedBy (unread.Refused cause) step = step ≡ Err cause
-RefusedBy unread.TooWide step = ⊤
+-- why reading stopped: it was refused, or a value doesn't fit, of which nothing is said but that this holds
+abbrev pub RefusedBy : {S : Type 0} → Type 0 → Unread → Result (S × Reading) Cause → Type 0
+RefusedBy narrow (unread.Refused cause) read = read ≡ Err cause
+RefusedBy narrow unread.TooWide read = narrow
 
 -- the same of a reading that may stop at a value that doesn't fit
-abbrev pub Goes : {A P : Type 0} → Result A Unread → P → Result P Cause → Type 0
-Goes (Ok x) p step = step ≡ Ok p
-Goes (Err e) p step = RefusedBy e step
+abbrev pub Goes : {A S : Type 0} → Type 0 → Result A Unread → S → Reading → Result (S × Reading) Cause → Type 0
+Goes narrow (Ok x) new behind read = read ≡ Ok (new, behind)
+Goes narrow (Err e) new behind read = RefusedBy narrow e read
 
 -- the answer is what the block at this place reads to; want of memory says nothing of the input
 abbrev pub GivesBlock : BandLayout → ℕ → Result BandBlock Stop → Result Content Cause → Type 0

@@ -1,20 +1,17 @@
--- What a block carries: a band, or a number at which it breaks off.
-use Rattle.std.specs.Prelude.{◌≡◌, ℕ, ℤ, pos, ◌+◌, ◌-◌, ◌*◌, ◌+ℤ◌, ◌^◌, ◌<◌, Bool, true, false, List, ◌++◌, length, All}
-use Rattle.std.specs.Prelude.{unsigned_abs}
-use Rattle.dirac_common.specs.declared.limits.TheConstants.{MOST_DIGITS}
+-- What a block carries: a band, or decisions that lead to where it breaks off.
+use Rattle.std.specs.Prelude.{◌≡◌, ℕ, ℤ, pos, ◌+◌, ◌-◌, ◌*◌, ◌+ℤ◌, ◌^◌, ◌<◌, true, List, length, All, unsigned_abs}
 use Rattle.dirac_common.specs.declared.faults.Cause.{Cause}
 use Rattle.dirac_common.specs.declared.faults.Cause.TheVariants.{NumberTooLong, QuantIndex}
 use Rattle.dirac_common.specs.Limits.{IsIndex}
 use Rattle.dirac_arith.specs.Carried.{Carries}
+use Rattle.dirac_arith.specs.Coded.{Breaks}
 use Rattle.dirac_arith.specs.Interval.{Decision}
-use Rattle.dirac_arith.specs.Spelling.{spelt, signed_spelling}
 use Rattle.dirac_bands.specs.Geometry.{edge_of}
-use Rattle.dirac_arith.specs.declared.contexts.TheConstants.{OFFSET_FOLLOW, OFFSET_DIGITS, OFFSET_SIGN}
 use Rattle.dirac_coeffs.specs.declared.layout.BandLayout.{BandLayout}
-use Rattle.dirac_coeffs.specs.Contexts.{value_at, bits_context}
-use Rattle.dirac_coeffs.specs.Decisions.{Frame, Mark, Marks, frame_of, follow_here, row_part, rows_part, flagged_part}
-use Rattle.dirac_coeffs.specs.Decisions.{blocks_part, bands_part, band_decisions}
-use Rattle.dirac_coeffs.specs.Indices.{place_of, index_at, index_before, is_index, offset_part}
+use Rattle.dirac_coeffs.specs.BandRead.{band_coded}
+use Rattle.dirac_coeffs.specs.Contexts.{value_at}
+use Rattle.dirac_coeffs.specs.Decisions.{Mark, Marks, band_decisions}
+use Rattle.dirac_coeffs.specs.Indices.{place_of, index_at, index_before}
 use Rattle.dirac_coeffs.specs.Layouts.{span_of, is_flagged}
 
 -- the magnitudes that a number can spell
@@ -60,101 +57,15 @@ pub record CarriesBand (layout : BandLayout) (parent : List ℤ) (index : ℕ) (
         → IsIndexed layout index indices cy cx (marks cy cx)
     pub carried : Carries block (band_decisions layout parent xs marks)
 
--- what a codeblock breaks off in: the digits of an offset that is too long, an offset that leads out of 0 to 99,
--- or behind this offset the digits of a value that is too long, in this row and column
-pub data Break : Type 0 where
-  long_offset : List Bool → Break
-  beyond : ℤ → Break
-  long_value : ℤ → ℕ → ℕ → List Bool → Break
-
--- its cause
-abbrev pub cause_of : Break → Cause
-cause_of (long_offset digits) = NumberTooLong
-cause_of (beyond offset) = QuantIndex
-cause_of (long_value offset row column digits) = NumberTooLong
-
--- codeblock cx of row cy can break off so: there are as many digits as a number may have, and a follow decision that is
--- false would stand behind them; a value has a place in the codeblock
-abbrev pub IsBreak : BandLayout → ℕ → List ℕ → ℕ → ℕ → Break → Type 0
-IsBreak layout index indices cy cx (long_offset digits) = (layout.mode ≡ 1) × (length digits ≡ MOST_DIGITS)
-IsBreak layout index indices cy cx (beyond offset) =
-    (layout.mode ≡ 1) × (unsigned_abs offset < 2 ^ 39 - 1)
-    × (is_index (pos (index_before index indices (place_of layout cy cx)) +ℤ offset) ≡ false)
-IsBreak layout index indices cy cx (long_value offset row column digits) =
-    IsIndexed layout index indices cy cx (record { skipped = false; offset = offset })
-    × (row < span_of layout.height layout.down cy)
-    × (column < span_of layout.width layout.across cx)
-    × (length digits ≡ MOST_DIGITS)
-
--- digits in column x of row y, and one more follow decision that is false
-abbrev pub long_part : Frame → List ℤ → ℕ → ℕ → List Bool → List Decision
-long_part f xs x y digits = spelt (follow_here f xs x y) bits_context digits false
-
--- i values of row y from column x on, and then too long a number
-abbrev pub row_until : Frame → List ℤ → ℕ → ℕ → ℕ → List Bool → List Decision
-row_until f xs y x i digits = row_part f xs y x i ++ long_part f xs (x + i) y digits
-
--- j rows, and then one that breaks off
-abbrev pub rows_until : Frame → List ℤ → ℕ → ℕ → ℕ → ℕ → ℕ → List Bool → List Decision
-rows_until f xs x count y j i digits = rows_part f xs x count y j ++ row_until f xs (y + j) x i digits
-
--- the decisions of a codeblock that breaks off, behind its zero flag
-abbrev pub broken_part : BandLayout → List ℤ → List ℤ → ℕ → ℕ → Break → List Decision
-broken_part layout parent xs cy cx (long_offset digits) = spelt OFFSET_FOLLOW OFFSET_DIGITS digits false
-broken_part layout parent xs cy cx (beyond offset) = signed_spelling OFFSET_FOLLOW OFFSET_DIGITS OFFSET_SIGN offset
-broken_part layout parent xs cy cx (long_value offset row column digits) =
-    offset_part layout.mode offset
-    ++ rows_until
-    (frame_of layout parent)
-    xs
-    (edge_of layout.width layout.across cx)
-    (span_of layout.width layout.across cx)
-    (edge_of layout.height layout.down cy)
-    row
-    column
-    digits
-
--- a codeblock that breaks off, behind its zero flag, which is false
-abbrev pub block_until : BandLayout → List ℤ → List ℤ → ℕ → ℕ → Break → List Decision
-block_until layout parent xs cy cx broken =
-    flagged_part (is_flagged layout) false (broken_part layout parent xs cy cx broken)
-
--- codeblocks of one row, and then one that breaks off
-abbrev pub blocks_until : BandLayout → List ℤ → List ℤ → (ℕ → Mark) → ℕ → ℕ → Break → List Decision
-blocks_until layout parent xs marks cy cx broken =
-    blocks_part layout parent xs marks cy cx ++ block_until layout parent xs cy cx broken
-
--- the decisions of a band up to where it breaks off, in codeblock cx of row cy
-abbrev pub band_until : BandLayout → List ℤ → List ℤ → Marks → ℕ → ℕ → Break → List Decision
-band_until layout parent xs marks cy cx broken =
-    bands_part layout parent xs marks cy ++ blocks_until layout parent xs (marks cy) cy cx broken
-
--- the block carries the decisions of some values and indices, and breaks off for this cause, in codeblock `across` of
--- row `down`
-pub record CarriesBreak (layout : BandLayout) (parent : List ℤ) (index : ℕ) (block : List ℕ) (cause : Cause) : Type 0
-  where
-    pub values : List ℤ
-    pub indices : List ℕ
-    pub marks : Marks
-    pub down : ℕ
-    pub across : ℕ
-    pub broken : Break
-    pub lawful : AreLawful layout index values indices
-    pub in_rows : down < layout.down
-    pub in_row : across < layout.across
-    pub zeros_above : (cy cx : ℕ) → cy < down → cx < layout.across → SkippedIsZero layout values cy cx (marks cy cx)
-    pub zeros_before : (cx : ℕ) → cx < across → SkippedIsZero layout values down cx (marks down cx)
-    pub indexed_above : (cy cx : ℕ) → cy < down → cx < layout.across
-        → IsIndexed layout index indices cy cx (marks cy cx)
-    pub indexed_before : (cx : ℕ) → cx < across → IsIndexed layout index indices down cx (marks down cx)
-    pub breaks : IsBreak layout index indices down across broken
-    pub cause_is : cause ≡ cause_of broken
-    pub carried : Carries block (band_until layout parent values marks down across broken)
+-- the block carries decisions that lead to where the band breaks off for this cause
+abbrev pub BreaksOff : BandLayout → List ℤ → ℕ → List ℕ → Cause → Type 0
+BreaksOff layout parent index block cause =
+    (ds : List Decision) × Breaks (band_coded layout parent index) cause ds × Carries block ds
 
 -- the block carries the decisions up to a number that is too long
 abbrev pub CarriesLong : BandLayout → List ℤ → ℕ → List ℕ → Type 0
-CarriesLong layout parent index block = CarriesBreak layout parent index block NumberTooLong
+CarriesLong layout parent index block = BreaksOff layout parent index block NumberTooLong
 
 -- the block carries the decisions up to an offset that leads to no quantiser's index
 abbrev pub CarriesNoIndex : BandLayout → List ℤ → ℕ → List ℕ → Type 0
-CarriesNoIndex layout parent index block = CarriesBreak layout parent index block QuantIndex
+CarriesNoIndex layout parent index block = BreaksOff layout parent index block QuantIndex

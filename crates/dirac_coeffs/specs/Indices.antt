@@ -2,14 +2,11 @@
 -- codeblock that isn't skipped, one without values too, has an offset, which is added to the index of the codeblock
 -- before it.
 use Rattle.std.specs.Prelude.{ℕ, zero, suc, ℤ, pos, ◌+◌, ◌-◌, ◌*◌, ◌+ℤ◌, ◌==◌, int_le, if◌then◌else◌, ◌&&◌, Bool, List}
-use Rattle.std.specs.Prelude.{[], replicate, slice_index_or, slice_set, unsigned_abs, Result, Ok, Err}
+use Rattle.std.specs.Prelude.{[], replicate, slice_index_or, slice_set, unsigned_abs}
 use Rattle.dirac_common.specs.declared.limits.TheConstants.{LARGEST_INDEX}
-use Rattle.dirac_common.specs.declared.faults.Cause.{Cause}
 use Rattle.dirac_common.specs.declared.faults.Cause.TheVariants.{QuantIndex}
-use Rattle.dirac_common.specs.Chain.{◌>>=◌}
-use Rattle.dirac_arith.specs.Deciding.{signed_read}
+use Rattle.dirac_arith.specs.Coded.{Coded, done, refuse, signed}
 use Rattle.dirac_arith.specs.Interval.{Decision}
-use Rattle.dirac_arith.specs.Reading.{Reading}
 use Rattle.dirac_arith.specs.Spelling.{signed_spelling}
 use Rattle.dirac_arith.specs.declared.contexts.TheConstants.{OFFSET_FOLLOW, OFFSET_DIGITS, OFFSET_SIGN}
 use Rattle.dirac_coeffs.specs.declared.layout.BandLayout.{BandLayout}
@@ -40,13 +37,13 @@ offset_part zero offset = []
 offset_part (suc mode) offset = signed_spelling OFFSET_FOLLOW OFFSET_DIGITS OFFSET_SIGN offset
 
 -- the index that an offset leads to
-abbrev pub index_from : ℕ → ℤ × Reading → Result (ℕ × Reading) Cause
+abbrev pub index_from : ℕ → ℤ → Coded ℕ
 index_from former offset =
-    if is_index (pos former +ℤ offset.0) then Ok (unsigned_abs (pos former +ℤ offset.0), offset.1) else Err QuantIndex
+    if is_index (pos former +ℤ offset) then done (unsigned_abs (pos former +ℤ offset)) else refuse QuantIndex
 
--- an index, read as an offset from a former one
-unfoldable pub index_read : ℕ → Reading → Result (ℕ × Reading) Cause
-index_read former r = signed_read OFFSET_FOLLOW OFFSET_DIGITS OFFSET_SIGN r >>= index_from former
+-- an index, told by an offset from a former one
+abbrev pub index_coded : ℕ → Coded ℕ
+index_coded former = signed OFFSET_FOLLOW OFFSET_DIGITS OFFSET_SIGN (index_from former)
 
 -- the indices with that of a skipped codeblock: in mode 0 nothing is noted, in mode 1 the index before it
 abbrev pub with_former : ℕ → ℕ → ℕ → List ℕ → List ℕ

@@ -1,5 +1,5 @@
 -- Numbers that are lent, and the values of a band while it is read.
-use Rattle.std.specs.Prelude.{ℤ, pos, List, replicate}
+use Rattle.std.specs.Prelude.{⊤, ℤ, pos, List, replicate}
 use Rattle.dirac_coeffs.specs.declared.numbers.Numbers.{Numbers}
 use Rattle.dirac_coeffs.specs.declared.numbers.Numbers.TheVariants as lent
 use Rattle.dirac_coeffs.specs.declared.store.Values.{Values}
@@ -15,3 +15,8 @@ numbers_in (lent.Wide list) = list.now
 abbrev pub values_in : Values → List ℤ
 values_in (held.Narrow list) = list.items
 values_in (held.Wide list) = list.items
+
+-- whether they are held in 32 bits
+abbrev pub IsNarrow : Values → Type 0
+IsNarrow (held.Narrow list) = ⊤
+IsNarrow (held.Wide list) = ⊥

@@ -4,7 +4,7 @@ ghost use Rattle.dirac_coeffs.specs.BandRead.{band_read};
 ghost use Rattle.dirac_coeffs.specs.Carried.{AreLawful, CarriesLong, CarriesNoIndex};
 ghost use Rattle.dirac_coeffs.specs.Indices.{all_equal};
 ghost use Rattle.dirac_coeffs.specs.Layouts.{IsBandLayout};
-ghost use Rattle.dirac_coeffs.specs.Lent.{numbers_in, values_in};
+ghost use Rattle.dirac_coeffs.specs.Lent.{IsNarrow, numbers_in, values_in};
 ghost use Rattle.dirac_common.specs.Limits.{IsIndex};
 
 use crate::codeblocks::read_all;
@@ -29,7 +29,8 @@ fn narrow_zeros(alloc: Global, layout: BandLayout) -> Result<Values, NoMemory>
 /// Zeros in 64 bits, for the values of a band.
 fn wide_zeros(alloc: Global, layout: BandLayout) -> Result<Values, NoMemory>
     requires layout { IsBandLayout layout }
-    ensures { IfOk result (λ v. values_in v ≡ replicate (layout.width * layout.height) (pos 0)) }
+    ensures zeros { IfOk result (λ v. values_in v ≡ replicate (layout.width * layout.height) (pos 0)) }
+    ensures wide { IfOk result (λ v. IsNarrow v → ⊥) }
 {
     let list = vec![in alloc; 0i64; layout.width as usize * layout.height as usize]?;
     Ok(Values::Wide(list))
@@ -96,8 +97,7 @@ fn read_wide(
             let table = Coefficients::of_values(alloc, layout.width, layout.height, values)?;
             Ok(BandBlock { indices, table })
         }
-        // 64 bits hold every number, so this doesn't come
-        Err(Unread::TooWide) => Err(Stop::NoMemory),
+        Err(Unread::TooWide) => unreachable!(),
         Err(Unread::Refused(cause)) => Err(Stop::Refused(Refusal { at, cause })),
     }
 }

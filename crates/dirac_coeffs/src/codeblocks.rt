@@ -1,9 +1,10 @@
 ghost use Rattle.std.specs.Prelude.{◌≡◌, ◌+◌, ◌*◌, ◌^◌, ◌<◌, ◌≤◌, length};
+ghost use Rattle.dirac_arith.specs.Coded.{read};
 ghost use Rattle.dirac_coeffs.specs.Answers.{Goes};
-ghost use Rattle.dirac_coeffs.specs.BandRead.{progress, band_progress, filled_step, unskipped_step, block_step};
-ghost use Rattle.dirac_coeffs.specs.BandRead.{blocks_step, block_rows_step};
+ghost use Rattle.dirac_coeffs.specs.BandRead.{content, filled_step, unskipped_step, block_step, blocks_step};
+ghost use Rattle.dirac_coeffs.specs.BandRead.{block_rows_step};
 ghost use Rattle.dirac_coeffs.specs.Layouts.{IsBandLayout, span_of};
-ghost use Rattle.dirac_coeffs.specs.Lent.{numbers_in, values_in};
+ghost use Rattle.dirac_coeffs.specs.Lent.{IsNarrow, numbers_in, values_in};
 
 use crate::indices::Indices;
 use crate::layout::BandLayout;
@@ -28,10 +29,10 @@ fn read_block_values(
     requires column { codeblock.column < layout.across }
     requires len { length (values_in values.old) ≡ layout.width * layout.height }
     requires no_overflow { decoder.old.at.doublings < 2 ^ 58 }
-    ensures value { Goes result (progress (values_in values.new) decoder.new) (filled_step layout
-        (numbers_in parent.entry) codeblock.row
-        codeblock.column (progress (values_in values.old) decoder.old)) }
+    ensures value { Goes (IsNarrow values.new) result (values_in values.new) decoder.new (read (filled_step layout
+        (numbers_in parent.entry) codeblock.row codeblock.column (values_in values.old)) decoder.old) }
     ensures len { length (values_in values.new) ≡ length (values_in values.old) }
+    ensures narrow { IsNarrow values.new → IsNarrow values.old }
     ensures few_doublings { decoder.new.at.doublings ≤ decoder.old.at.doublings + 702 * LARGEST_TABLE_SIDE * span_of
         layout.width layout.across codeblock.column }
 {
@@ -56,10 +57,11 @@ fn read_unskipped(
     requires len { length (values_in values.old) ≡ layout.width * layout.height }
     requires count { length indices.old ≡ layout.across * layout.down }
     requires no_overflow { decoder.old.at.doublings < 2 ^ 57 + 9 }
-    ensures value { Goes result (band_progress (values_in values.new) indices.new decoder.new)
-        (unskipped_step layout (numbers_in parent.entry)
-        index codeblock.row codeblock.column (band_progress (values_in values.old) indices.old decoder.old)) }
+    ensures value { Goes (IsNarrow values.new) result (content (values_in values.new) indices.new) decoder.new
+        (read (unskipped_step layout (numbers_in parent.entry) index codeblock.row codeblock.column
+        (content (values_in values.old) indices.old)) decoder.old) }
     ensures len { length (values_in values.new) ≡ length (values_in values.old) }
+    ensures narrow { IsNarrow values.new → IsNarrow values.old }
     ensures count { length indices.new ≡ length indices.old }
     ensures few_doublings { decoder.new.at.doublings ≤ decoder.old.at.doublings + 702 + 702 * LARGEST_TABLE_SIDE
         * span_of layout.width layout.across codeblock.column }
@@ -87,10 +89,11 @@ fn read_codeblock(
     requires len { length (values_in values.old) ≡ layout.width * layout.height }
     requires count { length indices.old ≡ layout.across * layout.down }
     requires no_overflow { decoder.old.at.doublings < 2 ^ 57 }
-    ensures value { Goes result (band_progress (values_in values.new) indices.new decoder.new)
-        (block_step layout (numbers_in parent.entry) index
-        codeblock.row codeblock.column (band_progress (values_in values.old) indices.old decoder.old)) }
+    ensures value { Goes (IsNarrow values.new) result (content (values_in values.new) indices.new) decoder.new
+        (read (block_step layout (numbers_in parent.entry) index codeblock.row codeblock.column
+        (content (values_in values.old) indices.old)) decoder.old) }
     ensures len { length (values_in values.new) ≡ length (values_in values.old) }
+    ensures narrow { IsNarrow values.new → IsNarrow values.old }
     ensures count { length indices.new ≡ length indices.old }
     ensures few_doublings { decoder.new.at.doublings ≤ decoder.old.at.doublings + 711 + 702 * LARGEST_TABLE_SIDE
         * span_of layout.width layout.across codeblock.column }
@@ -123,10 +126,11 @@ fn read_codeblocks(
     requires len { length (values_in values.old) ≡ layout.width * layout.height }
     requires count { length indices.old ≡ layout.across * layout.down }
     requires no_overflow { decoder.old.at.doublings < 2 ^ 56 }
-    ensures value { Goes result (band_progress (values_in values.new) indices.new decoder.new)
-        (blocks_step layout (numbers_in parent.entry) index
-        cy layout.across (band_progress (values_in values.old) indices.old decoder.old)) }
+    ensures value { Goes (IsNarrow values.new) result (content (values_in values.new) indices.new) decoder.new
+        (read (blocks_step layout (numbers_in parent.entry) index cy layout.across
+        (content (values_in values.old) indices.old)) decoder.old) }
     ensures len { length (values_in values.new) ≡ length (values_in values.old) }
+    ensures narrow { IsNarrow values.new → IsNarrow values.old }
     ensures count { length indices.new ≡ length indices.old }
     ensures few_doublings { decoder.new.at.doublings ≤ decoder.old.at.doublings + 711 * LARGEST_TABLE_SIDE + 702 *
         LARGEST_TABLE_SIDE * LARGEST_TABLE_SIDE }
@@ -154,10 +158,11 @@ pub fn read_all(
     requires len { length (values_in values.old) ≡ layout.width * layout.height }
     requires count { length indices.old ≡ layout.across * layout.down }
     requires at_the_start { decoder.old.at.doublings ≡ 0 }
-    ensures value { Goes result (band_progress (values_in values.new) indices.new decoder.new)
-        (block_rows_step layout (numbers_in parent.entry)
-        index layout.down (band_progress (values_in values.old) indices.old decoder.old)) }
+    ensures value { Goes (IsNarrow values.new) result (content (values_in values.new) indices.new) decoder.new
+        (read (block_rows_step layout (numbers_in parent.entry) index layout.down
+        (content (values_in values.old) indices.old)) decoder.old) }
     ensures len { length (values_in values.new) ≡ length (values_in values.old) }
+    ensures narrow { IsNarrow values.new → IsNarrow values.old }
     ensures count { length indices.new ≡ length indices.old }
 {
     'down: for cy in 0..layout.down {

@@ -1,8 +1,9 @@
-ghost use Rattle.std.specs.Prelude.{◌≡◌, ℕ, pos, replicate, ◌+◌, ◌*◌, ◌^◌, ◌<◌, ◌≤◌, length};
+ghost use Rattle.std.specs.Prelude.{◌≡◌, ⊤, ℕ, pos, replicate, ◌+◌, ◌*◌, ◌^◌, ◌<◌, ◌≤◌, length};
+ghost use Rattle.dirac_arith.specs.Coded.{read};
 ghost use Rattle.dirac_coeffs.specs.Answers.{Goes};
-ghost use Rattle.dirac_coeffs.specs.BandRead.{progress, row_step, rows_step};
+ghost use Rattle.dirac_coeffs.specs.BandRead.{row_step, rows_step};
 ghost use Rattle.dirac_coeffs.specs.Decisions.{frame_of};
-ghost use Rattle.dirac_coeffs.specs.Lent.{numbers_in, values_in};
+ghost use Rattle.dirac_coeffs.specs.Lent.{IsNarrow, numbers_in, values_in};
 
 use crate::layout::BandLayout;
 use crate::numbers::Numbers;
@@ -26,9 +27,8 @@ fn read_row_below_zeros(
     requires row { y < LARGEST_TABLE_SIDE }
     requires inside { (y + 1) * layout.width ≤ length values.old }
     requires no_overflow { decoder.old.at.doublings < 2 ^ 60 }
-    ensures value { (count : ℕ) → Goes result (progress values.new decoder.new) (row_step
-        (frame_of layout (replicate count (pos 0))) y columns.start columns.length
-        (progress values.old decoder.old)) }
+    ensures value { (count : ℕ) → Goes ⊤ result values.new decoder.new (read (row_step
+        (frame_of layout (replicate count (pos 0))) y columns.start columns.length values.old) decoder.old) }
     ensures len { length values.new ≡ length values.old }
     ensures few_doublings { decoder.new.at.doublings ≤ decoder.old.at.doublings + 702 * columns.length }
 {
@@ -49,10 +49,11 @@ fn read_row(
     requires row { y < LARGEST_TABLE_SIDE }
     requires inside { (y + 1) * layout.width ≤ length (values_in values.old) }
     requires no_overflow { decoder.old.at.doublings < 2 ^ 60 }
-    ensures value { Goes result (progress (values_in values.new) decoder.new) (row_step
-        (frame_of layout (numbers_in parent.entry)) y columns.start columns.length
-        (progress (values_in values.old) decoder.old)) }
+    ensures value { Goes (IsNarrow values.new) result (values_in values.new) decoder.new (read (row_step
+        (frame_of layout (numbers_in parent.entry)) y columns.start columns.length (values_in values.old))
+        decoder.old) }
     ensures len { length (values_in values.new) ≡ length (values_in values.old) }
+    ensures narrow { IsNarrow values.new → IsNarrow values.old }
     ensures few_doublings { decoder.new.at.doublings ≤ decoder.old.at.doublings + 702 * columns.length }
 {
     match values {
@@ -89,10 +90,11 @@ pub fn read_rows(
     requires rows { rows.start + rows.length ≤ LARGEST_TABLE_SIDE }
     requires inside { (rows.start + rows.length) * layout.width ≤ length (values_in values.old) }
     requires no_overflow { decoder.old.at.doublings < 2 ^ 59 }
-    ensures value { Goes result (progress (values_in values.new) decoder.new) (rows_step
+    ensures value { Goes (IsNarrow values.new) result (values_in values.new) decoder.new (read (rows_step
         (frame_of layout (numbers_in parent.entry)) columns.start columns.length rows.start rows.length
-        (progress (values_in values.old) decoder.old)) }
+        (values_in values.old)) decoder.old) }
     ensures len { length (values_in values.new) ≡ length (values_in values.old) }
+    ensures narrow { IsNarrow values.new → IsNarrow values.old }
     ensures few_doublings { decoder.new.at.doublings ≤ decoder.old.at.doublings + 702 * LARGEST_TABLE_SIDE
         * columns.length }
 {

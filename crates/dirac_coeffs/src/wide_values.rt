@@ -1,6 +1,7 @@
 ghost use Rattle.std.specs.Prelude.{◌≡◌, ◌+◌, ◌*◌, ◌^◌, ◌<◌, ◌≤◌, length};
+ghost use Rattle.dirac_arith.specs.Coded.{read};
 ghost use Rattle.dirac_coeffs.specs.Answers.{Moves};
-ghost use Rattle.dirac_coeffs.specs.BandRead.{progress, value_step, row_step};
+ghost use Rattle.dirac_coeffs.specs.BandRead.{value_step, row_step};
 ghost use Rattle.dirac_coeffs.specs.Decisions.{frame_of};
 ghost use Rattle.dirac_coeffs.specs.Lent.{numbers_in};
 
@@ -26,8 +27,8 @@ fn read_wide_value(
     requires row { y < LARGEST_TABLE_SIDE }
     requires inside { (y + 1) * layout.width ≤ length values.old }
     requires no_overflow { decoder.old.at.doublings < 2 ^ 61 }
-    ensures value { Moves result (progress values.new decoder.new) (value_step
-        (frame_of layout (numbers_in parent.entry)) x y (progress values.old decoder.old)) }
+    ensures value { Moves result values.new decoder.new (read (value_step (frame_of layout (numbers_in parent.entry)) x
+        y values.old) decoder.old) }
     ensures len { length values.new ≡ length values.old }
     ensures few_doublings { decoder.new.at.doublings ≤ decoder.old.at.doublings + 702 }
 {
@@ -61,9 +62,8 @@ pub fn read_wide_row(
     requires row { y < LARGEST_TABLE_SIDE }
     requires inside { (y + 1) * layout.width ≤ length values.old }
     requires no_overflow { decoder.old.at.doublings < 2 ^ 60 }
-    ensures value { Moves result (progress values.new decoder.new) (row_step
-        (frame_of layout (numbers_in parent.entry)) y columns.start columns.length
-        (progress values.old decoder.old)) }
+    ensures value { Moves result values.new decoder.new (read (row_step (frame_of layout (numbers_in parent.entry)) y
+        columns.start columns.length values.old) decoder.old) }
     ensures len { length values.new ≡ length values.old }
     ensures few_doublings { decoder.new.at.doublings ≤ decoder.old.at.doublings + 702 * columns.length }
 {

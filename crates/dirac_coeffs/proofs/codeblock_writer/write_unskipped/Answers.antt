@@ -4,7 +4,7 @@ use Rattle.dirac_arith.proofs.Spellings.{narrowed_more}
 use Rattle.dirac_coeffs.specs.Indices.{offset_part}
 use Rattle.dirac_coeffs.specs.Written.{marks_of}
 use Rattle.dirac_coeffs.specs.Lent.{numbers_in}
-use Rattle.dirac_coeffs.proofs.Going.{values_part}
+use Rattle.dirac_coeffs.proofs.Filling.{values_part}
 use Rattle.dirac_coeffs.proofs.codeblock_writer.write_unskipped.Goals as goal
 
 pub returns-in-Ok : goal.returns-in-Ok

@@ -1,16 +1,18 @@
 use Rattle.std.proofs.Common.{◌+◌, ◌∙◌, arith, refl}
 use Rattle.std.proofs.lemmas.Result.{err_from_is_err_and}
-use Rattle.dirac_coeffs.specs.BandRead.{band_progress, block_step}
-use Rattle.dirac_coeffs.specs.Lent.{numbers_in, values_in}
+use Rattle.dirac_arith.proofs.CodedValues.{repeated_none, repeated_next}
+use Rattle.dirac_coeffs.specs.BandRead.{content, block_step}
+use Rattle.dirac_coeffs.specs.Lent.{IsNarrow, numbers_in, values_in}
 use Rattle.dirac_coeffs.proofs.Edges.{edge_most, span_end}
-use Rattle.dirac_coeffs.proofs.Repeating.{repeated_none, repeated_next, repeated_unread}
+use Rattle.dirac_coeffs.proofs.Steps.{repeated_unread}
 use Rattle.dirac_coeffs.proofs.codeblocks.read_codeblocks.Goals as goal
 
 pub across-init : goal.across-init
 across-init c =
     record {
-      value = repeated_none (block_step c.args.layout (numbers_in c.args.parent) c.args.index c.args.cy) (band_progress (values_in c.args.values.now) c.args.indices.now c.args.decoder.now);
+      value = repeated_none (block_step c.args.layout (numbers_in c.args.parent) c.args.index c.args.cy) (content (values_in c.args.values.now) c.args.indices.now) c.args.decoder.now;
       len = refl;
+      narrow = λ n. n;
       count = refl;
       few_doublings = omega arith;
     }
@@ -19,8 +21,9 @@ pub across-preserved : goal.across-preserved
 across-preserved c =
     record {
       value =
-          repeated_next (block_step c.args.layout (numbers_in c.args.parent) c.args.index c.args.cy) c.across.cx (band_progress (values_in c.args.values.now) c.args.indices.now c.args.decoder.now) (band_progress (values_in c.across.values) c.across.indices c.across.decoder) _ c.across.invariant.value c.in_ok-read_codeblock.ensures.value;
+          repeated_next (block_step c.args.layout (numbers_in c.args.parent) c.args.index c.args.cy) c.across.cx (content (values_in c.args.values.now) c.args.indices.now) c.args.decoder.now (content (values_in c.across.values) c.across.indices) c.across.decoder _ c.across.invariant.value c.in_ok-read_codeblock.ensures.value;
       len = c.read_codeblock.ensures.len ∙ c.across.invariant.len;
+      narrow = λ n. c.across.invariant.narrow (c.read_codeblock.ensures.narrow n);
       count = c.read_codeblock.ensures.count ∙ c.across.invariant.count;
       few_doublings = omega (arith, c.read_codeblock.ensures.few_doublings, c.across.invariant.few_doublings, span_end c.args.layout.width c.args.layout.across c.across.cx (omega arith));
     }
@@ -29,7 +32,7 @@ pub returns-in_err-read_codeblock-clause-value : goal.returns-in_err-read_codebl
 returns-in_err-read_codeblock-clause-value c =
     let p = err_from_is_err_and c.from_residual.result c.from_residual.ensures.1 in
     rw (p.1, p.2)
-    (repeated_unread (block_step c.args.layout (numbers_in c.args.parent) c.args.index c.args.cy) c.across.cx c.args.layout.across (band_progress (values_in c.args.values.now) c.args.indices.now c.args.decoder.now) (band_progress (values_in c.across.values) c.across.indices c.across.decoder) _ (omega arith) c.across.invariant.value c.in_err-read_codeblock.ensures.value)
+    (repeated_unread (IsNarrow c.read_codeblock.new.values) (block_step c.args.layout (numbers_in c.args.parent) c.args.index c.args.cy) c.across.cx c.args.layout.across (content (values_in c.args.values.now) c.args.indices.now) c.args.decoder.now (content (values_in c.across.values) c.across.indices) c.across.decoder _ (omega arith) c.across.invariant.value c.in_err-read_codeblock.ensures.value)
 
 pub returns-in_err-read_codeblock-clause-few_doublings : goal.returns-in_err-read_codeblock-clause-few_doublings
 returns-in_err-read_codeblock-clause-few_doublings c =

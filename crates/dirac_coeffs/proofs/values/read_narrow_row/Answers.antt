@@ -1,36 +1,40 @@
 use Rattle.std.proofs.Common.{◌≡◌, ◌+◌, ◌∙◌, ℕ, ℤ, List, Result, Ok, Err, to_z, of_z, arith, rules, ap, refl, subst, sym}
 use Rattle.std.specs.Int.{w64}
+use Rattle.std.specs.Prelude.{⊤}
 use Rattle.std.proofs.lemmas.Int.{to_z-of_z}
 use Rattle.dirac_common.specs.declared.faults.Cause.{Cause}
 use Rattle.dirac_common.specs.declared.faults.Cause.TheVariants as cause
+use Rattle.dirac_arith.specs.Coded.{Coded, read}
 use Rattle.dirac_arith.specs.Decoding.{reading_at}
 use Rattle.dirac_arith.specs.Front.{front}
 use Rattle.dirac_arith.specs.Reading.{Reading}
+use Rattle.dirac_arith.proofs.CodedValues.{repeated_none, repeated_next, repeated_stops}
 use Rattle.dirac_arith.proofs.Decidings.{signed_is_shut}
-use Rattle.dirac_coeffs.specs.BandRead.{Progress, Step, progress, value_step, row_step}
+use Rattle.dirac_coeffs.specs.BandRead.{value_step, row_step}
 use Rattle.dirac_coeffs.specs.Contexts.{bits_context, corner_of, left_of}
 use Rattle.dirac_coeffs.specs.Decisions.{Frame, frame_of, follow_here, sign_here}
 use Rattle.dirac_coeffs.proofs.Carrying.{corner_next, left_next}
-use Rattle.dirac_coeffs.proofs.Repeating.{repeated_none, repeated_next, repeated_stops, repeated_unread}
+use Rattle.dirac_coeffs.proofs.Steps.{repeated_unread}
 use Rattle.dirac_coeffs.proofs.values.read_narrow_row.Goals as goal
 
 -- a block that begins with sixteen ones has no value
-value_refused : (f : Frame) (x y : ℕ) (p : Progress) → front p.reading.block 16 ≡ 0xFFFF → value_step f x y p ≡ Err cause.CodeWord
+value_refused : (f : Frame) (x y : ℕ) (xs : List ℤ) (r : Reading) → front r.block 16 ≡ 0xFFFF → read (value_step f x y xs) r ≡ Err cause.CodeWord
 unfolding value_step
-value_refused f x y p ones = rw (signed_is_shut (follow_here f p.values x y) bits_context (sign_here f p.values x y) p.reading ones) refl
+value_refused f x y xs r ones = rw (signed_is_shut (follow_here f xs x y) bits_context (sign_here f xs x y) r ones) refl
 
 pub returns-then-columns-eq0-clause-value : goal.returns-then-columns-eq0-clause-value
 returns-then-columns-eq0-clause-value c =
     rw c.if-columns-eq0.true
-    (repeated_none (λ i. value_step (frame_of c.args.layout c.args.parent.now) (c.args.columns.start + i) c.args.y) (progress c.args.values.now c.args.decoder.now))
+    (repeated_none (λ i. value_step (frame_of c.args.layout c.args.parent.now) (c.args.columns.start + i) c.args.y) c.args.values.now c.args.decoder.now)
 
 pub returns-then-is_refused-clause-value : goal.returns-then-is_refused-clause-value
 returns-then-is_refused-clause-value c =
-    let p = progress c.args.values.now c.args.decoder.now in
     let f = frame_of c.args.layout c.args.parent.now in
-    let step : ℕ → Step Progress = λ i. value_step f (c.args.columns.start + i) c.args.y in
-    repeated_stops step 0 c.args.columns.length p p cause.CodeWord (omega arith) (repeated_none step p)
-    (value_refused f (c.args.columns.start + 0) c.args.y p (c.is_refused.ensures.refused c.if-is_refused.true))
+    let xs = c.args.values.now in
+    let r = c.args.decoder.now in
+    let step : ℕ → List ℤ → Coded (List ℤ) = λ i. value_step f (c.args.columns.start + i) c.args.y in
+    repeated_stops step 0 c.args.columns.length xs r xs r cause.CodeWord (omega arith) (repeated_none step xs r)
+    (value_refused f (c.args.columns.start + 0) c.args.y xs r (c.is_refused.ensures.refused c.if-is_refused.true))
 
 pub values-init : goal.values-init
 values-init c =
@@ -40,8 +44,8 @@ values-init c =
     let corner : to_z w64 (of_z w64 c.corner_value-corner.result) ≡ c.corner_value-corner.result = to_z-of_z w64 _ (record { sfits = c.corner_value-corner.type_inv }) in
     record {
       value =
-          repeated_none (λ i. value_step (frame_of c.args.layout c.args.parent.now) (c.args.columns.start + i) c.args.y) (progress c.args.values.now c.args.decoder.now)
-          ∙ ap (λ (r : Reading). let x : Result Progress Cause = Ok (progress c.args.values.now r) in x) (sym here.stands);
+          repeated_none (λ i. value_step (frame_of c.args.layout c.args.parent.now) (c.args.columns.start + i) c.args.y) c.args.values.now c.args.decoder.now
+          ∙ ap (λ (r : Reading). let x : Result (List ℤ × Reading) Cause = Ok (c.args.values.now, r) in x) (sym here.stands);
       runs = here.runs;
       len = refl;
       few_doublings = omega (arith, ap (λ (r : Reading). r.at.doublings) here.stands);
@@ -60,7 +64,7 @@ values-preserved c =
     let above : to_z w64 (of_z w64 c.above_value-above.result) ≡ c.above_value-above.result = to_z-of_z w64 _ (record { sfits = c.above_value-above.type_inv }) in
     record {
       value =
-          repeated_next (λ i. value_step (frame_of c.args.layout c.args.parent.now) (c.args.columns.start + i) c.args.y) c.values.i (progress c.args.values.now c.args.decoder.now) (progress c.values.values (reading_at c.values.decoder c.values.registers)) _ c.values.invariant.value c.in-Ok.ensures.value;
+          repeated_next (λ i. value_step (frame_of c.args.layout c.args.parent.now) (c.args.columns.start + i) c.args.y) c.values.i c.args.values.now c.args.decoder.now c.values.values (reading_at c.values.decoder c.values.registers) _ c.values.invariant.value c.in-Ok.ensures.value;
       runs = c.in-Ok.ensures.runs;
       len = c.read_at.ensures.len ∙ c.values.invariant.len;
       few_doublings = omega (arith, c.values.invariant.few_doublings, c.in-Ok.ensures.few_doublings);
@@ -70,7 +74,7 @@ values-preserved c =
 
 pub returns-in-Err-clause-value : goal.returns-in-Err-clause-value
 returns-in-Err-clause-value c =
-    repeated_unread (λ i. value_step (frame_of c.args.layout c.args.parent.now) (c.args.columns.start + i) c.args.y) c.values.i c.args.columns.length (progress c.args.values.now c.args.decoder.now) (progress c.values.values (reading_at c.values.decoder c.values.registers)) c.in-Err.e (omega arith) c.values.invariant.value c.in-Err.ensures.refused
+    repeated_unread ⊤ (λ i. value_step (frame_of c.args.layout c.args.parent.now) (c.args.columns.start + i) c.args.y) c.values.i c.args.columns.length c.args.values.now c.args.decoder.now c.values.values (reading_at c.values.decoder c.values.registers) c.in-Err.e (omega arith) c.values.invariant.value c.in-Err.ensures.refused
 
 pub returns-in-Err-clause-few_doublings : goal.returns-in-Err-clause-few_doublings
 returns-in-Err-clause-few_doublings c = omega (arith, c.values.invariant.few_doublings, c.in-Err.ensures.few_then)
@@ -78,7 +82,7 @@ returns-in-Err-clause-few_doublings c = omega (arith, c.values.invariant.few_dou
 pub returns-clause-value : goal.returns-clause-value
 returns-clause-value c =
     let all : c.values.i ≡ c.args.columns.length = omega (arith, c.values.auto.i-end) in
-    let P : ℕ → Type 0 = λ n. row_step (frame_of c.args.layout c.args.parent.now) c.args.y c.args.columns.start n (progress c.args.values.now c.args.decoder.now) ≡ Ok (progress c.values.values c.resume.new.self) in
+    let P : ℕ → Type 0 = λ n. read (row_step (frame_of c.args.layout c.args.parent.now) c.args.y c.args.columns.start n c.args.values.now) c.args.decoder.now ≡ Ok (c.values.values, c.resume.new.self) in
     subst P all (rw c.resume.ensures c.values.invariant.value)
 
 pub returns-clause-few_doublings : goal.returns-clause-few_doublings

@@ -1,15 +1,15 @@
 use Rattle.std.proofs.Common.{◌+◌, ◌∙◌, arith, refl}
 use Rattle.std.proofs.lemmas.Result.{err_from_is_err_and}
-use Rattle.dirac_coeffs.specs.BandRead.{progress, value_step}
+use Rattle.dirac_arith.proofs.CodedValues.{repeated_none, repeated_next, repeated_stops}
+use Rattle.dirac_coeffs.specs.BandRead.{value_step}
 use Rattle.dirac_coeffs.specs.Decisions.{frame_of}
 use Rattle.dirac_coeffs.specs.Lent.{numbers_in}
-use Rattle.dirac_coeffs.proofs.Repeating.{repeated_none, repeated_next, repeated_stops}
 use Rattle.dirac_coeffs.proofs.wide_values.read_wide_row.Goals as goal
 
 pub values-init : goal.values-init
 values-init c =
     record {
-      value = repeated_none (λ i. value_step (frame_of c.args.layout (numbers_in c.args.parent)) (c.args.columns.start + i) c.args.y) (progress c.args.values.now c.args.decoder.now);
+      value = repeated_none (λ i. value_step (frame_of c.args.layout (numbers_in c.args.parent)) (c.args.columns.start + i) c.args.y) c.args.values.now c.args.decoder.now;
       len = refl;
       few_doublings = omega arith;
     }
@@ -18,7 +18,7 @@ pub values-preserved : goal.values-preserved
 values-preserved c =
     record {
       value =
-          repeated_next (λ i. value_step (frame_of c.args.layout (numbers_in c.args.parent)) (c.args.columns.start + i) c.args.y) c.values.i (progress c.args.values.now c.args.decoder.now) (progress c.values.values c.values.decoder) _ c.values.invariant.value c.in_ok-read_wide_value.ensures.value;
+          repeated_next (λ i. value_step (frame_of c.args.layout (numbers_in c.args.parent)) (c.args.columns.start + i) c.args.y) c.values.i c.args.values.now c.args.decoder.now c.values.values c.values.decoder _ c.values.invariant.value c.in_ok-read_wide_value.ensures.value;
       len = c.read_wide_value.ensures.len ∙ c.values.invariant.len;
       few_doublings = omega (arith, c.read_wide_value.ensures.few_doublings, c.values.invariant.few_doublings);
     }
@@ -27,4 +27,4 @@ pub returns-in_err-read_wide_value-clause-value : goal.returns-in_err-read_wide_
 returns-in_err-read_wide_value-clause-value c =
     let p = err_from_is_err_and c.from_residual.result c.from_residual.ensures.1 in
     rw (p.1, p.2)
-    (repeated_stops (λ i. value_step (frame_of c.args.layout (numbers_in c.args.parent)) (c.args.columns.start + i) c.args.y) c.values.i c.args.columns.length (progress c.args.values.now c.args.decoder.now) (progress c.values.values c.values.decoder) _ (omega arith) c.values.invariant.value c.in_err-read_wide_value.ensures.value)
+    (repeated_stops (λ i. value_step (frame_of c.args.layout (numbers_in c.args.parent)) (c.args.columns.start + i) c.args.y) c.values.i c.args.columns.length c.args.values.now c.args.decoder.now c.values.values c.values.decoder _ (omega arith) c.values.invariant.value c.in_err-read_wide_value.ensures.value)
