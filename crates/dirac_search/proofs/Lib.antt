@@ -3,6 +3,7 @@ pub mod Bounds
 mod Choosing
 mod Differences
 mod Examples
+mod Fewest
 mod Gathered
 mod InLanes
 pub mod Keeping

@@ -2,7 +2,7 @@ ghost use Rattle.std.specs.Prelude.{◌≡◌, ◌*◌, ◌^◌, ◌<◌, ◌≤
 ghost use Rattle.std.specs.List.{All};
 ghost use Rattle.dirac_costs.specs.Least.{first_least};
 ghost use Rattle.dirac_search.specs.Candidates.{HasFormer, IsWithinReach, no_motion};
-ghost use Rattle.dirac_search.specs.Costs.{HasLevel, HasPrecision, IsBlockWindow, IsBelow, window_cost};
+ghost use Rattle.dirac_search.specs.Costs.{HasLevel, HasPrecision, IsBlockWindow, IsBelow, cost_of, window_cost};
 ghost use Rattle.dirac_search.specs.Fields.{IsSearch, IsStage, best_of};
 ghost use Rattle.dirac_search.specs.Given.{given, lent};
 ghost use Rattle.dirac_search.specs.Staged.{best_at};
@@ -53,23 +53,37 @@ fn better_cost(
     cost_below(search, stage, bias, window, v, least)
 }
 
-/// The first of least cost, of the vector of no motion and these behind it.
+/// The fewest bits of a vector with motion: four of one component and one of the other.
+const FEWEST_BITS_OF_MOTION: u32 = 5;
+
+/// What the bits of a vector with motion cost at least.
+#[inline(always)]
+fn least_price_of_motion(bias: u32) -> u32
+    requires at_most_255 { bias ≤ 255 }
+    ensures { result ≡ 5 * bias }
+{
+    FEWEST_BITS_OF_MOTION * bias
+}
+
+/// The first of least cost, of the vector of no motion and these behind it; `price` is what that of no motion costs.
 fn least_of(
     search: &Search<'_>,
     stage: Stage,
     bias: u32,
     window: Window,
     list: &CandidateList,
+    price: u32,
 ) -> Vector
     requires levels { HasLevel (given search.now) stage }
     requires precision { HasPrecision stage }
     requires at_most_255 { bias ≤ 255 }
     requires window { IsBlockWindow window }
     requires list { All (IsWithinReach (2 ^ 24)) list.now }
+    requires price { price ≡ window_cost (given search.now) bias stage window no_motion }
     ensures { result ≡ first_least (window_cost (given search.now) bias stage window) no_motion list.now }
 {
     let mut found = Vector { x: 0, y: 0 };
-    let mut least = whole_cost(search, stage, bias, window, found);
+    let mut least = price;
     for k in 0..list.len() {
         let v = list.at(k);
         match better_cost(search, stage, bias, window, v, found, least) {
@@ -100,19 +114,23 @@ pub fn new_room(alloc: Global) -> Room {
     }
 }
 
-/// The first of least cost of the candidates that may be taken for block `i` of row `j` at a stage.
-pub(crate) fn best_in(
+/// The first of least cost of the candidates that may be taken for block `i` of row `j` at a stage; `price` is what the
+/// vector of no motion costs.
+fn best_in(
     staged: &Staged<'_, '_>,
     before: Option<&Field>,
     i: u32,
     j: u32,
     room: &mut Room,
+    price: u32,
 ) -> Result<Vector, NoMemory>
     requires search { IsSearch (given staged.now.search.now) staged.now.settings.now }
     requires stage { IsStage staged.now.settings.now staged.now.stage }
     requires former { HasFormer staged.now.stage (lent before) i j }
     requires column { i < 4 * staged.now.search.now.across }
     requires row { j < 4 * staged.now.search.now.down }
+    requires price { price ≡ cost_of (given staged.now.search.now) staged.now.settings.now.bias staged.now.stage i j
+        no_motion }
     ensures { IfOk result (λ v. v ≡ best_at staged.now (lent before.entry) i j) }
 {
     let Staged {
@@ -132,11 +150,42 @@ pub(crate) fn best_in(
     )?;
     let window = window(search, stage, i, j);
     if settings.alike == 0 {
-        return Ok(least_of(search, stage, settings.bias, window, &room.list));
+        return Ok(least_of(search, stage, settings.bias, window, &room.list, price));
     }
     room.kept.clear();
     push_kept(staged, i, j, &room.list, &mut room.kept)?;
-    Ok(least_of(search, stage, settings.bias, window, &room.kept))
+    Ok(least_of(search, stage, settings.bias, window, &room.kept, price))
+}
+
+/// The first of least cost of the candidates that may be taken for block `i` of row `j` at a stage.
+pub(crate) fn best_or_still(
+    staged: &Staged<'_, '_>,
+    before: Option<&Field>,
+    i: u32,
+    j: u32,
+    room: &mut Room,
+) -> Result<Vector, NoMemory>
+    requires search { IsSearch (given staged.now.search.now) staged.now.settings.now }
+    requires stage { IsStage staged.now.settings.now staged.now.stage }
+    requires former { HasFormer staged.now.stage (lent before) i j }
+    requires column { i < 4 * staged.now.search.now.across }
+    requires row { j < 4 * staged.now.search.now.down }
+    ensures { IfOk result (λ v. v ≡ best_at staged.now (lent before.entry) i j) }
+{
+    let Staged {
+        search,
+        stage,
+        settings,
+    } = *staged;
+    let window = window(search, stage, i, j);
+    let still = Vector { x: 0, y: 0 };
+    let price = whole_cost(search, stage, settings.bias, window, still);
+    if price <= least_price_of_motion(settings.bias) {
+        // No other vector costs less: its bits alone cost as much.
+        Ok(still)
+    } else {
+        best_in(staged, before, i, j, room, price)
+    }
 }
 
 /// The first of least cost of the candidates that may be taken for block `i` of row `j` at a stage: of all, and where
@@ -164,5 +213,5 @@ pub fn best(
         stage,
         settings,
     };
-    best_in(&staged, before, i, j, &mut room)
+    best_or_still(&staged, before, i, j, &mut room)
 }

@@ -10,7 +10,7 @@ ghost use Rattle.dirac_search.specs.Given.{given, lent};
 ghost use Rattle.dirac_search.specs.Staged.{IsStaged, best_at};
 
 use crate::field::Field;
-use crate::least::{Room, best_in, new_room};
+use crate::least::{Room, best_or_still, new_room};
 use crate::stage::{Search, Stage, Staged};
 use dirac_common::{NoMemory, RowGate, Vector};
 use dirac_rows::map_rows;
@@ -33,7 +33,7 @@ fn push_block_row(
         ++ row_values (4 * staged.now.search.now.across) (best_at staged.now (lent before.entry)) j) }
 {
     for i in 0..4 * staged.search.across {
-        vectors.push(best_in(staged, before, i, j, room)?)?;
+        vectors.push(best_or_still(staged, before, i, j, room)?)?;
     }
     Ok(())
 }

@@ -35,3 +35,8 @@ returns c =
     ∙ ap (first_least (cost_of g s.bias st c.args.i c.args.j) no_motion)
     (c.in_ok-push_kept.ensures.value ∙ sym (kept_passing g s st c.args.i c.args.j list (λ e. absurd (omega (arith, e, c.if-settings-eq0.false)))))
     ∙ kept_chooses g s st c.args.i c.args.j list further c.in_ok-push_choice.ensures.chooses_as_all (cost_of g s.bias st c.args.i c.args.j)
+
+pub least_of-requires-clause-price : goal.least_of-requires-clause-price
+least_of-requires-clause-price c =
+    c.requires.price
+    ∙ ap (λ (w : Window). window_cost (given c.args.staged.now.search.now) c.args.staged.now.settings.now.bias c.args.staged.now.stage w no_motion) (sym c.window-window.ensures.value)
