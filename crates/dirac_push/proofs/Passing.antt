@@ -118,7 +118,7 @@ step_passes (Some next.Stopped) old new gives before none there same = tt
 -- an answer, behind turns that gave none
 pub gives_behind : (answer : Answer) (old mid new : Pushed) → Passes old mid [] [] → mid.decoder.given ≡ old.decoder.given → (mid.decoder.stream_end ≡ stream_end.Stopped → ⊥) → PushGives answer mid new → PushGives answer old new
 gives_behind answers.Shown old mid new first same moving gives =
-    (gives.0, gives.1, passes_on old mid new [] [] [] (gives.0 ∷ []) first gives.2, gives.3 ∙ ap (λ n. n + 1) same)
+    (gives.0, gives.1, passes_on old mid new [] [] [] (gives.0 ∷ []) first gives.2, gives.3 ∙ ap (λ n. n + 1) same, gives.4)
 gives_behind answers.Needs old mid new first same moving gives =
     (passes_on old mid new [] [] [] [] first gives.0, gives.1 ∙ same, gives.2, gives.3)
 gives_behind answers.End old mid new first same moving gives =
@@ -151,6 +151,10 @@ still_going a mid new still going ne =
     let same = still ne in
     absurd (ne (sym (ap (λ (x : Pushed). x.decoder.stream_end) same) ∙ going))
 
+-- a decoder that goes on hasn't stopped
+going_not_stopped : (m : StreamEnd) → m ≡ stream_end.Going → m ≡ stream_end.Stopped → ⊥
+going_not_stopped m going stopped = cc
+
 -- what a step gives, as a turn
 abbrev pub Steps : Option Next → Pushed → Pushed → Type 0
 Steps answer old new =
@@ -162,9 +166,9 @@ pub turn_none : (old new : Pushed) → Steps None old new → new.shown ≡ None
 turn_none old new steps shown =
     (step_passes None old new steps.0 steps.1 steps.2 steps.3 steps.4, steps.0.3, shown, steps.0.1, steps.0.2, steps.0.4)
 
-pub turn_shown : (old new : Pushed) (p : Picture) → Steps (Some (next.Shown p)) old new → new.shown ≡ Some p → TurnGives (Some answers.Shown) old new
-turn_shown old new p steps shown =
-    (p, shown, step_passes (Some (next.Shown p)) old new steps.0 steps.1 steps.2 steps.3 steps.4, steps.0.1)
+pub turn_shown : (old new : Pushed) (p : Picture) → Steps (Some (next.Shown p)) old new → old.decoder.stream_end ≡ stream_end.Going → new.shown ≡ Some p → TurnGives (Some answers.Shown) old new
+turn_shown old new p steps going shown =
+    (p, shown, step_passes (Some (next.Shown p)) old new steps.0 steps.1 steps.2 steps.3 steps.4, steps.0.1, λ stopped. going_not_stopped old.decoder.stream_end going (steps.0.2 stopped))
 
 pub turn_end : (old new : Pushed) → Steps (Some next.End) old new → new.shown ≡ None → TurnGives (Some answers.End) old new
 turn_end old new steps shown =
@@ -175,9 +179,10 @@ turn_fault old new fault steps shown =
     (step_passes (Some (next.Fault fault)) old new steps.0 steps.1 steps.2 steps.3 steps.4, steps.0.3, shown, steps.0.1, steps.0.2)
 
 -- the turns that take no unit: a due picture leaves, what was met is answered, or more bytes are needed
-pub turn_due : (old new : Pushed) (p : Picture) → DueGives (Some p) old.decoder new.decoder → new.there ≡ old.there → new.is_finished ≡ old.is_finished → new.shown ≡ Some p → TurnGives (Some answers.Shown) old new
-turn_due old new p due there finished shown =
-    (p, shown, passes_due old new p due there finished, ap (λ (d : Decoding). d.given) due.1)
+pub turn_due : (old new : Pushed) (p : Picture) → DueGives (Some p) old.decoder new.decoder → new.there ≡ old.there → new.is_finished ≡ old.is_finished → (old.decoder.stream_end ≡ stream_end.Stopped → ⊥) → new.shown ≡ Some p
+    → TurnGives (Some answers.Shown) old new
+turn_due old new p due there finished moving shown =
+    (p, shown, passes_due old new p due there finished, ap (λ (d : Decoding). d.given) due.1, λ stopped. moving (sym (ap (λ (d : Decoding). d.stream_end) due.1) ∙ stopped))
 
 pub turn_ended : (old new : Pushed) → DueGives None old.decoder new.decoder → new.there ≡ old.there → new.is_finished ≡ old.is_finished → new.shown ≡ None → new.decoder.stream_end ≡ stream_end.Ended → TurnGives (Some answers.End) old new
 turn_ended old new due there finished shown ended =

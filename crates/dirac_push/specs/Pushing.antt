@@ -54,7 +54,7 @@ pub record NeedsMore (p : Pushed) : Type 0 where
 abbrev pub PushGives : Answer → Pushed → Pushed → Type 0
 PushGives answers.Shown old new =
     (p : Picture) × (new.shown ≡ Some p) × Passes old new [] (p ∷ [])
-    × (new.decoder.given ≡ old.decoder.given + 1)
+    × (new.decoder.given ≡ old.decoder.given + 1) × (new.decoder.stream_end ≡ stream_end.Stopped → ⊥)
 PushGives answers.Needs old new =
     Passes old new [] [] × (new.decoder.given ≡ old.decoder.given) × (new.shown ≡ None) × NeedsMore new
 PushGives answers.End old new =

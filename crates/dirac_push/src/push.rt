@@ -1,4 +1,4 @@
-ghost use Rattle.std.specs.Prelude.{◌≡◌, ◌<◌, ◌^◌, ◌↔◌, [], ◌++◌, true, false, IfErr, IfOk};
+ghost use Rattle.std.specs.Prelude.{◌≡◌, ◌<◌, ◌^◌, ◌↔◌, [], ◌++◌, ◌+◌, true, false, length, IfErr, IfOk};
 ghost use Rattle.std.specs.Prelude.{IfSome, None, Some, Err, Option};
 ghost use Rattle.std.specs.Prelude.{option_map};
 ghost use Rattle.std.specs.Borrow.{Bor};
@@ -63,6 +63,7 @@ impl PushDecoder {
         ensures sent { IfOk result (λ _. Passes self.old self.new bytes.now []) }
         ensures added { IfOk result (λ _. self.new
             ≡ record self.old { there = self.old.there ++ bytes.now; room = self.new.room }) }
+        ensures room { IfOk result (λ _. self.new.room + length bytes.now ≡ self.old.room) }
         ensures unsent { IfErr result (λ _. self.new ≡ self.old) }
         ensures exactly_when_finished { (result ≡ Err Unsent.Finished) ↔ (self.old.is_finished ≡ true) }
     {

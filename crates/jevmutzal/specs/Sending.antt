@@ -1,16 +1,18 @@
 -- What C is told of bytes sent and of the names of causes.
-use Rattle.std.specs.Prelude.{◌≡◌, ℕ, ℤ, ◌<◌, ◌++◌, ◌⊎◌, true, List, [], length, drop}
+use Rattle.std.specs.Prelude.{◌≡◌, ℕ, ◌+◌, ℤ, ◌<◌, ◌++◌, ◌⊎◌, false, true, List, [], length, drop}
 use Rattle.dirac_common.specs.declared.faults.Cause.{Cause}
 use Rattle.dirac_types.specs.Causes.{name_of}
 use Rattle.dirac_push.specs.Pushing.{Passes, Pushed}
 use Rattle.jevmutzal.specs.declared.codes.TheConstants.{FINISHED, NO_MEMORY, OK}
 use Rattle.jevmutzal.specs.Numbers.{number_of_cause}
 
--- a number tells whether the bytes were added; where they weren't, nothing changed
+-- a number tells whether the bytes were added, and nothing but them, as long as it wasn't said that none follows; where
+-- they weren't, nothing changed
 abbrev pub TellsSent : ℤ → List ℕ → Pushed → Pushed → Type 0
 TellsSent code bytes old new =
-    (code ≡ OK) × Passes old new bytes [] × (new.there ≡ old.there ++ bytes)
-    ⊎ (code ≡ NO_MEMORY) × (new ≡ old)
+    (code ≡ OK) × (old.is_finished ≡ false) × Passes old new bytes []
+    × (new ≡ record old { there = old.there ++ bytes; room = new.room }) × (new.room + length bytes ≡ old.room)
+    ⊎ (code ≡ NO_MEMORY) × (old.is_finished ≡ false) × (new ≡ old)
     ⊎ (code ≡ FINISHED) × (old.is_finished ≡ true) × (new ≡ old)
 
 -- the name of the cause of that number stands at the front of the buffer, and the answer is its length; or nothing was

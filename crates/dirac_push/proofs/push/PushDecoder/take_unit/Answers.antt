@@ -1,4 +1,5 @@
 use Rattle.std.proofs.Common.{◌≡◌, ◌∙◌, ap, false, refl, subst, sym, None, Some}
+use Rattle.dirac_units.specs.declared.unit.StreamEnd.TheVariants as stream_end
 use Rattle.dirac_decode.specs.declared.answers.Next.{Next}
 use Rattle.dirac_decode.specs.Stepping.{IsThere, IsWholeUnit, StepGives, StepGivesBefore}
 use Rattle.dirac_push.specs.declared.answer.Answer.TheVariants as answers
@@ -19,8 +20,9 @@ returns-in-Some-Shown-clause-gives c =
     let old : Pushed = record { decoder = c.self.inside.decoder; there = c.self.inside.queue.bytes; room = c.self.inside.queue.room; is_finished = c.self.inside.is_finished; shown = c.self.inside.shown; format = c.self.inside.format } in
     let new : Pushed = record { decoder = c.step-step.new.self; there = c.step-step.new.source.bytes; room = c.step-step.new.source.room; is_finished = c.self.inside.is_finished; shown = Some c.in-Some-Shown.picture; format = c.latest-self-inside.result } in
     let there = subst (λ (x : Pushed). x.is_finished ≡ false → IsWholeUnit x.there) (sym c.self.view_is) c.requires.there in
+    let going = subst (λ (x : Pushed). x.decoder.stream_end ≡ stream_end.Going) (sym c.self.view_is) c.requires.going in
     subst (λ (x : Pushed). TurnGives (Some answers.Shown) x new) c.self.view_is
-    (turn_shown old new c.in-Some-Shown.picture (subst (λ (n : Next). StepGives (Some n) old.decoder new.decoder (Some old.there) (Some new.there)) c.in-Some-Shown.field-0-is c.in-Some-Shown.ensures.gives, subst (λ (n : Next). IsThere old.decoder.units (Some old.there) → StepGivesBefore (Some n) old.decoder new.decoder (Some old.there) (Some new.there)) c.in-Some-Shown.field-0-is c.in-Some-Shown.ensures.before_more, c.self.invariant.0, there, refl) (refl))
+    (turn_shown old new c.in-Some-Shown.picture (subst (λ (n : Next). StepGives (Some n) old.decoder new.decoder (Some old.there) (Some new.there)) c.in-Some-Shown.field-0-is c.in-Some-Shown.ensures.gives, subst (λ (n : Next). IsThere old.decoder.units (Some old.there) → StepGivesBefore (Some n) old.decoder new.decoder (Some old.there) (Some new.there)) c.in-Some-Shown.field-0-is c.in-Some-Shown.ensures.before_more, c.self.invariant.0, there, refl) going (refl))
 
 pub returns-in-Some-End-clause-gives : goal.returns-in-Some-End-clause-gives
 returns-in-Some-End-clause-gives c =
