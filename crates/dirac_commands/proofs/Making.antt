@@ -1,5 +1,6 @@
--- The encoding of generated pictures: they are whole, and how their settings are checked.
-use Rattle.std.proofs.Common.{if◌then◌else◌, ◌≡◌, ℕ, ◌*◌, ◌/◌, ◌%◌, ◌<◌, ◌≤◌, ◌==◌, Bool, true, false, List, [], ◌++◌, length, refl, sym, ap, ap₂, ◌∙◌, subst, Option, Some, None, ◌&&◌, arith}
+-- The encoding of generated pictures: they are whole, and what of it is written.
+use Rattle.std.proofs.Common.{if◌then◌else◌, ◌≡◌, ℕ, ◌*◌, ◌/◌, ◌%◌, ◌<◌, ◌≤◌, ◌==◌, Bool, true, false, List, [], ◌++◌}
+use Rattle.std.proofs.Common.{length, refl, sym, ap, ap₂, ◌∙◌, subst, Option, Some, None, ◌&&◌, arith}
 use Rattle.std.proofs.lemmas.Bool.{le-leb, lt-leb, eq-eqb}
 use Rattle.std.proofs.KnownBytes.{Appends-nil, Keeps-refl}
 use Rattle.std.proofs.Math.Nat.{mul-mod_left}
@@ -22,17 +23,9 @@ use Rattle.dirac_encode_laws.specs.Coding.{Made}
 use Rattle.dirac_encode_laws.specs.Encoding.{Encoding, behind, encoding, encoding_by, encoding_under}
 use Rattle.dirac_generator.specs.Generated.{chroma_across, chroma_down, generated_from, picture_count}
 use Rattle.dirac_generator.proofs.Lengths.{pictures_length}
-use Rattle.dirac_commands.specs.declared.ended.Ended.{Ended}
-use Rattle.dirac_commands.specs.declared.ended.Ended.TheVariants as ended
+use Rattle.dirac_command_line.specs.declared.ended.Ended.{Ended}
+use Rattle.dirac_command_line.specs.declared.ended.Ended.TheVariants as ended
 use Rattle.dirac_commands.specs.Making.{AnswersMake, AnswersUnmade, line_with, made_line, made_text, making}
-
--- the number of pictures, which is checked behind the settings
-pub count_in : (count : ℕ) → count ≤ 1000 → is_in_range (setting name.Count count 0 1000 1) ≡ true
-count_in count few =
-    ap₂ (λ (a b : Bool). a && b) (ap₂ (λ (a b : Bool). a && b) (le-leb 0 count (omega arith)) (le-leb count 1000 few)) (eq-eqb (count % 1) 0 (omega arith))
-
-pub count_out : (count : ℕ) → 1000 < count → is_in_range (setting name.Count count 0 1000 1) ≡ false
-count_out count many = ap₂ (λ (a b : Bool). (a && b) && (count % 1 == 0)) (le-leb 0 count (omega arith)) (lt-leb count 1000 many)
 
 -- chroma's sizes are those of the sequence header
 across_of : (a b : Bool) → ratio_across (if a then C444 else if b then C422 else C420) ≡ (if a then 1 else 2)
@@ -62,11 +55,14 @@ none_left t count is =
 behind_none : (n left : ℕ) → left ≡ 0 → behind left ≡ encoded.PartialPicture n → ⊥
 behind_none n left none is = let done : behind left ≡ encoded.Done = ap behind none in cc
 
-ending_whole : (enough : Bool) (n left : ℕ) → left ≡ 0 → (if enough then behind left else encoded.TooManyPictures) ≡ encoded.PartialPicture n → ⊥
+ending_whole : (enough : Bool) (n left : ℕ) → left ≡ 0
+    → (if enough then behind left else encoded.TooManyPictures) ≡ encoded.PartialPicture n → ⊥
 ending_whole true n left none is = behind_none n left none is
 ending_whole false n left none is = cc
 
-by_first : (t : Settings) (answer : Encoded) (pictures : List Made) (first : Option Made) (n : ℕ) → (answer ≡ encoded.PartialPicture n → ⊥) → (encoding_by t answer pictures first).answer ≡ encoded.PartialPicture n → ⊥
+by_first : (t : Settings) (answer : Encoded) (pictures : List Made) (first : Option Made) (n : ℕ)
+    → (answer ≡ encoded.PartialPicture n → ⊥) → (encoding_by t answer pictures first).answer ≡ encoded.PartialPicture n
+    → ⊥
 by_first t answer pictures None n never is = never is
 by_first t answer pictures (Some p) n never is = cc
 
@@ -76,10 +72,12 @@ never_partial t count n accepted is =
     by_first t _ _ _ n (ending_whole _ n (left_over t (generated_from t count 0)) (none_left t count accepted)) is
 
 -- what came out in memory, from nothing on
-pub came_out : (t : Settings) (count : ℕ) (part : Encoding → List ℕ) (held old new : List ℕ) → held ≡ generated_from t count 0 → old ≡ [] → new ≡ old ++ part (encoding t held) → new ≡ part (making t count)
+pub came_out : (t : Settings) (count : ℕ) (part : Encoding → List ℕ) (held old new : List ℕ)
+    → held ≡ generated_from t count 0 → old ≡ [] → new ≡ old ++ part (encoding t held) → new ≡ part (making t count)
 came_out t count part held old new is none grown = grown ∙ ap₂ (λ (o h : List ℕ). o ++ part (encoding t h)) none is
 
-pub whole_raw : (t : Settings) (count size : ℕ) → size ≡ picture_count t → count * size ≡ length (generated_from t count 0)
+pub whole_raw : (t : Settings) (count size : ℕ) → size ≡ picture_count t
+    → count * size ≡ length (generated_from t count 0)
 whole_raw t count size is = ap (λ (k : ℕ). count * k) is ∙ sym (pictures_length t count 0)
 
 pub same_line : (count s s' r r' e e' : ℕ) → s ≡ s' → r ≡ r' → e ≡ e' → line_with count s r e ≡ line_with count s' r' e'
@@ -87,10 +85,12 @@ same_line count s s' r r' e e' stream raw exact =
     ap (λ (k : ℕ). line_with count k r e) stream ∙ ap₂ (λ (k j : ℕ). line_with count s' k j) raw exact
 
 -- where there is no line, nothing is written
-pub nothing_made : (why : Ended) (t : Settings) (count : ℕ) (out : Option (List ℕ)) → AnswersUnmade why t count → AnswersMake why t count out out
+pub nothing_made : (why : Ended) (t : Settings) (count : ℕ) (out : Option (List ℕ)) → AnswersUnmade why t count
+    → AnswersMake why t count out out
 nothing_made (ended.UnitTooLong number) t count out is = (is, Keeps-refl out)
 nothing_made ended.TooManyPictures t count out is = (is, Keeps-refl out)
-nothing_made ended.NoMemory t count out is = ([], made_text (making t count).answer (made_line t count), refl, Appends-nil out)
+nothing_made ended.NoMemory t count out is =
+    ([], made_text (making t count).answer (made_line t count), refl, Appends-nil out)
 nothing_made why t count out is = absurd is
 
 pub no_write_fault : (why : Ended) (t : Settings) (count : ℕ) → AnswersUnmade why t count → why ≡ ended.WriteFault → ⊥

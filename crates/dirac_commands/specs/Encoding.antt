@@ -4,8 +4,8 @@ use Rattle.dirac_types.specs.declared.settings.Settings.{Settings}
 use Rattle.dirac_encode_laws.specs.declared.answers.Encoded.{Encoded}
 use Rattle.dirac_encode_laws.specs.declared.answers.Encoded.TheVariants as encoded
 use Rattle.dirac_encode_laws.specs.Encoding.{Encoding, IsRecovered, WritesAll, WritesFront, encoding}
-use Rattle.dirac_commands.specs.declared.ended.Ended.{Ended}
-use Rattle.dirac_commands.specs.declared.ended.Ended.TheVariants as ended
+use Rattle.dirac_command_line.specs.declared.ended.Ended.{Ended}
+use Rattle.dirac_command_line.specs.declared.ended.Ended.TheVariants as ended
 
 -- the answer of a run whose encoding ends so
 abbrev pub ended_of : Encoded → Ended

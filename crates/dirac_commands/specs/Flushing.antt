@@ -1,10 +1,10 @@
 -- Runs behind which the writers are flushed.
 use Rattle.std.specs.Prelude.{◌≡◌, Bool, Result}
 use Rattle.std.specs.Io.KnownBytes.{Keeps}
-use Rattle.dirac_commands.specs.declared.ended.Ended.{Ended}
-use Rattle.dirac_commands.specs.declared.words.Command.{Command}
-use Rattle.dirac_commands.specs.declared.words.WordsStop.{WordsStop}
-use Rattle.dirac_commands.specs.Ended.{after_flushes}
+use Rattle.dirac_command_line.specs.declared.ended.Ended.{Ended}
+use Rattle.dirac_command_line.specs.declared.words.Command.{Command}
+use Rattle.dirac_command_line.specs.declared.words.WordsStop.{WordsStop}
+use Rattle.dirac_command_line.specs.Ended.{after_flushes}
 use Rattle.dirac_commands.specs.Running.{Held, RunsTo}
 
 -- a run left this, and what came behind it kept what both sinks held; the answer is the run's, but where the run is

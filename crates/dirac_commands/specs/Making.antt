@@ -1,22 +1,15 @@
 -- What `make` answers and writes.
-use Rattle.std.specs.Prelude.{◌≡◌, ℕ, List, [], ◌∷◌, ◌++◌, length, codes, decimal, Option, ⊤}
+use Rattle.std.specs.Prelude.{◌≡◌, ℕ, List, [], ◌++◌, length, codes, decimal, Option, ⊤}
 use Rattle.std.specs.Io.KnownBytes.{Appends, Keeps}
 use Rattle.dirac_io.specs.Writing.{AppendsFront}
-use Rattle.dirac_types.specs.declared.settings.BadSetting.{BadSetting}
-use Rattle.dirac_types.specs.declared.settings.Name.TheVariants as name
 use Rattle.dirac_types.specs.declared.settings.Settings.{Settings}
-use Rattle.dirac_types.specs.Settings.{first_bad, setting, table}
 use Rattle.dirac_decode.specs.Raw.{raws}
 use Rattle.dirac_encode_laws.specs.declared.answers.Encoded.{Encoded}
 use Rattle.dirac_encode_laws.specs.declared.answers.Encoded.TheVariants as encoded
 use Rattle.dirac_encode_laws.specs.Encoding.{Encoding, encoding}
 use Rattle.dirac_generator.specs.Generated.{exact_from, generated_from}
-use Rattle.dirac_commands.specs.declared.ended.Ended.{Ended}
-use Rattle.dirac_commands.specs.declared.ended.Ended.TheVariants as ended
-
--- the first setting that is out of its range, and behind all settings the number of pictures, from 0 to 1000
-abbrev pub first_bad_for_make : Settings → ℕ → Option BadSetting
-first_bad_for_make t count = first_bad (table t ++ setting name.Count count 0 1000 1 ∷ [])
+use Rattle.dirac_command_line.specs.declared.ended.Ended.{Ended}
+use Rattle.dirac_command_line.specs.declared.ended.Ended.TheVariants as ended
 
 -- the encoding of the first generated pictures, of that number
 abbrev pub making : Settings → ℕ → Encoding

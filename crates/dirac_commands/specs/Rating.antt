@@ -1,17 +1,10 @@
 -- What `rate` answers and writes.
-use Rattle.std.specs.Prelude.{ℕ, List, [], ◌∷◌, ◌++◌, Option}
-use Rattle.dirac_types.specs.declared.settings.BadSetting.{BadSetting}
-use Rattle.dirac_types.specs.declared.settings.Name.TheVariants as name
+use Rattle.std.specs.Prelude.{ℕ, List, Option}
 use Rattle.dirac_types.specs.declared.settings.Settings.{Settings}
-use Rattle.dirac_types.specs.Settings.{first_bad, setting, table}
 use Rattle.dirac_encode_laws.specs.Encoding.{IsRecoveredUnder, encoding_under}
 use Rattle.dirac_encode_laws.specs.Fit.{fit}
-use Rattle.dirac_commands.specs.declared.ended.Ended.{Ended}
+use Rattle.dirac_command_line.specs.declared.ended.Ended.{Ended}
 use Rattle.dirac_commands.specs.Encoding.{AnswersEncode, EndsStream}
-
--- the first setting that is out of its range, and behind all settings the budget, from 14 to 4,294,967,295
-abbrev pub first_bad_for_rate : Settings → ℕ → Option BadSetting
-first_bad_for_rate t budget = first_bad (table t ++ setting name.Budget budget 14 4294967295 1 ∷ [])
 
 -- the answer, and what both sinks took, are those of the encoding of these bytes in which each picture has the least
 -- index by which its unit fits the budget; a whole stream is decoded to what the side got

@@ -14,22 +14,22 @@ use Rattle.dirac_encode.specs.Alone.{WritesDue, WritesFrontOfRead}
 use Rattle.dirac_choice_laws.specs.Insides.{HaveVectorsInside}
 use Rattle.dirac_choice_laws.specs.Pictures.{AreLeastInters}
 use Rattle.dirac_choice_laws.specs.Workers.{with_workers}
-use Rattle.dirac_commands.specs.declared.ended.Ended.{Ended}
-use Rattle.dirac_commands.specs.declared.ended.Ended.TheVariants as ended
-use Rattle.dirac_commands.specs.declared.words.Command.{Command}
-use Rattle.dirac_commands.specs.declared.words.Command.TheVariants as command
-use Rattle.dirac_commands.specs.declared.words.WordsStop.{WordsStop}
-use Rattle.dirac_commands.specs.declared.words.WordsStop.TheVariants.{Usage}
-use Rattle.dirac_commands.specs.Cutting.{Cuts}
-use Rattle.dirac_commands.specs.Decoding.{IsDecoded, IsDecodeAnswer, TellsFew}
+use Rattle.dirac_command_line.specs.Checks.{bad_workers, first_bad_for_make, first_bad_for_rate}
+use Rattle.dirac_command_line.specs.declared.ended.Ended.{Ended}
+use Rattle.dirac_command_line.specs.declared.ended.Ended.TheVariants as ended
+use Rattle.dirac_command_line.specs.declared.words.Command.{Command}
+use Rattle.dirac_command_line.specs.declared.words.Command.TheVariants as command
+use Rattle.dirac_command_line.specs.declared.words.WordsStop.{WordsStop}
+use Rattle.dirac_command_line.specs.declared.words.WordsStop.TheVariants.{Usage}
+use Rattle.dirac_stream_commands.specs.Cutting.{Cuts}
+use Rattle.dirac_stream_commands.specs.Decoding.{IsDecoded, IsDecodeAnswer, TellsFew}
 use Rattle.dirac_commands.specs.Delivered.{DeliversShown, SideGetsShown}
 use Rattle.dirac_commands.specs.Encoding.{EndsStream, IsEncoded, IsEncodeAnswer}
-use Rattle.dirac_commands.specs.Inside.{IsFaultInside}
-use Rattle.dirac_commands.specs.Joining.{Joins}
-use Rattle.dirac_commands.specs.Listing.{IsListed, IsListAnswer}
-use Rattle.dirac_commands.specs.Making.{AnswersMake, first_bad_for_make, making}
-use Rattle.dirac_commands.specs.Workers.{bad_workers}
-use Rattle.dirac_commands.specs.Rating.{IsRated, first_bad_for_rate}
+use Rattle.dirac_stream_commands.specs.Inside.{IsFaultInside}
+use Rattle.dirac_stream_commands.specs.Joining.{Joins}
+use Rattle.dirac_stream_commands.specs.Listing.{IsListed, IsListAnswer}
+use Rattle.dirac_commands.specs.Making.{AnswersMake, making}
+use Rattle.dirac_commands.specs.Rating.{IsRated}
 
 -- the bytes that the source holds and that the two sinks took, where they tell them
 pub record Held : Type 0 where

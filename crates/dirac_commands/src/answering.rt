@@ -1,18 +1,16 @@
-ghost use Rattle.std.specs.Prelude.{◌≡◌, ◌==◌, ℕ, ◌≤◌, ◌↔◌, IfOk, IsErr, IsSome, Option, Ok, string_bytes};
+ghost use Rattle.std.specs.Prelude.{◌≡◌, ◌==◌, ℕ, ◌≤◌, ◌↔◌, IsErr, IsSome, Option, Ok};
 ghost use Rattle.std.specs.Io.KnownBytes.{Keeps};
 ghost use Rattle.dirac_io.specs.Faults.{Rose, clipped};
 ghost use Rattle.dirac_types.specs.declared.settings.BadSetting.{BadSetting};
 ghost use Rattle.dirac_types.specs.declared.settings.Settings.{Settings};
-ghost use Rattle.dirac_commands.specs.Answering.{Answers, Tells, line_of as line_with};
-ghost use Rattle.dirac_commands.specs.Ended.{status_of, text_of};
-ghost use Rattle.dirac_commands.specs.Words.{command_read};
+ghost use Rattle.dirac_commands.specs.Answering.{Answers};
+ghost use Rattle.dirac_command_line.specs.Ended.{status_of};
+ghost use Rattle.dirac_command_line.specs.Words.{command_read};
 ghost use Rattle.dirac_commands.specs.Running.{bad_setting};
 
-use crate::ended::{Ended, ended_text, status};
 use crate::flushed::run_beside;
-use crate::words::{Command, Words};
-use dirac_common::NoMemory;
-use dirac_io::{ReaderSource, Sink, Took, WriterSink};
+use dirac_command_line::{Command, Ended, Words, status, tell};
+use dirac_io::{ReaderSource, WriterSink};
 use std::alloc::Global;
 use std::io::{Read, Write};
 use std::thread::Threads;
@@ -80,45 +78,4 @@ pub fn answer_beside<R: Threads + Sync, I: Read, O: Write, W: Write, T: Write>(
     let ended = run_beside(rt, alloc, words, input, output, side);
     tell(alloc, texts, &ended);
     status(&ended)
-}
-
-// Writes what is told of an answer. What memory is wanting for, or a write fails at, is lost.
-fn tell<T: Write>(alloc: Global, texts: &mut WriterSink<T>, ended: &Ended)
-    ensures told { Tells (line_with (text_of ended.now))
-        (record { bytes = T.contents texts.old.writer; faults = texts.old.faults })
-        (record { bytes = T.contents texts.new.writer; faults = texts.new.faults }) }
-    ensures count { clipped texts.old.faults ≤ clipped texts.new.faults }
-{
-    match line_of(alloc, ended) {
-        Ok(line) => put_line(texts, line.as_bytes()),
-        Err(NoMemory) => {}
-    }
-}
-
-// The text of an answer and a newline. Nothing, where it has no text.
-fn line_of(alloc: Global, ended: &Ended) -> Result<String, NoMemory>
-    ensures { IfOk result (λ line. string_bytes line ≡ line_with (text_of ended.now)) }
-{
-    let mut line = ended_text(alloc, ended)?;
-    if !line.is_empty() {
-        line.push_str("\n")?;
-    }
-    Ok(line)
-}
-
-// Writes a line, up to the first write that fails.
-fn put_line<T: Write>(texts: &mut WriterSink<T>, line: &[u8])
-    ensures told { Tells line.now
-        (record { bytes = T.contents texts.old.writer; faults = texts.old.faults })
-        (record { bytes = T.contents texts.new.writer; faults = texts.new.faults }) }
-    ensures count { clipped texts.old.faults ≤ clipped texts.new.faults }
-{
-    let mut rest = line;
-    'writing: while !rest.is_empty() {
-        match texts.write(rest) {
-            Took::Bytes(n) => rest = &rest[n..],
-            Took::Failed => return,
-            Took::NoMemory => unreachable!(),
-        }
-    }
 }

@@ -13,10 +13,10 @@ ghost use Rattle.dirac_choice_laws.specs.Workers.{with_workers};
 ghost use Rattle.dirac_commands.specs.Delivered.{SideGetsShown};
 ghost use Rattle.dirac_commands.specs.Encoding.{EndsStream, IsEncoded, IsEncodeAnswer};
 
-use crate::ended::Ended;
 use dirac_choice_laws::{
     coded_vectors_keep_inside, inter_pictures_cost_least, workers_change_nothing,
 };
+use dirac_command_line::Ended;
 use dirac_common::RowGate;
 use dirac_encode::{Encoded, encode_stream};
 use dirac_io::{Sink, Source};

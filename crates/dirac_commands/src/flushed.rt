@@ -3,14 +3,13 @@ ghost use Rattle.std.specs.Io.KnownBytes.{Keeps};
 ghost use Rattle.dirac_io.specs.Faults.{Rose, clipped};
 ghost use Rattle.dirac_types.specs.declared.settings.BadSetting.{BadSetting};
 ghost use Rattle.dirac_types.specs.declared.settings.Settings.{Settings};
-ghost use Rattle.dirac_commands.specs.Cutting.{IfUnwrittenBy};
+ghost use Rattle.dirac_stream_commands.specs.Cutting.{IfUnwrittenBy};
 ghost use Rattle.dirac_commands.specs.Flushing.{RunsAndKeeps};
-ghost use Rattle.dirac_commands.specs.Words.{command_read};
+ghost use Rattle.dirac_command_line.specs.Words.{command_read};
 ghost use Rattle.dirac_commands.specs.Running.{bad_setting};
 
-use crate::ended::{Ended, after_flushes};
 use crate::running::run;
-use crate::words::{Command, Words, WordsStop};
+use dirac_command_line::{Command, Ended, Words, WordsStop, after_flushes};
 use dirac_common::OpenGate;
 use dirac_io::{ReaderSource, Sink, WriterSink};
 use std::alloc::Global;

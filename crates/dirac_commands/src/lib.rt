@@ -3,23 +3,16 @@
 #![tactic(auto)]
 
 mod answering;
-mod cut;
-mod decode;
 mod encode;
-mod ended;
 mod flushed;
-mod join;
-mod line;
-mod list;
 mod make;
-mod options;
-mod points;
 mod rate;
 mod running;
-mod words;
 
 pub use answering::answer_beside;
-pub use ended::{Ended, ended_text, status};
+pub use dirac_command_line::{
+    Command, Ended, Words, WordsStop, ended_text, read_words, recon_path, status,
+    tells_reconstructions,
+};
 pub use flushed::{run_beside, run_on};
 pub use running::run;
-pub use words::{Command, Words, WordsStop, read_words, recon_path, tells_reconstructions};

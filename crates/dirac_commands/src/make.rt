@@ -1,39 +1,20 @@
 ghost use Rattle.std.specs.Prelude.{◌≡◌, ◌≤◌, IfOk, IfErr, OnOk, string_bytes};
 ghost use Rattle.dirac_io.specs.Faults.{Rose};
-ghost use Rattle.dirac_types.specs.Settings.{IsAccepted, verdict};
+ghost use Rattle.dirac_types.specs.Settings.{IsAccepted};
 ghost use Rattle.dirac_encode_laws.specs.declared.answers.Encoded.TheVariants as encoded;
 ghost use Rattle.dirac_commands.specs.Delivered.{DeliversShown};
-ghost use Rattle.dirac_commands.specs.Making.{AnswersMake, AnswersUnmade, first_bad_for_make, line_with, made_line};
+ghost use Rattle.dirac_commands.specs.Making.{AnswersMake, AnswersUnmade, line_with, made_line};
 ghost use Rattle.dirac_commands.specs.Making.{making};
 
-use crate::ended::Ended;
+use dirac_command_line::Ended;
 use dirac_common::{NoMemory, RowGate};
 use dirac_encode::{Encoded, encode_stream};
 use dirac_generator::{Generator, KeptBytes, exact_pictures, picture_length};
 use dirac_io::{Put, Sink, put_all};
 use dirac_plan_laws::plans_can_be_coded;
-use dirac_types::{BadSetting, Name, Settings};
+use dirac_types::Settings;
 use std::alloc::Global;
 use std::thread::Threads;
-
-/// The most pictures that are made.
-const MOST_PICTURES: u32 = 1000;
-
-/// Whether each setting is in its range, and the number of pictures too. An `Err` names the first that isn't.
-pub fn check_make(settings: &Settings, count: u32) -> Result<(), BadSetting>
-    ensures exact { result ≡ verdict (first_bad_for_make settings.now count) }
-    ensures accepted { OnOk result (IsAccepted settings.now) }
-    ensures count { OnOk result (count ≤ 1000) }
-{
-    match settings.check() {
-        Ok(()) if count <= MOST_PICTURES => Ok(()),
-        Ok(()) => Err(BadSetting {
-            name: Name::Count,
-            value: count as u64,
-        }),
-        Err(bad) => Err(bad),
-    }
-}
 
 /// Makes and encodes the first generated pictures, `count` of them, in memory, and writes one line of what came of it.
 pub fn make<R: Threads + Sync, K: Sink, G: RowGate>(

@@ -1,7 +1,7 @@
-ghost use Rattle.std.specs.Prelude.{◌≡◌, ◌≤◌, ℕ, List, [], IfSome, OnOk};
+ghost use Rattle.std.specs.Prelude.{◌≡◌, ◌≤◌, ℕ, List, [], IfSome};
 ghost use Rattle.std.specs.Io.KnownBytes.{IsAtEnd};
 ghost use Rattle.dirac_io.specs.Faults.{Rose};
-ghost use Rattle.dirac_types.specs.Settings.{IsAccepted, verdict};
+ghost use Rattle.dirac_types.specs.Settings.{IsAccepted};
 ghost use Rattle.dirac_encode_laws.specs.Alike.{AreShownAlike};
 ghost use Rattle.dirac_encode_laws.specs.Encoding.{encoding_under};
 ghost use Rattle.dirac_encode_laws.specs.Fit.{AllFitOrNone, fit};
@@ -12,38 +12,20 @@ ghost use Rattle.dirac_choice_laws.specs.Pictures.{AreLeastInters};
 ghost use Rattle.dirac_choice_laws.specs.Workers.{with_workers};
 ghost use Rattle.dirac_commands.specs.Delivered.{SideGetsShown};
 ghost use Rattle.dirac_commands.specs.Encoding.{EndsStream, IsEncodeAnswer};
-ghost use Rattle.dirac_commands.specs.Rating.{IsRated, first_bad_for_rate};
+ghost use Rattle.dirac_commands.specs.Rating.{IsRated};
 
-use crate::ended::Ended;
 use dirac_choice_laws::{
     coded_vectors_keep_inside, inter_pictures_cost_least, workers_change_nothing,
 };
+use dirac_command_line::Ended;
 use dirac_common::RowGate;
 use dirac_encode::Encoded;
 use dirac_io::{Sink, Source};
 use dirac_plan_laws::plans_can_be_coded;
 use dirac_rate::rate_stream;
-use dirac_types::{BadSetting, Name, Settings};
+use dirac_types::Settings;
 use std::alloc::Global;
 use std::thread::Threads;
-
-/// The least budget: a unit's parse info, and one byte of payload.
-const LEAST_BUDGET: u32 = 14;
-
-/// Whether each setting is in its range, and the budget too. An `Err` names the first that isn't.
-pub fn check_rate(settings: &Settings, budget: u32) -> Result<(), BadSetting>
-    ensures exact { result ≡ verdict (first_bad_for_rate settings.now budget) }
-    ensures accepted { OnOk result (IsAccepted settings.now) }
-{
-    match settings.check() {
-        Ok(()) if LEAST_BUDGET <= budget => Ok(()),
-        Ok(()) => Err(BadSetting {
-            name: Name::Budget,
-            value: u64::from(budget),
-        }),
-        Err(bad) => Err(bad),
-    }
-}
 
 /// Encodes raw pictures, each with the least quantiser index by which its unit fits the budget: the stream goes to
 /// `out`, the reconstructions as raw pictures to the side.

@@ -3,21 +3,19 @@ ghost use Rattle.std.specs.Io.KnownBytes.{IsAtEnd};
 ghost use Rattle.dirac_io.specs.Faults.{Rose};
 ghost use Rattle.dirac_types.specs.declared.settings.BadSetting.{BadSetting};
 ghost use Rattle.dirac_types.specs.declared.settings.Settings.{Settings};
-ghost use Rattle.dirac_commands.specs.Cutting.{IfUnwrittenBy};
-ghost use Rattle.dirac_commands.specs.Words.{command_read};
+ghost use Rattle.dirac_stream_commands.specs.Cutting.{IfUnwrittenBy};
+ghost use Rattle.dirac_command_line.specs.Words.{command_read};
 ghost use Rattle.dirac_commands.specs.Running.{RunsTo, bad_setting};
 
-use crate::cut::cut;
-use crate::decode::{check_workers, decode};
 use crate::encode::encode;
-use crate::ended::Ended;
-use crate::join::join;
-use crate::list::list;
-use crate::make::{check_make, make};
-use crate::rate::{check_rate, rate};
-use crate::words::{Command, Words, WordsStop, read_words};
+use crate::make::make;
+use crate::rate::rate;
+use dirac_command_line::{
+    Command, Ended, Words, WordsStop, check_make, check_rate, check_workers, read_words,
+};
 use dirac_common::RowGate;
 use dirac_io::{Sink, Source};
+use dirac_stream_commands::{cut, decode, join, list};
 use std::alloc::Global;
 use std::thread::Threads;
 

@@ -13,7 +13,8 @@ pub returns-clause-least : goal.returns-clause-least
 returns-clause-least g c = λ bytes. c.inter_pictures_cost_least.ensures own_index c.args.settings.now bytes c.requires
 
 pub returns-clause-workers : goal.returns-clause-workers
-returns-clause-workers g c = λ workers bytes. c.workers_change_nothing.ensures.encoding None c.args.settings.now workers bytes
+returns-clause-workers g c =
+    λ workers bytes. c.workers_change_nothing.ensures.encoding None c.args.settings.now workers bytes
 
 pub returns-clause-alike : goal.returns-clause-alike
 returns-clause-alike g c =

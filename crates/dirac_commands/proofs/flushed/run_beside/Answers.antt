@@ -1,7 +1,7 @@
 use Rattle.std.proofs.Common.{◌∙◌, ◌==◌, ℕ, true, ap₂}
 use Rattle.std.proofs.KnownBytes.{Keeps-trans}
-use Rattle.dirac_commands.specs.Ended.{after_flushes}
-use Rattle.dirac_commands.proofs.Flushing.{flushed_again, settings_kept, usage_kept}
+use Rattle.dirac_command_line.specs.Ended.{after_flushes}
+use Rattle.dirac_command_line.proofs.Flushing.{flushed_again, settings_kept, usage_kept}
 use Rattle.dirac_commands.proofs.flushed.run_beside.Goals as goal
 
 pub returns-clause-runs : goal.returns-clause-runs
@@ -21,7 +21,9 @@ returns-clause-runs g c =
     }
 
 pub returns-clause-usage : goal.returns-clause-usage
-returns-clause-usage g c n = usage_kept c.run_on-ended.result c.after_flushes.result _ _ n c.after_flushes.ensures (c.run_on-ended.ensures.usage n)
+returns-clause-usage g c n =
+    usage_kept c.run_on-ended.result c.after_flushes.result _ _ n c.after_flushes.ensures
+    (c.run_on-ended.ensures.usage n)
 
 pub returns-clause-bad_settings : goal.returns-clause-bad_settings
 returns-clause-bad_settings g c bad =

@@ -1,7 +1,7 @@
 use Rattle.std.proofs.Common.{◌∙◌, ◌==◌, ℕ, true, refl, ap₂}
 use Rattle.std.proofs.KnownBytes.{Keeps-refl}
-use Rattle.dirac_commands.specs.Ended.{after_flushes}
-use Rattle.dirac_commands.proofs.Flushing.{settings_kept, usage_kept}
+use Rattle.dirac_command_line.specs.Ended.{after_flushes}
+use Rattle.dirac_command_line.proofs.Flushing.{settings_kept, usage_kept}
 use Rattle.dirac_commands.proofs.flushed.run_on.Goals as goal
 
 pub returns-clause-runs : goal.returns-clause-runs
@@ -18,7 +18,8 @@ returns-clause-runs g c = record {
 }
 
 pub returns-clause-usage : goal.returns-clause-usage
-returns-clause-usage g c n = usage_kept c.run-ended.result c.after_flushes.result _ _ n c.after_flushes.ensures (c.run-ended.ensures.usage n)
+returns-clause-usage g c n =
+    usage_kept c.run-ended.result c.after_flushes.result _ _ n c.after_flushes.ensures (c.run-ended.ensures.usage n)
 
 pub returns-clause-bad_settings : goal.returns-clause-bad_settings
 returns-clause-bad_settings g c bad =

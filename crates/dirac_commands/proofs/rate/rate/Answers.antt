@@ -10,7 +10,8 @@ returns-clause-shows g c =
     c.requires c.rated.ensures.rated
 
 pub returns-clause-least : goal.returns-clause-least
-returns-clause-least g c = λ bytes. c.inter_pictures_cost_least.ensures (fit c.args.budget) c.args.settings.now bytes c.requires
+returns-clause-least g c =
+    λ bytes. c.inter_pictures_cost_least.ensures (fit c.args.budget) c.args.settings.now bytes c.requires
 
 pub returns-clause-workers : goal.returns-clause-workers
 returns-clause-workers g c =

@@ -1,0 +1,5 @@
+use Rattle.dirac_command_line.proofs.Behind.{stripped}
+use Rattle.dirac_command_line.proofs.options.behind.Goals as goal
+
+pub returns : goal.returns
+returns c = stripped c.args.front.now c.args.word.now c.strip_prefix.result c.strip_prefix.ensures.cases

@@ -1,6 +1,0 @@
-use Rattle.std.proofs.Common.{◌≡◌, drop, map, string_bytes}
-use Rattle.dirac_commands.specs.Options.{value_given}
-use Rattle.dirac_commands.proofs.options.value_given.Given as goal
-
-abbrev pub invariant-words : goal.invariant-words
-invariant-words l = value_given l.name (map string_bytes (drop l.word-index l.words)) ≡ value_given l.name (map string_bytes l.words)

@@ -1,0 +1,4 @@
+pub mod Decoded
+pub mod Edits
+pub mod Inside
+pub mod Listed

@@ -1,0 +1,33 @@
+-- What `list` answers and writes.
+use Rattle.std.specs.Prelude.{◌≡◌, ℕ, List, Option, None, Some, ⊤}
+use Rattle.std.specs.Io.KnownBytes.{Appends}
+use Rattle.dirac_io.specs.Writing.{AppendsFront}
+use Rattle.dirac_common.specs.declared.faults.Fault.{Fault}
+use Rattle.dirac_units.specs.Cut.{UnitText, start, IsCut}
+use Rattle.dirac_command_line.specs.declared.ended.Ended.{Ended}
+use Rattle.dirac_command_line.specs.declared.ended.Ended.TheVariants as ended
+use Rattle.dirac_stream_commands.specs.Line.{lines}
+
+-- what an answer says, where the cutting has this end or fault and all its lines are this text
+abbrev pub AnswersList : Ended → Option Fault → List ℕ → Option (List ℕ) → Option (List ℕ) → Type 0
+AnswersList ended.Done end text out out' = (end ≡ None) × Appends out out' text
+AnswersList (ended.Fault fault) end text out out' = (end ≡ Some fault) × Appends out out' text
+AnswersList ended.ReadFault end text out out' = AppendsFront out out' text
+AnswersList ended.WriteFault end text out out' = AppendsFront out out' text
+AnswersList ended.NoMemory end text out out' = AppendsFront out out' text
+AnswersList _ end text out out' = ⊥
+
+-- the lines of the one cut of the bytes, and its end or fault
+abbrev pub IsListed : List ℕ → Ended → Option (List ℕ) → Option (List ℕ) → Type 0
+IsListed bytes answer out out' =
+    (units : List UnitText) × (end : Option Fault) × IsCut start bytes units end
+    × AnswersList answer end (lines start units) out out'
+
+-- the answers that `list` may give, of whatever source
+abbrev pub IsListAnswer : Ended → Type 0
+IsListAnswer ended.Done = ⊤
+IsListAnswer (ended.Fault fault) = ⊤
+IsListAnswer ended.ReadFault = ⊤
+IsListAnswer ended.WriteFault = ⊤
+IsListAnswer ended.NoMemory = ⊤
+IsListAnswer _ = ⊥
