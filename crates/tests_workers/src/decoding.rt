@@ -38,8 +38,8 @@ fn two_workers_share_the_rows_of_each_call(rt: HostRuntime) -> Result<(), NoMemo
     Ok(())
 }
 
-// Pictures that aren't small also have the orientations of their subbands as rows, in a call before those: the intra
-// picture has two calls, the inter picture four.
+// Each of two pictures that aren't small has three calls: the orientations of its subbands, what its slices are made
+// of, and its slices.
 #[test]
 fn two_workers_share_the_subbands(rt: HostRuntime) -> Result<(), NoMemory> {
     let alloc = rt.alloc();
