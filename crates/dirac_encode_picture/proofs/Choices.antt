@@ -14,7 +14,8 @@ use Rattle.dirac_encode_laws.proofs.Lefts.{picture_is}
 use Rattle.dirac_encode_picture.specs.Asked.{IsAsked, coded_by}
 use Rattle.dirac_encode_picture.proofs.Asking.{ask_refs}
 
-pub can_choose : (t : Settings) (refs : List Picture) (q : Planned) (p : Picture) → IsAsked t refs q p → IsChoosing t refs q p
+pub can_choose : (t : Settings) (refs : List Picture) (q : Planned) (p : Picture) → IsAsked t refs q p
+    → IsChoosing t refs q p
 can_choose t refs q p is = record {
   accepted = is.accepted;
   source = picture_is t p is.source;
@@ -33,25 +34,31 @@ some_if : (b : Bool) (x : BlockTable) → b ≡ false → Some x ≡ (if b then 
 some_if true x e = absurd cc
 some_if false x e = refl
 
-pub intra_choice : (t : Settings) (refs : List Picture) (q : Planned) (p : Picture) (o : Option BlockTable) → is_intra q.code ≡ true → o ≡ None → o ≡ chosen_unless_intra t refs q p
+pub intra_choice : (t : Settings) (refs : List Picture) (q : Planned) (p : Picture) (o : Option BlockTable)
+    → is_intra q.code ≡ true → o ≡ None → o ≡ chosen_unless_intra t refs q p
 intra_choice t refs q p o intra e = e ∙ none_if (is_intra q.code) (chosen t refs q p) intra
 
-pub inter_choice : (t : Settings) (refs : List Picture) (q : Planned) (p : Picture) (o : Option BlockTable) → is_intra q.code ≡ false → o ≡ Some (chosen t refs q p) → o ≡ chosen_unless_intra t refs q p
+pub inter_choice : (t : Settings) (refs : List Picture) (q : Planned) (p : Picture) (o : Option BlockTable)
+    → is_intra q.code ≡ false → o ≡ Some (chosen t refs q p) → o ≡ chosen_unless_intra t refs q p
 inter_choice t refs q p o inter e = e ∙ some_if (is_intra q.code) (chosen t refs q p) inter
 
 -- it is the same at each index
-pub choices_same : (t : Settings) (refs : List Picture) (q : Planned) (p : Picture) (o : Option BlockTable) → o ≡ chosen_unless_intra t refs q p → IsChosenAtEachIndex t refs q p o
+pub choices_same : (t : Settings) (refs : List Picture) (q : Planned) (p : Picture) (o : Option BlockTable)
+    → o ≡ chosen_unless_intra t refs q p → IsChosenAtEachIndex t refs q p o
 choices_same t refs q p o e index =
     e ∙ ap (λ (x : BlockTable). if is_intra q.code then None else Some x) (sym (chosen_same t index refs q p))
 
-motion_if : (t : Settings) (b : Bool) (x : BlockTable) → motion_among t (if b then None else Some x) ≡ (if b then None else Some (motion_with t x))
+motion_if : (t : Settings) (b : Bool) (x : BlockTable)
+    → motion_among t (if b then None else Some x) ≡ (if b then None else Some (motion_with t x))
 motion_if t true x = refl
 motion_if t false x = refl
 
 -- the motion by it is that of the plan
-pub chosen_motion : (t : Settings) (refs : List Picture) (q : Planned) (p : Picture) → motion_among t (chosen_unless_intra t refs q p) ≡ motion_of t refs q p
+pub chosen_motion : (t : Settings) (refs : List Picture) (q : Planned) (p : Picture)
+    → motion_among t (chosen_unless_intra t refs q p) ≡ motion_of t refs q p
 chosen_motion t refs q p = motion_if t (is_intra q.code) (chosen t refs q p)
 
 -- and so is the coded picture
-pub coded_chosen : (t : Settings) (refs : List Picture) (q : Planned) (p : Picture) → coded_by t refs q p (chosen_unless_intra t refs q p) ≡ coded_of t refs q p
+pub coded_chosen : (t : Settings) (refs : List Picture) (q : Planned) (p : Picture)
+    → coded_by t refs q p (chosen_unless_intra t refs q p) ≡ coded_of t refs q p
 coded_chosen t refs q p = ap (coded_with t refs q p) (chosen_motion t refs q p)

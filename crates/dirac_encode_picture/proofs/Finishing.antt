@@ -6,25 +6,24 @@ use Rattle.dirac_types.specs.declared.settings.Settings.{Settings}
 use Rattle.dirac_sequence_header.specs.declared.sequence.Sequence.{Sequence}
 use Rattle.dirac_sequence.specs.Written.{sequence_of}
 use Rattle.dirac_header.specs.declared.header.PictureHeader.{PictureHeader}
-use Rattle.dirac_picture.specs.declared.coded.CodedMotion.{CodedMotion}
 use Rattle.dirac_picture.specs.declared.coded.CodedPicture.{CodedPicture}
-use Rattle.dirac_decode.specs.Content.{named, rebuilt}
+use Rattle.dirac_decode.specs.Content.{named}
 use Rattle.dirac_plan.specs.declared.planned.Planned.{Planned}
 use Rattle.dirac_plan_laws.specs.Headers.{header_of}
 use Rattle.dirac_encode_laws.specs.Coded.{motion_among}
-use Rattle.dirac_encode_picture.specs.declared.prepared.Compensated.{Compensated}
+use Rattle.dirac_reconstruct.specs.declared.showing.Compensated.{Compensated}
 use Rattle.dirac_encode_picture.specs.declared.prepared.Prepared.{Prepared}
 use Rattle.dirac_encode_picture.specs.Asked.{coded_by}
-use Rattle.dirac_encode_picture.specs.Finishing.{ArePredicted, CanBeFinished}
-use Rattle.dirac_encode_picture.specs.Predictions.{ArePredictions, picture_from}
+use Rattle.dirac_reconstruct.specs.Finishing.{ArePredicted, CanBeFinished}
+use Rattle.dirac_reconstruct.specs.Predicted.{ArePredictions}
 use Rattle.dirac_encode_picture.specs.Prepared.{IsCompensated, IsPrepared, blocks_in}
 use Rattle.dirac_encode_picture.proofs.Asking.{ask_refs, ask_sequence}
 use Rattle.dirac_encode_picture.proofs.Facts.{coded_fits, moves_of}
-use Rattle.dirac_encode_picture.proofs.Predicting.{shown_same}
 
 -- the predictions that a prepared picture has are those of its coded picture
 predicted_so : (t : Settings) (s : Sequence) (refs : List Picture) (q : Planned) (c : CodedPicture) (o : Option Compensated) → s ≡ sequence_of t → c.header ≡ header_of q
-    → c.motion ≡ motion_among t (option_map (λ (x : Compensated). x.motion.blocks) o) → IfSome o (IsCompensated t refs q) → IfSome o (ArePredicted s refs c)
+    → c.motion ≡ motion_among t (option_map (λ (x : Compensated). x.motion.blocks) o)
+    → IfSome o (IsCompensated t refs q) → IfSome o (ArePredicted s refs c)
 predicted_so t s refs q c None es eh em is = tt
 predicted_so t s refs q c (Some x) es eh em is = record {
   motion = em ∙ ap Some (sym is.motion);
@@ -43,19 +42,3 @@ can_finish t s refs q p x c is es ec =
       written = fits.1;
       predicted = predicted_so t s refs q c x.compensated es head (ap (λ (y : CodedPicture). y.motion) ec) is.compensated;
     }
-
-some_predicted : (s : Sequence) (refs : List Picture) (c : CodedPicture) (o : Option Compensated) (x : Compensated) → o ≡ Some x → IfSome o (ArePredicted s refs c) → ArePredicted s refs c x
-some_predicted s refs c None x e is = absurd cc
-some_predicted s refs c (Some y) x e is =
-    let same : y ≡ x = cc in
-    subst (ArePredicted s refs c) same is
-
-pub predicted_at : (s : Sequence) (refs : List Picture) (c : CodedPicture) (o : Option Compensated) (x : Compensated) → CanBeFinished s refs c o → o ≡ Some x → ArePredicted s refs c x
-predicted_at s refs c o x is e = some_predicted s refs c o x e is.predicted
-
--- what is shown with them is what decoders rebuild
-pub shown_with : (s : Sequence) (refs : List Picture) (c : CodedPicture) (x : Compensated) → ArePredicted s refs c x → picture_from s c x.predictions ≡ rebuilt s refs c
-shown_with s refs c x is =
-    let of : Option CodedMotion → CodedPicture = λ m. record { code = c.code; header = c.header; motion = m; residual = c.residual } in
-    subst (λ (m : Option CodedMotion). picture_from s (of m) x.predictions ≡ rebuilt s refs (of m)) (sym is.motion)
-    (shown_same s refs c.header x.motion x.predictions c.code c.residual is.planes)

@@ -1,9 +1,7 @@
 pub mod Asking
 pub mod Choices
-pub mod Differences
 pub mod Facts
 pub mod Finishing
 pub mod Lending
-pub mod Planes
 pub mod Predicting
 pub mod Preparing

@@ -1,5 +1,6 @@
 -- A prepared picture: what is made of it at a quantiser index is what the definitions say.
-use Rattle.std.proofs.Common.{◌≡◌, ℕ, ℤ, ◌≤◌, true, false, if◌then◌else◌, List, Option, None, Some, refl, sym, ap, ap₂, ◌∙◌, subst, arith}
+use Rattle.std.proofs.Common.{◌≡◌, ℕ, ℤ, ◌≤◌, true, false, if◌then◌else◌, List, Option, None, Some, refl, sym, ap, ap₂}
+use Rattle.std.proofs.Common.{◌∙◌, subst, arith}
 use Rattle.std.specs.Prelude.{IfSome, option_map}
 use Rattle.dirac_common.specs.declared.formats.Component.TheVariants as component
 use Rattle.dirac_common.specs.declared.formats.Kind.{Kind}
@@ -11,6 +12,7 @@ use Rattle.dirac_common.specs.Table.{Table}
 use Rattle.dirac_sequence_header.specs.declared.sequence.Sequence.{Sequence}
 use Rattle.dirac_sequence.specs.Written.{sequence_of}
 use Rattle.dirac_header.specs.declared.header.PictureHeader.{PictureHeader}
+use Rattle.dirac_header.specs.declared.transform.Transform.{Transform}
 use Rattle.dirac_blocks.specs.Tables.{BlockTable}
 use Rattle.dirac_coeffs.specs.declared.layout.CodedBand.{CodedBand}
 use Rattle.dirac_picture.specs.declared.coded.CodedMotion.{CodedMotion}
@@ -22,39 +24,44 @@ use Rattle.dirac_plan.specs.declared.planned.Planned.{Planned}
 use Rattle.dirac_plan_laws.specs.Headers.{header_of}
 use Rattle.dirac_analysis.specs.Analysis.{Analysis, quantised}
 use Rattle.dirac_analysis.proofs.Analysing.{plane_quantised}
-use Rattle.dirac_encode_laws.specs.Coded.{bands_of, coded_with, is_left_out, kind_of, less_prediction, motion_among, motion_with, residual_of, transform_of}
+use Rattle.dirac_encode_laws.specs.Coded.{bands_of, coded_with, is_left_out, kind_of, less_prediction, motion_among}
+use Rattle.dirac_encode_laws.specs.Coded.{motion_with, residual_of, transform_of}
 use Rattle.dirac_encode_laws.specs.Laws.{IsWhole}
 use Rattle.dirac_motion.specs.Chosen.{IsChosen, at_index}
-use Rattle.dirac_encode_picture.specs.declared.prepared.Compensated.{Compensated}
+use Rattle.dirac_reconstruct.specs.declared.showing.Compensated.{Compensated}
 use Rattle.dirac_encode_picture.specs.declared.prepared.Prepared.{Prepared}
-use Rattle.dirac_encode_picture.specs.declared.predictions.Predictions.{Predictions}
-use Rattle.dirac_encode_picture.specs.declared.residual.AnalysedPlanes.{AnalysedPlanes}
-use Rattle.dirac_encode_picture.specs.Analyses.{AreAnalysed, AreQuantisablePlanes, IsAnalysed, quantised_planes}
+use Rattle.dirac_encode_planes.specs.declared.predictions.Predictions.{Predictions}
+use Rattle.dirac_encode_planes.specs.declared.residual.AnalysedPlanes.{AnalysedPlanes}
+use Rattle.dirac_encode_planes.specs.Analyses.{AreAnalysed, AreQuantisablePlanes, IsAnalysed}
+use Rattle.dirac_encode_planes.proofs.OnePlane.{analysed_same}
 use Rattle.dirac_encode_picture.specs.Asked.{HasBlocks, IsAsked, coded_by}
-use Rattle.dirac_encode_picture.specs.Predictions.{ArePredictions}
-use Rattle.dirac_encode_picture.specs.Prepared.{IsCompensated, IsLeft, IsPrepared, blocks_in}
+use Rattle.dirac_reconstruct.specs.Predicted.{ArePredictions}
+use Rattle.dirac_encode_picture.specs.Prepared.{IsCompensated, IsLeft, IsPrepared, blocks_in, quantised_planes}
 use Rattle.dirac_encode_picture.proofs.Predicting.{same_among}
 use Rattle.dirac_encode_laws.proofs.Indices.{sources_with}
 
 -- ---- what is prepared
 
-pub intra_prepared : (t : Settings) (refs : List Picture) (q : Planned) (p : Picture) (a : AnalysedPlanes) → IsAsked t refs q p → IsWhole p → is_intra q.code ≡ true → AreAnalysed t Intra p.y p.u p.v a
+pub intra_prepared : (t : Settings) (refs : List Picture) (q : Planned) (p : Picture) (a : AnalysedPlanes)
+    → IsAsked t refs q p → IsWhole p → is_intra q.code ≡ true → AreAnalysed (transform_of t) Intra p.y p.u p.v a
     → let x : Prepared = record { compensated = None; left = a } in IsPrepared t refs q p x
 intra_prepared t refs q p a asked whole intra is = record {
   asked = asked;
-  whole = whole;
+  as_many_samples = whole;
   blocks = intra;
   compensated = tt;
   left = is;
 }
 
--- a plane that is the same is analysed the same
-pub analysed_same : (t : Settings) (kind : Kind) (plane other : Table) (a : Analysis) → plane ≡ other → IsAnalysed t kind plane a → IsAnalysed t kind other a
-analysed_same t kind plane other a e is = subst (λ (x : Table). IsAnalysed t kind x a) e is
+-- planes are analysed with the transform of the settings
+pub analysed_with : (t : Settings) (x : Transform) (kind : Kind) (y u v : Table) (a : AnalysedPlanes)
+    → x ≡ transform_of t → AreAnalysed x kind y u v a → AreAnalysed (transform_of t) kind y u v a
+analysed_with t x kind y u v a e is = subst (λ (z : Transform). AreAnalysed z kind y u v a) e is
 
 pub inter_prepared : (t : Settings) (s : Sequence) (refs : List Picture) (q : Planned) (p : Picture) (m : CodedMotion) (b : BlockTable) (ps : Predictions) (a : AnalysedPlanes) → IsAsked t refs q p → IsWhole p → s ≡ sequence_of t
-    → is_intra q.code ≡ false → IsChosen t q.code b → m ≡ motion_with t b → ArePredictions s (named refs q.ref1) (named refs q.ref2) m ps
-    → AreAnalysed t Inter (less_prediction p.y ps.y.values) (less_prediction p.u ps.u.values) (less_prediction p.v ps.v.values) a
+    → is_intra q.code ≡ false → IsChosen t q.code b → m ≡ motion_with t b
+    → ArePredictions s (named refs q.ref1) (named refs q.ref2) m ps
+    → AreAnalysed (transform_of t) Inter (less_prediction p.y ps.y.values) (less_prediction p.u ps.u.values) (less_prediction p.v ps.v.values) a
     → let c : Compensated = record { motion = m; predictions = ps } in
     let x : Prepared = record { compensated = Some c; left = a } in IsPrepared t refs q p x
 inter_prepared t s refs q p m b ps a asked whole es inter chose em predicted is =
@@ -65,13 +72,13 @@ inter_prepared t s refs q p m b ps a asked whole es inter chose em predicted is 
     subst (λ (x : CodedMotion). IsPrepared t refs q p (of x)) (sym em)
     (record {
       asked = asked;
-      whole = whole;
+      as_many_samples = whole;
       blocks = (inter, chose);
       compensated = record { motion = refl; planes = right };
       left = record {
-        y = analysed_same t Inter _ _ a.y (ap (less p.y) (same_among t s refs q m b component.Y ps.y.values es em predicted.y)) is.y;
-        u = analysed_same t Inter _ _ a.u (ap (less p.u) (same_among t s refs q m b component.U ps.u.values es em predicted.u)) is.u;
-        v = analysed_same t Inter _ _ a.v (ap (less p.v) (same_among t s refs q m b component.V ps.v.values es em predicted.v)) is.v;
+        y = analysed_same (transform_of t) Inter _ _ a.y (ap (less p.y) (same_among t s refs q m b component.Y ps.y.values es em predicted.y)) is.y;
+        u = analysed_same (transform_of t) Inter _ _ a.u (ap (less p.u) (same_among t s refs q m b component.U ps.u.values es em predicted.u)) is.u;
+        v = analysed_same (transform_of t) Inter _ _ a.v (ap (less p.v) (same_among t s refs q m b component.V ps.v.values es em predicted.v)) is.v;
       };
     })
 
@@ -81,8 +88,11 @@ pub left_quantisable : (t : Settings) (refs : List Picture) (q : Planned) (p : P
 left_quantisable t refs q p m a is = record { y = is.y.fits; u = is.u.fits; v = is.v.fits }
 
 -- an analysed plane quantised has the bands of the definitions
-bands_same : (t : Settings) (kind : Kind) (plane : Table) (a : Analysis) → IsAnalysed t kind plane a → quantised kind (transform_of t) t.finer t.index a ≡ bands_of t kind plane
-bands_same t kind plane a is = ap (λ (x : Analysis). quantised kind (transform_of t) t.finer t.index x) is.same ∙ plane_quantised kind (transform_of t) t.finer t.index plane
+bands_same : (t : Settings) (kind : Kind) (plane : Table) (a : Analysis) → IsAnalysed (transform_of t) kind plane a
+    → quantised kind (transform_of t) t.finer t.index a ≡ bands_of t kind plane
+bands_same t kind plane a is =
+    ap (λ (x : Analysis). quantised kind (transform_of t) t.finer t.index x) is.same
+    ∙ plane_quantised kind (transform_of t) t.finer t.index plane
 
 residual_same : (t : Settings) (refs : List Picture) (q : Planned) (p : Picture) (m : Option CodedMotion) (a : AnalysedPlanes) → IsLeft t refs q p m a → quantised_planes t (kind_of m) a ≡ residual_of t refs (header_of q) m p
 residual_same t refs q p m a is =
@@ -101,10 +111,12 @@ none_in x e = ap (λ (o : Option Compensated). option_map (λ (c : Compensated).
 pub some_in : (x : Prepared) (c : Compensated) → x.compensated ≡ Some c → blocks_in x ≡ Some c.motion.blocks
 some_in x c e = ap (λ (o : Option Compensated). option_map (λ (y : Compensated). y.motion.blocks) o) e
 
-pub left_at : (t : Settings) (refs : List Picture) (q : Planned) (p : Picture) (x : Prepared) (o : Option BlockTable) → IsPrepared t refs q p x → blocks_in x ≡ o → IsLeft t refs q p (motion_among t o) x.left
+pub left_at : (t : Settings) (refs : List Picture) (q : Planned) (p : Picture) (x : Prepared) (o : Option BlockTable)
+    → IsPrepared t refs q p x → blocks_in x ≡ o → IsLeft t refs q p (motion_among t o) x.left
 left_at t refs q p x o is e = subst (λ (y : Option BlockTable). IsLeft t refs q p (motion_among t y) x.left) e is.left
 
-pub blocks_at : (t : Settings) (refs : List Picture) (q : Planned) (p : Picture) (x : Prepared) (o : Option BlockTable) → IsPrepared t refs q p x → blocks_in x ≡ o → HasBlocks t q.code o
+pub blocks_at : (t : Settings) (refs : List Picture) (q : Planned) (p : Picture) (x : Prepared) (o : Option BlockTable)
+    → IsPrepared t refs q p x → blocks_in x ≡ o → HasBlocks t q.code o
 blocks_at t refs q p x o is e = subst (HasBlocks t q.code) e is.blocks
 
 -- the coded picture of an intra picture
@@ -116,7 +128,8 @@ intra_same t refs q p x head r is none eh er =
 
 -- the coded picture of an inter picture
 pub inter_same : (t : Settings) (refs : List Picture) (q : Planned) (p : Picture) (x : Prepared) (y : Compensated) (head : PictureHeader) (m : CodedMotion) (r : CodedResidual) (o : Option CodedResidual) → IsPrepared t refs q p x
-    → x.compensated ≡ Some y → head ≡ header_of q → m ≡ motion_with t y.motion.blocks → r ≡ quantised_planes t Inter x.left → o ≡ (if is_left_out t r then None else Some r)
+    → x.compensated ≡ Some y → head ≡ header_of q → m ≡ motion_with t y.motion.blocks
+    → r ≡ quantised_planes t Inter x.left → o ≡ (if is_left_out t r then None else Some r)
     → let c : CodedPicture = record { code = q.code; header = head; motion = Some m; residual = o } in c ≡ coded_by t refs q p (Some y.motion.blocks)
 inter_same t refs q p x y head m r o is some eh em er eo =
     let of : PictureHeader → CodedMotion → Option CodedResidual → CodedPicture = λ h z w. record { code = q.code; header = h; motion = Some z; residual = w } in
@@ -124,7 +137,8 @@ inter_same t refs q p x y head m r o is some eh em er eo =
     let same = residual_same t refs q p (Some (motion_with t y.motion.blocks)) x.left (left_at t refs q p x (Some y.motion.blocks) is (some_in x y some)) in
     ap₂ (λ (h : PictureHeader) (z : CodedMotion). of h z o) eh em ∙ ap (of (header_of q) (motion_with t y.motion.blocks)) (eo ∙ ap unless (er ∙ same))
 
-compensated_at : (t : Settings) (refs : List Picture) (q : Planned) (o : Option Compensated) (c : Compensated) → o ≡ Some c → IfSome o (IsCompensated t refs q) → IsCompensated t refs q c
+compensated_at : (t : Settings) (refs : List Picture) (q : Planned) (o : Option Compensated) (c : Compensated)
+    → o ≡ Some c → IfSome o (IsCompensated t refs q) → IsCompensated t refs q c
 compensated_at t refs q None c e is = absurd cc
 compensated_at t refs q (Some x) c e is =
     let same : x ≡ c = cc in
@@ -145,13 +159,15 @@ unfolding table
 accepted_at t index is few =
     (is.0, (is.1.0, (is.1.1.0, (is.1.1.1.0, (is.1.1.1.1.0, (is.1.1.1.1.1.0, (is.1.1.1.1.1.1.0, (is.1.1.1.1.1.1.1.0, (is.1.1.1.1.1.1.1.1.0, (is.1.1.1.1.1.1.1.1.1.0, (is.1.1.1.1.1.1.1.1.1.1.0, ((omega arith, few, omega arith), is.1.1.1.1.1.1.1.1.1.1.1.1))))))))))))
 
-blocks_again : (t : Settings) (index code : ℕ) (o : Option BlockTable) → HasBlocks t code o → HasBlocks (at_index t index) code o
+blocks_again : (t : Settings) (index code : ℕ) (o : Option BlockTable) → HasBlocks t code o
+    → HasBlocks (at_index t index) code o
 unfolding sequence_of
 blocks_again t index code None has = has
 blocks_again t index code (Some b) has =
     (has.0, record { across = has.1.across; down = has.1.down; refs = has.1.refs; table = has.1.table; dcs = has.1.dcs })
 
-compensated_again : (t : Settings) (index : ℕ) (refs : List Picture) (q : Planned) (o : Option Compensated) → IfSome o (IsCompensated t refs q) → IfSome o (IsCompensated (at_index t index) refs q)
+compensated_again : (t : Settings) (index : ℕ) (refs : List Picture) (q : Planned) (o : Option Compensated)
+    → IfSome o (IsCompensated t refs q) → IfSome o (IsCompensated (at_index t index) refs q)
 unfolding sequence_of
 compensated_again t index refs q None is = tt
 compensated_again t index refs q (Some c) is = record { motion = is.motion; planes = is.planes }
@@ -170,7 +186,8 @@ left_again t index refs q p (Some b) a is = record {
 }
 
 -- what is prepared serves each index
-pub prepared_at : (t : Settings) (index : ℕ) (refs : List Picture) (q : Planned) (p : Picture) (x : Prepared) → IsPrepared t refs q p x → index ≤ 99 → IsPrepared (at_index t index) refs q p x
+pub prepared_at : (t : Settings) (index : ℕ) (refs : List Picture) (q : Planned) (p : Picture) (x : Prepared)
+    → IsPrepared t refs q p x → index ≤ 99 → IsPrepared (at_index t index) refs q p x
 unfolding sequence_of
 prepared_at t index refs q p x is few =
     let asked = is.asked in
@@ -182,7 +199,7 @@ prepared_at t index refs q p x is few =
         planned = asked.planned;
         found = asked.found;
       };
-      whole = is.whole;
+      as_many_samples = is.as_many_samples;
       blocks = blocks_again t index q.code (blocks_in x) is.blocks;
       compensated = compensated_again t index refs q x.compensated is.compensated;
       left = left_again t index refs q p (blocks_in x) x.left is.left;

@@ -57,5 +57,5 @@ pub record IsCoding (t : Settings) (refs : List Picture) (q : Planned) (p : Pict
   pub payload : c.payload.items ≡ payload_of t (coded_with t refs q p m)
   pub shown : c.shown ≡ rebuilt (sequence_of t) refs (coded_with t refs q p m)
   pub read : picture_read q.code (sequence_of t) refs c.payload.items ≡ Ok (coded_with t refs q p m)
-  pub small : AreSmall (residual_of t refs (header_of q) m p)
+  pub magnitudes_bounded : AreSmall (residual_of t refs (header_of q) m p)
   pub lossless : p.number ≡ q.number → t.index ≡ 0 → c.shown ≡ p

@@ -1,7 +1,8 @@
-pub mod Analyses
-pub mod Analysing
+pub use Rattle.dirac_encode_planes.specs.Analyses
+pub use Rattle.dirac_encode_planes.specs.Analysing
 pub mod Asked
-pub mod Finishing
+pub use Rattle.dirac_reconstruct.specs.Finishing
+pub use Rattle.dirac_reconstruct.specs.Predicted
 pub mod Predicting
-pub mod Predictions
+pub use Rattle.dirac_encode_planes.specs.Predictions
 pub mod Prepared

@@ -4,8 +4,8 @@ use Rattle.dirac_common.specs.declared.formats.Component.{Component}
 use Rattle.dirac_decode.specs.Moved.{IsMoved}
 use Rattle.dirac_motion.specs.Lent.{AreLent, first_of, second_of}
 use Rattle.dirac_encode_picture.specs.declared.predictions.Predicting.{Predicting}
-use Rattle.dirac_encode_picture.specs.declared.predictions.Predictions.{Predictions}
-use Rattle.dirac_encode_picture.specs.Predictions.{ArePredictions, IsPrediction}
+use Rattle.dirac_encode_planes.specs.declared.predictions.Predictions.{Predictions}
+use Rattle.dirac_reconstruct.specs.Predicted.{ArePredictions, IsPrediction}
 
 -- motion of a sequence, with as many references of it as the motion has
 pub record CanBePredicted (f : Predicting) : Type 0 where

@@ -2,17 +2,13 @@
 #![tactic(auto)]
 
 mod asked;
-mod beside;
 mod choosing;
-mod difference;
+mod left_out;
 mod making;
 mod motion;
 mod picture;
 mod predictions;
 mod prepared;
-mod residual;
-mod showing;
-mod texts;
 mod transform;
 mod workers;
 

@@ -19,12 +19,12 @@ ghost use Rattle.dirac_encode_picture.specs.Prepared.{IsPreparedFor, blocks_in, 
 use crate::asked::Asked;
 use crate::making::coded_picture;
 use crate::prepared::{Prepared, prepare};
-use crate::showing::{Finished, Finishing};
 use crate::workers::{OneWorker, Workers};
 use dirac_blocks::BlockData;
 use dirac_common::{NoMemory, Picture};
 use dirac_picture::payload_bytes;
 use dirac_plan::Planned;
+use dirac_reconstruct::{Finished, Finishing};
 use dirac_refs::RefBuffer;
 use dirac_sequence::sequence_of;
 use dirac_types::Settings;

@@ -1,40 +1,17 @@
-//! What is predicted for the planes of an inter picture.
+//! The planes of an inter picture, predicted from what is lent of its references.
 
-ghost use Rattle.std.specs.Prelude.{◌≡◌, IfOk};
+ghost use Rattle.std.specs.Prelude.{IfOk};
 ghost use Rattle.dirac_common.specs.declared.formats.Component.TheVariants as component;
 ghost use Rattle.dirac_encode_picture.specs.Predicting.{ArePredicted, CanBePredicted, IsPredicted};
-ghost use Rattle.dirac_encode_picture.specs.Predictions.{values_of};
 
-use crate::beside::{Planes, side_by_side};
 use dirac_common::NoMemory;
 use dirac_decode::{Moved, predict_from, predict_with};
+use dirac_encode_planes::{Planes, Predictions, side_by_side};
 use dirac_motion::References;
 use dirac_obmc::{Component, Predicted};
 use std::alloc::Global;
 use std::marker::Sync;
 use std::thread::Threads;
-
-/// What is predicted for each plane of an inter picture, not clipped. It is taken away from the source, and added again
-/// to what is left of it, so that each plane is predicted once.
-#[derive(Drop)]
-pub(crate) struct Predictions {
-    pub(crate) y: Predicted,
-    pub(crate) u: Predicted,
-    pub(crate) v: Predicted,
-}
-
-impl Predictions {
-    /// Lends what is predicted for a plane, by rows.
-    pub(crate) fn of(&self, component: Component) -> &[i32]
-        ensures { result.now ≡ values_of self.now component }
-    {
-        match component {
-            Component::Y => self.y.values(),
-            Component::U => self.u.values(),
-            Component::V => self.v.values(),
-        }
-    }
-}
 
 /// What an inter picture is predicted by, and from.
 #[derive(Clone, Copy)]

@@ -10,14 +10,15 @@ ghost use Rattle.dirac_encode_picture.specs.Prepared.{IsPreparedFor, blocks_in};
 
 use crate::asked::Asked;
 use crate::motion::motion_of;
-use crate::predictions::{Predicting, Predictions};
-use crate::residual::{AnalysedPlanes, Analysing};
+use crate::predictions::Predicting;
+use crate::transform::transform_of;
 use crate::workers::{OneWorker, Workers};
 use dirac_blocks::BlockData;
 use dirac_common::{NoMemory, Picture};
 use dirac_decode::{Moved, named_reference};
+use dirac_encode_planes::{AnalysedPlanes, Analysing};
 use dirac_motion::{Lumas, References};
-use dirac_picture::CodedMotion;
+use dirac_reconstruct::Compensated;
 use dirac_sequence::sequence_of;
 use std::alloc::Global;
 
@@ -26,13 +27,6 @@ use std::alloc::Global;
 pub(crate) struct Moving<'a> {
     pub(crate) references: &'a References<'a>,
     pub(crate) blocks: &'a BlockData,
-}
-
-/// The motion of an inter picture, and what is predicted by it for each plane.
-#[derive(Drop)]
-pub(crate) struct Compensated {
-    pub(crate) motion: CodedMotion,
-    pub(crate) predictions: Predictions,
 }
 
 /// A planned picture, ready to be coded at any quantiser index: what it is predicted by, and the analysis of what is
@@ -61,13 +55,14 @@ fn prepare_intra<W: Workers>(
 ) -> Result<Prepared, NoMemory>
     requires shared { W.are_shared workers.now }
     requires asked { CanBeCoded asked.now }
-    requires whole { IsWhole asked.now.source.now }
+    requires as_many_samples { IsWhole asked.now.source.now }
     requires intra { is_intra asked.now.planned.now.code ≡ true }
     ensures prepared { IfOk result (IsPreparedFor asked.now) }
     ensures blocks { IfOk result (λ x. blocks_in x ≡ None) }
 {
+    let transform = transform_of(asked.settings);
     let from = Analysing {
-        settings: asked.settings,
+        transform: &transform,
         source: asked.source,
         predictions: None,
     };
@@ -87,7 +82,7 @@ fn prepare_inter<W: Workers>(
 ) -> Result<Prepared, NoMemory>
     requires shared { W.are_shared workers.now }
     requires asked { CanBeCoded asked.now }
-    requires whole { IsWhole asked.now.source.now }
+    requires as_many_samples { IsWhole asked.now.source.now }
     requires inter { is_intra asked.now.planned.now.code ≡ false }
     requires moving { IsMoving asked.now.settings.now asked.now.refs.now asked.now.planned.now moving }
     requires blocks { IsChosen asked.now.settings.now asked.now.planned.now.code moving.blocks.now }
@@ -107,8 +102,9 @@ fn prepare_inter<W: Workers>(
     };
     let predictions = workers.predict(alloc, &from)?;
     let predicted = Some(&predictions);
+    let transform = transform_of(asked.settings);
     let rest = Analysing {
-        settings: asked.settings,
+        transform: &transform,
         source: asked.source,
         predictions: predicted,
     };

@@ -3,19 +3,18 @@
 ghost use Rattle.std.specs.Prelude.{◌≡◌, IfOk, IfSome};
 ghost use Rattle.dirac_picture.specs.Texts.{AreTexts};
 ghost use Rattle.dirac_decode.specs.Content.{rebuilt};
-ghost use Rattle.dirac_encode_picture.specs.Analyses.{quantised_planes};
-ghost use Rattle.dirac_encode_picture.specs.Analysing.{AreAnalysedPlanes, CanBeAnalysed, CanBeQuantised};
-ghost use Rattle.dirac_encode_picture.specs.Finishing.{IsFinishable};
+ghost use Rattle.dirac_encode_planes.specs.Analysing.{AreAnalysedPlanes, AreBands, CanBeAnalysed, CanBeQuantised};
+ghost use Rattle.dirac_reconstruct.specs.Finishing.{IsFinishable};
 ghost use Rattle.dirac_encode_picture.specs.Predicting.{ArePredicted, CanBePredicted};
 
-use crate::predictions::{Predicting, Predictions, predict_planes, predict_side_by_side};
-use crate::residual::{
-    AnalysedPlanes, Analysing, Quantising, analyse_planes, analyse_side_by_side, quantise_planes,
-    quantise_side_by_side,
-};
-use crate::showing::{Finished, Finishing, finish, finish_side_by_side};
+use crate::predictions::{Predicting, predict_planes, predict_side_by_side};
 use dirac_common::NoMemory;
-use dirac_picture::CodedResidual;
+use dirac_encode_planes::{
+    AnalysedPlanes, Analysing, Planes, Predictions, Quantising, analyse_planes,
+    analyse_side_by_side, quantise_planes, quantise_side_by_side,
+};
+use dirac_picture::PlaneBands;
+use dirac_reconstruct::{Finished, Finishing, finish, finish_side_by_side};
 use std::alloc::Global;
 use std::marker::Sync;
 use std::thread::Threads;
@@ -37,11 +36,11 @@ pub(crate) trait Workers {
         requires from { CanBeAnalysed from.now }
         ensures { IfOk result (AreAnalysedPlanes from.now) };
 
-    /// The coded residual of analysed planes, quantised.
-    fn quantise(&self, alloc: Global, from: &Quantising<'_>) -> Result<CodedResidual, NoMemory>
+    /// The subbands of analysed planes, quantised.
+    fn quantise(&self, alloc: Global, from: &Quantising<'_>) -> Result<Planes<PlaneBands>, NoMemory>
         requires shared { are_shared self.now }
         requires from { CanBeQuantised from.now }
-        ensures { IfOk result (λ r. r ≡ quantised_planes from.now.settings.now from.now.kind from.now.planes.now) };
+        ensures { IfOk result (AreBands from.now) };
 
     /// Writes the bands of a coded picture, and shows it.
     fn finish(&self, alloc: Global, from: &Finishing<'_>) -> Result<Finished, NoMemory>
@@ -68,7 +67,11 @@ impl Workers for OneWorker {
         analyse_planes(alloc, from)
     }
 
-    fn quantise(&self, alloc: Global, from: &Quantising<'_>) -> Result<CodedResidual, NoMemory> {
+    fn quantise(
+        &self,
+        alloc: Global,
+        from: &Quantising<'_>,
+    ) -> Result<Planes<PlaneBands>, NoMemory> {
         quantise_planes(alloc, from)
     }
 
@@ -103,7 +106,11 @@ impl<'a, R: Threads + Sync> Workers for SeveralWorkers<'a, R> {
         analyse_side_by_side(self.rt, alloc, from, self.count)
     }
 
-    fn quantise(&self, alloc: Global, from: &Quantising<'_>) -> Result<CodedResidual, NoMemory> {
+    fn quantise(
+        &self,
+        alloc: Global,
+        from: &Quantising<'_>,
+    ) -> Result<Planes<PlaneBands>, NoMemory> {
         if self.count <= 1 {
             return quantise_planes(alloc, from);
         }

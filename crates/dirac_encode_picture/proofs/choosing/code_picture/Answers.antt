@@ -19,7 +19,7 @@ pub returns-clause-read : goal.returns-clause-read
 returns-clause-read g c = ok_weaker c.code_at.result (λ x is. is.read) (coding_by c.args.settings.now c.args.refs.now c.args.planned.now c.args.source.now _ _ c.code_at.result (ap (motion_among c.args.settings.now) c.in_ok-prepared.ensures.blocks ∙ chosen_motion c.args.settings.now c.args.refs.now c.args.planned.now c.args.source.now) c.code_at.ensures)
 
 pub returns-clause-magnitudes_bounded : goal.returns-clause-magnitudes_bounded
-returns-clause-magnitudes_bounded g c = ok_weaker c.code_at.result (λ x is. is.small) (coding_by c.args.settings.now c.args.refs.now c.args.planned.now c.args.source.now _ _ c.code_at.result (ap (motion_among c.args.settings.now) c.in_ok-prepared.ensures.blocks ∙ chosen_motion c.args.settings.now c.args.refs.now c.args.planned.now c.args.source.now) c.code_at.ensures)
+returns-clause-magnitudes_bounded g c = ok_weaker c.code_at.result (λ x is. is.magnitudes_bounded) (coding_by c.args.settings.now c.args.refs.now c.args.planned.now c.args.source.now _ _ c.code_at.result (ap (motion_among c.args.settings.now) c.in_ok-prepared.ensures.blocks ∙ chosen_motion c.args.settings.now c.args.refs.now c.args.planned.now c.args.source.now) c.code_at.ensures)
 
 pub returns-clause-lossless : goal.returns-clause-lossless
 returns-clause-lossless g c = ok_weaker c.code_at.result (λ x is. is.lossless) (coding_by c.args.settings.now c.args.refs.now c.args.planned.now c.args.source.now _ _ c.code_at.result (ap (motion_among c.args.settings.now) c.in_ok-prepared.ensures.blocks ∙ chosen_motion c.args.settings.now c.args.refs.now c.args.planned.now c.args.source.now) c.code_at.ensures)

@@ -9,7 +9,9 @@ returns-then-is_intra-clause-blocks g c =
     intra_choice c.args.asked.now.settings.now c.args.asked.now.refs.now c.args.asked.now.planned.now c.args.asked.now.source.now _ intra c.in_ok-prepared.ensures.blocks
 
 pub returns-then-is_intra-clause-without_index : goal.returns-then-is_intra-clause-without_index
-returns-then-is_intra-clause-without_index g c = choices_same c.args.asked.now.settings.now c.args.asked.now.refs.now c.args.asked.now.planned.now c.args.asked.now.source.now _ (returns-then-is_intra-clause-blocks g c)
+returns-then-is_intra-clause-without_index g c =
+    choices_same c.args.asked.now.settings.now c.args.asked.now.refs.now c.args.asked.now.planned.now
+    c.args.asked.now.source.now _ (returns-then-is_intra-clause-blocks g c)
 
 pub returns-clause-blocks : goal.returns-clause-blocks
 returns-clause-blocks g c =
@@ -17,4 +19,6 @@ returns-clause-blocks g c =
     inter_choice c.args.asked.now.settings.now c.args.asked.now.refs.now c.args.asked.now.planned.now c.args.asked.now.source.now _ inter c.in_ok-prepared-2.ensures.blocks
 
 pub returns-clause-without_index : goal.returns-clause-without_index
-returns-clause-without_index g c = choices_same c.args.asked.now.settings.now c.args.asked.now.refs.now c.args.asked.now.planned.now c.args.asked.now.source.now _ (returns-clause-blocks g c)
+returns-clause-without_index g c =
+    choices_same c.args.asked.now.settings.now c.args.asked.now.refs.now c.args.asked.now.planned.now
+    c.args.asked.now.source.now _ (returns-clause-blocks g c)

@@ -7,13 +7,15 @@ pub motion_of-requires-clause-blocks : goal.motion_of-requires-clause-blocks
 motion_of-requires-clause-blocks g c = let is = predicting c.args.asked.now.settings.now c.requires.prepared.asked.accepted in (is.some_blocks, is.most_blocks)
 
 pub motion_of-requires-clause-precision : goal.motion_of-requires-clause-precision
-motion_of-requires-clause-precision g c = (predicting c.args.asked.now.settings.now c.requires.prepared.asked.accepted).precision
+motion_of-requires-clause-precision g c =
+    (predicting c.args.asked.now.settings.now c.requires.prepared.asked.accepted).precision
 
-pub quantise-requires-clause-from : goal.quantise-requires-clause-from
-quantise-requires-clause-from g c = record {
-  codable = codable c.args.asked.now.settings.now c.requires.prepared.asked.accepted;
-  fits = left_quantisable c.args.asked.now.settings.now c.args.asked.now.refs.now c.args.asked.now.planned.now c.args.asked.now.source.now _ c.args.prepared.now.left c.requires.prepared.left;
-}
+pub residual_at-requires-clause-codable : goal.residual_at-requires-clause-codable
+residual_at-requires-clause-codable g c = codable c.args.asked.now.settings.now c.requires.prepared.asked.accepted
+
+pub residual_at-requires-clause-fits : goal.residual_at-requires-clause-fits
+residual_at-requires-clause-fits g c =
+    left_quantisable c.args.asked.now.settings.now c.args.asked.now.refs.now c.args.asked.now.planned.now c.args.asked.now.source.now _ c.args.prepared.now.left c.requires.prepared.left
 
 pub returns : goal.returns
 returns g c =

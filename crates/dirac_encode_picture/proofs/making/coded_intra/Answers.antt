@@ -2,11 +2,12 @@ use Rattle.dirac_encode_laws.proofs.Coding.{codable}
 use Rattle.dirac_encode_picture.proofs.Preparing.{intra_same, left_quantisable}
 use Rattle.dirac_encode_picture.proofs.making.coded_intra.Goals as goal
 
-pub quantise-requires-clause-from : goal.quantise-requires-clause-from
-quantise-requires-clause-from g c = record {
-  codable = codable c.args.asked.now.settings.now c.requires.prepared.asked.accepted;
-  fits = left_quantisable c.args.asked.now.settings.now c.args.asked.now.refs.now c.args.asked.now.planned.now c.args.asked.now.source.now _ c.args.prepared.now.left c.requires.prepared.left;
-}
+pub residual_at-requires-clause-codable : goal.residual_at-requires-clause-codable
+residual_at-requires-clause-codable g c = codable c.args.asked.now.settings.now c.requires.prepared.asked.accepted
+
+pub residual_at-requires-clause-fits : goal.residual_at-requires-clause-fits
+residual_at-requires-clause-fits g c =
+    left_quantisable c.args.asked.now.settings.now c.args.asked.now.refs.now c.args.asked.now.planned.now c.args.asked.now.source.now _ c.args.prepared.now.left c.requires.prepared.left
 
 pub returns : goal.returns
 returns g c =

@@ -21,7 +21,8 @@ pub payload_bytes-requires-clause-index : goal.payload_bytes-requires-clause-ind
 payload_bytes-requires-clause-index g c = let is = predicting c.args.asked.now.settings.now c.requires.prepared.asked.accepted in (is.some_blocks, is.most_blocks)
 
 pub payload_bytes-requires-clause-precision : goal.payload_bytes-requires-clause-precision
-payload_bytes-requires-clause-precision g c = (predicting c.args.asked.now.settings.now c.requires.prepared.asked.accepted).precision
+payload_bytes-requires-clause-precision g c =
+    (predicting c.args.asked.now.settings.now c.requires.prepared.asked.accepted).precision
 
 pub payload_bytes-requires-clause-written : goal.payload_bytes-requires-clause-written
 payload_bytes-requires-clause-written g c =
@@ -54,6 +55,6 @@ returns g c =
       payload = exact;
       shown = shown;
       read = payload_read t refs q p (motion_among t o) coded c.in_ok-payload.payload.items c.requires.prepared.asked known c.in_ok-coded.ensures (exact ∙ ap (payload_of t) (sym c.in_ok-coded.ensures)) c.in_ok-payload.ensures.spelled;
-      small = small_so t refs q p (motion_among t o) c.requires.prepared.asked known;
-      lossless = λ number none. shown ∙ shown_again t refs q p (motion_among t o) c.requires.prepared.asked known c.requires.prepared.whole number none;
+      magnitudes_bounded = small_so t refs q p (motion_among t o) c.requires.prepared.asked known;
+      lossless = λ number none. shown ∙ shown_again t refs q p (motion_among t o) c.requires.prepared.asked known c.requires.prepared.as_many_samples number none;
     }

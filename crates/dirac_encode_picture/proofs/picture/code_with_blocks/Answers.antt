@@ -18,7 +18,7 @@ pub returns-clause-read : goal.returns-clause-read
 returns-clause-read c = ok_weaker c.code_at.result (λ x is. is.read) (coding_by c.args.settings.now c.args.refs.now c.args.planned.now c.args.source.now _ _ c.code_at.result (ap (motion_among c.args.settings.now) c.in_ok-prepared.ensures.blocks) c.code_at.ensures)
 
 pub returns-clause-magnitudes_bounded : goal.returns-clause-magnitudes_bounded
-returns-clause-magnitudes_bounded c = ok_weaker c.code_at.result (λ x is. is.small) (coding_by c.args.settings.now c.args.refs.now c.args.planned.now c.args.source.now _ _ c.code_at.result (ap (motion_among c.args.settings.now) c.in_ok-prepared.ensures.blocks) c.code_at.ensures)
+returns-clause-magnitudes_bounded c = ok_weaker c.code_at.result (λ x is. is.magnitudes_bounded) (coding_by c.args.settings.now c.args.refs.now c.args.planned.now c.args.source.now _ _ c.code_at.result (ap (motion_among c.args.settings.now) c.in_ok-prepared.ensures.blocks) c.code_at.ensures)
 
 pub returns-clause-lossless : goal.returns-clause-lossless
 returns-clause-lossless c = ok_weaker c.code_at.result (λ x is. is.lossless) (coding_by c.args.settings.now c.args.refs.now c.args.planned.now c.args.source.now _ _ c.code_at.result (ap (motion_among c.args.settings.now) c.in_ok-prepared.ensures.blocks) c.code_at.ensures)

@@ -6,9 +6,9 @@ use Rattle.dirac_picture.specs.declared.coded.CodedPicture.{CodedPicture}
 use Rattle.dirac_picture.specs.Writable.{IsWritten}
 use Rattle.dirac_decode.specs.Content.{named}
 use Rattle.dirac_decode.specs.Rebuilding.{CanBeRebuilt}
-use Rattle.dirac_encode_picture.specs.declared.prepared.Compensated.{Compensated}
-use Rattle.dirac_encode_picture.specs.declared.showing.Finishing.{Finishing}
-use Rattle.dirac_encode_picture.specs.Predictions.{ArePredictions}
+use Rattle.dirac_reconstruct.specs.declared.showing.Compensated.{Compensated}
+use Rattle.dirac_reconstruct.specs.declared.showing.Finishing.{Finishing}
+use Rattle.dirac_reconstruct.specs.Predicted.{ArePredictions}
 
 -- these are the predictions of a coded picture
 pub record ArePredicted (s : Sequence) (refs : List Picture) (c : CodedPicture) (x : Compensated) : Type 0 where

@@ -4,8 +4,7 @@ ghost use Rattle.std.specs.Prelude.{◌≡◌, ◌<◌, ◌≤◌, ◌-ℤ◌, p
 ghost use Rattle.std.specs.List.{All};
 ghost use Rattle.std.specs.Simd.Lanes.{zip2};
 ghost use Rattle.dirac_upconvert.specs.HalfSamples.{IsSample};
-ghost use Rattle.dirac_encode_laws.specs.Coded.{less_prediction};
-ghost use Rattle.dirac_encode_picture.specs.Predictions.{IsCodablePlane, IsPredictedBy};
+ghost use Rattle.dirac_encode_planes.specs.Predictions.{IsCodablePlane, IsPredictedBy, less_values};
 
 use dirac_common::{NoMemory, Plane};
 use std::alloc::Global;
@@ -51,7 +50,7 @@ fn put_differences(samples: &[i16], predicted: &[i32], left: &mut [i16])
 pub(crate) fn difference(alloc: Global, plane: &Plane, predicted: &[i32]) -> Result<Plane, NoMemory>
     requires plane { IsCodablePlane plane.now }
     requires predicted { IsPredictedBy plane.now predicted.now }
-    ensures { IfOk result (λ t. t ≡ less_prediction plane.now predicted.now) }
+    ensures { IfOk result (λ t. t ≡ less_values plane.now predicted.now) }
 {
     let mut left = Plane::try_new(alloc, plane.width(), plane.height(), 0)?;
     put_differences(plane.values(), predicted, left.values_mut());

@@ -11,10 +11,10 @@ use std::thread::{Threads, join};
 
 /// What was made of each plane of a picture.
 #[derive(Drop)]
-pub(crate) struct Planes<T> {
-    pub(crate) y: T,
-    pub(crate) u: T,
-    pub(crate) v: T,
+pub struct Planes<T> {
+    pub y: T,
+    pub u: T,
+    pub v: T,
 }
 
 /// What `work` makes of the planes of chroma: with three workers or more of U beside V, else one after the other.
@@ -50,7 +50,7 @@ fn chroma<R: Threads + Sync, T: Send + Drop, F: Fn(Component) -> Result<T, NoMem
 
 /// What `work` makes of each plane: of luma beside chroma, and with three workers or more of all three side by side.
 /// Where a thread can't be had, one after the other.
-pub(crate) fn side_by_side<
+pub fn side_by_side<
     R: Threads + Sync,
     T: Send + Drop,
     F: Fn(Component) -> Result<T, NoMemory> + Sync,

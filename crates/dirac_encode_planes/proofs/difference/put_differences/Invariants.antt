@@ -1,5 +1,5 @@
 use Rattle.std.proofs.Common.{◌≡◌, ◌<◌, ◌-ℤ◌, ℕ, pos, slice_index_or}
-use Rattle.dirac_encode_picture.proofs.difference.put_differences.Given as goal
+use Rattle.dirac_encode_planes.proofs.difference.put_differences.Given as goal
 
 abbrev pub invariant-loop-i : goal.invariant-loop-i
 invariant-loop-i l =

@@ -1,9 +1,8 @@
 use Rattle.std.proofs.Common.{sym, subst, ℤ, List}
 use Rattle.std.specs.List.{All}
 use Rattle.dirac_upconvert.specs.HalfSamples.{IsSample}
-use Rattle.dirac_encode_laws.proofs.Lefts.{samples_are}
-use Rattle.dirac_encode_picture.proofs.difference.difference.Goals as goal
+use Rattle.dirac_encode_planes.proofs.difference.difference.Goals as goal
 
 pub put_differences-requires-clause-samples : goal.put_differences-requires-clause-samples
 put_differences-requires-clause-samples c =
-    subst (λ (xs : List ℤ). All IsSample xs) (sym c.values.ensures.value) (samples_are c.args.plane.now.values c.requires.plane.samples)
+    subst (λ (xs : List ℤ). All IsSample xs) (sym c.values.ensures.value) c.requires.plane.samples

@@ -1,6 +1,6 @@
 use Rattle.std.proofs.Common.{ℤ, ◌-ℤ◌, arith}
-use Rattle.dirac_encode_picture.proofs.Differences.{zipped_all}
-use Rattle.dirac_encode_picture.proofs.difference.put_differences.Goals as goal
+use Rattle.dirac_encode_planes.proofs.Differences.{zipped_all}
+use Rattle.dirac_encode_planes.proofs.difference.put_differences.Goals as goal
 
 pub returns : goal.returns
 returns c =

@@ -6,8 +6,8 @@ ghost use Rattle.dirac_sequence_header.specs.Lawful.{IsSequence};
 ghost use Rattle.dirac_picture.specs.Texts.{AreTexts, text_of};
 ghost use Rattle.dirac_picture.specs.Writable.{IsWritten};
 
-use crate::beside::{Planes, side_by_side};
 use dirac_common::{Component, NoMemory};
+use dirac_encode_planes::{Planes, side_by_side};
 use dirac_picture::{CodedResidual, Texts, text_among};
 use dirac_sequence_header::Sequence;
 use std::alloc::Global;

@@ -8,31 +8,36 @@ ghost use Rattle.dirac_picture.specs.Fits.{IsResidual};
 ghost use Rattle.dirac_picture.specs.Writable.{IsWritten};
 ghost use Rattle.dirac_picture.specs.Texts.{AreTexts};
 ghost use Rattle.dirac_decode.specs.Content.{height_of, rebuilt, width_of};
-ghost use Rattle.dirac_encode_picture.specs.Finishing.{CanBeFinished, IsFinishable};
-ghost use Rattle.dirac_encode_picture.specs.Predictions.{picture_from};
+ghost use Rattle.dirac_reconstruct.specs.Finishing.{CanBeFinished, IsFinishable};
+ghost use Rattle.dirac_reconstruct.specs.Predicted.{picture_from};
 
-use crate::predictions::Predictions;
-use crate::prepared::Compensated;
 use crate::texts::texts_side_by_side;
-use dirac_common::{NoMemory, Picture};
+use dirac_common::{Component, NoMemory, Picture};
 use dirac_decode::{predicted_samples, rebuild};
-use dirac_obmc::Component;
-use dirac_picture::{CodedPicture, CodedResidual, Texts, texts_of};
+use dirac_encode_planes::Predictions;
+use dirac_picture::{CodedMotion, CodedPicture, CodedResidual, Texts, texts_of};
 use dirac_refs::RefBuffer;
 use dirac_sequence_header::Sequence;
 use std::alloc::Global;
 use std::marker::Sync;
 use std::thread::{Threads, join};
 
+/// The motion of an inter picture, and what is predicted by it for each plane.
+#[derive(Drop)]
+pub struct Compensated {
+    pub motion: CodedMotion,
+    pub predictions: Predictions,
+}
+
 /// The bytes of a coded picture's bands, and the picture that decoders show for it.
 #[derive(Drop)]
-pub(crate) struct Finished {
-    pub(crate) texts: Texts,
-    pub(crate) shown: Picture,
+pub struct Finished {
+    pub texts: Texts,
+    pub shown: Picture,
 }
 
 /// The picture that a coded picture and its predictions stand for.
-pub(crate) fn show_predicted(
+fn show_predicted(
     alloc: Global,
     sequence: &Sequence,
     coded: &CodedPicture,
@@ -77,11 +82,11 @@ pub(crate) fn show_predicted(
 /// What is finished: a coded picture of a sequence, with the pictures listed before it and its predictions, if it is
 /// predicted.
 #[derive(Clone, Copy)]
-pub(crate) struct Finishing<'a> {
-    pub(crate) sequence: &'a Sequence,
-    pub(crate) refs: &'a RefBuffer,
-    pub(crate) coded: &'a CodedPicture,
-    pub(crate) compensated: &'a Option<Compensated>,
+pub struct Finishing<'a> {
+    pub sequence: &'a Sequence,
+    pub refs: &'a RefBuffer,
+    pub coded: &'a CodedPicture,
+    pub compensated: &'a Option<Compensated>,
 }
 
 /// The picture that decoders show for a coded picture, from its predictions if it is predicted.
@@ -108,7 +113,7 @@ fn show(
 }
 
 /// Writes the bands of a coded picture, and shows it.
-pub(crate) fn finish(alloc: Global, from: &Finishing<'_>) -> Result<Finished, NoMemory>
+pub fn finish(alloc: Global, from: &Finishing<'_>) -> Result<Finished, NoMemory>
     requires { IsFinishable from.now }
     ensures texts { IfOk result (λ f. IfSome from.now.coded.now.residual
         (λ r. AreTexts from.now.sequence.now r f.texts)) }
@@ -140,7 +145,7 @@ fn texts_by<R: Threads + Sync>(
 }
 
 /// Writes the bands of a coded picture, by all workers but one, and shows it beside that.
-pub(crate) fn finish_side_by_side<R: Threads + Sync>(
+pub fn finish_side_by_side<R: Threads + Sync>(
     rt: &R,
     alloc: Global,
     from: &Finishing<'_>,

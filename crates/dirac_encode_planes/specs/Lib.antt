@@ -1,0 +1,3 @@
+pub mod Analyses
+pub mod Analysing
+pub mod Predictions

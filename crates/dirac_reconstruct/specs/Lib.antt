@@ -1,0 +1,2 @@
+pub mod Predicted
+pub mod Finishing
