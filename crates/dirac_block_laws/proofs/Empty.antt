@@ -4,7 +4,7 @@ use Rattle.std.proofs.lemmas.Bool.{cases_lt}
 use Rattle.std.proofs.lemmas.List.{length-replicate, get_or-replicate, get_or_past}
 use Rattle.dirac_blocks.specs.Grammar.{empty_table}
 use Rattle.dirac_blocks.specs.Reached.{AllGrey}
-use Rattle.dirac_blocks.specs.Tables.{grey}
+use Rattle.dirac_block_table.specs.Tables.{grey}
 
 pub empty_grey : (across down refs : ℕ) → AllGrey (empty_table across down refs).blocks
 empty_grey across down refs k =

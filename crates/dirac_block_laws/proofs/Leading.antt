@@ -6,11 +6,11 @@ use Rattle.dirac_bits.specs.Syntax.{done, read, ◌>>=◌}
 use Rattle.dirac_common.specs.declared.formats.Component.TheVariants as components
 use Rattle.dirac_blocks.specs.declared.parts.ListKind.{ListKind}
 use Rattle.dirac_blocks.specs.declared.parts.ListKind.TheVariants as parts
-use Rattle.dirac_blocks.specs.declared.parts.Reference.{Reference}
-use Rattle.dirac_blocks.specs.declared.parts.Reference.TheVariants as references
+use Rattle.dirac_block_table.specs.declared.reference.Reference.{Reference}
+use Rattle.dirac_block_table.specs.declared.reference.Reference.TheVariants as references
 use Rattle.dirac_blocks.specs.Grammar.{listed, units_step, vectors_listed, second_listed, dcs_listed, values_listed}
 use Rattle.dirac_blocks.specs.Laws.{CarriedIsRead}
-use Rattle.dirac_blocks.specs.Tables.{BlockTable, IsBlockTable}
+use Rattle.dirac_block_table.specs.Tables.{BlockTable, IsBlockTable}
 use Rattle.dirac_blocks.proofs.Stages.{by}
 use Rattle.dirac_block_laws.specs.Standing.{some_blocks, EachCarries}
 use Rattle.dirac_block_laws.proofs.Reading.{answer_same, read_then, read_list, first_stands}

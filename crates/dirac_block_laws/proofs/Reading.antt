@@ -11,7 +11,7 @@ use Rattle.dirac_bits.specs.Fields.{flag_at, uint_at, sint_at, literal_at, block
 use Rattle.dirac_bits.specs.Syntax.{Syntax, done, flag_then, uint_then, sint_then, literal_then, block_then, align_then, here_then, refuse, read, ◌>>=◌}
 use Rattle.dirac_blocks.specs.Carried.{ReadsTo}
 use Rattle.dirac_blocks.specs.Grammar.{Step, listed, table_from}
-use Rattle.dirac_blocks.specs.Tables.{BlockTable}
+use Rattle.dirac_block_table.specs.Tables.{BlockTable}
 use Rattle.dirac_block_laws.specs.Standing.{one_block, some_blocks}
 
 -- a refusal is no answer

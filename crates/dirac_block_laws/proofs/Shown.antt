@@ -8,15 +8,15 @@ use Rattle.dirac_common.specs.declared.formats.Vector.{Vector}
 use Rattle.dirac_arith.specs.Carried.{Carries}
 use Rattle.dirac_arith.specs.Interval.{Decision}
 use Rattle.dirac_vectors.specs.Neighbours.{IsShort}
-use Rattle.dirac_blocks.specs.declared.block.Block.{Block}
+use Rattle.dirac_block_table.specs.declared.block.Block.{Block}
 use Rattle.dirac_common.specs.declared.formats.Component.TheVariants as components
 use Rattle.dirac_blocks.specs.declared.parts.ListKind.{ListKind}
 use Rattle.dirac_blocks.specs.declared.parts.ListKind.TheVariants as parts
-use Rattle.dirac_blocks.specs.declared.parts.Reference.TheVariants as references
+use Rattle.dirac_block_table.specs.declared.reference.Reference.TheVariants as references
 use Rattle.dirac_blocks.specs.Carried.{with_part, ReadsTo}
 use Rattle.dirac_blocks.specs.Grammar.{empty_table, units_step}
 use Rattle.dirac_blocks.specs.Laws.{CarriedIsRead}
-use Rattle.dirac_blocks.specs.Tables.{BlockTable, IsBlock, IsBlockTable, block_at, grey, no_vector}
+use Rattle.dirac_block_table.specs.Tables.{BlockTable, IsBlock, IsBlockTable, block_at, grey, no_vector}
 use Rattle.dirac_blocks.proofs.Stages.{by, by_at, by_lawful, place_inside}
 use Rattle.dirac_blocks.proofs.Spelled.{nothing_yet}
 use Rattle.dirac_block_laws.proofs.Stepping.{list_of}

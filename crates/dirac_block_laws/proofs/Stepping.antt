@@ -8,15 +8,15 @@ use Rattle.dirac_bits.specs.Syntax.{done, read, ◌>>=◌}
 use Rattle.dirac_common.specs.declared.formats.Component.TheVariants as components
 use Rattle.dirac_blocks.specs.declared.parts.ListKind.{ListKind}
 use Rattle.dirac_blocks.specs.declared.parts.ListKind.TheVariants as parts
-use Rattle.dirac_blocks.specs.declared.parts.Reference.{Reference}
-use Rattle.dirac_blocks.specs.declared.parts.Reference.TheVariants as references
+use Rattle.dirac_block_table.specs.declared.reference.Reference.{Reference}
+use Rattle.dirac_block_table.specs.declared.reference.Reference.TheVariants as references
 use Rattle.dirac_blocks.specs.Carried.{ReadsTo}
 use Rattle.dirac_blocks.specs.Decisions.{unit_decisions}
 use Rattle.dirac_blocks.specs.Grammar.{listed, units_step, vectors_listed, second_listed, dcs_listed}
 use Rattle.dirac_blocks.specs.Laws.{ReadIsCarried}
 use Rattle.dirac_blocks.specs.Parts.{part_at}
 use Rattle.dirac_blocks.specs.Reached.{SameShape}
-use Rattle.dirac_blocks.specs.Tables.{BlockTable, IsBlockTable}
+use Rattle.dirac_block_table.specs.Tables.{BlockTable, IsBlockTable}
 use Rattle.dirac_block_laws.specs.Standing.{one_block, some_blocks, EachCarries}
 use Rattle.dirac_block_laws.proofs.Reading.{answer_same, then_read, list_read, one_more}
 use Rattle.dirac_block_laws.proofs.Told.{Keeps, kept_decisions}

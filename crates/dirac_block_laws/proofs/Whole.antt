@@ -8,12 +8,12 @@ use Rattle.dirac_bits.specs.Syntax.{read, ◌>>=◌}
 use Rattle.dirac_common.specs.declared.formats.Component.TheVariants as components
 use Rattle.dirac_blocks.specs.declared.parts.ListKind.{ListKind}
 use Rattle.dirac_blocks.specs.declared.parts.ListKind.TheVariants as parts
-use Rattle.dirac_blocks.specs.declared.parts.Reference.TheVariants as references
+use Rattle.dirac_block_table.specs.declared.reference.Reference.TheVariants as references
 use Rattle.dirac_blocks.specs.Decisions.{Numbers, AreSplitNumbers, split_rows, block_decisions}
 use Rattle.dirac_blocks.specs.Grammar.{empty_table, listed, splits_step, units_step, vectors_listed, second_listed, dcs_listed, values_listed, lists_of, blocks}
 use Rattle.dirac_blocks.specs.Laws as lists
 use Rattle.dirac_blocks.specs.Reached.{SameShape}
-use Rattle.dirac_blocks.specs.Tables.{BlockTable, IsBlockTable}
+use Rattle.dirac_block_table.specs.Tables.{BlockTable, IsBlockTable}
 use Rattle.dirac_blocks.proofs.Spelled.{empty_lawful}
 use Rattle.dirac_block_laws.specs.Laws.{ReadIsCarried}
 use Rattle.dirac_block_laws.specs.Standing.{some_blocks, EachCarries}

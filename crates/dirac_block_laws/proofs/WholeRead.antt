@@ -7,13 +7,13 @@ use Rattle.dirac_arith.specs.Carried.{Carries}
 use Rattle.dirac_arith.specs.Interval.{Decision}
 use Rattle.dirac_bits.specs.Cursor.{Cursor, aligned}
 use Rattle.dirac_bits.specs.Syntax.{read, ◌>>=◌}
-use Rattle.dirac_blocks.specs.declared.block.Block.{Block}
+use Rattle.dirac_block_table.specs.declared.block.Block.{Block}
 use Rattle.dirac_blocks.specs.declared.parts.ListKind.TheVariants as parts
 use Rattle.dirac_blocks.specs.Carried.{ReadsTo}
 use Rattle.dirac_blocks.specs.Decisions.{Numbers, AreSplitNumbers, split_rows, block_decisions}
 use Rattle.dirac_blocks.specs.Grammar.{empty_table, listed, splits_step, units_step, values_listed, lists_of, blocks}
 use Rattle.dirac_blocks.specs.Laws as lists
-use Rattle.dirac_blocks.specs.Tables.{BlockTable, IsBlockTable, no_vector}
+use Rattle.dirac_block_table.specs.Tables.{BlockTable, IsBlockTable, no_vector}
 use Rattle.dirac_blocks.proofs.Stages.{by, by_lawful}
 use Rattle.dirac_blocks.proofs.Spelled.{empty_lawful, nothing_yet, by_end}
 use Rattle.dirac_blocks.proofs.Nearby.{grey_lawful}

@@ -3,7 +3,7 @@ use Rattle.std.specs.Prelude.{◌≡◌, ℕ, Ok}
 use Rattle.dirac_bits.specs.Cursor.{Cursor}
 use Rattle.dirac_bits.specs.Syntax.{read}
 use Rattle.dirac_blocks.specs.Grammar.{blocks}
-use Rattle.dirac_blocks.specs.Tables.{BlockTable, IsSize}
+use Rattle.dirac_block_table.specs.Tables.{BlockTable, IsSize}
 use Rattle.dirac_block_laws.specs.Standing.{StandFor}
 
 -- a table that is read has the sizes that were asked for, and its lists are carried by the blocks that stand there

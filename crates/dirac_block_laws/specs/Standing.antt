@@ -5,7 +5,7 @@ use Rattle.dirac_arith.specs.Interval.{Decision}
 use Rattle.dirac_bits.specs.Cursor.{Cursor}
 use Rattle.dirac_bits.specs.Syntax.{Syntax, done, uint, align, block, read, ◌>>=◌}
 use Rattle.dirac_blocks.specs.Decisions.{Numbers, AreSplitNumbers, block_decisions}
-use Rattle.dirac_blocks.specs.Tables.{BlockTable, IsBlockTable}
+use Rattle.dirac_block_table.specs.Tables.{BlockTable, IsBlockTable}
 
 -- a length and, from the next byte on, a block of that many bytes
 abbrev pub one_block : Syntax (List ℕ)

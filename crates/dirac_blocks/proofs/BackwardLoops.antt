@@ -10,7 +10,7 @@ use Rattle.dirac_arith.proofs.Carrieds.{IsLed}
 use Rattle.dirac_arith.proofs.CodedValues.{then_is_read}
 use Rattle.dirac_arith.proofs.Led.{led_begin, led_more, reads_nothing, reads_carried}
 use Rattle.dirac_arith.proofs.Spellings.{reads_more}
-use Rattle.dirac_blocks.specs.declared.block.Block.{Block}
+use Rattle.dirac_block_table.specs.declared.block.Block.{Block}
 use Rattle.dirac_blocks.specs.declared.parts.ListKind.{ListKind}
 use Rattle.dirac_blocks.specs.Carried.{with_part}
 use Rattle.dirac_blocks.specs.Decisions.{unit_row, unit_rows, superblock_part, superblock_row, superblock_rows, unit_decisions}
@@ -18,11 +18,11 @@ use Rattle.dirac_blocks.specs.Grammar.{Step, with_unit, unit_coded, unit_step, u
 use Rattle.dirac_blocks.specs.Laws.{ReadIsCarried}
 use Rattle.dirac_blocks.specs.Parts.{part_at}
 use Rattle.dirac_blocks.specs.Reached.{SameShape, IsUnit}
-use Rattle.dirac_blocks.specs.Tables.{BlockTable, IsBlockTable, block_at, split_at, unit_size}
+use Rattle.dirac_block_table.specs.Tables.{BlockTable, IsBlockTable, block_at, split_at, unit_size}
 use Rattle.dirac_blocks.proofs.Backwards.{passed, moved_to, unit_came}
 use Rattle.dirac_blocks.proofs.Filled.{square}
-use Rattle.dirac_blocks.proofs.Fills.{filled_inside, filled_outside, unit_lawful, split_few, unit_placed}
-use Rattle.dirac_blocks.proofs.Putting.{IsOutside}
+use Rattle.dirac_block_table.proofs.Fills.{filled_inside, filled_outside, unit_lawful, split_few, unit_placed}
+use Rattle.dirac_block_table.proofs.Putting.{IsOutside}
 use Rattle.dirac_blocks.proofs.ForwardLoops.{unit_of_superblock, units_fill}
 use Rattle.dirac_blocks.proofs.Nearby.{Near, SameWithin, near_within}
 use Rattle.dirac_blocks.proofs.Shapes.{shape_join, shape_refl, split_same, unit_same}

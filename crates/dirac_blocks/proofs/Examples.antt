@@ -2,8 +2,8 @@
 use Rattle.std.proofs.Common.{◌≡◌, ℕ, pos, true, false, [], ◌∷◌, replicate, refl}
 use Rattle.dirac_common.specs.Numbers.{digits_within, digits_of}
 use Rattle.dirac_arith.specs.Spelling.{spelling, signed_spelling}
-use Rattle.dirac_blocks.specs.declared.block.Block.{Block}
-use Rattle.dirac_blocks.specs.Tables.{BlockTable, grey, unit_of, first_of}
+use Rattle.dirac_block_table.specs.declared.block.Block.{Block}
+use Rattle.dirac_block_table.specs.Tables.{BlockTable, grey, unit_of, first_of}
 use Rattle.dirac_blocks.specs.Decisions.{block_decisions, least_numbers, split_row, split_rows, unit_row, unit_rows, superblock_row, superblock_rows}
 
 -- a block from reference 1

@@ -2,13 +2,13 @@
 use Rattle.std.proofs.Common.{◌≡◌, ℕ, ◌+◌, ◌-◌, ◌*◌, ◌/◌, ◌%◌, ◌<◌, ◌≤◌, ◌⊎◌, inl, inr, sym, ap, ap₂, ◌∙◌, arith, subst, List, length, get_or, ext_get_or}
 use Rattle.std.proofs.lemmas.Bool.{cases_lt, cases_eq}
 use Rattle.std.proofs.lemmas.Nat.{mul-le}
-use Rattle.dirac_blocks.specs.declared.block.Block.{Block}
+use Rattle.dirac_block_table.specs.declared.block.Block.{Block}
 use Rattle.dirac_blocks.specs.Grammar.{with_unit}
 use Rattle.dirac_blocks.specs.Reached.{IsUnit, SameShape}
-use Rattle.dirac_blocks.specs.Tables.{BlockTable, IsBlockTable, grey, block_at, split_at, unit_size, first_of}
-use Rattle.dirac_blocks.proofs.Fills.{filled_outside, split_few, unit_ends}
-use Rattle.dirac_blocks.proofs.Putting.{IsOutside}
-use Rattle.dirac_blocks.proofs.Units.{of_splits}
+use Rattle.dirac_block_table.specs.Tables.{BlockTable, IsBlockTable, grey, block_at, split_at, unit_size, first_of}
+use Rattle.dirac_block_table.proofs.Fills.{filled_outside, split_few, unit_ends}
+use Rattle.dirac_block_table.proofs.Putting.{IsOutside}
+use Rattle.dirac_block_table.proofs.Units.{of_splits}
 
 -- the unit of a column
 unit_is : (split p u : ℕ) → split ≤ 2 → u * unit_size split ≤ p → p < u * unit_size split + unit_size split → p / unit_size split ≡ u

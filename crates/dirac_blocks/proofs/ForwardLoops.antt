@@ -7,7 +7,7 @@ use Rattle.dirac_arith.specs.Reading.{Reading, Reads}
 use Rattle.dirac_arith.proofs.Carrieds.{IsLed}
 use Rattle.dirac_arith.proofs.CodedValues.{then_is_read}
 use Rattle.dirac_arith.proofs.Led.{led_begin, led_more, reads_parted, carried_reads}
-use Rattle.dirac_blocks.specs.declared.block.Block.{Block}
+use Rattle.dirac_block_table.specs.declared.block.Block.{Block}
 use Rattle.dirac_blocks.specs.declared.parts.ListKind.{ListKind}
 use Rattle.dirac_blocks.specs.Carried.{with_part}
 use Rattle.dirac_blocks.specs.Decisions.{unit_row, unit_rows, superblock_part, superblock_row, superblock_rows, unit_decisions}
@@ -15,14 +15,14 @@ use Rattle.dirac_blocks.specs.Grammar.{Step, with_unit, unit_coded, unit_step, u
 use Rattle.dirac_blocks.specs.Laws.{CarriedIsRead}
 use Rattle.dirac_blocks.specs.Parts.{part_at}
 use Rattle.dirac_blocks.specs.Reached.{SameShape, IsUnit}
-use Rattle.dirac_blocks.specs.Tables.{BlockTable, IsBlock, IsBlockTable, block_at, split_at, unit_size}
+use Rattle.dirac_block_table.specs.Tables.{BlockTable, IsBlock, IsBlockTable, block_at, split_at, unit_size}
 use Rattle.dirac_blocks.proofs.Filled.{square, filled_or_same, one_table}
-use Rattle.dirac_blocks.proofs.Fills.{filled_inside, unit_lawful, split_few, unit_placed}
+use Rattle.dirac_block_table.proofs.Fills.{filled_inside, unit_lawful, split_few, unit_placed}
 use Rattle.dirac_blocks.proofs.Forwards.{Meets, unit_forward}
 use Rattle.dirac_blocks.proofs.Going.{Goes, nothing_goes, beside_goes, below_goes, kept, grown, none_left, none_above}
 use Rattle.dirac_blocks.proofs.Nearby.{SameWithin, near_within, block_lawful}
 use Rattle.dirac_blocks.proofs.Shapes.{repeated_sizes, split_same, unit_same}
-use Rattle.dirac_blocks.proofs.Units.{of_splits, size_some}
+use Rattle.dirac_block_table.proofs.Units.{of_splits, size_some}
 use Rattle.dirac_blocks.proofs.Valued.{part_again}
 
 -- a table on its way to a finished one: what it lacks is in this part

@@ -9,10 +9,10 @@ use Rattle.dirac_bits.specs.Fronts.{HoldsFront}
 use Rattle.dirac_bits.specs.Writing.{gap}
 use Rattle.dirac_bits.proofs.Fronts.{nothing_stands, all_stand, more_stand, still_stand, through_stand}
 use Rattle.dirac_blocks.specs.declared.parts.ListKind.TheVariants as parts
-use Rattle.dirac_blocks.specs.declared.parts.Reference.TheVariants as references
+use Rattle.dirac_block_table.specs.declared.reference.Reference.TheVariants as references
 use Rattle.dirac_blocks.specs.Decisions.{least_numbers, split_rows, unit_decisions}
 use Rattle.dirac_blocks.specs.Parts.{part_at}
-use Rattle.dirac_blocks.specs.Tables.{BlockTable}
+use Rattle.dirac_block_table.specs.Tables.{BlockTable}
 use Rattle.dirac_blocks.specs.Written.{with_block, with_lists}
 use Rattle.dirac_blocks.proofs.Appended.{lists_append}
 

@@ -6,7 +6,7 @@ use Rattle.dirac_arith.specs.Coded.{read, and_then}
 use Rattle.dirac_arith.specs.Reading.{Reading, Reads}
 use Rattle.dirac_arith.proofs.CodedValues.{then_is_read}
 use Rattle.dirac_blocks.specs.Grammar.{Step}
-use Rattle.dirac_blocks.specs.Tables.{BlockTable}
+use Rattle.dirac_block_table.specs.Tables.{BlockTable}
 
 -- the same at all places left of column `right` and above row `bottom`
 pub record Same {A : Type 0} (at : BlockTable → ℕ → ℕ → A) (t u : BlockTable) (right bottom : ℕ) : Type 0 where

@@ -5,7 +5,7 @@ use Rattle.dirac_arith.specs.Spelling.{follow_at, spelling}
 use Rattle.dirac_arith.proofs.InContexts.{AreBelow, in_append, in_signed, in_spelling}
 use Rattle.dirac_blocks.specs.declared.parts.ListKind.{ListKind}
 use Rattle.dirac_blocks.specs.declared.parts.ListKind.TheVariants as part
-use Rattle.dirac_blocks.specs.Tables.{BlockTable}
+use Rattle.dirac_block_table.specs.Tables.{BlockTable}
 use Rattle.dirac_blocks.specs.Decisions.{Numbers, less_prediction, split_row, split_rows, superblock_rows}
 use Rattle.dirac_blocks.specs.Parts.{part_at}
 use Rattle.dirac_blocks.proofs.Narrowing.{superblock_rows_joins}

@@ -3,8 +3,8 @@ use Rattle.std.proofs.Common.{◌≡◌, ℕ, zero, suc, ◌+◌, ◌*◌, List,
 use native.Mathlib.Numerals.{unary_clauses}
 use Rattle.dirac_arith.specs.Interval.{Decision}
 use Rattle.dirac_arith.specs.Spelling.{spelling}
-use Rattle.dirac_blocks.specs.declared.block.Block.{Block}
-use Rattle.dirac_blocks.specs.Tables.{BlockTable}
+use Rattle.dirac_block_table.specs.declared.block.Block.{Block}
+use Rattle.dirac_block_table.specs.Tables.{BlockTable}
 use Rattle.dirac_blocks.specs.Decisions.{Numbers, UnitPart, split_row, split_rows, unit_row, unit_rows, superblock_part, superblock_row, superblock_rows}
 
 pub unit_row_next : (part : UnitPart) (size i j n : ℕ) → unit_row part size i j (n + 1) ≡ unit_row part size i j n ++ part (i + n * size) j

@@ -9,15 +9,15 @@ use Rattle.dirac_common.specs.Samples.{mean_of_three}
 use Rattle.dirac_vectors.proofs.Means.{mean_of_two_short, mean_of_three_short, median_short}
 use Rattle.dirac_vectors.specs.Neighbours.{IsShort, median}
 use Rattle.dirac_vectors.specs.Predictions.{IsShortVector, of_neighbours, vector_of, dc_of, mode_of}
-use Rattle.dirac_blocks.specs.declared.block.Block.{Block}
+use Rattle.dirac_block_table.specs.declared.block.Block.{Block}
 use Rattle.dirac_common.specs.declared.formats.Component.{Component}
 use Rattle.dirac_common.specs.declared.formats.Component.TheVariants as components
-use Rattle.dirac_blocks.specs.declared.parts.Reference.{Reference}
-use Rattle.dirac_blocks.specs.declared.parts.Reference.TheVariants as references
+use Rattle.dirac_block_table.specs.declared.reference.Reference.{Reference}
+use Rattle.dirac_block_table.specs.declared.reference.Reference.TheVariants as references
 use Rattle.dirac_blocks.specs.Decisions.{left_of, above_of, corner_of, predicted, counted, ref1_at, ref2_at, is_dc_at}
 use Rattle.dirac_blocks.specs.Grammar.{block_using, is_dc}
 use Rattle.dirac_blocks.specs.Parts.{vector_at, dc_at}
-use Rattle.dirac_blocks.specs.Tables.{BlockTable, IsBlock, IsBlockTable, block_at, grey}
+use Rattle.dirac_block_table.specs.Tables.{BlockTable, IsBlock, IsBlockTable, block_at, grey}
 use Rattle.dirac_blocks.proofs.Going.{Same}
 
 -- what two tables have in common left, above and above and left of a place

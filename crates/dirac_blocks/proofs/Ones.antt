@@ -12,7 +12,7 @@ use Rattle.dirac_arith.proofs.Carrieds.{not_shut}
 use Rattle.dirac_arith.proofs.CodedValues.{Open, broken_is_refused, is_read, open_shut, then_open, repeated_none, repeated_open, repeated_stops}
 use Rattle.dirac_arith.proofs.Decidings.{number_is_shut}
 use Rattle.dirac_arith.proofs.Led.{led_begin}
-use Rattle.dirac_blocks.specs.declared.block.Block.{Block}
+use Rattle.dirac_block_table.specs.declared.block.Block.{Block}
 use Rattle.dirac_blocks.specs.declared.parts.ListKind.{ListKind}
 use Rattle.dirac_blocks.specs.declared.parts.ListKind.TheVariants as parts
 use Rattle.dirac_blocks.specs.Carried.{ReadsTo}
@@ -20,7 +20,7 @@ use Rattle.dirac_blocks.specs.Decisions.{unit_decisions}
 use Rattle.dirac_blocks.specs.Grammar.{Step, coded_into, unit_coded, with_unit, unit_step, unit_row_step, superblock_step, split_step, units_step}
 use Rattle.dirac_blocks.specs.Laws.{RefusedIsBroken, OnesAreRefused, OnesRefuseSplits}
 use Rattle.dirac_blocks.specs.Parts.{part_at}
-use Rattle.dirac_blocks.specs.Tables.{BlockTable, block_at, split_at, unit_size}
+use Rattle.dirac_block_table.specs.Tables.{BlockTable, block_at, split_at, unit_size}
 use Rattle.dirac_blocks.proofs.BackwardLoops.{read_is_carried}
 use Rattle.dirac_blocks.proofs.Valued.{ByDifference, told_coded, across_tells, down_tells, dc_tells}
 

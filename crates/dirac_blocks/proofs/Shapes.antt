@@ -6,7 +6,7 @@ use Rattle.dirac_arith.specs.Coded.{read, repeated}
 use Rattle.dirac_arith.specs.Reading.{Reading}
 use Rattle.dirac_blocks.specs.Grammar.{Step}
 use Rattle.dirac_blocks.specs.Reached.{IsUnit, SameBlocks, SameShape}
-use Rattle.dirac_blocks.specs.Tables.{BlockTable, split_at, unit_size}
+use Rattle.dirac_block_table.specs.Tables.{BlockTable, split_at, unit_size}
 
 -- steps by rows and columns, where sizes are the same
 pub repeated_sizes : (step : ℕ → ℕ → Step) {a b c d : ℕ} (t : BlockTable) (r : Reading) {y : Result (BlockTable × Reading) Cause} → a ≡ b → c ≡ d

@@ -19,19 +19,19 @@ use Rattle.dirac_bits.specs.Syntax.{Syntax, done, ◌>>=◌}
 use Rattle.dirac_bits.specs.Writing.{gap, IsWhole}
 use Rattle.dirac_bits.proofs.Fields.{behind_then, gap_length-at}
 use Rattle.dirac_vectors.specs.Predictions.{split_of}
-use Rattle.dirac_blocks.specs.declared.block.Block.{Block}
+use Rattle.dirac_block_table.specs.declared.block.Block.{Block}
 use Rattle.dirac_common.specs.declared.formats.Component.TheVariants as components
 use Rattle.dirac_blocks.specs.declared.parts.ListKind.{ListKind}
 use Rattle.dirac_blocks.specs.declared.parts.ListKind.TheVariants as parts
-use Rattle.dirac_blocks.specs.declared.parts.Reference.{Reference}
-use Rattle.dirac_blocks.specs.declared.parts.Reference.TheVariants as references
+use Rattle.dirac_block_table.specs.declared.reference.Reference.{Reference}
+use Rattle.dirac_block_table.specs.declared.reference.Reference.TheVariants as references
 use Rattle.dirac_blocks.specs.Carried.{ReadsTo}
 use Rattle.dirac_blocks.specs.Decisions.{left_of, above_of, corner_of, predicted_split, least_numbers, split_rows, unit_decisions, second_lists, block_decisions}
 use Rattle.dirac_blocks.specs.Grammar.{Step, empty_table, listed, table_from, splits_step, units_step, vectors_listed, second_listed, dcs_listed, values_listed, lists_of, blocks}
 use Rattle.dirac_blocks.specs.Parts.{part_at}
 use Rattle.dirac_arith.specs.Coded as coded
 use Rattle.dirac_arith.specs.Reading.{Reading}
-use Rattle.dirac_blocks.specs.Tables.{BlockTable, IsBlock, IsBlockTable, IsSize, split_at, grey, no_vector}
+use Rattle.dirac_block_table.specs.Tables.{BlockTable, IsBlock, IsBlockTable, IsSize, split_at, grey, no_vector}
 use Rattle.dirac_blocks.specs.Written.{with_block, with_lists, AreShort}
 use Rattle.dirac_blocks.proofs.Appended.{lists_append}
 use Rattle.dirac_blocks.proofs.InContexts.{in_split_rows}

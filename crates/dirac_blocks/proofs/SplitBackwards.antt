@@ -16,10 +16,10 @@ use Rattle.dirac_blocks.specs.Decisions.{Numbers, predicted_split, split_row, sp
 use Rattle.dirac_blocks.specs.Grammar.{Step, with_split, split_step}
 use Rattle.dirac_blocks.specs.Laws.{ReadSplitsAreCarried}
 use Rattle.dirac_blocks.specs.Reached.{AllGrey, SameBlocks}
-use Rattle.dirac_blocks.specs.Tables.{BlockTable, IsBlockTable, split_at}
+use Rattle.dirac_block_table.specs.Tables.{BlockTable, IsBlockTable, split_at}
 use Rattle.dirac_blocks.proofs.Backwards.{passed, moved_to}
-use Rattle.dirac_blocks.proofs.Fills.{split_lawful}
-use Rattle.dirac_blocks.proofs.Putting.{split_inside}
+use Rattle.dirac_block_table.proofs.Fills.{split_lawful}
+use Rattle.dirac_block_table.proofs.Putting.{split_inside}
 use Rattle.dirac_blocks.proofs.Shapes.{blocks_join, blocks_refl}
 use Rattle.dirac_blocks.proofs.SplitForwards.{SameSplits, split_near, split_here, split_there}
 

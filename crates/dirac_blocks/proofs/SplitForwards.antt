@@ -15,7 +15,7 @@ use Rattle.dirac_blocks.specs.Decisions.{Numbers, AreSplitNumbers, predicted_spl
 use Rattle.dirac_blocks.specs.Grammar.{Step, with_split, split_step, splits_step}
 use Rattle.dirac_blocks.specs.Laws.{CarriedSplitsAreRead}
 use Rattle.dirac_blocks.specs.Reached.{SameBlocks}
-use Rattle.dirac_blocks.specs.Tables.{BlockTable, IsBlockTable, split_at}
+use Rattle.dirac_block_table.specs.Tables.{BlockTable, IsBlockTable, split_at}
 use Rattle.dirac_blocks.proofs.Filled.{same_places, same_table}
 use Rattle.dirac_blocks.proofs.Going.{Same, Goes, nothing_goes, beside_goes, below_goes, kept, grown, none_left, none_above}
 use Rattle.dirac_blocks.proofs.Shapes.{repeated_sizes}

@@ -11,22 +11,22 @@ use Rattle.dirac_arith.specs.Interval.{Decision}
 use Rattle.dirac_arith.specs.Written.{flush}
 use Rattle.dirac_arith.proofs.Encodings.{flushed_is_carried}
 use Rattle.dirac_vectors.specs.Predictions.{component_of, dc_of, mode_of}
-use Rattle.dirac_blocks.specs.declared.block.Block.{Block}
+use Rattle.dirac_block_table.specs.declared.block.Block.{Block}
 use Rattle.dirac_common.specs.declared.formats.Component.TheVariants as components
 use Rattle.dirac_blocks.specs.declared.parts.ListKind.{ListKind}
 use Rattle.dirac_blocks.specs.declared.parts.ListKind.TheVariants as parts
-use Rattle.dirac_blocks.specs.declared.parts.Reference.TheVariants as references
+use Rattle.dirac_block_table.specs.declared.reference.Reference.TheVariants as references
 use Rattle.dirac_blocks.specs.Carried.{with_part, ReadsTo}
 use Rattle.dirac_blocks.specs.Decisions.{left_of, above_of, corner_of, predicted, counted, differ, less_prediction, ref1_at, ref2_at, unit_decisions}
 use Rattle.dirac_blocks.specs.Grammar.{units_step}
 use Rattle.dirac_blocks.specs.Parts.{vector_at, dc_at, part_at}
-use Rattle.dirac_blocks.specs.Tables.{BlockTable, IsBlock, IsBlockTable, block_at, grey, split_at, first_of}
-use Rattle.dirac_blocks.proofs.Fills.{split_few}
+use Rattle.dirac_block_table.specs.Tables.{BlockTable, IsBlock, IsBlockTable, block_at, grey, split_at, first_of}
+use Rattle.dirac_block_table.proofs.Fills.{split_few}
 use Rattle.dirac_blocks.proofs.ForwardLoops.{carried_is_read}
 use Rattle.dirac_blocks.proofs.InContexts.{in_parts}
 use Rattle.dirac_blocks.proofs.Narrowing.{superblock_rows_joins}
 use Rattle.dirac_blocks.proofs.Nearby.{left_holds, above_holds, corner_holds, predicted_same, using_lawful}
-use Rattle.dirac_blocks.proofs.Units.{first_below}
+use Rattle.dirac_block_table.proofs.Units.{first_below}
 use Rattle.dirac_blocks.proofs.Valued.{Tells, put_none, component_at, dc_is_at, across_tells, down_tells, dc_tells}
 pub use Rattle.dirac_blocks.proofs.Valued.{counted_map}
 

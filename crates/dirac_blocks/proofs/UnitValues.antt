@@ -8,13 +8,13 @@ use Rattle.dirac_arith.specs.Deciding.{signed_read}
 use Rattle.dirac_arith.proofs.CodedValues.{then_is_read}
 use Rattle.dirac_arith.specs.Reading.{Reading}
 use Rattle.dirac_vectors.specs.Neighbours.{IsShort}
-use Rattle.dirac_blocks.specs.declared.block.Block.{Block}
+use Rattle.dirac_block_table.specs.declared.block.Block.{Block}
 use Rattle.dirac_common.specs.declared.formats.Component.{Component}
 use Rattle.dirac_common.specs.declared.formats.Component.TheVariants as components
-use Rattle.dirac_blocks.specs.declared.parts.Reference.{Reference}
-use Rattle.dirac_blocks.specs.declared.parts.Reference.TheVariants as references
+use Rattle.dirac_block_table.specs.declared.reference.Reference.{Reference}
+use Rattle.dirac_block_table.specs.declared.reference.Reference.TheVariants as references
 use Rattle.dirac_blocks.specs.Grammar.{is_dc, is_short, coded_into, uses, value_coded, with_across, with_dc, with_down}
-use Rattle.dirac_blocks.specs.Tables.{IsBlock}
+use Rattle.dirac_block_table.specs.Tables.{IsBlock}
 
 -- a value that has 16 bits is found
 pub value_found : (cause : Cause) (follow : List ℕ) (bits sign : ℕ) (prediction number v : ℤ) (old new : Reading)

@@ -5,16 +5,16 @@ use Rattle.dirac_arith.specs.Carried.{Carries}
 use Rattle.dirac_arith.specs.Coded.{read}
 use Rattle.dirac_arith.specs.Deciding.{begin}
 use Rattle.dirac_arith.specs.Reading.{Reading}
-use Rattle.dirac_blocks.specs.declared.block.Block.{Block}
+use Rattle.dirac_block_table.specs.declared.block.Block.{Block}
 use Rattle.dirac_common.specs.declared.formats.Component.TheVariants as components
 use Rattle.dirac_blocks.specs.declared.parts.ListKind.{ListKind}
 use Rattle.dirac_blocks.specs.declared.parts.ListKind.TheVariants as parts
-use Rattle.dirac_blocks.specs.declared.parts.Reference.TheVariants as references
+use Rattle.dirac_block_table.specs.declared.reference.Reference.TheVariants as references
 use Rattle.dirac_blocks.specs.Decisions.{Numbers, AreSplitNumbers, split_rows, unit_decisions}
 use Rattle.dirac_blocks.specs.Grammar.{Step, block_using, with_across, with_down, with_dc}
 use Rattle.dirac_blocks.specs.Parts.{part_at}
 use Rattle.dirac_blocks.specs.Reached.{SameBlocks, SameShape}
-use Rattle.dirac_blocks.specs.Tables.{BlockTable, IsBlockTable, block_at}
+use Rattle.dirac_block_table.specs.Tables.{BlockTable, IsBlockTable, block_at}
 
 -- the first block, with what a list tells of the second
 abbrev pub with_part : ListKind → Block → Block → Block

@@ -2,81 +2,26 @@
 -- with one. Predictions are read off the values of the whole, and nothing is said of the order in which a reader fills
 -- them in.
 use Rattle.std.specs.Prelude.{◌≡◌, ℕ, zero, suc, ℤ, ◌+◌, ◌-◌, ◌-ℤ◌, ◌*◌, ◌%◌, ◌^◌, ◌<◌, ◌==◌, Bool, true, false, not}
-use Rattle.std.specs.Prelude.{◌||◌, if◌then◌else◌, List, [], ◌∷◌, ◌++◌, Option, Some, None, option_map}
+use Rattle.std.specs.Prelude.{if◌then◌else◌, List, [], ◌∷◌, ◌++◌, Option, Some, None, option_map}
 use Rattle.dirac_arith.specs.declared.contexts.TheConstants.{DC_DIGITS, DC_FOLLOW, DC_SIGN, REFERENCE_1, REFERENCE_2}
 use Rattle.dirac_arith.specs.declared.contexts.TheConstants.{SPLIT_DIGITS, SPLIT_FOLLOW, VECTOR_DIGITS, VECTOR_FOLLOW}
 use Rattle.dirac_arith.specs.declared.contexts.TheConstants.{VECTOR_SIGN}
 use Rattle.dirac_common.specs.declared.formats.Vector.{Vector}
 use Rattle.dirac_arith.specs.Interval.{Decision}
 use Rattle.dirac_arith.specs.Spelling.{spelling, signed_spelling}
-use Rattle.dirac_vectors.specs.Predictions.{split_of, mode_of, vector_of, dc_of}
-use Rattle.dirac_blocks.specs.Tables.{BlockTable, split_at, block_at, unit_size}
-
--- what stands left of a place; None outside the picture
-abbrev pub left_of : {A : Type 0} → (ℕ → ℕ → Option A) → ℕ → ℕ → Option A
-left_of at i j = if i == 0 then None else at (i - 1) j
-
--- what stands above it
-abbrev pub above_of : {A : Type 0} → (ℕ → ℕ → Option A) → ℕ → ℕ → Option A
-above_of at i j = if j == 0 then None else at i (j - 1)
-
--- what stands above and left
-abbrev pub corner_of : {A : Type 0} → (ℕ → ℕ → Option A) → ℕ → ℕ → Option A
-corner_of at i j = if i == 0 then None else (if j == 0 then None else at (i - 1) (j - 1))
-
--- what a prediction makes of the neighbours of a place
-abbrev pub predicted : {A B : Type 0} → (Option A → Option A → Option A → B) → (ℕ → ℕ → Option A) → ℕ → ℕ → B
-predicted prediction at i j = prediction (left_of at i j) (above_of at i j) (corner_of at i j)
-
--- what counts, where it does
-abbrev pub counted : {A : Type 0} → Bool → A → Option A
-counted true v = Some v
-counted false v = None
+use Rattle.dirac_vectors.specs.Predictions.{mode_of, vector_of, dc_of}
+pub use Rattle.dirac_block_table.specs.Neighbours.{left_of, above_of, corner_of, predicted, counted, ref1_at, ref2_at}
+pub use Rattle.dirac_block_table.specs.Neighbours.{v1_at, v2_at, is_dc_at, dc_y_at, dc_u_at, dc_v_at, predicted_split}
+use Rattle.dirac_block_table.specs.Tables.{BlockTable, split_at, block_at, unit_size}
 
 -- whether two bits differ
 abbrev pub differ : Bool → Bool → Bool
 differ true b = not b
 differ false b = b
 
--- whether a block uses reference 1, as its neighbours see it
-abbrev pub ref1_at : BlockTable → ℕ → ℕ → Option Bool
-ref1_at t i j = Some (block_at t i j).ref1
-
--- whether it uses reference 2
-abbrev pub ref2_at : BlockTable → ℕ → ℕ → Option Bool
-ref2_at t i j = Some (block_at t i j).ref2
-
--- a vector counts where the block uses its reference
-abbrev pub v1_at : BlockTable → ℕ → ℕ → Option Vector
-v1_at t i j = counted (block_at t i j).ref1 (block_at t i j).v1
-
--- the vector of reference 2, where the block uses it
-abbrev pub v2_at : BlockTable → ℕ → ℕ → Option Vector
-v2_at t i j = counted (block_at t i j).ref2 (block_at t i j).v2
-
--- a block without references is a DC block, whose values count
-abbrev pub is_dc_at : BlockTable → ℕ → ℕ → Bool
-is_dc_at t i j = not ((block_at t i j).ref1 || (block_at t i j).ref2)
-
--- its value of Y
-abbrev pub dc_y_at : BlockTable → ℕ → ℕ → Option ℤ
-dc_y_at t i j = counted (is_dc_at t i j) (block_at t i j).dc_y
-
--- its value of U
-abbrev pub dc_u_at : BlockTable → ℕ → ℕ → Option ℤ
-dc_u_at t i j = counted (is_dc_at t i j) (block_at t i j).dc_u
-
--- its value of V
-abbrev pub dc_v_at : BlockTable → ℕ → ℕ → Option ℤ
-dc_v_at t i j = counted (is_dc_at t i j) (block_at t i j).dc_v
-
 -- a number for each superblock, by its row and its place in that
 abbrev pub Numbers : Type 0
 Numbers = ℕ → ℕ → ℕ
-
--- the split that the neighbours of superblock sx of row sy predict
-abbrev pub predicted_split : BlockTable → ℕ → ℕ → ℕ
-predicted_split t sx sy = predicted split_of (λ x y. Some (split_at t x y)) sx sy
 
 -- numbers and predictions have the splits as their sums modulo 3
 abbrev pub AreSplitNumbers : BlockTable → Numbers → Type 0

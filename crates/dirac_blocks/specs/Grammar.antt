@@ -1,8 +1,8 @@
 -- A block table in a payload (motion data, Dirac specification, section 12): for each of its lists a length and an
 -- arithmetic block, which is read over the table that the lists before gave. Superblocks are read by rows, the units
 -- of one by rows, and what a unit has holds for all its blocks.
-use Rattle.std.specs.Prelude.{ℕ, zero, suc, ℤ, pos, negsuc, ◌+◌, ◌+ℤ◌, ◌*◌, ◌%◌, ◌^◌, ◌==◌, int_le, if◌then◌else◌, Bool}
-use Rattle.std.specs.Prelude.{true, false, not, ◌||◌, ◌&&◌, List, replicate, slice_set, Result, Ok, Err}
+use Rattle.std.specs.Prelude.{ℕ, ℤ, pos, negsuc, ◌+◌, ◌+ℤ◌, ◌*◌, ◌%◌, ◌^◌, ◌==◌, int_le, if◌then◌else◌, Bool}
+use Rattle.std.specs.Prelude.{true, false, not, ◌||◌, ◌&&◌, List, Result, Ok, Err}
 use Rattle.dirac_arith.specs.declared.contexts.TheConstants.{DC_DIGITS, DC_FOLLOW, DC_SIGN, REFERENCE_1, REFERENCE_2}
 use Rattle.dirac_arith.specs.declared.contexts.TheConstants.{SPLIT_DIGITS, SPLIT_FOLLOW, VECTOR_DIGITS, VECTOR_FOLLOW}
 use Rattle.dirac_arith.specs.declared.contexts.TheConstants.{VECTOR_SIGN}
@@ -14,35 +14,21 @@ use Rattle.dirac_arith.specs.Deciding.{begin}
 use Rattle.dirac_arith.specs.Reading.{Reading}
 use Rattle.dirac_bits.specs.Syntax.{Syntax, done, refuse, block_then, uint, align, here, ◌>>=◌}
 use Rattle.dirac_vectors.specs.Predictions.{mode_of, vector_of, dc_of}
-use Rattle.dirac_blocks.specs.declared.block.Block.{Block}
-use Rattle.dirac_blocks.specs.declared.parts.Reference.{Reference}
-use Rattle.dirac_blocks.specs.declared.parts.Reference.TheVariants as references
+use Rattle.dirac_block_table.specs.declared.block.Block.{Block}
+pub use Rattle.dirac_block_table.specs.Filling.{empty_table, with_split, row_filled, rows_filled, with_unit}
+use Rattle.dirac_block_table.specs.declared.reference.Reference.{Reference}
+use Rattle.dirac_block_table.specs.declared.reference.Reference.TheVariants as references
 use Rattle.dirac_common.specs.declared.formats.Component.{Component}
 use Rattle.dirac_common.specs.declared.formats.Component.TheVariants as components
 use Rattle.dirac_blocks.specs.declared.parts.ListKind.{ListKind}
 use Rattle.dirac_blocks.specs.declared.parts.ListKind.TheVariants as parts
-use Rattle.dirac_blocks.specs.Tables.{BlockTable, grey, split_at, block_at, unit_size}
+use Rattle.dirac_block_table.specs.Tables.{BlockTable, grey, split_at, block_at, unit_size}
 use Rattle.dirac_blocks.specs.Decisions.{predicted, predicted_split, differ, ref1_at, ref2_at}
 use Rattle.dirac_blocks.specs.Parts.{vector_at, dc_at}
-
--- a table of which nothing is read: no superblock is split, and all blocks are DC blocks of value 0
-abbrev pub empty_table : ℕ → ℕ → ℕ → BlockTable
-empty_table across down refs =
-    record {
-      across = across;
-      down = down;
-      refs = refs;
-      splits = replicate (down * across) 0;
-      blocks = replicate (4 * down * (4 * across)) grey;
-    }
 
 -- what is read next: it leads from one table to another, or is refused
 abbrev pub Step : Type 0
 Step = BlockTable → Coded BlockTable
-
--- the table with the split of superblock sx of row sy
-abbrev pub with_split : BlockTable → ℕ → ℕ → ℕ → BlockTable
-with_split t sx sy split = record t { splits = slice_set t.splits (sy * t.across + sx) split }
 
 -- the split of superblock sx of row sy: the sum modulo 3 of a number and the prediction
 unfoldable pub split_step : ℕ → ℕ → Step
@@ -52,21 +38,6 @@ split_step sy sx t =
 -- the splits of all superblocks
 abbrev pub splits_step : Step
 splits_step t = repeated (λ sy. repeated (split_step sy) t.across) t.down t
-
--- n blocks from this place on are b
-unfoldable pub row_filled : List Block → ℕ → Block → ℕ → List Block
-row_filled blocks start b zero = blocks
-row_filled blocks start b (suc n) = slice_set (row_filled blocks start b n) (start + n) b
-
--- n rows of that many blocks are b, from column i of row j on
-unfoldable pub rows_filled : ℕ → List Block → ℕ → ℕ → ℕ → Block → ℕ → List Block
-rows_filled width blocks size i j b zero = blocks
-rows_filled width blocks size i j b (suc n) =
-    row_filled (rows_filled width blocks size i j b n) ((j + n) * width + i) b size
-
--- the table with all blocks of a unit b; the first of them is block i of row j
-abbrev pub with_unit : BlockTable → ℕ → ℕ → ℕ → Block → BlockTable
-with_unit t size i j b = record t { blocks = rows_filled (4 * t.across) t.blocks size i j b size }
 
 -- a block that uses these references, all of whose values are 0
 abbrev pub block_using : Bool → Bool → Block

@@ -12,7 +12,7 @@ use Rattle.dirac_blocks.specs.Decisions.{unit_decisions}
 use Rattle.dirac_blocks.specs.Grammar.{Step, splits_step, units_step}
 use Rattle.dirac_blocks.specs.Parts.{part_at}
 use Rattle.dirac_blocks.specs.Reached.{AllGrey}
-use Rattle.dirac_blocks.specs.Tables.{BlockTable, IsBlockTable}
+use Rattle.dirac_block_table.specs.Tables.{BlockTable, IsBlockTable}
 
 -- what a list tells of each unit is read from the block that carries it
 abbrev pub CarriedIsRead : Type 0

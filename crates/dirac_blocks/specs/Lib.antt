@@ -1,9 +1,9 @@
+pub use Rattle.dirac_block_table.specs.Puts
+pub use Rattle.dirac_block_table.specs.Tables
 pub mod Carried
 pub mod Decisions
 pub mod Grammar
 pub mod Laws
 pub mod Parts
-pub mod Puts
 pub mod Reached
-pub mod Tables
 pub mod Written

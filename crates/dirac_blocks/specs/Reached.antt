@@ -1,11 +1,11 @@
 -- What a reader of a block table keeps, and how far it has come.
-use Rattle.std.specs.Prelude.{◌≡◌, ℕ, ◌+◌, ◌*◌, ◌^◌, ◌<◌, List, slice_index_or, Result, Ok, Err}
+use Rattle.std.specs.Prelude.{◌≡◌, Result, Ok, Err}
 use Rattle.dirac_common.specs.declared.faults.Cause.{Cause}
 use Rattle.dirac_common.specs.declared.faults.Refusal.{Refusal}
 use Rattle.dirac_arith.specs.Reading.{Reading}
 use Rattle.dirac_bits.specs.Cursor.{Cursor}
-use Rattle.dirac_blocks.specs.declared.block.Block.{Block}
-use Rattle.dirac_blocks.specs.Tables.{BlockTable, grey, split_at, unit_size}
+pub use Rattle.dirac_block_table.specs.Filling.{AllGrey, IsUnit}
+use Rattle.dirac_block_table.specs.Tables.{BlockTable}
 
 -- the answer is this step, from which the table and the reading come; nothing is said of them after a refusal
 abbrev pub Moves : {A : Type 0} → Result A Cause → BlockTable → Reading → Result (BlockTable × Reading) Cause
@@ -37,21 +37,3 @@ pub record SameBlocks (old new : BlockTable) : Type 0 where
   pub down : new.down ≡ old.down
   pub refs : new.refs ≡ old.refs
   pub blocks : new.blocks ≡ old.blocks
-
--- all blocks are DC blocks of value 0
-abbrev pub AllGrey : List Block → Type 0
-AllGrey blocks = (k : ℕ) → slice_index_or blocks k grey ≡ grey
-
--- block i of row j is the first one of a unit of this size
-pub record IsUnit (t : BlockTable) (size i j : ℕ) : Type 0 where
-  pub sx : ℕ
-  pub sy : ℕ
-  pub u : ℕ
-  pub v : ℕ
-  pub across : sx < t.across
-  pub down : sy < t.down
-  pub is : size ≡ unit_size (split_at t sx sy)
-  pub some : u < 2 ^ split_at t sx sy
-  pub few : v < 2 ^ split_at t sx sy
-  pub column : i ≡ 4 * sx + u * size
-  pub row : j ≡ 4 * sy + v * size

@@ -4,12 +4,12 @@ ghost use Rattle.dirac_blocks.specs.Grammar.{dcs_listed, listed, lists_of, secon
 ghost use Rattle.dirac_blocks.specs.Grammar.{values_listed, vectors_listed};
 ghost use Rattle.dirac_blocks.specs.Reached.{AllGrey, Lists, SameBlocks, SameShape, SameSize};
 
-use crate::parts::{ListKind, Reference};
+use crate::parts::ListKind;
 use crate::split_reader::read_splits;
-use crate::table::BlockData;
 use crate::unit_reading::read_units;
 use dirac_arith::Decoder;
 use dirac_bits::BitReader;
+use dirac_block_table::{BlockData, Reference};
 use dirac_common::{Component, Refusal};
 
 /// Reads the block of the splits.

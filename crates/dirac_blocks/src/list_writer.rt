@@ -5,9 +5,9 @@ ghost use Rattle.dirac_blocks.specs.Parts.{part_at};
 
 use crate::parts::ListKind;
 use crate::split_writer::write_split_rows;
-use crate::table::BlockData;
 use crate::unit_loops::write_superblock_rows;
 use dirac_arith::Encoder;
+use dirac_block_table::BlockData;
 use dirac_common::NoMemory;
 use std::alloc::Global;
 

@@ -1,11 +1,5 @@
+use dirac_block_table::Reference;
 use dirac_common::Component;
-
-/// The first or the second reference of a picture.
-#[derive(Clone, Copy, Debug, PartialEq, Eq)]
-pub enum Reference {
-    First,
-    Second,
-}
 
 /// What one of a table's lists tells of each unit.
 #[derive(Clone, Copy, Debug, PartialEq, Eq)]

@@ -2,11 +2,11 @@ ghost use Rattle.std.specs.Prelude.{◌≡◌, length, IfOk, IfErr};
 ghost use Rattle.dirac_bits.specs.Syntax.{read};
 ghost use Rattle.dirac_bits.specs.Answers.{ReadsOrStops, IsEarly};
 ghost use Rattle.dirac_blocks.specs.Grammar.{blocks};
-ghost use Rattle.dirac_blocks.specs.Tables.{IsBlockTable, IsSize};
+ghost use Rattle.dirac_block_table.specs.Tables.{IsBlockTable, IsSize};
 
 use crate::list_reader::read_lists;
-use crate::table::BlockData;
 use dirac_bits::BitReader;
+use dirac_block_table::BlockData;
 use dirac_common::Stop;
 use std::alloc::Global;
 

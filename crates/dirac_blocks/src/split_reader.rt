@@ -3,9 +3,8 @@ ghost use Rattle.dirac_arith.specs.Coded.{read, repeated};
 ghost use Rattle.dirac_blocks.specs.Grammar.{split_step, splits_step};
 ghost use Rattle.dirac_blocks.specs.Reached.{AllGrey, Moves, SameBlocks};
 
-use crate::neighbours::predict_split_at;
-use crate::table::BlockData;
 use dirac_arith::{Decoder, SPLIT_DIGITS, SPLIT_FOLLOW};
+use dirac_block_table::{BlockData, predict_split_at};
 use dirac_common::{Cause, MOST_SUPERBLOCKS};
 
 /// Reads how superblock `sx` of row `sy` is split: the sum modulo 3 of a number and the prediction.

@@ -3,9 +3,8 @@ ghost use Rattle.dirac_arith.specs.Interval.{narrowed_by};
 ghost use Rattle.dirac_arith.specs.Spelling.{spelling};
 ghost use Rattle.dirac_blocks.specs.Decisions.{least_numbers, split_row, split_rows};
 
-use crate::neighbours::predict_split_at;
-use crate::table::BlockData;
 use dirac_arith::{Encoder, SPLIT_DIGITS, SPLIT_FOLLOW};
+use dirac_block_table::{BlockData, predict_split_at};
 use dirac_common::NoMemory;
 
 /// Writes the number of superblock `sx` of row `sy`: its split less its prediction, modulo 3.

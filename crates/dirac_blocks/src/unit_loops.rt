@@ -4,10 +4,9 @@ ghost use Rattle.dirac_blocks.specs.Decisions.{unit_row, unit_rows, superblock_p
 ghost use Rattle.dirac_blocks.specs.Parts.{part_at};
 
 use crate::parts::ListKind;
-use crate::superblock::{unit_blocks, units_across};
-use crate::table::BlockData;
 use crate::unit_writer::write_unit;
 use dirac_arith::Encoder;
+use dirac_block_table::{BlockData, unit_blocks, units_across};
 use dirac_common::{MOST_SUPERBLOCKS, NoMemory};
 
 /// Writes `count` units of a row, from block `i` of row `j` on.

@@ -5,16 +5,16 @@ ghost use Rattle.dirac_vectors.specs.Neighbours.{IsShort};
 ghost use Rattle.dirac_arith.specs.Coded.{read};
 ghost use Rattle.dirac_blocks.specs.Grammar.{block_using, component_coded, is_dc, is_short, mode_coded, second_use};
 ghost use Rattle.dirac_blocks.specs.Grammar.{unit_coded, uses, value_coded, with_across, with_dc, with_down};
-ghost use Rattle.dirac_blocks.specs.Tables.{IsBlock};
+ghost use Rattle.dirac_block_table.specs.Tables.{IsBlock};
 
-use crate::block::Block;
-use crate::neighbours::{predicted_dc, predicted_use_bit, predicted_vector};
-use crate::parts::{ListKind, Reference};
-use crate::table::BlockData;
+use crate::parts::ListKind;
 use crate::unit_writer::differs;
 use dirac_arith::{
     CONTEXTS, DC_DIGITS, DC_FOLLOW, DC_SIGN, Decoder, REFERENCE_1, REFERENCE_2, VECTOR_DIGITS,
     VECTOR_FOLLOW, VECTOR_SIGN,
+};
+use dirac_block_table::{
+    Block, BlockData, Reference, predicted_dc, predicted_use_bit, predicted_vector,
 };
 use dirac_common::{Cause, Component, Vector};
 

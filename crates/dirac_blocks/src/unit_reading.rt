@@ -5,10 +5,9 @@ ghost use Rattle.dirac_blocks.specs.Grammar.{units_step};
 ghost use Rattle.dirac_blocks.specs.Reached.{IsUnit, Moves, SameShape};
 
 use crate::parts::ListKind;
-use crate::superblock::{unit_blocks, units_across};
-use crate::table::BlockData;
 use crate::unit_reader::read_unit_block;
 use dirac_arith::Decoder;
+use dirac_block_table::{BlockData, unit_blocks, units_across};
 use dirac_common::{Cause, MOST_SUPERBLOCKS};
 
 /// Reads what this list tells of a unit of `size` by `size` blocks, from block `i` of row `j` on.

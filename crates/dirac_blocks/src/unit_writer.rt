@@ -7,12 +7,13 @@ ghost use Rattle.dirac_vectors.specs.Predictions.{IsShortVector};
 ghost use Rattle.dirac_blocks.specs.Decisions.{differ, less_prediction, mode_part};
 ghost use Rattle.dirac_blocks.specs.Parts.{part_at};
 
-use crate::neighbours::{dc, predicted_dc, predicted_use_bit, predicted_vector, vector};
-use crate::parts::{ListKind, Reference};
-use crate::table::BlockData;
+use crate::parts::ListKind;
 use dirac_arith::{
     CONTEXTS, DC_DIGITS, DC_FOLLOW, DC_SIGN, Encoder, REFERENCE_1, REFERENCE_2, VECTOR_DIGITS,
     VECTOR_FOLLOW, VECTOR_SIGN,
+};
+use dirac_block_table::{
+    BlockData, Reference, dc, predicted_dc, predicted_use_bit, predicted_vector, vector,
 };
 use dirac_common::{Component, NoMemory, Vector};
 

@@ -7,13 +7,13 @@ ghost use Rattle.dirac_blocks.specs.Decisions.{block_decisions, least_numbers, s
 ghost use Rattle.dirac_blocks.specs.Decisions.{unit_decisions};
 ghost use Rattle.dirac_blocks.specs.Grammar.{blocks as blocks_grammar};
 ghost use Rattle.dirac_blocks.specs.Parts.{part_at};
-ghost use Rattle.dirac_blocks.specs.Tables.{IsBlockTable};
+ghost use Rattle.dirac_block_table.specs.Tables.{IsBlockTable};
 ghost use Rattle.dirac_blocks.specs.Written.{AreShort, with_block, with_lists};
 
 use crate::list_writer::{part_block, split_block};
-use crate::parts::{ListKind, Reference};
-use crate::table::BlockData;
+use crate::parts::ListKind;
 use dirac_bits::BitWriter;
+use dirac_block_table::{BlockData, Reference};
 use dirac_common::{Component, NoMemory};
 use std::alloc::Global;
 

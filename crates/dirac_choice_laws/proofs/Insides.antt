@@ -12,7 +12,7 @@ use Rattle.dirac_sequence_header.specs.Sizes.{picture_height}
 use Rattle.dirac_sequence.specs.Written.{sequence_of}
 use Rattle.dirac_header.specs.Prediction.{grid_of}
 use Rattle.dirac_inside_laws.specs.Kept.{VectorsKeepInside}
-use Rattle.dirac_blocks.specs.Tables.{BlockTable}
+use Rattle.dirac_block_table.specs.Tables.{BlockTable}
 use Rattle.dirac_picture.specs.Grammar.{is_intra}
 use Rattle.dirac_picture.specs.declared.coded.CodedMotion.{CodedMotion}
 use Rattle.dirac_decode.specs.Content.{named}

@@ -3,7 +3,7 @@ use Rattle.std.proofs.Common.{◌≡◌, ℕ, List, [], ◌∷◌, length, map, 
 use Rattle.std.proofs.Math.Path.{fun_ext}
 use Rattle.dirac_common.specs.declared.picture.Picture.{Picture}
 use Rattle.dirac_types.specs.declared.settings.Settings.{Settings}
-use Rattle.dirac_blocks.specs.Tables.{BlockTable}
+use Rattle.dirac_block_table.specs.Tables.{BlockTable}
 use Rattle.dirac_search.specs.Candidates.{Vectors}
 use Rattle.dirac_search_laws.proofs.Workers.{field_same}
 use Rattle.dirac_sequence.specs.Written.{sequence_of, sequence_payload}

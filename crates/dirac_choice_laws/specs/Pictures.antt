@@ -3,7 +3,7 @@ use Rattle.std.specs.Prelude.{◌≡◌, ℕ, ⊤, false, List, [], ◌∷◌, O
 use Rattle.dirac_common.specs.declared.picture.Picture.{Picture}
 use Rattle.dirac_types.specs.declared.settings.Settings.{Settings}
 use Rattle.dirac_types.specs.Settings.{IsAccepted}
-use Rattle.dirac_blocks.specs.Tables.{BlockTable}
+use Rattle.dirac_block_table.specs.Tables.{BlockTable}
 use Rattle.dirac_picture.specs.Grammar.{is_intra}
 use Rattle.dirac_decode.specs.Content.{named}
 use Rattle.dirac_decide.specs.Deciding.{Deciding, deciding}

@@ -1,7 +1,7 @@
 -- Modes in the words of the code.
 use Rattle.std.proofs.Common.{◌≡◌, ℕ, Option, Some, None, refl}
 use Rattle.dirac_common.specs.declared.formats.Vector.{Vector}
-use Rattle.dirac_blocks.specs.declared.block.Block.{Block}
+use Rattle.dirac_block_table.specs.declared.block.Block.{Block}
 use Rattle.dirac_costs.specs.Least.{first_least}
 use Rattle.dirac_decide.specs.Choosing.{cheaper, costing, motion_mode}
 use Rattle.dirac_decide.specs.Deciding.{Deciding, View}

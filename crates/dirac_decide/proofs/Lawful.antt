@@ -11,7 +11,7 @@ use Rattle.dirac_common.specs.declared.formats.Vector.{Vector}
 use Rattle.dirac_vectors.specs.Neighbours.{IsShort}
 use Rattle.dirac_vectors.specs.Predictions.{IsShortVector}
 use Rattle.dirac_upconvert.specs.HalfSamples.{IsSample}
-use Rattle.dirac_blocks.specs.Tables.{grey, IsBlock, IsBlockTable, block_in, first_of, no_vector, split_at, unit_of}
+use Rattle.dirac_block_table.specs.Tables.{grey, IsBlock, IsBlockTable, block_in, first_of, no_vector, split_at, unit_of}
 use Rattle.dirac_search.specs.Candidates.{no_motion, vector_at}
 use Rattle.dirac_decide.specs.Choosing.{cheaper, motion_mode}
 use Rattle.dirac_decide.specs.Deciding.{Deciding, IsDeciding, View}

@@ -2,9 +2,9 @@
 use Rattle.std.proofs.Common.{◌≡◌, ℕ, zero, suc, ◌+◌, ◌*◌, ◌/◌, ◌%◌, ◌^◌, ◌<◌, ◌≤◌, ◌⊎◌, List, length, get_or, set, arith, inl, inr, ap, sym, subst, ◌∙◌}
 use Rattle.std.proofs.lemmas.Bool.{cases_eq}
 use Rattle.std.proofs.lemmas.List.{get_or-set_same, get_or-set_other}
-use Rattle.dirac_blocks.specs.declared.block.Block.{Block}
-use Rattle.dirac_blocks.specs.Puts.{IsPut}
-use Rattle.dirac_blocks.specs.Tables.{BlockTable, block_in, grey, split_at, unit_of, unit_size}
+use Rattle.dirac_block_table.specs.declared.block.Block.{Block}
+use Rattle.dirac_block_table.specs.Puts.{IsPut}
+use Rattle.dirac_block_table.specs.Tables.{BlockTable, block_in, grey, split_at, unit_of, unit_size}
 use Rattle.dirac_decide.specs.Best.{IsBestSplit}
 use Rattle.dirac_decide.specs.declared.superblock.BestSplit.{BestSplit}
 use Rattle.dirac_decide.specs.Deciding.{Deciding}

@@ -1,7 +1,7 @@
 -- The best so far, from candidate to candidate and from mode to mode.
 use Rattle.std.specs.Prelude.{◌≡◌, ℕ, ◌≤◌, ◌^◌, nat_lt, if◌then◌else◌, Option, Some, None}
 use Rattle.dirac_vectors.specs.Predictions.{IsShortVector}
-use Rattle.dirac_blocks.specs.declared.block.Block.{Block}
+use Rattle.dirac_block_table.specs.declared.block.Block.{Block}
 use Rattle.dirac_costs.specs.Least.{first_least_to}
 use Rattle.dirac_decide.specs.Deciding.{Deciding, View}
 use Rattle.dirac_decide.specs.Modes.{both_mode, first_mode, second_mode}

@@ -2,7 +2,7 @@
 use Rattle.std.specs.Prelude.{Option, option_map}
 use Rattle.dirac_types.specs.declared.settings.Settings.{Settings}
 use Rattle.dirac_common.specs.declared.picture.Picture.{Picture}
-use Rattle.dirac_blocks.specs.Tables.{BlockTable}
+use Rattle.dirac_block_table.specs.Tables.{BlockTable}
 use Rattle.dirac_decide.specs.Deciding.{Deciding, View}
 use Rattle.dirac_decide.specs.Splits.{decided_by}
 use Rattle.dirac_decide.specs.declared.inputs.Inputs.{Inputs}

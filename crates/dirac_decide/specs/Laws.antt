@@ -1,7 +1,7 @@
 -- What the definitions mean.
 use Rattle.std.specs.Prelude.{◌≡◌, ℕ, ◌*◌, ◌<◌, ◌≤◌, true, Some}
 use Rattle.std.specs.List.{All}
-use Rattle.dirac_blocks.specs.Tables.{IsBlockTable}
+use Rattle.dirac_block_table.specs.Tables.{IsBlockTable}
 use Rattle.dirac_decide.specs.Deciding.{Deciding, View}
 use Rattle.dirac_decide.specs.Modes.{HasSamples, both_mode, choice_of, dc_mode, first_mode, second_mode}
 use Rattle.dirac_decide.specs.Splits.{best_split, decided, split_cost}

@@ -3,8 +3,8 @@ use Rattle.std.specs.Prelude.{ℕ, ℤ, pos, ◌+◌, ◌*◌, ◌/◌, ◌+ℤ�
 use Rattle.std.specs.Int.{int_shr}
 use Rattle.dirac_common.specs.declared.formats.Vector.{Vector}
 use Rattle.dirac_upconvert.specs.HalfSamples.{IsSample}
-use Rattle.dirac_blocks.specs.declared.block.Block.{Block}
-use Rattle.dirac_blocks.specs.Tables.{grey}
+use Rattle.dirac_block_table.specs.declared.block.Block.{Block}
+use Rattle.dirac_block_table.specs.Tables.{grey}
 use Rattle.dirac_costs.specs.declared.window.Window.{Window}
 use Rattle.dirac_costs.specs.Bits.{bits_of, bits_of_vector}
 use Rattle.dirac_costs.specs.Least.{first_least}

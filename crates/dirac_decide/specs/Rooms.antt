@@ -2,8 +2,8 @@
 use Rattle.std.specs.Prelude.{◌≡◌, ℕ, ◌<◌, ◌≤◌, ◌^◌, List, length}
 use Rattle.std.specs.List.{All}
 use Rattle.dirac_common.specs.declared.limits.TheConstants.{MOST_SUPERBLOCKS}
-use Rattle.dirac_blocks.specs.declared.block.Block.{Block}
-use Rattle.dirac_blocks.specs.Tables.{BlockTable, IsBlock}
+use Rattle.dirac_block_table.specs.declared.block.Block.{Block}
+use Rattle.dirac_block_table.specs.Tables.{BlockTable, IsBlock}
 use Rattle.dirac_decide.specs.Deciding.{Deciding}
 use Rattle.dirac_decide.specs.Modes.{refs_of}
 

@@ -1,8 +1,8 @@
 -- The splits of a superblock, what they cost, and the table of the best.
 use Rattle.std.specs.Prelude.{◌≡◌, ℕ, ◌+◌, ◌*◌, ◌/◌, ◌%◌, ◌^◌, ◌<◌, ◌⊎◌, List, map, slice_index_or, Option}
 use Rattle.std.specs.List.{range_with_len}
-use Rattle.dirac_blocks.specs.declared.block.Block.{Block}
-use Rattle.dirac_blocks.specs.Tables.{BlockTable, block_in, grey, split_at, unit_of, unit_size}
+use Rattle.dirac_block_table.specs.declared.block.Block.{Block}
+use Rattle.dirac_block_table.specs.Tables.{BlockTable, block_in, grey, split_at, unit_of, unit_size}
 use Rattle.dirac_costs.specs.Least.{first_least_to}
 use Rattle.dirac_costs.specs.Sums.{sum_below}
 use Rattle.dirac_types.specs.declared.settings.Settings.{Settings}

@@ -1,9 +1,9 @@
 ghost use Rattle.std.specs.Prelude.{◌≡◌, ℕ, ◌≤◌};
-ghost use Rattle.dirac_blocks.specs.Tables.{IsBlock};
+ghost use Rattle.dirac_block_table.specs.Tables.{IsBlock};
 ghost use Rattle.dirac_costs.specs.Least.{IsToldBelow};
 ghost use Rattle.dirac_decide.specs.Choosing.{cheaper, costing};
 
-use dirac_blocks::Block;
+use dirac_block_table::Block;
 
 /// How the blocks of a unit may be predicted, and what it costs.
 #[derive(Clone, Copy)]

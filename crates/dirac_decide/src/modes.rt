@@ -1,6 +1,6 @@
 ghost use Rattle.std.specs.Prelude.{◌≡◌, ℕ, ◌+◌, ◌^◌, ◌≤◌};
 ghost use Rattle.dirac_vectors.specs.Predictions.{IsShortVector};
-ghost use Rattle.dirac_blocks.specs.Tables.{IsBlock};
+ghost use Rattle.dirac_block_table.specs.Tables.{IsBlock};
 ghost use Rattle.dirac_upconvert.specs.HalfSamples.{IsSample};
 ghost use Rattle.dirac_costs.specs.Bits.{bits_of};
 ghost use Rattle.dirac_decide.specs.Choosing as choosing;
@@ -16,7 +16,7 @@ use crate::costs::{price, unit_cost_below};
 use crate::inputs::{Inputs, RefView};
 use crate::prediction_unit::{PredictionUnit, unit_window};
 use crate::predictor::{Moved, Predictor};
-use dirac_blocks::{Block, grey_block};
+use dirac_block_table::{Block, grey_block};
 use dirac_common::Vector;
 use dirac_costs::{Window, mean, signed_bits, vector_bits};
 

@@ -3,7 +3,7 @@ ghost use Rattle.dirac_decide.specs.Given.{given};
 ghost use Rattle.dirac_decide.specs.Rooms.{IsRoom};
 
 use crate::inputs::Inputs;
-use dirac_blocks::{Block, grey_block};
+use dirac_block_table::{Block, grey_block};
 use dirac_common::NoMemory;
 use std::alloc::Global;
 

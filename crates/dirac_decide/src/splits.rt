@@ -1,5 +1,5 @@
 ghost use Rattle.std.specs.Prelude.{◌≡◌, ◌+◌, ◌*◌, ◌^◌, ◌<◌, ◌≤◌, length};
-ghost use Rattle.dirac_blocks.specs.Tables.{unit_size};
+ghost use Rattle.dirac_block_table.specs.Tables.{unit_size};
 ghost use Rattle.dirac_costs.specs.Least.{IsToldBelow};
 ghost use Rattle.dirac_decide.specs.Deciding.{IsDeciding};
 ghost use Rattle.dirac_decide.specs.Given.{given};
@@ -10,7 +10,7 @@ ghost use Rattle.dirac_decide.specs.Splits as splits;
 use crate::inputs::Inputs;
 use crate::modes::choose;
 use crate::prediction_unit::PredictionUnit;
-use dirac_blocks::{Block, unit_blocks, units_across};
+use dirac_block_table::{Block, unit_blocks, units_across};
 use dirac_common::MOST_SUPERBLOCKS;
 
 /// Unit `k`, by rows, of superblock `sx` of row `sy`.

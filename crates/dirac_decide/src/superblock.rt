@@ -9,7 +9,7 @@ ghost use Rattle.dirac_decide.specs.Splits.{UnitsChosen, best_split, split_cost}
 use crate::inputs::Inputs;
 use crate::room::room;
 use crate::splits::split_below;
-use dirac_blocks::Block;
+use dirac_block_table::Block;
 use dirac_common::{MOST_SUPERBLOCKS, NoMemory};
 use std::alloc::Global;
 

@@ -2,7 +2,7 @@ ghost use Rattle.std.specs.Prelude.{◌≡◌, ◌+◌, ◌<◌, ◌≤◌, IfOk
 ghost use Rattle.std.specs.List.{All};
 ghost use Rattle.std.specs.Option.{ForSome};
 ghost use Rattle.dirac_types.specs.Settings.{IsAccepted};
-ghost use Rattle.dirac_blocks.specs.Tables.{IsBlockTable};
+ghost use Rattle.dirac_block_table.specs.Tables.{IsBlockTable};
 ghost use Rattle.dirac_rows.specs.Answers.{AnswerRows};
 ghost use Rattle.dirac_decide.specs.Best.{IsBestRow, IsBestSplit};
 ghost use Rattle.dirac_decide.specs.Deciding as deciding;
@@ -13,7 +13,7 @@ ghost use Rattle.dirac_decide.specs.Splits.{DecidedTo, IsDecided, SuperblockDeci
 
 use crate::inputs::{Inputs, RefView};
 use crate::superblock::{BestSplit, decide_row};
-use dirac_blocks::BlockData;
+use dirac_block_table::BlockData;
 use dirac_common::{MOST_SUPERBLOCKS, NoMemory, OpenGate, Picture, ratio_across, ratio_down};
 use dirac_header::block_grid;
 use dirac_rows::map_rows;

@@ -4,8 +4,8 @@ use Rattle.std.specs.List.{All, range_with_len}
 use Rattle.std.proofs.lemmas.Bool.{cases_Bool}
 use Rattle.std.proofs.lemmas.List.Elements.{filter_passes}
 use Rattle.dirac_common.specs.declared.formats.Vector.{Vector}
-use Rattle.dirac_blocks.specs.declared.block.Block.{Block}
-use Rattle.dirac_blocks.specs.Tables.{block_at, block_in, unit_of}
+use Rattle.dirac_block_table.specs.declared.block.Block.{Block}
+use Rattle.dirac_block_table.specs.Tables.{block_at, block_in, unit_of}
 use Rattle.dirac_inside.specs.Inside.{all_below, keeps_inside}
 use Rattle.dirac_inside.specs.Ranges.{AreBlocks}
 use Rattle.dirac_inside.proofs.Below.{all_from, all_tells}

@@ -1,7 +1,7 @@
 -- A block table whose splits and blocks cost least, in words.
 use Rattle.std.specs.Prelude.{◌≡◌, ℕ, ◌<◌, true, Some}
-use Rattle.dirac_blocks.specs.declared.block.Block.{Block}
-use Rattle.dirac_blocks.specs.Tables.{BlockTable, block_in, split_at, unit_of}
+use Rattle.dirac_block_table.specs.declared.block.Block.{Block}
+use Rattle.dirac_block_table.specs.Tables.{BlockTable, block_in, split_at, unit_of}
 use Rattle.dirac_search_laws.specs.Least.{IsFirstOfLeastCost}
 use Rattle.dirac_decide.specs.Deciding.{Deciding, IsDeciding, View}
 use Rattle.dirac_decide.specs.Splits.{decided, split_cost, unit_in}

@@ -32,7 +32,7 @@ use Rattle.dirac_header.proofs.HeaderSpelled.{header_spelled}
 use Rattle.dirac_header.proofs.PredictionSpelled.{prediction_spelled}
 use Rattle.dirac_blocks.specs.Decisions.{block_decisions, least_numbers}
 use Rattle.dirac_blocks.specs.Grammar.{blocks}
-use Rattle.dirac_blocks.specs.Tables.{BlockTable}
+use Rattle.dirac_block_table.specs.Tables.{BlockTable}
 use Rattle.dirac_blocks.specs.Written.{AreShort, with_block, with_lists}
 use Rattle.dirac_blocks.proofs.Spelled.{table_spelled}
 use Rattle.dirac_common.specs.declared.formats.Component.{Component}

@@ -8,7 +8,7 @@ use Rattle.dirac_sequence_header.specs.declared.sequence.Sequence.{Sequence}
 use Rattle.dirac_sequence_header.specs.Lawful.{IsSequence}
 use Rattle.dirac_sequence.specs.Written.{sequence_of}
 use Rattle.dirac_header.specs.declared.header.PictureHeader.{PictureHeader}
-use Rattle.dirac_blocks.specs.Tables.{BlockTable}
+use Rattle.dirac_block_table.specs.Tables.{BlockTable}
 use Rattle.dirac_common.specs.declared.formats.Component.{Component}
 use Rattle.dirac_common.specs.declared.formats.Component.TheVariants as component
 use Rattle.dirac_picture.specs.declared.coded.CodedMotion.{CodedMotion}

@@ -6,7 +6,7 @@ use Rattle.dirac_common.specs.declared.picture.Picture.{Picture}
 use Rattle.dirac_types.specs.declared.settings.Settings.{Settings}
 use Rattle.dirac_sequence_header.specs.declared.sequence.Sequence.{Sequence}
 use Rattle.dirac_sequence.specs.Written.{sequence_of}
-use Rattle.dirac_blocks.specs.Tables.{BlockTable}
+use Rattle.dirac_block_table.specs.Tables.{BlockTable}
 use Rattle.dirac_upconvert.specs.SubSamples.{Up}
 use Rattle.dirac_picture.specs.Grammar.{is_intra}
 use Rattle.dirac_decode.specs.Content.{IsPicture, named}

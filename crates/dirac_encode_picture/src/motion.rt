@@ -4,7 +4,7 @@ ghost use Rattle.std.specs.Prelude.{◌≡◌, ◌≤◌, IfOk};
 ghost use Rattle.dirac_header.specs.Written.{prediction_of as prediction_for};
 ghost use Rattle.dirac_encode_laws.specs.Coded.{motion_with};
 
-use dirac_blocks::BlockData;
+use dirac_block_table::BlockData;
 use dirac_common::NoMemory;
 use dirac_header::{Prediction, block_grid};
 use dirac_picture::CodedMotion;

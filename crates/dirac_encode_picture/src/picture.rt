@@ -20,7 +20,7 @@ use crate::asked::Asked;
 use crate::making::coded_picture;
 use crate::prepared::{Prepared, prepare};
 use crate::workers::{OneWorker, Workers};
-use dirac_blocks::BlockData;
+use dirac_block_table::BlockData;
 use dirac_common::{NoMemory, Picture};
 use dirac_picture::payload_bytes;
 use dirac_plan::Planned;

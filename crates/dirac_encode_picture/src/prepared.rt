@@ -13,7 +13,7 @@ use crate::motion::motion_of;
 use crate::predictions::Predicting;
 use crate::transform::transform_of;
 use crate::workers::{OneWorker, Workers};
-use dirac_blocks::BlockData;
+use dirac_block_table::BlockData;
 use dirac_common::{NoMemory, Picture};
 use dirac_decode::{Moved, named_reference};
 use dirac_encode_planes::{AnalysedPlanes, Analysing};

@@ -7,7 +7,7 @@ use Rattle.dirac_common.specs.declared.formats.BlockGrid.{BlockGrid}
 use Rattle.dirac_common.specs.declared.formats.Component.{Component}
 use Rattle.dirac_common.specs.declared.formats.Component.TheVariants as component
 use Rattle.dirac_common.specs.declared.formats.Vector.{Vector}
-use Rattle.dirac_blocks.specs.Tables.{block_at}
+use Rattle.dirac_block_table.specs.Tables.{block_at}
 use Rattle.dirac_inside.specs.Inside.{KeepsInside, has_sample, holds, is_inside, keeps_inside, plane_keeps, position, sample_keeps}
 use Rattle.dirac_inside.specs.declared.picture_blocks.PictureBlocks.{PictureBlocks}
 use Rattle.dirac_inside.proofs.Planes.{plane_tells}

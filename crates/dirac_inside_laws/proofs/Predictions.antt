@@ -9,8 +9,8 @@ use Rattle.std.proofs.lemmas.List.FromFn.{fill_by_all, get_or-map-range_with_len
 use Rattle.std.proofs.lemmas.Nat.{div_below, mod_below}
 use Rattle.dirac_common.specs.Table.{Table, filled, table_of}
 use Rattle.dirac_common.specs.declared.formats.Vector.{Vector}
-use Rattle.dirac_blocks.specs.Tables.{block_at}
-use Rattle.dirac_blocks.specs.declared.block.Block.{Block}
+use Rattle.dirac_block_table.specs.Tables.{block_at}
+use Rattle.dirac_block_table.specs.declared.block.Block.{Block}
 use Rattle.dirac_upconvert.specs.SubSamples.{Up, part_sample}
 use Rattle.dirac_inside.specs.Inside.{is_inside}
 use Rattle.dirac_inside.specs.declared.picture_blocks.PictureBlocks.{PictureBlocks}

@@ -2,7 +2,7 @@
 use Rattle.std.specs.Prelude.{◌≡◌, ℕ, ◌<◌, true}
 use Rattle.std.specs.Option.{ForSome}
 use Rattle.dirac_common.specs.declared.formats.Vector.{Vector}
-use Rattle.dirac_blocks.specs.Tables.{block_at}
+use Rattle.dirac_block_table.specs.Tables.{block_at}
 use Rattle.dirac_inside.specs.Inside.{is_inside}
 use Rattle.dirac_inside.specs.declared.picture_blocks.PictureBlocks.{PictureBlocks}
 use Rattle.dirac_obmc.specs.Compensation.{Compensation, IsMotion, across_ratio, blocks_across, blocks_down, down_ratio}

@@ -4,8 +4,8 @@ use Rattle.std.specs.Prelude.{None}
 use Rattle.std.specs.Int.{int_shr}
 use Rattle.dirac_common.specs.Table.{Table, clamped_at, table_of}
 use Rattle.dirac_common.specs.declared.formats.Vector.{Vector}
-use Rattle.dirac_blocks.specs.Tables.{block_at}
-use Rattle.dirac_blocks.specs.declared.block.Block.{Block}
+use Rattle.dirac_block_table.specs.Tables.{block_at}
+use Rattle.dirac_block_table.specs.declared.block.Block.{Block}
 use Rattle.dirac_upconvert.specs.SubSamples.{Up, place_at, product, rest_at, rounded}
 use Rattle.dirac_obmc.specs.Compensation.{Compensation, across_ratio, blocks_across, blocks_down, dc_of, down_ratio}
 use Rattle.dirac_obmc.specs.Compensation.{from_one, from_two, position, total, weight_of}

@@ -1,8 +1,8 @@
 -- Block tables whose vectors keep inside.
 use Rattle.std.specs.Prelude.{◌≡◌, ℕ, ◌*◌, ◌/◌, ◌<◌, true}
 use Rattle.dirac_common.specs.Ratios.{ratio_across, ratio_down}
-use Rattle.dirac_blocks.specs.Tables.{BlockTable, block_at}
-use Rattle.dirac_blocks.specs.declared.block.Block.{Block}
+use Rattle.dirac_block_table.specs.Tables.{BlockTable, block_at}
+use Rattle.dirac_block_table.specs.declared.block.Block.{Block}
 use Rattle.dirac_inside.specs.Inside.{KeepsInside}
 use Rattle.dirac_inside.specs.declared.picture_blocks.PictureBlocks.{PictureBlocks}
 use Rattle.dirac_obmc.specs.Compensation.{Compensation, across_ratio, down_ratio}

@@ -9,7 +9,7 @@ use Rattle.dirac_types.specs.declared.settings.Settings.{Settings}
 use Rattle.dirac_sequence.specs.Written.{sequence_of}
 use Rattle.dirac_header.specs.Codes.{references_of}
 use Rattle.dirac_header.specs.Prediction.{grid_of}
-use Rattle.dirac_blocks.specs.Tables.{BlockTable}
+use Rattle.dirac_block_table.specs.Tables.{BlockTable}
 use Rattle.dirac_refs.specs.References.{listed}
 use Rattle.dirac_picture.specs.Grammar.{is_intra, is_listed, superblocks_over}
 use Rattle.dirac_decode.specs.Content.{IsPicture, named}

@@ -9,8 +9,8 @@ use Rattle.dirac_sequence.specs.Written.{sequence_of}
 use Rattle.dirac_header.specs.Codes.{references_of}
 use Rattle.dirac_header.specs.Prediction.{grid_of}
 use Rattle.dirac_header.specs.Written.{HasReferences}
-use Rattle.dirac_blocks.specs.Grammar.{empty_table}
-use Rattle.dirac_blocks.specs.Tables.{BlockTable, IsBlockTable}
+use Rattle.dirac_block_table.specs.Filling.{empty_table}
+use Rattle.dirac_block_table.specs.Tables.{BlockTable, IsBlockTable}
 use Rattle.dirac_picture.specs.Grammar.{is_intra, superblocks_over}
 use Rattle.dirac_decode.specs.Content.{AreReferences, IsPicture, named, up_of}
 use Rattle.dirac_pyramid.specs.Pyramid.{pyramid_of}

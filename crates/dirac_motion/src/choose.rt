@@ -10,7 +10,7 @@ ghost use Rattle.dirac_motion.specs.Lent.{AreLent, first_of, second_of};
 
 use crate::lent::{Lumas, References};
 use crate::search::vectors_in;
-use dirac_blocks::BlockData;
+use dirac_block_table::BlockData;
 use dirac_common::{NoMemory, Picture, RowGate};
 use dirac_decide::{RefView, decide_by_workers};
 use dirac_decode::named_reference;

@@ -2,7 +2,7 @@
 use Rattle.std.proofs.Common.{◌≡◌, ℕ, ℤ, pos, ◌*◌, ◌*ℤ◌, ap, ◌∙◌}
 use Rattle.std.proofs.Math.IntN.{zero-*ℤ}
 use Rattle.std.proofs.Math.Nat.{zero-mul, mul-zero}
-use Rattle.dirac_blocks.specs.Tables.{block_at}
+use Rattle.dirac_block_table.specs.Tables.{block_at}
 use Rattle.dirac_obmc.specs.Compensation.{Compensation, blocks_across, blocks_down, predicts, term, total, weight_of, x_length, x_separation, y_length, y_separation}
 use Rattle.dirac_obmc.specs.Weights.{share}
 use Rattle.dirac_obmc.proofs.Totals.{total_nothing}

@@ -6,8 +6,8 @@ use Rattle.std.proofs.Math.Nat.{mul_comm}
 use Rattle.std.proofs.lemmas.Int.{ints, unsigned_abs-mul}
 use Rattle.std.proofs.lemmas.Nat.{mul-le, mul-add-lt}
 use Rattle.dirac_common.specs.declared.formats.Vector.{Vector}
-use Rattle.dirac_blocks.specs.Tables.{IsBlock, block_at}
-use Rattle.dirac_blocks.specs.declared.block.Block.{Block}
+use Rattle.dirac_block_table.specs.Tables.{IsBlock, block_at}
+use Rattle.dirac_block_table.specs.declared.block.Block.{Block}
 use Rattle.dirac_upconvert.specs.HalfSamples.{IsSample}
 use Rattle.dirac_upconvert.specs.SubSamples.{Up}
 use Rattle.dirac_upconvert.proofs.SampleRows.{sub_sample_is}

@@ -1,6 +1,6 @@
 -- What a block predicts, by the references that it has.
 use Rattle.std.proofs.Common.{◌≡◌, ℕ, ℤ, true, false, refl}
-use Rattle.dirac_blocks.specs.declared.block.Block.{Block}
+use Rattle.dirac_block_table.specs.declared.block.Block.{Block}
 use Rattle.dirac_obmc.specs.Compensation.{Compensation, dc_of, from_one, from_two, moved_sample, predicts, second_sample}
 
 pub by_two : (m : Compensation) (b : Block) (x y : ℕ) (v w : ℤ) → b.ref1 ≡ true → b.ref2 ≡ true → v ≡ moved_sample m m.up1 b.v1 x y → w ≡ second_sample m m.up2 b.v2 x y → from_two m.prediction v w ≡ predicts m b x y

@@ -4,8 +4,8 @@ use Rattle.std.specs.List.{range_with_len}
 use Rattle.dirac_common.specs.declared.formats.Chroma.TheVariants.{C444}
 use Rattle.dirac_common.specs.Table.{filled}
 use Rattle.dirac_header.specs.declared.prediction.Prediction.{Prediction}
-use Rattle.dirac_blocks.specs.declared.block.Block.{Block}
-use Rattle.dirac_blocks.specs.Tables.{grey}
+use Rattle.dirac_block_table.specs.declared.block.Block.{Block}
+use Rattle.dirac_block_table.specs.Tables.{grey}
 use Rattle.dirac_upconvert.specs.HalfSamples.{between, half}
 use Rattle.dirac_upconvert.specs.SubSamples.{part_sample}
 use Rattle.dirac_common.specs.declared.formats.Component.TheVariants as component

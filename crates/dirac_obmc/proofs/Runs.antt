@@ -7,7 +7,7 @@ use Rattle.std.proofs.lemmas.Bool.{cases_eq, cases_lt}
 use Rattle.std.proofs.lemmas.Int.{ints}
 use Rattle.std.proofs.lemmas.List.{get_or-set_same, get_or-set_other, get_or_past, get_or_default}
 use Rattle.std.proofs.lemmas.Nat.{mul-le}
-use Rattle.dirac_blocks.specs.Tables.{block_at}
+use Rattle.dirac_block_table.specs.Tables.{block_at}
 use Rattle.dirac_obmc.specs.declared.direction.Direction.{Direction}
 use Rattle.dirac_obmc.specs.declared.rows.Columns.{Columns}
 use Rattle.dirac_obmc.specs.declared.rows.Span.{Span}

@@ -8,8 +8,8 @@ use Rattle.std.proofs.lemmas.List.{get_or_default, get_or-append_right, get_or-t
 use Rattle.std.proofs.lemmas.Slice.{take-put_mid}
 use borrow.Rule.Slice.PartMut.{put_mid}
 use Rattle.std.proofs.lemmas.Nat.{div-add-mod', div-mul-add, div_below, mod-mul-add, mod_below, mul-le, row_fits}
-use Rattle.dirac_blocks.specs.declared.block.Block.{Block}
-use Rattle.dirac_blocks.specs.Tables.{block_at}
+use Rattle.dirac_block_table.specs.declared.block.Block.{Block}
+use Rattle.dirac_block_table.specs.Tables.{block_at}
 use Rattle.dirac_obmc.specs.declared.rows.Lines.{Lines}
 use Rattle.dirac_obmc.specs.declared.rows.Part.{Part}
 use Rattle.dirac_obmc.specs.declared.rows.Span.{Span}

@@ -10,8 +10,8 @@ use Rattle.dirac_common.specs.declared.formats.Vector.{Vector}
 use Rattle.dirac_common.specs.Ratios.{ratio_across, ratio_down}
 use Rattle.dirac_header.specs.Prediction.{is_grid}
 use Rattle.dirac_header.specs.declared.prediction.Prediction.{Prediction}
-use Rattle.dirac_blocks.specs.Tables.{BlockTable, block_at}
-use Rattle.dirac_blocks.specs.declared.block.Block.{Block}
+use Rattle.dirac_block_table.specs.Tables.{BlockTable, block_at}
+use Rattle.dirac_block_table.specs.declared.block.Block.{Block}
 pub use Rattle.dirac_upconvert.specs.Places.{position}
 use Rattle.dirac_upconvert.specs.SubSamples.{Up, rounded, sub_sample}
 use Rattle.dirac_common.specs.declared.formats.Component.{Component}

@@ -3,7 +3,7 @@ use Rattle.std.specs.Prelude.{◌≡◌, ℕ, ◌+◌, ◌*◌, ◌<◌, ◌≤�
 use Rattle.std.specs.List.{All}
 use Rattle.std.specs.Option.{ForSome}
 use Rattle.dirac_common.specs.declared.limits.TheConstants.{LARGEST_SIDE}
-use Rattle.dirac_blocks.specs.Tables.{IsBlockTable}
+use Rattle.dirac_block_table.specs.Tables.{IsBlockTable}
 use Rattle.dirac_upconvert.specs.HalfSamples.{IsSample}
 use Rattle.dirac_obmc.specs.declared.rows.Columns.{Columns}
 use Rattle.dirac_obmc.specs.declared.direction.Direction.{Direction}

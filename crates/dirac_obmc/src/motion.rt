@@ -1,4 +1,4 @@
-use dirac_blocks::BlockData;
+use dirac_block_table::BlockData;
 use dirac_common::{Chroma, Component};
 use dirac_header::Prediction;
 use dirac_upconvert::UpPlane;

@@ -1,7 +1,7 @@
 ghost use Rattle.std.specs.Prelude.{◌≡◌, ℕ, pos, ◌+◌, ◌-◌, ◌*◌, ◌/◌, ◌%◌, ◌^◌, ◌<◌, ◌≤◌, unsigned_abs, length};
 ghost use Rattle.std.specs.Prelude.{slice_index, slice_index_or, IsTrue, true};
 ghost use Rattle.std.specs.List.{All};
-ghost use Rattle.dirac_blocks.specs.Tables.{block_at};
+ghost use Rattle.dirac_block_table.specs.Tables.{block_at};
 ghost use Rattle.dirac_obmc.specs.Adding.{Adds};
 ghost use Rattle.dirac_obmc.specs.Blending.{IsBlending};
 ghost use Rattle.dirac_obmc.specs.Compensation.{IsMotion, blended, blocks_across, blocks_down, predicted_at, total};
@@ -17,7 +17,7 @@ use crate::motion::Motion;
 use crate::room::{BlockRoom, MOST_COLUMNS};
 use crate::sums::{Weighed, add_values, divide_sums};
 use crate::values::{Window, block_front};
-use dirac_blocks::Block;
+use dirac_block_table::Block;
 use dirac_common::{LARGEST_SIDE, Vector};
 
 /// The blocks of a plane from left to right, with the weights of each.

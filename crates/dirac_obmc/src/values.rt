@@ -4,7 +4,7 @@ ghost use Rattle.std.specs.Int.{int_div_euclid, int_shr};
 ghost use Rattle.std.specs.List.{All};
 ghost use Rattle.dirac_vectors.specs.Neighbours.{IsShort};
 ghost use Rattle.dirac_vectors.specs.Predictions.{IsShortVector};
-ghost use Rattle.dirac_blocks.specs.Tables.{IsBlock};
+ghost use Rattle.dirac_block_table.specs.Tables.{IsBlock};
 ghost use Rattle.dirac_upconvert.specs.HalfSamples.{IsSample};
 ghost use Rattle.dirac_upconvert.specs.Places;
 ghost use Rattle.dirac_upconvert.specs.SubSamples.{rounded};
@@ -16,7 +16,7 @@ ghost use Rattle.dirac_obmc.specs.Windows.{IsWindow};
 
 use crate::direction::{across_ratio, down_ratio};
 use crate::motion::Motion;
-use dirac_blocks::Block;
+use dirac_block_table::Block;
 use dirac_common::{Component, LARGEST_SIDE, LARGEST_TABLE_SIDE, Vector};
 use dirac_header::Prediction;
 use dirac_upconvert::UpPlane;

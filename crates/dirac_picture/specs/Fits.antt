@@ -12,7 +12,7 @@ use Rattle.dirac_header.specs.declared.prediction.Prediction.{Prediction}
 use Rattle.dirac_header.specs.declared.transform.Transform.{Transform}
 use Rattle.dirac_header.specs.Prediction.{is_grid}
 use Rattle.dirac_header.specs.Codes.{references_of}
-use Rattle.dirac_blocks.specs.Tables.{IsBlockTable}
+use Rattle.dirac_block_table.specs.Tables.{IsBlockTable}
 use Rattle.dirac_coeffs.specs.declared.layout.CodedBand.{CodedBand}
 use Rattle.dirac_coeffs.specs.Grammar.{IsCodedBand}
 use Rattle.dirac_picture.specs.declared.coded.CodedMotion.{CodedMotion}

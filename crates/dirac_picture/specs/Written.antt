@@ -7,7 +7,7 @@ use Rattle.dirac_header.specs.declared.transform.Transform.{Transform}
 use Rattle.dirac_header.specs.Written.{header_bits, prediction_bits, prediction_of, transform_bits}
 use Rattle.dirac_blocks.specs.Decisions.{block_decisions, least_numbers}
 use Rattle.dirac_blocks.specs.Grammar.{blocks}
-use Rattle.dirac_blocks.specs.Tables.{BlockTable}
+use Rattle.dirac_block_table.specs.Tables.{BlockTable}
 use Rattle.dirac_blocks.specs.Written.{with_lists}
 use Rattle.dirac_coeffs.specs.declared.layout.CodedBand.{CodedBand}
 use Rattle.dirac_coeffs.specs.Written.{SpelledBehind, up_to_byte, with_band}

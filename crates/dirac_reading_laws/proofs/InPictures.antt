@@ -23,11 +23,11 @@ use Rattle.dirac_coeffs.specs.declared.layout.BandLayout.{BandLayout}
 use Rattle.dirac_coeffs.specs.declared.layout.CodedBand.{CodedBand}
 use Rattle.dirac_coeffs.specs.BandRead.{Content, band_read}
 use Rattle.dirac_coeffs.specs.Grammar.{band, band_from, coded_band, zero_band}
-use Rattle.dirac_blocks.specs.declared.parts.Reference.{Reference}
+use Rattle.dirac_block_table.specs.declared.reference.Reference.{Reference}
 use Rattle.dirac_blocks.specs.declared.parts.ListKind.TheVariants as parts
-use Rattle.dirac_blocks.specs.declared.parts.Reference.TheVariants as references
+use Rattle.dirac_block_table.specs.declared.reference.Reference.TheVariants as references
 use Rattle.dirac_blocks.specs.Grammar.{Step, blocks, dcs_listed, empty_table, listed, lists_of, second_listed, splits_step, table_from, units_step, values_listed, vectors_listed}
-use Rattle.dirac_blocks.specs.Tables.{BlockTable}
+use Rattle.dirac_block_table.specs.Tables.{BlockTable}
 use Rattle.dirac_picture.specs.Bands.{band_count, layout_of, parent_values}
 use Rattle.dirac_picture.specs.Grammar.{bands_behind, body, motion, picture, picture_read, planes, prediction_fields, residual, residual_unless, superblocks_over, zero_residual}
 use Rattle.dirac_reading_laws.proofs.Within.{RefusesWithin, a_block, a_field, a_flag, a_gap, a_literal, a_number, a_signed, behind, either, from_here, if_custom, no_more, refused_within, refuses}

@@ -2,11 +2,11 @@ use Rattle.std.proofs.Common.{rules, ◌≡◌, ℤ, true, ap, ◌∙◌, subst,
 use Rattle.dirac_arith.specs.Coded.{read}
 use Rattle.dirac_vectors.specs.Neighbours.{IsShort}
 use Rattle.dirac_vectors.specs.Predictions.{vector_of}
-use Rattle.dirac_blocks.specs.declared.block.Block.{Block}
+use Rattle.dirac_block_table.specs.declared.block.Block.{Block}
 use Rattle.dirac_blocks.specs.Decisions.{predicted}
 use Rattle.dirac_blocks.specs.Grammar.{component_coded, coded_into, uses, with_across}
 use Rattle.dirac_blocks.specs.Parts.{vector_at}
-use Rattle.dirac_blocks.specs.Tables.{IsBlock, block_at}
+use Rattle.dirac_block_table.specs.Tables.{IsBlock, block_at}
 use Rattle.dirac_blocks.proofs.UnitValues.{into_found, into_refused, across_lawful}
 use Rattle.dirac_blocks.proofs.unit_reader.read_across.Goals as goal
 

@@ -3,11 +3,11 @@ use Rattle.dirac_common.specs.declared.faults.Cause.TheVariants as causes
 use Rattle.dirac_arith.specs.Coded.{read}
 use Rattle.dirac_vectors.specs.Neighbours.{IsShort}
 use Rattle.dirac_vectors.specs.Predictions.{dc_of}
-use Rattle.dirac_blocks.specs.declared.block.Block.{Block}
+use Rattle.dirac_block_table.specs.declared.block.Block.{Block}
 use Rattle.dirac_blocks.specs.Decisions.{predicted}
 use Rattle.dirac_blocks.specs.Grammar.{is_dc, coded_into, value_coded, with_dc}
 use Rattle.dirac_blocks.specs.Parts.{dc_at}
-use Rattle.dirac_blocks.specs.Tables.{IsBlock, block_at}
+use Rattle.dirac_block_table.specs.Tables.{IsBlock, block_at}
 use Rattle.dirac_blocks.proofs.UnitValues.{into_found, into_refused, dc_lawful, is_dc_from}
 use Rattle.dirac_blocks.proofs.unit_reader.read_dc.Goals as goal
 

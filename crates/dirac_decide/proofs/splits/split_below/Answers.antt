@@ -1,6 +1,6 @@
 use Rattle.std.proofs.Common.{◌≡◌, ℕ, ◌^◌, ◌<◌, length, length-set, arith, ap, ◌∙◌}
 use Rattle.std.proofs.lemmas.List.Elements.{All-set}
-use Rattle.dirac_blocks.specs.Tables.{IsBlock}
+use Rattle.dirac_block_table.specs.Tables.{IsBlock}
 use Rattle.dirac_costs.specs.Sums.{sum_below}
 use Rattle.dirac_costs.proofs.Sums.{sum_more}
 use Rattle.dirac_decide.specs.declared.choice.Choice.{Choice}

@@ -1,6 +1,6 @@
 use Rattle.std.proofs.Common.{subst, sym}
 use Rattle.std.specs.List.{All}
-use Rattle.dirac_blocks.specs.Tables.{BlockTable}
+use Rattle.dirac_block_table.specs.Tables.{BlockTable}
 use Rattle.dirac_decide.specs.Given.{given}
 use Rattle.dirac_decide.specs.Modes.{HasSamples}
 use Rattle.dirac_decide.proofs.DcValues.{blocks_have}

@@ -1,6 +1,6 @@
 use Rattle.std.proofs.Common.{◌≡◌, ℤ, Bool, ap, ◌∙◌}
 use Rattle.dirac_common.specs.declared.formats.Vector.{Vector}
-use Rattle.dirac_blocks.specs.declared.block.Block.{Block}
+use Rattle.dirac_block_table.specs.declared.block.Block.{Block}
 use Rattle.dirac_obmc.proofs.rows.are_alike.Goals as goal
 
 abbrev block_of : Bool → Bool → Vector → Vector → ℤ → ℤ → ℤ → Block

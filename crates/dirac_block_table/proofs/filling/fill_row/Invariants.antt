@@ -1,0 +1,10 @@
+use Rattle.std.proofs.Common.{◌≡◌, length}
+use Rattle.dirac_block_table.specs.Filling.{row_filled}
+use Rattle.dirac_block_table.proofs.filling.fill_row.Given as goal
+
+abbrev pub invariant-places : goal.invariant-places
+invariant-places l =
+    record {
+      exact : l.blocks ≡ row_filled l.fn.blocks l.start l.block l.n;
+      len : length l.blocks ≡ length l.fn.blocks;
+    }

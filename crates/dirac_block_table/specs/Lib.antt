@@ -1,0 +1,4 @@
+pub mod Filling
+pub mod Neighbours
+pub mod Puts
+pub mod Tables

@@ -1,0 +1,6 @@
+/// The first or the second reference of a picture.
+#[derive(Clone, Copy, Debug, PartialEq, Eq)]
+pub enum Reference {
+    First,
+    Second,
+}
