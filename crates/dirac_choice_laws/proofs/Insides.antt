@@ -15,7 +15,7 @@ use Rattle.dirac_inside_laws.specs.Kept.{VectorsKeepInside}
 use Rattle.dirac_block_table.specs.Tables.{BlockTable}
 use Rattle.dirac_picture.specs.Grammar.{is_intra}
 use Rattle.dirac_picture.specs.declared.coded.CodedMotion.{CodedMotion}
-use Rattle.dirac_decode.specs.Content.{named}
+use Rattle.dirac_content.specs.Content.{named}
 use Rattle.dirac_decide.specs.Deciding.{deciding}
 use Rattle.dirac_decide.specs.Units.{blocks_of}
 use Rattle.dirac_decide.proofs.Accepted.{across_within, down_within, grid_within, precision_within}

@@ -8,7 +8,7 @@ use Rattle.dirac_types.specs.Settings.{IsAccepted}
 use Rattle.dirac_block_table.specs.Tables.{BlockTable}
 use Rattle.dirac_picture.specs.Grammar.{are_listed, is_intra, is_listed}
 use Rattle.dirac_picture.specs.declared.coded.CodedMotion.{CodedMotion}
-use Rattle.dirac_decode.specs.Content.{named}
+use Rattle.dirac_content.specs.Content.{named}
 use Rattle.dirac_plan.specs.Plan.{plan}
 use Rattle.dirac_plan.specs.declared.planned.Planned.{Planned}
 use Rattle.dirac_plan_laws.specs.Headers.{IsPlanned, header_of}

@@ -14,7 +14,7 @@ use Rattle.dirac_plan.specs.Plan.{frames_plan, plan, retired_of_former}
 use Rattle.dirac_plan.specs.declared.planned.Planned.{Planned}
 use Rattle.dirac_decide.specs.Deciding.{View}
 use Rattle.dirac_decide.specs.Splits.{decided_by}
-use Rattle.dirac_decode.specs.Content.{named, up_of}
+use Rattle.dirac_content.specs.Content.{named, up_of}
 use Rattle.dirac_motion.specs.Chosen.{at_index, blocks_among, blocks_from, chosen, searched_in, view_in}
 use Rattle.dirac_sources.specs.Sources.{pictures_in, sources}
 use Rattle.dirac_encode_laws.specs.Coded.{coded_of, coded_with, counts_below, motion_of, motion_with}

@@ -5,7 +5,7 @@ use Rattle.dirac_types.specs.declared.settings.Settings.{Settings}
 use Rattle.dirac_types.specs.Settings.{IsAccepted}
 use Rattle.dirac_block_table.specs.Tables.{BlockTable}
 use Rattle.dirac_picture.specs.Grammar.{is_intra}
-use Rattle.dirac_decode.specs.Content.{named}
+use Rattle.dirac_content.specs.Content.{named}
 use Rattle.dirac_decide.specs.Deciding.{Deciding, deciding}
 use Rattle.dirac_motion.specs.Chosen.{searched_in, view_in}
 use Rattle.dirac_sources.specs.Sources.{sources}

@@ -11,8 +11,8 @@ use Rattle.dirac_plan.specs.Plan.{plan}
 use Rattle.dirac_plan_laws.specs.Order.{by_number}
 use Rattle.dirac_plan_laws.specs.Plans.{PlansCanBeCoded}
 use Rattle.dirac_sources.specs.Sources.{sources, whole_pictures}
-use Rattle.dirac_decode.specs.Raw.{raws}
-use Rattle.dirac_decode.specs.Shown.{IsShown, Outcome}
+use Rattle.dirac_content.specs.Raw.{raws}
+use Rattle.dirac_content.specs.Shown.{IsShown, Outcome}
 use Rattle.dirac_encode_laws.specs.declared.answers.Encoded.{Encoded}
 use Rattle.dirac_encode_laws.specs.declared.answers.Encoded.TheVariants as encoded
 use Rattle.dirac_encode_laws.specs.Coding.{IndexRule, Job, Made, coded_under, coding_under, job_of, made_under}

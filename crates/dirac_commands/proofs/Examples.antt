@@ -5,8 +5,8 @@ use Rattle.dirac_common.specs.declared.faults.Fault.{Fault}
 use Rattle.dirac_common.specs.declared.picture.Picture.{Picture}
 use Rattle.dirac_units.specs.declared.info.ParseInfo.{ParseInfo}
 use Rattle.dirac_units.specs.Cut.{IsCut, UnitText, start}
-use Rattle.dirac_decode.specs.Shown.{Outcome, outcome}
-use Rattle.dirac_decode.specs.StreamState.{begun}
+use Rattle.dirac_content.specs.Shown.{Outcome, outcome}
+use Rattle.dirac_content.specs.StreamState.{begun}
 use Rattle.dirac_encode_laws.specs.declared.answers.Encoded.{Encoded}
 use Rattle.dirac_commands.specs.Delivered.{DeliversShown}
 

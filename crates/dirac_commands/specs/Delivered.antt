@@ -1,8 +1,8 @@
 -- What is delivered beside a stream is what the stream shows.
 use Rattle.std.specs.Prelude.{◌≡◌, ℕ, List, Option, None}
 use Rattle.std.specs.Io.KnownBytes.{Appends}
-use Rattle.dirac_decode.specs.Raw.{raws}
-use Rattle.dirac_decode.specs.Shown.{IsShown, Outcome}
+use Rattle.dirac_content.specs.Raw.{raws}
+use Rattle.dirac_content.specs.Shown.{IsShown, Outcome}
 use Rattle.dirac_encode_laws.specs.Encoding.{Encoding}
 
 -- the stream of an encoding has no fault, and the side got just the raw pictures that it shows

@@ -4,7 +4,7 @@ use Rattle.std.specs.Io.KnownBytes.{IsAtEnd}
 use Rattle.dirac_types.specs.declared.settings.BadSetting.{BadSetting}
 use Rattle.dirac_types.specs.declared.settings.Settings.{Settings}
 use Rattle.dirac_types.specs.Settings.{first_bad, table}
-use Rattle.dirac_decode.specs.Leaving.{IsBrokenOff, IsFrontOfRead}
+use Rattle.dirac_content.specs.Leaving.{IsBrokenOff, IsFrontOfRead}
 use Rattle.dirac_encode_laws.specs.Alike.{AreShownAlike}
 use Rattle.dirac_encode_laws.specs.Coding.{own_index}
 use Rattle.dirac_encode_laws.specs.Encoding.{encoding, encoding_under}

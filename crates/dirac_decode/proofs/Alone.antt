@@ -13,7 +13,7 @@ use Rattle.dirac_units.specs.Cut.{front_of}
 use Rattle.dirac_units.specs.Info.{span_of}
 use Rattle.dirac_units.specs.Progress.{IsFirstUnit, IsPartTaken}
 use Rattle.dirac_decode.specs.Decoding.{BringsAlone, ComesIn, Decoding}
-use Rattle.dirac_decode.specs.Shown.{Outcome, with_front}
+use Rattle.dirac_content.specs.Shown.{Outcome, with_front}
 use Rattle.dirac_decode.proofs.Passed.{first_behind}
 
 -- nothing was read

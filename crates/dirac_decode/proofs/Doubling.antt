@@ -9,8 +9,8 @@ use Rattle.dirac_sequence_header.specs.declared.sequence.Sequence.{Sequence}
 use Rattle.dirac_sequence_header.specs.Lawful.{IsSequence}
 use Rattle.dirac_refs.specs.Halves.{CanBeDoubled, IsDoublable}
 use Rattle.dirac_picture.proofs.Chroma.{part_size}
-use Rattle.dirac_decode.specs.Content.{IsPicture, plane_of}
-use Rattle.dirac_decode.proofs.Covering.{plane_size}
+use Rattle.dirac_content.specs.Content.{IsPicture, plane_of}
+use Rattle.dirac_content.proofs.Covering.{plane_size}
 
 plane_doubled : (s : Sequence) (p : Picture) (c : Component) → IsSequence s → IsPicture s p → IsDoublable (plane_of p c)
 plane_doubled s p c lawful fits =

@@ -15,11 +15,12 @@ use Rattle.dirac_units.specs.Cut.{front_of}
 use Rattle.dirac_units.specs.Progress.{Ends, GivesUnit, IsFirstUnit, Progress, kept_payload}
 use Rattle.dirac_units.proofs.Fronts.{front_more, front_whole}
 use Rattle.dirac_decode.specs.Stepping.{IsThere, IsWholeUnit}
-use Rattle.dirac_decode.specs.StreamState.{StreamState}
-use Rattle.dirac_decode.specs.Shown.{ends_with}
+use Rattle.dirac_content.specs.StreamState.{StreamState}
+use Rattle.dirac_content.specs.Shown.{ends_with}
 use Rattle.dirac_decode.specs.Decoding.{Decoding, LeadsTo, decoding}
 use Rattle.dirac_decode.specs.Advancing.{Brings, Settles}
-use Rattle.dirac_decode.proofs.Passing.{front_before, told_end}
+use Rattle.dirac_content.proofs.Passing.{told_end}
+use Rattle.dirac_decode.proofs.WholeUnits.{front_before}
 use Rattle.dirac_decode.proofs.Leading.{end_alone, ended_outcome, fault_alone, leads_same, leads_unit, not_ended, not_faulted}
 use Rattle.dirac_decode.proofs.Alone.{part_taken_more}
 

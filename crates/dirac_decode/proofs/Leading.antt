@@ -1,5 +1,5 @@
 -- What one step of the decoder says of the pictures that are still to come.
-use Rattle.std.proofs.Common.{◌≡◌, ◌∙◌, if◌then◌else◌, ℕ, suc, ◌+◌, ◌-◌, ◌^◌, Bool, true, false, List, [], ◌∷◌, ◌++◌, length, Option, None, Some, Ok, Err, refl, sym, ap, subst, arith}
+use Rattle.std.proofs.Common.{◌≡◌, ◌∙◌, if◌then◌else◌, ℕ, ◌+◌, ◌-◌, ◌^◌, Bool, true, false, List, [], ◌∷◌, ◌++◌, length, Option, None, Some, Ok, Err, refl, sym, ap, subst, arith}
 use Rattle.std.specs.Prelude.{IfSome}
 use Rattle.std.specs.Io.KnownBytes.{prepend_known}
 use Rattle.std.proofs.lemmas.List.{append-nil}
@@ -12,9 +12,9 @@ use Rattle.dirac_units.specs.declared.unit.Unit.{Unit}
 use Rattle.dirac_units.specs.Cut.{EachHasACut}
 use Rattle.dirac_units.specs.Progress.{Ends, GivesUnit, IsPartTaken, Progress, TakesPart, TakesSome}
 use Rattle.dirac_refs.specs.declared.waiting.Waiting.{Waiting}
-use Rattle.dirac_refs.specs.Delivery.{flushed, flushed_by, least, others}
-use Rattle.dirac_decode.specs.StreamState.{StreamState, unit_step}
-use Rattle.dirac_decode.specs.Shown.{Outcome, ends_with, with_front}
+use Rattle.dirac_refs.specs.Delivery.{flushed}
+use Rattle.dirac_content.specs.StreamState.{StreamState, unit_step}
+use Rattle.dirac_content.specs.Shown.{Outcome, ends_with, with_front}
 use Rattle.dirac_decode.specs.Decoding.{Answers, BreaksOff, BringsAlone, Decoding, LeadsTo, Remains, RemainsIn, StopsIn, decoding, due_of, emptied}
 use Rattle.dirac_decode.specs.declared.answers.Next.{Next}
 use Rattle.dirac_decode.specs.declared.answers.Next.TheVariants as next
@@ -22,10 +22,11 @@ use Rattle.dirac_decode.specs.declared.step.Step.{Step}
 use Rattle.dirac_decode.specs.declared.step.Step.TheVariants as step
 use Rattle.dirac_decode.specs.Taking.{IsPopped, IsTook}
 use Rattle.dirac_decode.specs.Advancing.{Advances, Brings, Settles}
-use Rattle.dirac_decode.specs.Leaving.{leaving}
+use Rattle.dirac_content.specs.Leaving.{leaving}
+use Rattle.dirac_content.proofs.Flushed.{flushed_one}
 use Rattle.dirac_decode.proofs.Alone.{alone_none, alone_on, alone_part, alone_unit, taken_on}
 use Rattle.dirac_decode.proofs.Passed.{breaks_in, passed_none, passed_on, passed_unit}
-use Rattle.dirac_decode.proofs.Passing.{fault_of, told_unit, told_refusal, told_end}
+use Rattle.dirac_content.proofs.Passing.{fault_of, told_unit, told_refusal, told_end}
 
 -- an accepted unit at which at most one picture leaves
 pub brings_on : (unit : Unit) (units units' : Progress) (state state' : StreamState) (held held' : Option (List ℕ)) (gone : List Picture) → GivesUnit true unit units units' held held' → unit_step state unit.info.code unit.payload ≡ Ok (record { state = state'; gone = gone }) → Brings units units' state state' held held' false stream_end.Going gone
@@ -146,14 +147,6 @@ brings_refusal unit units units' state held held' refusal cuts gives is given gi
         remains = told_refusal (Some bytes) (Some behind) unit units.unit_place state refusal cuts first is;
       });
 }
-
--- a due picture leaves, and then the others do
-pub flushed_one : (ws ws' : List Waiting) (p : Picture) → p ∷ [] ≡ least ws → ws' ≡ others ws → length ws' + 1 ≡ length ws → flushed ws ≡ p ∷ flushed ws'
-flushed_one ws ws' p gone rest long =
-    let step : length ws ≡ suc (length ws') = omega arith in
-    ap (λ n. flushed_by n ws) step
-    ∙ ap (λ front. front ++ flushed_by (length ws') (others ws)) (sym gone)
-    ∙ ap (λ t. p ∷ flushed_by (length ws') t) (sym rest)
 
 pub settles_one : (p : Picture) (state state' : StreamState) → IsPopped (Some p) state state' → Settles (Some p) state state' true
 settles_one p state state' popped units given given' m held =

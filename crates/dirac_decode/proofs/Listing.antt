@@ -10,9 +10,9 @@ use Rattle.dirac_header.specs.Codes.{is_reference}
 use Rattle.dirac_header.specs.declared.header.PictureHeader.{PictureHeader}
 use Rattle.dirac_refs.specs.References.{listed, without, retire, append, appended, committed}
 use Rattle.dirac_picture.specs.Grammar.{are_listed}
-use Rattle.dirac_decode.specs.declared.opened.Opened.{Opened}
-use Rattle.dirac_decode.specs.Content.{named, IsPicture, AreReferences}
-use Rattle.dirac_decode.specs.StreamState.{as_reference}
+use Rattle.dirac_content.specs.declared.opened.Opened.{Opened}
+use Rattle.dirac_content.specs.Content.{named, IsPicture, AreReferences}
+use Rattle.dirac_content.specs.StreamState.{as_reference}
 use Rattle.dirac_decode.specs.Taking.{IsOpen, IsOfOpen}
 
 first_fits : (P : Picture → Type 0) (q : Picture) (list : List Picture) → All P (q ∷ list) → P q

@@ -1,5 +1,5 @@
 -- The units that a decoder read, and the pictures that left meanwhile.
-use Rattle.std.proofs.Common.{◌≡◌, ◌∙◌, if◌then◌else◌, ℕ, ◌-◌, ◌≤◌, List, [], ◌∷◌, ◌++◌, length, take, drop, slice_range, Option, None, Some, Result, Ok, Err, true, refl, sym, ap, subst, arith, append_assoc, append-nil, length-append, length-drop}
+use Rattle.std.proofs.Common.{◌≡◌, ◌∙◌, if◌then◌else◌, ℕ, ◌-◌, ◌≤◌, List, [], ◌∷◌, ◌++◌, length, take, drop, slice_range, Option, None, Some, Result, Ok, true, refl, sym, ap, subst, arith, append_assoc, append-nil, length-append, length-drop}
 use Rattle.std.specs.Prelude.{IfSome, ◌&&◌}
 use Rattle.std.proofs.lemmas.List.{drop-append-le, length-take-le, take-append-drop, take-append-le}
 use Rattle.std.proofs.Math.Seq.{drop-append_seam}
@@ -14,10 +14,9 @@ use Rattle.dirac_units.specs.Info.{fields_are_read, info_read, span_of}
 use Rattle.dirac_units.specs.Progress.{IsFirstUnit, IsPartTaken}
 use Rattle.dirac_units.proofs.Fronts.{front_is, front_whole}
 use Rattle.dirac_decode.specs.Decoding.{BreaksIn, Decoding, Passed}
-use Rattle.dirac_decode.specs.Leaving.{WhatLeavesIsShown, leaving, leaving_on}
-use Rattle.dirac_decode.specs.Shown.{follows, outcome}
-use Rattle.dirac_decode.specs.StreamState.{StreamState, StreamStep, unit_step}
-use Rattle.dirac_decode.proofs.Passing.{moved_text, text_of}
+use Rattle.dirac_content.specs.Leaving.{leaving, leaving_on}
+use Rattle.dirac_content.specs.StreamState.{StreamState, StreamStep, unit_step}
+use Rattle.dirac_content.proofs.Passing.{moved_text, text_of}
 
 -- ---- nothing was read
 
@@ -132,20 +131,3 @@ breaks_in (Some bytes) known' held' a b none p part =
       cut = p.cut t.part [] found.0 t.no_unit;
       none_due = p.leaves [] ∙ append-nil b.due ∙ none;
     }
-
--- ---- what leaves is shown
-
-front_step : (state : StreamState) (unit_place : UnitPlace) (unit : UnitText) (units more : List UnitText) (end : Option Fault) (r : Result StreamStep Refusal)
-    → ((next : StreamState) → (later : List Picture) × ((outcome next (after unit_place unit.info) (units ++ more) end).shown ≡ leaving next units ++ later))
-    → (later : List Picture) × ((follows state unit_place (λ next. outcome next (after unit_place unit.info) (units ++ more) end) r).shown ≡ leaving_on (λ next. leaving next units) r ++ later)
-front_step state unit_place unit units more end (Ok m) next =
-    let rest = next m.state in
-    (rest.0, ap (λ l. m.gone ++ l) rest.1 ∙ sym (append_assoc m.gone (leaving m.state units) rest.0))
-front_step state unit_place unit units more end (Err refusal) next =
-    ((follows state unit_place (λ next. outcome next (after unit_place unit.info) (units ++ more) end) (Err refusal)).shown, refl)
-
-pub leaves_first : WhatLeavesIsShown
-unfolding outcome leaving
-leaves_first state unit_place [] more end = ((outcome state unit_place more end).shown, refl)
-leaves_first state unit_place (unit ∷ units) more end =
-    front_step state unit_place unit units more end (unit_step state unit.info.code unit.payload) (λ next. leaves_first next (after unit_place unit.info) units more end)

@@ -3,7 +3,6 @@ use Rattle.std.proofs.Common.{◌≡◌, ◌∙◌, ℕ, ◌+◌, List, [], ◌�
 use Rattle.std.specs.Prelude.{IfSome}
 use Rattle.std.specs.Io.KnownBytes.{Appends, Consumes, prepend_known}
 use Rattle.std.proofs.KnownBytes.{Appends-nil, Appends-trans}
-use Rattle.std.proofs.lemmas.Grind.{flat_map-append}
 use Rattle.std.proofs.lemmas.List.{append-nil}
 use Rattle.dirac_common.specs.declared.faults.Fault.{Fault}
 use Rattle.dirac_common.specs.declared.picture.Picture.{Picture}
@@ -15,14 +14,15 @@ use Rattle.dirac_units.specs.Cut.{EachHasACut, IsCut, UnitText}
 use Rattle.dirac_units.specs.Progress.{Progress}
 use Rattle.dirac_decode.specs.declared.answers.Decoded.TheVariants as decoded
 use Rattle.dirac_decode.specs.declared.answers.Next.TheVariants as next
-use Rattle.dirac_decode.specs.StreamState.{StreamState, begun as course_begun}
-use Rattle.dirac_decode.specs.Shown.{IsShown, Outcome, Shows, outcome, tally_of, with_front}
+use Rattle.dirac_content.specs.StreamState.{StreamState, begun as course_begun}
+use Rattle.dirac_content.specs.Shown.{IsShown, Outcome, Shows, outcome, tally_of, with_front}
 use Rattle.dirac_decode.specs.Decoding.{BreaksIn, BreaksOff, BringsAlone, Comes, ComesIn, Decoding, Gives, LeadsTo, Passed, Remains, RemainsIn, StopsIn, begun, tally}
-use Rattle.dirac_decode.specs.Leaving.{IsBrokenOff, IsFrontOfRead, leaving}
+use Rattle.dirac_content.specs.Leaving.{IsBrokenOff, IsFrontOfRead, leaving}
 use Rattle.dirac_decode.proofs.Alone.{alone_on}
 use Rattle.dirac_decode.proofs.Passed.{passed_on}
-use Rattle.dirac_decode.specs.Raw.{raw, raws}
+use Rattle.dirac_content.specs.Raw.{raw, raws}
 use Rattle.dirac_decode.specs.Decoded.{IsDecoded}
+use Rattle.dirac_content.proofs.Raws.{raws_front, raws_more}
 use Rattle.dirac_decode.proofs.Leading.{leads_same}
 
 -- these pictures were given and written
@@ -40,9 +40,6 @@ streamed_none d held taken same = record {
   counted = ap (λ x. x.given) same;
   written = Appends-nil taken;
 }
-
-pub raws_more : (given : List Picture) (p : Picture) → raws (given ++ p ∷ []) ≡ raws given ++ raw p
-raws_more given p = flat_map-append raw given (p ∷ []) ∙ ap (λ t. raws given ++ t) (append-nil (raw p))
 
 front_more : (given : List Picture) (p : Picture) (o : Outcome) → with_front given (with_front (p ∷ []) o) ≡ with_front (given ++ p ∷ []) o
 front_more given p o =
@@ -136,9 +133,6 @@ comes_some d held cuts moving =
 -- a front of all that comes was written, and the stream isn't gone on with
 abbrev IsCutOff : List ℕ → Option (List ℕ) → Option (List ℕ) → Type 0
 IsCutOff bytes taken taken' = (o : Outcome) × IsShown bytes o × AppendsFront taken taken' (raws o.shown)
-
-pub raws_front : (front rest : List Picture) → raws (front ++ rest) ≡ raws front ++ raws rest
-raws_front front rest = flat_map-append raw front rest
 
 pub cut_off : (d : Decoding) (held held' taken taken' : Option (List ℕ)) → EachHasACut → (d.stream_end ≡ stream_end.Stopped → ⊥) → IsStreamed d held held' taken taken' → IfSome held (λ bytes. IsCutOff bytes taken taken')
 cut_off d None held' taken taken' cuts moving so = tt

@@ -10,7 +10,7 @@ use Rattle.dirac_decode.specs.declared.step.Halt.{Halt}
 use Rattle.dirac_decode.specs.declared.step.Halt.TheVariants as halt
 use Rattle.dirac_decode.specs.declared.step.Step.{Step}
 use Rattle.dirac_decode.specs.declared.step.Step.TheVariants as step
-use Rattle.dirac_decode.specs.StreamState.{StreamState}
+use Rattle.dirac_content.specs.StreamState.{StreamState}
 use Rattle.dirac_decode.specs.Stepping.{IsThere}
 use Rattle.dirac_decode.specs.Decoding.{LeadsTo, decoding}
 use Rattle.dirac_decode.specs.Taking.{shown_in}

@@ -4,9 +4,9 @@ use Rattle.std.specs.Io.KnownBytes.{Appends}
 use Rattle.dirac_io.specs.Writing.{AppendsFront}
 use Rattle.dirac_decode.specs.declared.answers.Decoded.{Decoded}
 use Rattle.dirac_decode.specs.declared.answers.Decoded.TheVariants as decoded
-use Rattle.dirac_decode.specs.declared.answers.Tally.{Tally}
-use Rattle.dirac_decode.specs.Raw.{raws}
-use Rattle.dirac_decode.specs.Shown.{Outcome, IsShown, tally_of}
+use Rattle.dirac_content.specs.declared.tally.Tally.{Tally}
+use Rattle.dirac_content.specs.Raw.{raws}
+use Rattle.dirac_content.specs.Shown.{Outcome, IsShown, tally_of}
 
 -- what the answer says of what the stream shows and of what was written
 abbrev pub AnswersDecode : Decoded → Outcome → Option (List ℕ) → Option (List ℕ) → Type 0

@@ -11,10 +11,10 @@ use Rattle.dirac_units.specs.Progress.{Progress, TakesSome, begun as units_begun
 use Rattle.dirac_refs.specs.Delivery.{flushed}
 use Rattle.dirac_decode.specs.declared.answers.Next.{Next}
 use Rattle.dirac_decode.specs.declared.answers.Next.TheVariants as next
-use Rattle.dirac_decode.specs.declared.answers.Tally.{Tally}
-use Rattle.dirac_decode.specs.StreamState.{StreamState, begun as course_begun}
-use Rattle.dirac_decode.specs.Shown.{Outcome, Shows, with_front}
-use Rattle.dirac_decode.specs.Leaving.{leaving}
+use Rattle.dirac_content.specs.declared.tally.Tally.{Tally}
+use Rattle.dirac_content.specs.StreamState.{StreamState, begun as course_begun}
+use Rattle.dirac_content.specs.Shown.{Outcome, Shows, with_front}
+use Rattle.dirac_content.specs.Leaving.{leaving}
 
 -- the units cut so far, the course of their content, pictures that leave before the next unit is read,
 -- how many were given, and the end, fault or stop that was met

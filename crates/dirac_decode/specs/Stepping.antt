@@ -8,7 +8,7 @@ use Rattle.dirac_units.specs.declared.unit.StreamEnd.TheVariants as stream_end
 use Rattle.dirac_units.specs.Info.{info_read, span_of}
 use Rattle.dirac_units.specs.Progress.{Progress}
 use Rattle.dirac_decode.specs.declared.answers.Next.{Next}
-use Rattle.dirac_decode.specs.declared.opened.Opened.{Opened}
+use Rattle.dirac_content.specs.declared.opened.Opened.{Opened}
 use Rattle.dirac_decode.specs.Decoding.{Decoding, Gives, LeadsTo}
 
 -- a parse info stands at the front of these bytes, and where it isn't refused its whole unit does

@@ -1,6 +1,6 @@
 -- What the content of one unit brought, as the decoder's state answers it.
 -- Inner: for the proofs of this crate.
-use Rattle.std.specs.Prelude.{◌≡◌, ℕ, ◌+◌, ◌≤◌, List, [], ◌∷◌, length, Option, None, Some, Result, Ok, Err, ⊤}
+use Rattle.std.specs.Prelude.{◌≡◌, ℕ, ◌+◌, ◌≤◌, List, [], ◌∷◌, length, Option, None, Some, Result, Ok, Err}
 use Rattle.std.specs.List.{All}
 use Rattle.std.specs.Option.{option_to_list}
 use Rattle.dirac_common.specs.declared.faults.Refusal.{Refusal}
@@ -11,12 +11,13 @@ use Rattle.dirac_sequence_header.specs.declared.sequence.Sequence.{Sequence}
 use Rattle.dirac_sequence_header.specs.Lawful.{IsSequence}
 use Rattle.dirac_refs.specs.Delivery.{flushed, least, others as rest_of}
 use Rattle.dirac_picture.specs.declared.coded.CodedPicture.{CodedPicture}
-use Rattle.dirac_decode.specs.declared.opened.Opened.{Opened}
-use Rattle.dirac_decode.specs.declared.picture.Rebuilt.{Rebuilt}
+use Rattle.dirac_content.specs.declared.opened.Opened.{Opened}
+use Rattle.dirac_decode.specs.declared.made.Rebuilt.{Rebuilt}
 use Rattle.dirac_decode.specs.declared.step.Step.{Step}
 use Rattle.dirac_decode.specs.declared.step.Step.TheVariants as step
-use Rattle.dirac_decode.specs.Content.{IsPicture, rebuilt}
-use Rattle.dirac_decode.specs.StreamState.{StreamState, StreamStep, as_reference}
+use Rattle.dirac_content.specs.Content.{IsPicture, rebuilt}
+use Rattle.dirac_content.specs.StreamState.{StreamState, StreamStep, as_reference}
+pub use Rattle.dirac_content.specs.Stopped.{IfStopped}
 use Rattle.dirac_decode.specs.Decoding.{emptied}
 
 -- what the unit's content brings; after Drains the waiting pictures are left to the caller
@@ -30,11 +31,6 @@ abbrev pub IsTook : Result Step Stop → Result StreamStep Refusal → StreamSta
 IsTook (Ok step) read old new = (made : StreamStep) × (read ≡ Ok made) × Steps step made new
 IsTook (Err (stop.Refused refusal)) read old new = (read ≡ Err refusal) × (new ≡ old)
 IsTook (Err stop.NoMemory) read old new = new ≡ old
-
--- a fact on the refusal that stopped a reader, where it is one
-abbrev pub IfStopped : Stop → (Refusal → Type 0) → Type 0
-IfStopped (stop.Refused refusal) P = P refusal
-IfStopped stop.NoMemory P = ⊤
 
 -- how many pictures leave at once
 abbrev pub shown_in : Step → ℕ

@@ -7,7 +7,7 @@ ghost use Rattle.dirac_refs.specs.Delivery.{flushed};
 ghost use Rattle.dirac_picture.specs.Reading.{ReadsPlanes};
 ghost use Rattle.dirac_decode.specs.Decoding.{due_of};
 ghost use Rattle.dirac_decode.specs.Advancing.{Advances, AdvancesBefore, GoesOn, Settles, shown_by};
-ghost use Rattle.dirac_decode.specs.Rebuilding.{Rebuilds};
+ghost use Rattle.dirac_rebuild.specs.Rebuilding.{Rebuilds};
 
 use crate::state::State;
 use crate::step::{Halt, Step};

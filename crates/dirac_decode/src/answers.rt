@@ -1,11 +1,5 @@
 use dirac_common::{Fault, Picture};
-
-/// How many pictures were delivered, and the greatest length that a list of references had.
-#[derive(Clone, Copy, Debug, PartialEq, Eq)]
-pub struct Tally {
-    pub pictures: u64,
-    pub references: u8,
-}
+use dirac_content::Tally;
 
 /// What the next picture of a stream is.
 #[derive(Debug, Drop)]

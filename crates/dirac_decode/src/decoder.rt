@@ -3,18 +3,18 @@ ghost use Rattle.std.specs.Io.KnownBytes.{IsAtEnd};
 ghost use Rattle.dirac_io.specs.Faults.{Rose};
 ghost use Rattle.dirac_picture.specs.Reading.{ReadsPlanes};
 ghost use Rattle.dirac_decode.specs.Decoding.{begun, tally, Answers, BreaksOff, Gives, StopsIn};
-ghost use Rattle.dirac_decode.specs.Rebuilding.{Rebuilds};
+ghost use Rattle.dirac_rebuild.specs.Rebuilding.{Rebuilds};
 
 mod stepping;
 
 use crate::advance::{advance_by_unit, next_due};
-use crate::answers::{Next, Tally};
-use crate::in_turn::read_in_turn;
-use crate::picture::rebuild;
+use crate::answers::Next;
+use crate::in_turn::{read_in_turn, rebuild_in_turn};
 use crate::state::State;
 use crate::step::{Halt, Step};
 use dirac_bits::BitReader;
 use dirac_common::{NoMemory, Picture, Stop};
+use dirac_content::Tally;
 use dirac_header::Transform;
 use dirac_io::Source;
 use dirac_picture::{CodedPicture, CodedResidual};
@@ -107,7 +107,7 @@ impl Decoder {
             ≤ self.old.units.unit_place.at + length self.old.units.ahead + S.left source.old }
     {
         self.state.keep_halves();
-        self.next_picture_by(&read_in_turn, &rebuild, source)
+        self.next_picture_by(&read_in_turn, &rebuild_in_turn, source)
     }
 
     /// The next picture of the stream, as `next_picture`, where the subbands of planes are read by `planes`, and

@@ -1,9 +1,14 @@
+ghost use Rattle.std.specs.Prelude.{◌≡◌, IfOk};
 ghost use Rattle.dirac_picture.specs.Reading.{CanBeRead, ReadsThem};
+ghost use Rattle.dirac_content.specs.Content.{rebuilt};
+ghost use Rattle.dirac_rebuild.specs.Rebuilding.{CanBeRebuilt};
 
 use dirac_bits::BitReader;
-use dirac_common::Stop;
+use dirac_common::{NoMemory, Picture, Stop};
 use dirac_header::Transform;
-use dirac_picture::{CodedResidual, read_planes};
+use dirac_picture::{CodedPicture, CodedResidual, read_planes};
+use dirac_rebuild::rebuild;
+use dirac_refs::RefBuffer;
 use dirac_sequence_header::Sequence;
 use std::alloc::Global;
 
@@ -18,4 +23,17 @@ pub(crate) fn read_in_turn(
     ensures { ReadsThem sequence.now transform r.old result r.new }
 {
     read_planes(alloc, r, transform, sequence)
+}
+
+/// Rebuilds a picture plane after plane: how a decoder of one thread rebuilds it.
+pub(crate) fn rebuild_in_turn(
+    alloc: Global,
+    coded: &CodedPicture,
+    sequence: &Sequence,
+    refs: &RefBuffer,
+) -> Result<Picture, NoMemory>
+    requires { CanBeRebuilt coded.now sequence.now refs.now }
+    ensures { IfOk result (λ p. p ≡ rebuilt sequence.now refs.now coded.now) }
+{
+    rebuild(alloc, coded, sequence, refs)
 }

@@ -1,32 +1,26 @@
 //! The decoder: from the bytes of a stream to its pictures, in order of delivery, up to the first fault.
 //!
-//! `specs/StreamState` says what the content of each unit does, `specs/Shown` what a stream shows.
+//! `specs/StreamState` of dirac_content says what the content of each unit does, its `specs/Shown` what a stream shows.
 #![tactic(auto)]
 
 mod advance;
 mod answers;
-mod compensate;
 mod decoder;
 mod in_turn;
-mod laws;
-mod opened;
-mod picture;
-mod planes;
-mod shared;
+mod made;
 mod state;
 mod step;
 mod stream;
-mod written;
 
-pub use answers::{Decoded, Next, Tally};
-pub use compensate::{
-    Moved, named, named_reference, plane_motion, predict, predict_from, predict_with, up_plane,
-};
+pub use answers::{Decoded, Next};
 pub use decoder::Decoder;
+pub use dirac_content::{
+    Opened, Tally, a_stream_shows_its_sequences, byte, named, named_reference, put_picture,
+    what_leaves_is_shown,
+};
 pub use dirac_picture::{CodedMotion, CodedPicture, CodedResidual, PlaneBands, read_picture};
-pub use laws::{a_stream_shows_its_sequences, what_leaves_is_shown};
-pub use opened::Opened;
-pub use picture::{predicted_samples, rebuild};
-pub use planes::{height_of, plane_of, residual_of, unfinished_of, width_of};
+pub use dirac_rebuild::{
+    Moved, height_of, plane_motion, plane_of, predict, predict_from, predict_with,
+    predicted_samples, rebuild, residual_of, unfinished_of, up_plane, width_of,
+};
 pub use stream::{decode_stream, decode_stream_by};
-pub use written::{byte, put_picture};

@@ -1,17 +1,17 @@
 ghost use Rattle.std.specs.Prelude.{◌≡◌, ℕ, ◌+◌, ◌<◌, ◌≤◌, ◌^◌, length, IfErr, IsTrue, Ok, Option};
 ghost use Rattle.dirac_picture.specs.Grammar.{is_picture};
 ghost use Rattle.dirac_picture.specs.Reading.{ReadsPlanes};
-ghost use Rattle.dirac_decode.specs.Rebuilding.{Rebuilds};
-ghost use Rattle.dirac_decode.specs.StreamState.{as_reference, begun, header_step, in_unit, is_same as same_header};
-ghost use Rattle.dirac_decode.specs.StreamState.{first_or as first_of, unit_step, passed, picture_step, shows};
+ghost use Rattle.dirac_rebuild.specs.Rebuilding.{Rebuilds};
+ghost use Rattle.dirac_content.specs.StreamState.{as_reference, begun, header_step, in_unit, is_same as same_header};
+ghost use Rattle.dirac_content.specs.StreamState.{first_or as first_of, unit_step, passed, picture_step, shows};
 ghost use Rattle.dirac_decode.specs.Stepping.{sequence_of};
 ghost use Rattle.dirac_decode.specs.Taking.{Fewer, IfStopped, IsOfOpen, IsPopped, IsTook, Steps};
 
-use crate::opened::Opened;
-use crate::picture::{Rebuilt, make_picture};
+use crate::made::{Rebuilt, make_picture};
 use crate::step::Step;
 use dirac_bits::BitReader;
 use dirac_common::{Cause, END_OF_SEQUENCE, NoMemory, Picture, Refusal, SEQUENCE_HEADER, Stop};
+use dirac_content::Opened;
 use dirac_header::Transform;
 use dirac_picture::{CodedPicture, CodedResidual, read_picture_by};
 use dirac_refs::{Delivery, MOST_REFERENCES, RefBuffer, key};
@@ -34,7 +34,7 @@ pub(crate) struct State {
 impl Model for State {
     ghost use Rattle.std.specs.Prelude.{◌≤◌};
     ghost use Rattle.dirac_refs.specs.declared.ref_buffer.TheConstants.{MOST_REFERENCES};
-    ghost use Rattle.dirac_decode.specs.StreamState.{StreamState};
+    ghost use Rattle.dirac_content.specs.StreamState.{StreamState};
     ghost use Rattle.dirac_decode.specs.Taking.{IsOpen};
 
     ghost Value = { StreamState };
@@ -98,7 +98,7 @@ impl State {
     }
 
     /// Takes the content of a unit with this parse code.
-    #[tactic(auto, unfolding(crate::specs::StreamState::unit_step))]
+    #[tactic(auto, unfolding(dirac_content::specs::StreamState::unit_step))]
     pub(crate) fn take<
         P: Fn(Global, &mut BitReader<'_>, Transform, &Sequence) -> Result<CodedResidual, Stop>,
         F: Fn(Global, &CodedPicture, &Sequence, &RefBuffer) -> Result<Picture, NoMemory>,

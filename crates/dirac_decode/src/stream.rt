@@ -4,16 +4,15 @@ ghost use Rattle.dirac_io.specs.Faults.{Rose};
 ghost use Rattle.dirac_picture.specs.Reading.{ReadsPlanes};
 ghost use Rattle.dirac_decode.specs.Decoding.{begun};
 ghost use Rattle.dirac_decode.specs.Decoded.{IfDone, IfTally, IsDecoded};
-ghost use Rattle.dirac_decode.specs.Leaving.{IsBrokenOff, IsFrontOfRead};
-ghost use Rattle.dirac_decode.specs.Rebuilding.{Rebuilds};
+ghost use Rattle.dirac_content.specs.Leaving.{IsBrokenOff, IsFrontOfRead};
+ghost use Rattle.dirac_rebuild.specs.Rebuilding.{Rebuilds};
 
 use crate::answers::{Decoded, Next};
 use crate::decoder::Decoder;
-use crate::in_turn::read_in_turn;
-use crate::picture::rebuild;
-use crate::written::put_picture;
+use crate::in_turn::{read_in_turn, rebuild_in_turn};
 use dirac_bits::BitReader;
 use dirac_common::{NoMemory, Picture, Stop};
+use dirac_content::put_picture;
 use dirac_header::Transform;
 use dirac_io::{Put, Sink, Source};
 use dirac_picture::{CodedPicture, CodedResidual};
@@ -39,7 +38,14 @@ pub fn decode_stream<S: Source, K: Sink>(alloc: Global, source: &mut S, out: &mu
 {
     let mut decoder = Decoder::keeping(alloc);
     let mut row = Vec::new(alloc);
-    write_pictures(&read_in_turn, &rebuild, &mut decoder, &mut row, source, out)
+    write_pictures(
+        &read_in_turn,
+        &rebuild_in_turn,
+        &mut decoder,
+        &mut row,
+        source,
+        out,
+    )
 }
 
 /// Decodes a whole stream, as `decode_stream`, where the subbands of planes are read by `planes`, and pictures are

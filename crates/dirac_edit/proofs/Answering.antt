@@ -7,8 +7,8 @@ use Rattle.dirac_io.specs.declared.sink.Unwritten.{Unwritten}
 use Rattle.dirac_io.specs.declared.sink.Unwritten.TheVariants as unwritten
 use Rattle.dirac_io.specs.Writing.{AppendsFront}
 use Rattle.dirac_units.specs.Cut.{EachHasACut, start}
-use Rattle.dirac_decode.specs.StreamState.{begun}
-use Rattle.dirac_decode.specs.Shown.{IsShown, Outcome, outcome}
+use Rattle.dirac_content.specs.StreamState.{begun}
+use Rattle.dirac_content.specs.Shown.{IsShown, Outcome, outcome}
 use Rattle.dirac_edit_laws.specs.Cut.{cut_bytes, end_point}
 use Rattle.dirac_edit_laws.specs.Texts.{SequenceText, points_of, with_pictures}
 use Rattle.dirac_edit_laws.specs.Units.{sequences_bytes}
@@ -16,7 +16,7 @@ use Rattle.dirac_edit.specs.declared.answers.Edited.{Edited}
 use Rattle.dirac_edit.specs.declared.answers.Edited.TheVariants as edited
 use Rattle.dirac_edit.specs.Edits.{AnswersEdit, IsCutBy, ShowsPart, cut_refusal, unless_refused}
 use Rattle.dirac_edit.specs.Steps.{IsPart, RefusesCut, StopsReading, ended_as}
-use Rattle.dirac_decode.proofs.Rows.{nothing_yet}
+use Rattle.dirac_content.proofs.Rows.{nothing_yet}
 
 -- something is shown by all bytes
 pub some_shown : EachHasACut → (bytes : List ℕ) → (o : Outcome) × IsShown bytes o

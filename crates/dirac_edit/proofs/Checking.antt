@@ -6,8 +6,8 @@ use Rattle.std.specs.Option.{option_or}
 use Rattle.dirac_common.specs.declared.faults.Fault.{Fault}
 use Rattle.dirac_units.specs.declared.unit_place.UnitPlace.{UnitPlace}
 use Rattle.dirac_units.specs.Cut.{IsCut, NoneHasTwoCuts, UnitText, after, start}
-use Rattle.dirac_decode.specs.StreamState.{StreamState, begun, unit_step}
-use Rattle.dirac_decode.specs.Shown.{IsShown, Outcome, follows, outcome}
+use Rattle.dirac_content.specs.StreamState.{StreamState, begun, unit_step}
+use Rattle.dirac_content.specs.Shown.{IsShown, Outcome, follows, outcome}
 use Rattle.dirac_edit_laws.specs.Cut.{cut_bytes, end_point, open_cut, part_of, part_shown, wrong_point}
 use Rattle.dirac_edit_laws.specs.Laws.{CutsShowTheirParts, IsFaultless, ShowsJust, UnitsShowTheirSequences}
 use Rattle.dirac_edit_laws.specs.Rebuilt.{IsRead}

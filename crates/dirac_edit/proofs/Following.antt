@@ -15,11 +15,11 @@ use Rattle.dirac_sequence_header.specs.declared.sequence.Sequence.{Sequence}
 use Rattle.dirac_sequence_header.specs.Grammar.{sequence_read}
 use Rattle.dirac_picture.specs.declared.coded.CodedPicture.{CodedPicture}
 use Rattle.dirac_picture.specs.Grammar.{picture_read}
-use Rattle.dirac_decode.specs.declared.opened.Opened.{Opened}
-use Rattle.dirac_decode.specs.Content.{rebuilt}
-use Rattle.dirac_decode.specs.StreamState.{StreamState, StreamStep, begun, content, ended, header_step, is_same, made, opening, passed, picture_step, staying, unit_step}
-use Rattle.dirac_decode.specs.Shown.{IsShown, Outcome, Shows, ends_with, with_front}
-use Rattle.dirac_decode.proofs.Passing.{fault_of, told_end, told_refusal, told_unit}
+use Rattle.dirac_content.specs.declared.opened.Opened.{Opened}
+use Rattle.dirac_content.specs.Content.{rebuilt}
+use Rattle.dirac_content.specs.StreamState.{StreamState, StreamStep, begun, content, ended, header_step, is_same, made, opening, passed, picture_step, staying, unit_step}
+use Rattle.dirac_content.specs.Shown.{IsShown, Outcome, Shows, ends_with, with_front}
+use Rattle.dirac_content.proofs.Passing.{fault_of, told_end, told_refusal, told_unit}
 use Rattle.dirac_edit.specs.Course.{content_checked, listed_by, picture_checked, state_of, unit_checked}
 use Rattle.dirac_edit.specs.Open.{numbered}
 use Rattle.dirac_edit.proofs.Lookups.{numbers, same_committed, same_read}

@@ -8,9 +8,9 @@ use Rattle.dirac_io.specs.declared.sink.Unwritten.{Unwritten}
 use Rattle.dirac_io.specs.Writing.{AppendsFront}
 use Rattle.dirac_common.specs.declared.faults.Fault.{Fault}
 use Rattle.dirac_units.specs.Cut.{EachHasACut, UnitText, start}
-use Rattle.dirac_decode.specs.Raw.{raws}
-use Rattle.dirac_decode.specs.StreamState.{begun}
-use Rattle.dirac_decode.specs.Shown.{IsShown, Outcome, outcome}
+use Rattle.dirac_content.specs.Raw.{raws}
+use Rattle.dirac_content.specs.StreamState.{begun}
+use Rattle.dirac_content.specs.Shown.{IsShown, Outcome, outcome}
 use Rattle.dirac_edit_laws.specs.Joined.{bytes_or_bare, joined, joined_bytes}
 use Rattle.dirac_edit_laws.specs.Laws.{JoinedStreamsShowTheSame}
 use Rattle.dirac_edit_laws.specs.Texts.{SequenceText, sequences}
@@ -22,7 +22,7 @@ use Rattle.dirac_edit.specs.Steps.{IsChecked, IsReason, IsRefused, IsWhole, Refu
 use Rattle.dirac_edit.proofs.Answering.{ended_by, some_shown, stopped_by}
 use Rattle.dirac_edit.proofs.Checking.{ends_well, faultless}
 use Rattle.dirac_edit.proofs.Keeping.{all_kept}
-use Rattle.dirac_decode.proofs.Rows.{nothing_yet}
+use Rattle.dirac_content.proofs.Rows.{nothing_yet}
 
 -- ---- what was read
 

@@ -11,8 +11,8 @@ use Rattle.dirac_units.specs.Info.{fields_are_read}
 use Rattle.dirac_refs.specs.References.{as_reference, committed}
 use Rattle.dirac_picture.specs.declared.coded.CodedPicture.{CodedPicture}
 use Rattle.dirac_picture.specs.Grammar.{picture_read}
-use Rattle.dirac_decode.specs.declared.opened.Opened.{Opened}
-use Rattle.dirac_decode.specs.StreamState.{StreamState, StreamStep, header_step, in_unit, passed}
+use Rattle.dirac_content.specs.declared.opened.Opened.{Opened}
+use Rattle.dirac_content.specs.StreamState.{StreamState, StreamStep, header_step, in_unit, passed}
 use Rattle.dirac_edit.specs.Open.{numbered}
 
 -- where a unit brings a decoder, without the pictures that leave

@@ -5,8 +5,8 @@ use Rattle.std.specs.Io.KnownBytes.{Appends, Keeps}
 use Rattle.dirac_common.specs.declared.faults.Fault.{Fault}
 use Rattle.dirac_io.specs.Writing.{AppendsFront}
 use Rattle.dirac_units.specs.Cut.{UnitText}
-use Rattle.dirac_decode.specs.Raw.{raws}
-use Rattle.dirac_decode.specs.Shown.{IsShown, Outcome}
+use Rattle.dirac_content.specs.Raw.{raws}
+use Rattle.dirac_content.specs.Shown.{IsShown, Outcome}
 use Rattle.dirac_edit_laws.specs.Cut.{cut_bytes, end_point, open_cut, part_shown, wrong_point}
 use Rattle.dirac_edit_laws.specs.Joined.{joined_bytes}
 use Rattle.dirac_edit_laws.specs.Laws.{ShowsJust}

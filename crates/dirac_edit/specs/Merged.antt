@@ -5,7 +5,7 @@ use Rattle.std.specs.Prelude.{length, drop, map, Option, None, Some}
 use Rattle.std.specs.Int.{to_be_bytes, w32}
 use borrow.Author.Differences.{up, down}
 use Rattle.dirac_common.specs.declared.codes.TheConstants.{SEQUENCE_HEADER}
-use Rattle.dirac_decode.specs.StreamState.{is_same}
+use Rattle.dirac_content.specs.StreamState.{is_same}
 use Rattle.dirac_encode_laws.specs.Stream.{end_unit, unit}
 use Rattle.dirac_edit_laws.specs.Joined.{Keyed, first_number, keyed_from, number_of}
 use Rattle.dirac_edit_laws.specs.Texts.{PictureText, SequenceText}

@@ -4,7 +4,7 @@ use Rattle.std.specs.Prelude.{◌≡◌, ℕ, List, Option, None, Some, ⊤, Res
 use Rattle.dirac_io.specs.declared.sink.Unwritten.{Unwritten}
 use Rattle.dirac_io.specs.declared.sink.Unwritten.TheVariants as unwritten
 use Rattle.dirac_units.specs.Cut.{UnitText}
-use Rattle.dirac_decode.specs.Shown.{IsShown, Outcome}
+use Rattle.dirac_content.specs.Shown.{IsShown, Outcome}
 use Rattle.dirac_edit_laws.specs.Cut.{end_point, part_of}
 use Rattle.dirac_edit_laws.specs.Texts.{SequenceText, points_of, sequences, with_pictures}
 use Rattle.dirac_edit.specs.declared.answers.Edited.{Edited}

@@ -3,14 +3,14 @@
 
 ghost use Rattle.std.specs.Prelude.{◌≡◌, ◌+◌, ◌<◌, ◌≤◌, ◌^◌, length, IfErr, IsTrue};
 ghost use Rattle.dirac_picture.specs.Grammar.{is_picture};
-ghost use Rattle.dirac_decode.specs.StreamState.{begun, header_step, in_unit, passed};
-ghost use Rattle.dirac_decode.specs.Taking.{IfStopped};
+ghost use Rattle.dirac_content.specs.StreamState.{begun, header_step, in_unit, passed};
+ghost use Rattle.dirac_content.specs.Stopped.{IfStopped};
 ghost use Rattle.dirac_edit.specs.Course.{IsTaken, picture_checked, state_of, unit_checked};
 
 use crate::listed::list_by_number;
 use crate::sequence::is_same;
 use dirac_common::{Cause, END_OF_SEQUENCE, Refusal, SEQUENCE_HEADER, Stop};
-use dirac_decode::Opened;
+use dirac_content::Opened;
 use dirac_picture::read_picture;
 use dirac_refs::RefBuffer;
 use dirac_sequence_header::read_sequence;
@@ -28,7 +28,7 @@ pub(crate) struct Course {
 impl Model for Course {
     ghost use Rattle.std.specs.Prelude.{[], None, IfSome};
     ghost use Rattle.dirac_sequence_header.specs.Lawful.{IsSequence};
-    ghost use Rattle.dirac_decode.specs.StreamState.{StreamState};
+    ghost use Rattle.dirac_content.specs.StreamState.{StreamState};
 
     ghost Value = { StreamState };
 

@@ -1,5 +1,5 @@
 ghost use Rattle.std.specs.Prelude.{◌≡◌, ◌+◌, ◌<◌, ◌^◌, ◌++◌, [], ◌∷◌, OnErr, OnOk, length};
-ghost use Rattle.dirac_decode.specs.StreamState.{is_same as same_header};
+ghost use Rattle.dirac_content.specs.StreamState.{is_same as same_header};
 
 use crate::units::HeldUnit;
 use dirac_common::NoMemory;

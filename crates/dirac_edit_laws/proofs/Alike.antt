@@ -21,7 +21,7 @@ use Rattle.dirac_picture.specs.Grammar.{are_listed, body, is_listed, motion, pic
 use Rattle.dirac_picture.proofs.Every.{Every, every_any, every_read, every_then}
 use Rattle.dirac_common.specs.declared.formats.Component.{Component}
 use Rattle.dirac_common.specs.declared.formats.Component.TheVariants as component
-use Rattle.dirac_decode.specs.Content.{named, plane_samples, predicted_among, rebuilt, residual_among, samples_from}
+use Rattle.dirac_content.specs.Content.{named, plane_samples, predicted_among, rebuilt, residual_among, samples_from}
 use Rattle.dirac_synthesis.specs.Residual.{clipped, with_prediction}
 use Rattle.dirac_common.specs.declared.formats.Kind.TheVariants.{Inter}
 use Rattle.dirac_common.specs.Table.{Table}

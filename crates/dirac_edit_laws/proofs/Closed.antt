@@ -6,7 +6,7 @@ use Rattle.dirac_refs.specs.References.{as_reference}
 use Rattle.dirac_refs.proofs.Listed.{few_committed}
 use Rattle.dirac_picture.specs.declared.coded.CodedPicture.{CodedPicture}
 use Rattle.dirac_picture.specs.Grammar.{are_listed, picture_read}
-use Rattle.dirac_decode.specs.Content.{rebuilt}
+use Rattle.dirac_content.specs.Content.{rebuilt}
 use Rattle.dirac_edit_laws.specs.Alike.{IsAlike}
 use Rattle.dirac_edit_laws.specs.Cut.{open_from}
 use Rattle.dirac_edit_laws.specs.Laws.{ClosedPartsShowTheWhole, PartsBeginAnywhere}

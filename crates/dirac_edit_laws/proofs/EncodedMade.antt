@@ -6,7 +6,7 @@ use Rattle.dirac_types.specs.declared.settings.Settings.{Settings}
 use Rattle.dirac_common.specs.Codes.{is_intra}
 use Rattle.dirac_sequence.specs.Written.{sequence_of}
 use Rattle.dirac_refs.specs.References.{as_reference, committed}
-use Rattle.dirac_decode.specs.Content.{rebuilt}
+use Rattle.dirac_content.specs.Content.{rebuilt}
 use Rattle.dirac_plan.specs.declared.planned.Planned.{Planned}
 use Rattle.dirac_encode_laws.specs.Coding.{Job, Made, coded_under, job_of, made, own_index, refs_after, shown_of}
 use Rattle.dirac_encode_laws.specs.Laws.{AreMade}

@@ -16,9 +16,9 @@ use Rattle.dirac_refs.specs.Delivery.{flush, key_of}
 use Rattle.dirac_refs.specs.References.{as_reference}
 use Rattle.dirac_refs.proofs.Listed.{few_committed}
 use Rattle.dirac_plan_laws.proofs.Each.{each_append, each_drop}
-use Rattle.dirac_decode.specs.Raw.{raw, raws}
-use Rattle.dirac_decode.specs.Shown.{IsShown, Outcome, outcome}
-use Rattle.dirac_decode.specs.StreamState.{begun, ended}
+use Rattle.dirac_content.specs.Raw.{raw, raws}
+use Rattle.dirac_content.specs.Shown.{IsShown, Outcome, outcome}
+use Rattle.dirac_content.specs.StreamState.{begun, ended}
 use Rattle.dirac_encode_laws.specs.Stream.{end_info, end_unit}
 use Rattle.dirac_encode_laws.proofs.Cutting.{nothing_left}
 use Rattle.dirac_encode_laws.proofs.Showing.{outcome_more}
@@ -38,8 +38,8 @@ use Rattle.dirac_edit_laws.proofs.Restricted.{none_yet}
 use Rattle.dirac_edit_laws.proofs.Shifted.{flush_moved, waiting_with}
 use Rattle.dirac_edit_laws.proofs.Walking.{first_in, lists_behind, units_shown}
 use Rattle.dirac_edit_laws.proofs.Whole.{stream_shown}
-use Rattle.dirac_decode.proofs.Flushing.{end_moves}
-use Rattle.dirac_decode.proofs.Streaming.{raws_front}
+use Rattle.dirac_content.proofs.Flushing.{end_moves}
+use Rattle.dirac_content.proofs.Raws.{raws_front}
 
 -- a picture with its key moved by this, and its number moved on
 abbrev waiting_onward : ℤ → ℕ → Waiting → Waiting

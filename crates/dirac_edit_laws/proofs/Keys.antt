@@ -11,7 +11,7 @@ use Rattle.std.proofs.lemmas.Int.{int_max_is, int_min_is, ints, of_z-to_z, to_z_
 use Rattle.std.proofs.lemmas.List.Elements.{All-cons, All-from_recursion, All-nil}
 use Rattle.dirac_refs.specs.declared.waiting.Waiting.{Waiting}
 use Rattle.dirac_refs.specs.Delivery.{key_of}
-use Rattle.dirac_decode.specs.StreamState.{is_same}
+use Rattle.dirac_content.specs.StreamState.{is_same}
 use Rattle.dirac_edit_laws.specs.Joined.{Group, Keyed, high, low, may_merge, new_number, shift}
 use Rattle.dirac_edit_laws.specs.Later.{AreNotBefore}
 use Rattle.dirac_edit_laws.proofs.Onward.{onward}

@@ -9,8 +9,8 @@ use Rattle.dirac_common.specs.declared.picture.Picture.{Picture}
 use Rattle.dirac_refs.specs.declared.waiting.Waiting.{Waiting}
 use Rattle.dirac_refs.specs.Delivery.{Leaving, delivered, flush, flushed, flushed_by, key_at, key_in, least, least_among, least_place, others, picture_of, pushed_all}
 use Rattle.dirac_refs.proofs.Least.{is_least, leaves_first}
-use Rattle.dirac_decode.specs.Sequences.{flushed_behind}
-use Rattle.dirac_decode.proofs.Flushing.{pushed_append}
+use Rattle.dirac_content.specs.Sequences.{flushed_behind}
+use Rattle.dirac_content.proofs.Flushing.{pushed_append}
 use Rattle.dirac_edit_laws.specs.Later.{AreNotBefore, GreaterKeysLeaveLater}
 
 -- ---- places of two lists, one behind the other

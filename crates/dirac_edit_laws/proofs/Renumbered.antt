@@ -19,7 +19,7 @@ use Rattle.dirac_picture.specs.declared.coded.CodedPicture.{CodedPicture}
 use Rattle.dirac_picture.specs.declared.coded.CodedResidual.{CodedResidual}
 use Rattle.dirac_picture.specs.Grammar.{are_listed, picture_read}
 use Rattle.dirac_plan_laws.proofs.Each.{each_append, each_drop}
-use Rattle.dirac_decode.specs.Content.{named, plane_samples, predicted_among, rebuilt, residual_among, samples_from}
+use Rattle.dirac_content.specs.Content.{named, plane_samples, predicted_among, rebuilt, residual_among, samples_from}
 use Rattle.dirac_synthesis.specs.Residual.{clipped, with_prediction}
 use Rattle.dirac_edit_laws.specs.Joined.{number_of}
 use Rattle.dirac_edit_laws.specs.Rebuilt.{AreRead, RebuiltText, list_behind, rebuilt_from, rebuilt_text}

@@ -11,18 +11,18 @@ use Rattle.dirac_refs.specs.Delivery.{flushed}
 use Rattle.dirac_picture.specs.declared.coded.CodedPicture.{CodedPicture}
 use Rattle.dirac_picture.specs.Grammar.{picture_read}
 use Rattle.dirac_plan_laws.specs.Headers.{IsPictureCode}
-use Rattle.dirac_decode.specs.declared.opened.Opened.{Opened}
-use Rattle.dirac_decode.specs.Content.{rebuilt}
-use Rattle.dirac_decode.specs.Sequences.{IsBetween}
-use Rattle.dirac_decode.specs.Shown.{Outcome, outcome}
-use Rattle.dirac_decode.specs.StreamState.{StreamState, ended, header_step, made, opening, picture_step, shows, staying, unit_step}
+use Rattle.dirac_content.specs.declared.opened.Opened.{Opened}
+use Rattle.dirac_content.specs.Content.{rebuilt}
+use Rattle.dirac_content.specs.Sequences.{IsBetween}
+use Rattle.dirac_content.specs.Shown.{Outcome, outcome}
+use Rattle.dirac_content.specs.StreamState.{StreamState, ended, header_step, made, opening, picture_step, shows, staying, unit_step}
 use Rattle.dirac_encode_laws.proofs.Showing.{outcome_more}
 use Rattle.dirac_edit_laws.specs.Rebuilt.{AreRead, IsRead, all_shown, rebuilt_from, shown_of}
 use Rattle.dirac_edit_laws.specs.Texts.{PictureText, SequenceText}
 use Rattle.dirac_edit_laws.specs.Units.{end_for, pictures_units, sequences_units, text_for}
 use Rattle.dirac_edit_laws.proofs.Cutting.{FitsPicture, FitsSequence}
 use Rattle.dirac_edit_laws.proofs.Walking.{IsIn, bare_text, closed_state, fresh, fresh_inside, left_of, longer, moves, shown_is, step_header, step_picture}
-use Rattle.dirac_decode.proofs.Flushing.{end_moves}
+use Rattle.dirac_content.proofs.Flushing.{end_moves}
 
 -- these pictures come out, and no fault
 pub record Shows (o : Outcome) (pictures : List Picture) : Type 0 where

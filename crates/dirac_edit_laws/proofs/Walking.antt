@@ -17,18 +17,18 @@ use Rattle.dirac_picture.specs.declared.coded.CodedPicture.{CodedPicture}
 use Rattle.dirac_picture.specs.Grammar.{picture_read}
 use Rattle.dirac_plan_laws.specs.Headers.{IsPictureCode}
 use Rattle.dirac_plan_laws.proofs.Each.{each_append}
-use Rattle.dirac_decode.specs.declared.opened.Opened.{Opened}
-use Rattle.dirac_decode.specs.Content.{rebuilt}
-use Rattle.dirac_decode.specs.Sequences.{IsBetween}
-use Rattle.dirac_decode.specs.Shown.{Outcome, follows, outcome}
-use Rattle.dirac_decode.specs.StreamState.{StreamState, StreamStep, begun, content, ended, first_or, header_step, is_same, made, opening, passed, picture_step, shows, staying, unit_step}
-use Rattle.dirac_decode.proofs.Flushing.{pushed_append}
+use Rattle.dirac_content.specs.declared.opened.Opened.{Opened}
+use Rattle.dirac_content.specs.Content.{rebuilt}
+use Rattle.dirac_content.specs.Sequences.{IsBetween}
+use Rattle.dirac_content.specs.Shown.{Outcome, follows, outcome}
+use Rattle.dirac_content.specs.StreamState.{StreamState, StreamStep, begun, content, ended, first_or, header_step, is_same, made, opening, passed, picture_step, shows, staying, unit_step}
+use Rattle.dirac_content.proofs.Flushing.{pushed_append}
 use Rattle.dirac_edit_laws.specs.Laws.{UnitsShowTheirSequences}
 use Rattle.dirac_edit_laws.specs.Rebuilt.{AreRead, IsRead, RebuiltText, all_shown, list_behind, picture_in, rebuilt_behind, rebuilt_from, rebuilt_of, rebuilt_text, shown_of, waiting_from, with_keys}
 use Rattle.dirac_edit_laws.specs.Texts.{PictureText, SequenceText, closed_off, opened_by, picture_text, points_with, sequences_from, with_picture}
 use Rattle.dirac_edit_laws.proofs.Closed.{one_rebuilt}
 use Rattle.dirac_edit_laws.proofs.UnitKinds.{behind_end, behind_header, behind_other, behind_picture, kind_of, of_end, of_header, of_other, of_picture}
-use Rattle.dirac_decode.proofs.Flushing.{end_moves}
+use Rattle.dirac_content.proofs.Flushing.{end_moves}
 
 -- ---- pictures one after another
 

@@ -10,8 +10,8 @@ use Rattle.dirac_common.specs.Codes.{is_intra}
 use Rattle.dirac_units.specs.Cut.{UnitText, after, start}
 use Rattle.dirac_units.specs.Info.{is_picture}
 use Rattle.dirac_units.specs.Writing.{IsReadAsWritten}
-use Rattle.dirac_decode.specs.Shown.{outcome}
-use Rattle.dirac_decode.specs.StreamState.{StreamState, begun}
+use Rattle.dirac_content.specs.Shown.{outcome}
+use Rattle.dirac_content.specs.StreamState.{StreamState, begun}
 use Rattle.dirac_edit_laws.specs.Cut.{end_point, is_between, part_of, part_shown, restricted, wrong_end, wrong_point}
 use Rattle.dirac_edit_laws.specs.Laws.{CutsShowTheirParts, ShowsJust}
 use Rattle.dirac_edit_laws.specs.Rebuilt.{IsRead, all_shown}

@@ -5,7 +5,7 @@ use Rattle.std.specs.Int.{cast_unsigned, from_be_bytes, int_max, int_min, to_be_
 use Rattle.dirac_common.specs.declared.codes.TheConstants.{SEQUENCE_HEADER}
 use Rattle.dirac_units.specs.Cut.{UnitText}
 use Rattle.dirac_refs.specs.Delivery.{key_of}
-use Rattle.dirac_decode.specs.StreamState.{is_same}
+use Rattle.dirac_content.specs.StreamState.{is_same}
 use Rattle.dirac_encode_laws.specs.Stream.{end_unit, unit}
 use Rattle.dirac_edit_laws.specs.Texts.{PictureText, SequenceText, sequences, with_pictures}
 use Rattle.dirac_edit_laws.specs.Units.{sequences_bytes}

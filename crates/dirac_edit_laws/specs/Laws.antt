@@ -4,9 +4,9 @@ use Rattle.std.specs.List.{AllByRecursion}
 use Rattle.dirac_common.specs.declared.picture.Picture.{Picture}
 use Rattle.dirac_sequence_header.specs.declared.sequence.Sequence.{Sequence}
 use Rattle.dirac_units.specs.Cut.{IsCut, UnitText, start}
-use Rattle.dirac_decode.specs.Raw.{raws}
-use Rattle.dirac_decode.specs.Shown.{IsShown, Outcome, outcome}
-use Rattle.dirac_decode.specs.StreamState.{begun}
+use Rattle.dirac_content.specs.Raw.{raws}
+use Rattle.dirac_content.specs.Shown.{IsShown, Outcome, outcome}
+use Rattle.dirac_content.specs.StreamState.{begun}
 use Rattle.dirac_edit_laws.specs.Cut.{cut_bytes, end_point, open_cut, open_from, part_shown, wrong_point}
 use Rattle.dirac_edit_laws.specs.Joined.{joined_bytes}
 use Rattle.dirac_edit_laws.specs.Rebuilt.{AreRead, IsRead, all_shown, rebuilt_from}

@@ -10,7 +10,7 @@ use Rattle.dirac_refs.specs.Delivery.{flush, key_of}
 use Rattle.dirac_refs.specs.References.{as_reference, committed}
 use Rattle.dirac_picture.specs.declared.coded.CodedPicture.{CodedPicture}
 use Rattle.dirac_picture.specs.Grammar.{picture_read}
-use Rattle.dirac_decode.specs.Content.{rebuilt}
+use Rattle.dirac_content.specs.Content.{rebuilt}
 use Rattle.dirac_edit_laws.specs.Texts.{PictureText, SequenceText}
 
 -- a picture's unit, the coded picture that it reads to, and the picture that this is rebuilt to

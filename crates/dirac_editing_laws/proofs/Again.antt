@@ -10,9 +10,9 @@ use Rattle.dirac_units.specs.Cut.{IsCut, after, start}
 use Rattle.dirac_units.specs.Writing.{IsReadAsWritten}
 use Rattle.dirac_refs.specs.Delivery.{key_of}
 use Rattle.dirac_plan_laws.proofs.Each.{each_append}
-use Rattle.dirac_decode.specs.Shown.{IsShown, Outcome, outcome}
-use Rattle.dirac_decode.specs.StreamState.{begun, ended, is_same}
-use Rattle.dirac_decode.proofs.Flushing.{end_moves}
+use Rattle.dirac_content.specs.Shown.{IsShown, Outcome, outcome}
+use Rattle.dirac_content.specs.StreamState.{begun, ended, is_same}
+use Rattle.dirac_content.proofs.Flushing.{end_moves}
 use Rattle.dirac_encode_laws.specs.Stream.{end_info, end_unit}
 use Rattle.dirac_encode_laws.proofs.Cutting.{nothing_left}
 use Rattle.dirac_encode_laws.proofs.Showing.{outcome_more}

@@ -19,12 +19,12 @@ use Rattle.dirac_refs.specs.Delivery.{flushed}
 use Rattle.dirac_picture.specs.declared.coded.CodedPicture.{CodedPicture}
 use Rattle.dirac_picture.specs.Grammar.{picture_read}
 use Rattle.dirac_plan_laws.proofs.Each.{each_append}
-use Rattle.dirac_decode.specs.declared.opened.Opened.{Opened}
-use Rattle.dirac_decode.specs.Content.{rebuilt}
-use Rattle.dirac_decode.specs.Sequences.{IsBetween}
-use Rattle.dirac_decode.specs.Shown.{Outcome, follows, outcome}
-use Rattle.dirac_decode.specs.StreamState.{StreamState, StreamStep, begun, content, ended, header_step, is_same, made, opening, passed, picture_step, shows, staying, unit_step}
-use Rattle.dirac_decode.proofs.Flushing.{end_moves}
+use Rattle.dirac_content.specs.declared.opened.Opened.{Opened}
+use Rattle.dirac_content.specs.Content.{rebuilt}
+use Rattle.dirac_content.specs.Sequences.{IsBetween}
+use Rattle.dirac_content.specs.Shown.{Outcome, follows, outcome}
+use Rattle.dirac_content.specs.StreamState.{StreamState, StreamStep, begun, content, ended, header_step, is_same, made, opening, passed, picture_step, shows, staying, unit_step}
+use Rattle.dirac_content.proofs.Flushing.{end_moves}
 use Rattle.dirac_encode_laws.proofs.Cutting.{nothing_left}
 use Rattle.dirac_encode_laws.proofs.Showing.{outcome_more}
 use Rattle.dirac_edit_laws.proofs.Showing.{Shows}

@@ -17,9 +17,9 @@ use Rattle.dirac_refs.specs.Delivery.{flush, key_of}
 use Rattle.dirac_refs.specs.References.{as_reference}
 use Rattle.dirac_refs.proofs.Listed.{few_committed}
 use Rattle.dirac_plan_laws.proofs.Each.{each_append}
-use Rattle.dirac_decode.specs.Raw.{raws}
-use Rattle.dirac_decode.specs.Shown.{outcome}
-use Rattle.dirac_decode.specs.StreamState.{begun}
+use Rattle.dirac_content.specs.Raw.{raws}
+use Rattle.dirac_content.specs.Shown.{outcome}
+use Rattle.dirac_content.specs.StreamState.{begun}
 use Rattle.dirac_encode_laws.specs.Stream.{end_info, info_for, unit}
 use Rattle.dirac_units.specs.declared.info.ParseInfo.{ParseInfo}
 use Rattle.dirac_units.specs.Writing.{info_bytes}

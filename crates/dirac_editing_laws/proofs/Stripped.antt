@@ -5,7 +5,7 @@ use Rattle.std.specs.Int.{int_max, int_min}
 use Rattle.std.specs.List.{AllByRecursion}
 use Rattle.std.proofs.lemmas.List.{length-map, map-append}
 use Rattle.dirac_units.specs.Cut.{UnitText}
-use Rattle.dirac_decode.specs.StreamState.{is_same}
+use Rattle.dirac_content.specs.StreamState.{is_same}
 use Rattle.dirac_encode_laws.specs.Stream.{unit}
 use Rattle.dirac_edit_laws.specs.Joined.{Group, Keyed, bare, bytes_or_bare, first_number, group_of, groups_behind, groups_of, high, joined, keyed_from, low, may_merge, merged, moved_key, renumbered, shift, text_of}
 use Rattle.dirac_edit_laws.specs.Texts.{PictureText, SequenceText, picture_text, points_with, sequences_from, with_pictures}

@@ -3,9 +3,9 @@ use Rattle.std.specs.Prelude.{◌≡◌, ℕ, ◌≤◌, ◌<◌, ◌++◌, List
 use Rattle.std.specs.List.{All}
 use Rattle.dirac_common.specs.declared.picture.Picture.{Picture}
 use Rattle.dirac_units.specs.Cut.{UnitText, start}
-use Rattle.dirac_decode.specs.Raw.{raws}
-use Rattle.dirac_decode.specs.Shown.{IsShown, Outcome, outcome}
-use Rattle.dirac_decode.specs.StreamState.{begun}
+use Rattle.dirac_content.specs.Raw.{raws}
+use Rattle.dirac_content.specs.Shown.{IsShown, Outcome, outcome}
+use Rattle.dirac_content.specs.StreamState.{begun}
 use Rattle.dirac_edit_laws.specs.Cut.{cut_bytes, open_cut, part_rebuilt, part_shown}
 use Rattle.dirac_edit_laws.specs.Joined.{joined_bytes}
 use Rattle.dirac_edit_laws.specs.Laws.{IsFaultless, ShowsJust}

@@ -9,7 +9,7 @@ use Rattle.dirac_types.specs.declared.settings.Settings.{Settings}
 use Rattle.dirac_types.specs.Settings.{IsAccepted}
 use Rattle.dirac_picture.specs.Grammar.{are_listed}
 use Rattle.dirac_refs.specs.References.{committed}
-use Rattle.dirac_decode.specs.StreamState.{as_reference}
+use Rattle.dirac_content.specs.StreamState.{as_reference}
 use Rattle.dirac_plan.specs.declared.planned.Planned.{Planned}
 use Rattle.dirac_encode_laws.specs.Coded.{IsSource}
 use Rattle.dirac_encode_laws.specs.Coding.{IndexRule, blank, made_under}

@@ -12,8 +12,8 @@ use Rattle.dirac_picture.specs.Grammar.{is_intra}
 use Rattle.dirac_refs.specs.Delivery.{delivered}
 use Rattle.dirac_refs.specs.References.{committed}
 use Rattle.dirac_units.proofs.Appended.{behind_front}
-use Rattle.dirac_decode.specs.StreamState.{as_reference}
-use Rattle.dirac_decode.specs.Raw.{raws}
+use Rattle.dirac_content.specs.StreamState.{as_reference}
+use Rattle.dirac_content.specs.Raw.{raws}
 use Rattle.dirac_encode_laws.specs.declared.answers.Encoded.{Encoded}
 use Rattle.dirac_encode_laws.specs.declared.answers.Encoded.TheVariants as encoded
 use Rattle.dirac_encode_laws.specs.Coding.{IndexRule, Job, made_under}

@@ -7,9 +7,9 @@ use Rattle.dirac_common.specs.declared.picture.Picture.{Picture}
 use Rattle.dirac_io.specs.Writing.{AppendsFront}
 use Rattle.dirac_refs.specs.declared.waiting.Waiting.{Waiting}
 use Rattle.dirac_refs.specs.Delivery.{flushed, least, others}
-use Rattle.dirac_decode.specs.Raw.{raw, raws}
-use Rattle.dirac_decode.proofs.Leading.{flushed_one}
-use Rattle.dirac_decode.proofs.Streaming.{raws_more}
+use Rattle.dirac_content.specs.Raw.{raw, raws}
+use Rattle.dirac_content.proofs.Flushed.{flushed_one}
+use Rattle.dirac_content.proofs.Raws.{raws_more}
 
 -- these left and were written, and the others wait on
 pub record Flushes (first now : List Waiting) (side0 side : Option (List ℕ)) : Type 0 where

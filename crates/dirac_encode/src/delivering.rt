@@ -6,11 +6,11 @@ ghost use Rattle.std.specs.Option.{option_to_list};
 ghost use Rattle.dirac_io.specs.Faults.{Rose};
 ghost use Rattle.dirac_io.specs.Writing.{AppendsFront};
 ghost use Rattle.dirac_refs.specs.Delivery.{delivered, flushed};
-ghost use Rattle.dirac_decode.specs.Raw.{raws};
+ghost use Rattle.dirac_content.specs.Raw.{raws};
 ghost use Rattle.dirac_encode.specs.Going.{joined};
 
 use dirac_common::Picture;
-use dirac_decode::put_picture;
+use dirac_content::put_picture;
 use dirac_io::{Sink, Unwritten};
 use dirac_refs::{Delivery, key};
 

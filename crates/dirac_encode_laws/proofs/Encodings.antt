@@ -6,7 +6,7 @@ use Rattle.std.proofs.lemmas.List.{map-append}
 use Rattle.dirac_common.specs.declared.picture.Picture.{Picture}
 use Rattle.dirac_types.specs.declared.settings.Settings.{Settings}
 use Rattle.dirac_refs.specs.Delivery.{Leaving, deliver, flushed, pushed_all}
-use Rattle.dirac_decode.proofs.Flushing.{pushed_append}
+use Rattle.dirac_content.proofs.Flushing.{pushed_append}
 use Rattle.dirac_encode_laws.specs.declared.answers.Encoded.{Encoded}
 use Rattle.dirac_encode_laws.specs.declared.answers.Encoded.TheVariants as encoded
 use Rattle.dirac_encode_laws.specs.Coding.{IndexRule, Job, Made, coded_under, made_under, pushed, refs_after, shown_of, waiting_of}

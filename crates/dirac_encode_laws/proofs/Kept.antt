@@ -24,7 +24,7 @@ use Rattle.dirac_refs.specs.References.{listed}
 use Rattle.dirac_synthesis.specs.Residual.{clipped, residual, with_prediction}
 use Rattle.dirac_analysis.specs.Analysis.{plane_bands}
 use Rattle.dirac_analysis.proofs.Undone.{planes_kept}
-use Rattle.dirac_decode.specs.Content.{bands_of as bands_in, compensation, height_of, named, plane_of, predicted_among, rebuilt, residual_among, samples_from, width_of}
+use Rattle.dirac_content.specs.Content.{bands_of as bands_in, compensation, height_of, named, plane_of, predicted_among, rebuilt, residual_among, samples_from, width_of}
 use Rattle.dirac_plan.specs.declared.planned.Planned.{Planned}
 use Rattle.dirac_encode_laws.specs.Coded.{IsSource, are_zero_bands, bands_of, coded_of, coded_with, is_left_out, is_zero_residual, kind_of, left_of, less_prediction, motion_of, residual_of, residual_unless_left_out, transform_of}
 use Rattle.dirac_encode_laws.specs.Coding.{AreAtIndexZero, IndexRule, Job, blank, coded_under, job_of, jobs_of, made_under, own_index, refs_after, shown_of}

@@ -32,9 +32,9 @@ use Rattle.dirac_picture.specs.Grammar.{is_listed}
 use Rattle.dirac_picture.proofs.Chroma.{chroma_size, luma_size}
 use Rattle.dirac_refs.specs.References.{listed}
 use Rattle.dirac_analysis.specs.Fits.{AreDifferences, AreSamples}
-use Rattle.dirac_decode.specs.Content as content
-use Rattle.dirac_decode.specs.Content.{compensation, height_of, named, plane_of, predicted_among, up_of, width_of}
-use Rattle.dirac_decode.proofs.Covering.{from_one, from_two}
+use Rattle.dirac_content.specs.Content as content
+use Rattle.dirac_content.specs.Content.{compensation, height_of, named, plane_of, predicted_among, up_of, width_of}
+use Rattle.dirac_content.proofs.Covering.{from_one, from_two}
 use Rattle.dirac_encode_laws.specs.Coded.{IsSource, less_prediction, motion_with}
 use Rattle.dirac_decide.specs.Modes.{HasSamples}
 use Rattle.dirac_motion.specs.Chosen.{IsChosen}

@@ -47,7 +47,7 @@ use Rattle.dirac_picture.proofs.Spelled.{behind_align, fields_spelled, flag_spel
 use Rattle.dirac_picture.proofs.Written.{residual_written}
 use Rattle.dirac_analysis.specs.Fits.{AreDifferences, AreLevelBands}
 use Rattle.dirac_analysis.proofs.Fitting.{planes_fit, samples_small}
-use Rattle.dirac_decode.specs.Content.{IsPicture, height_of, named, plane_of, width_of}
+use Rattle.dirac_content.specs.Content.{IsPicture, height_of, named, plane_of, width_of}
 use Rattle.dirac_plan.specs.declared.planned.Planned.{Planned}
 use Rattle.dirac_encode_laws.specs.Coded.{IsPlane, IsSource, bands_of, coded_with, is_left_out, kind_of, left_of, motion_with, residual_of, residual_unless_left_out, transform_of}
 use Rattle.dirac_encode_laws.specs.Laws.{JobsAreRead, JobsAreSmall}

@@ -14,9 +14,9 @@ use Rattle.dirac_common.specs.Samples.{clip}
 use Rattle.dirac_units.specs.Cut.{IsCut, start}
 use Rattle.dirac_sequence.specs.Written.{sequence_of}
 use Rattle.dirac_picture.specs.Grammar.{chroma_height, chroma_width}
-use Rattle.dirac_decode.specs.Raw.{raws}
+use Rattle.dirac_content.specs.Raw.{raws}
 use Rattle.dirac_sources.specs.Sources.{chroma_bytes, luma_bytes, picture_from, pictures_in, raw_length, sample_of, sources, whole_pictures}
-use Rattle.dirac_decode.specs.Shown.{Outcome, IsShown}
+use Rattle.dirac_content.specs.Shown.{Outcome, IsShown}
 use Rattle.dirac_analysis.specs.Fits.{AreSamples}
 use Rattle.dirac_encode_laws.specs.Coded.{IsSource}
 use Rattle.dirac_encode_laws.specs.Encoding.{IsRecovered, IsRecoveredUnder, first_long, is_short}

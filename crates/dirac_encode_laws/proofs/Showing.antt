@@ -19,11 +19,11 @@ use Rattle.dirac_picture.specs.Grammar.{is_intra, picture_read}
 use Rattle.dirac_refs.specs.declared.waiting.Waiting.{Waiting}
 use Rattle.dirac_refs.specs.Delivery.{delivered, flush, flushed, key_of}
 use Rattle.dirac_refs.specs.References.{committed}
-use Rattle.dirac_decode.specs.declared.opened.Opened.{Opened}
-use Rattle.dirac_decode.specs.Content.{rebuilt}
-use Rattle.dirac_decode.specs.StreamState.{StreamState, StreamStep, as_reference, begun, content, first_or, header_step, is_same, made, unit_step, opening, passed, picture_step, shows, staying}
-use Rattle.dirac_decode.specs.Sequences.{flushed_behind}
-use Rattle.dirac_decode.specs.Shown.{Outcome, follows, outcome, with_front}
+use Rattle.dirac_content.specs.declared.opened.Opened.{Opened}
+use Rattle.dirac_content.specs.Content.{rebuilt}
+use Rattle.dirac_content.specs.StreamState.{StreamState, StreamStep, as_reference, begun, content, first_or, header_step, is_same, made, unit_step, opening, passed, picture_step, shows, staying}
+use Rattle.dirac_content.specs.Sequences.{flushed_behind}
+use Rattle.dirac_content.specs.Shown.{Outcome, follows, outcome, with_front}
 use Rattle.dirac_encode_laws.specs.Coding.{Made, pushed, refs_after, waiting_of}
 use Rattle.dirac_encode_laws.specs.Laws.{AreMade, Begins, IsMade, StreamsShowTheirPictures}
 use Rattle.dirac_encode_laws.specs.Stream.{IsUnit, StreamsAreCut, end_info, end_text, end_unit, header_before, header_length, header_text, header_unit, info_for, last_length, picture_length, picture_text, picture_unit, unit, units_from, units_in, units_of}

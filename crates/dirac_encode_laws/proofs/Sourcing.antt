@@ -23,8 +23,8 @@ use Rattle.dirac_refs.specs.Delivery.{flush}
 use Rattle.dirac_refs.specs.References.{appended, committed, retire, without}
 use Rattle.dirac_synthesis.specs.Residual.{clipped, with_prediction}
 use Rattle.dirac_analysis.specs.Fits.{AreSamples}
-use Rattle.dirac_decode.specs.Content.{height_of, named, predicted_among, rebuilt, residual_among, samples_from, width_of}
-use Rattle.dirac_decode.specs.StreamState.{as_reference}
+use Rattle.dirac_content.specs.Content.{height_of, named, predicted_among, rebuilt, residual_among, samples_from, width_of}
+use Rattle.dirac_content.specs.StreamState.{as_reference}
 use Rattle.dirac_header.specs.Codes.{is_reference}
 use Rattle.dirac_plan.specs.declared.planned.Planned.{Planned}
 use Rattle.dirac_encode_laws.specs.Coded.{IsPlane, IsSource}

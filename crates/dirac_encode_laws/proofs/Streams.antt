@@ -10,7 +10,7 @@ use Rattle.dirac_types.specs.declared.settings.Settings.{Settings}
 use Rattle.dirac_io.specs.Writing.{AppendsFront}
 use Rattle.dirac_refs.specs.declared.waiting.Waiting.{Waiting}
 use Rattle.dirac_refs.specs.Delivery.{flushed}
-use Rattle.dirac_decode.specs.Raw.{raw, raws}
+use Rattle.dirac_content.specs.Raw.{raw, raws}
 use Rattle.dirac_sources.specs.Sources.{picture_from, pictures_in, raw_length, sources, whole_pictures}
 use Rattle.dirac_plan.specs.declared.planned.Planned.{Planned}
 use Rattle.dirac_encode_laws.specs.declared.answers.Encoded.{Encoded}

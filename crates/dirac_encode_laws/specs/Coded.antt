@@ -22,7 +22,7 @@ use Rattle.dirac_picture.specs.declared.coded.CodedResidual.{CodedResidual}
 use Rattle.dirac_picture.specs.Grammar.{is_intra}
 pub use Rattle.dirac_encode_laws.specs.Payloads.{motion_with}
 use Rattle.dirac_analysis.specs.Analysis.{plane_bands}
-use Rattle.dirac_decode.specs.Content.{named, plane_of, predicted_among}
+use Rattle.dirac_content.specs.Content.{named, plane_of, predicted_among}
 pub use Rattle.dirac_sources.specs.Sources.{IsPlane, IsSource}
 pub use Rattle.dirac_synthesis.specs.Zeros.{are_zero_bands}
 use Rattle.dirac_plan.specs.declared.planned.Planned.{Planned}

@@ -8,8 +8,8 @@ use Rattle.dirac_refs.specs.declared.waiting.Waiting.{Waiting}
 use Rattle.dirac_refs.specs.References.{committed}
 use Rattle.dirac_picture.specs.declared.coded.CodedPicture.{CodedPicture}
 use Rattle.dirac_encode_laws.specs.Payloads.{payload_of}
-use Rattle.dirac_decode.specs.Content.{rebuilt}
-use Rattle.dirac_decode.specs.StreamState.{as_reference}
+use Rattle.dirac_content.specs.Content.{rebuilt}
+use Rattle.dirac_content.specs.StreamState.{as_reference}
 use Rattle.dirac_plan.specs.declared.planned.Planned.{Planned}
 use Rattle.dirac_encode_laws.specs.Coded.{coded_of}
 use Rattle.dirac_plan.specs.Plan.{plan}

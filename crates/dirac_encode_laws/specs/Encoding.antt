@@ -7,9 +7,9 @@ use Rattle.std.specs.Io.KnownBytes.{Appends}
 use Rattle.dirac_io.specs.Writing.{AppendsFront}
 use Rattle.dirac_units.specs.Cut.{IsCut, start}
 use Rattle.dirac_refs.specs.Delivery.{deliver}
-use Rattle.dirac_decode.specs.Raw.{raws}
+use Rattle.dirac_content.specs.Raw.{raws}
 use Rattle.dirac_sources.specs.Sources.{left_over, raw_length, sources, whole_pictures}
-use Rattle.dirac_decode.specs.Shown.{Outcome, IsShown}
+use Rattle.dirac_content.specs.Shown.{Outcome, IsShown}
 use Rattle.dirac_encode_laws.specs.declared.answers.Encoded.{Encoded}
 use Rattle.dirac_encode_laws.specs.declared.answers.Encoded.TheVariants as encoded
 use Rattle.dirac_encode_laws.specs.Coding.{AreAtIndexZero, IndexRule, Made, coding_under, jobs_of, own_index, pushed}

@@ -9,8 +9,8 @@ use Rattle.dirac_sequence.specs.Written.{sequence_of}
 use Rattle.dirac_refs.specs.Delivery.{flush}
 use Rattle.dirac_picture.specs.Grammar.{are_listed, is_intra, picture_read}
 use Rattle.dirac_encode_laws.specs.Payloads.{payload_of}
-use Rattle.dirac_decode.specs.Content.{rebuilt}
-use Rattle.dirac_decode.specs.Shown.{Outcome, IsShown}
+use Rattle.dirac_content.specs.Content.{rebuilt}
+use Rattle.dirac_content.specs.Shown.{Outcome, IsShown}
 use Rattle.dirac_sources.specs.Sources.{sources}
 use Rattle.dirac_encode_laws.specs.Coded.{IsSource, coded_of, motion_of, residual_of}
 use Rattle.dirac_encode_laws.specs.Coding.{AreAtIndexZero, IndexRule, Job, Made, coding, coding_under, jobs_of, made}

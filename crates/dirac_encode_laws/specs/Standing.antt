@@ -5,7 +5,7 @@ use Rattle.std.specs.List.{AllByRecursion}
 use Rattle.dirac_common.specs.declared.picture.Picture.{Picture}
 use Rattle.dirac_types.specs.declared.settings.Settings.{Settings}
 use Rattle.dirac_refs.specs.Delivery.{Leaving, flush, pushed_all}
-use Rattle.dirac_decode.specs.Raw.{raws}
+use Rattle.dirac_content.specs.Raw.{raws}
 use Rattle.dirac_sources.specs.Sources.{sources}
 use Rattle.dirac_encode_laws.specs.Coding.{IndexRule, Job, Made, coded_under, coding_under, jobs_of, pushed, shown_of}
 use Rattle.dirac_encode_laws.specs.Encoding.{is_short}

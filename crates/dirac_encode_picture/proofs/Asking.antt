@@ -13,7 +13,7 @@ use Rattle.dirac_common.specs.declared.formats.Component.{Component}
 use Rattle.dirac_common.specs.declared.formats.Component.TheVariants as component
 use Rattle.dirac_picture.specs.declared.coded.CodedMotion.{CodedMotion}
 use Rattle.dirac_picture.specs.Fits.{IsMotion}
-use Rattle.dirac_decode.specs.Content.{AreReferences, IsPicture, named, plane_of}
+use Rattle.dirac_content.specs.Content.{AreReferences, IsPicture, named, plane_of}
 use Rattle.dirac_plan.specs.declared.planned.Planned.{Planned}
 use Rattle.dirac_plan_laws.specs.Headers.{header_of}
 use Rattle.dirac_encode_laws.specs.Coded.{IsSource, motion_with}

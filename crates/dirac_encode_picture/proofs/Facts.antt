@@ -16,7 +16,7 @@ use Rattle.dirac_picture.specs.Fits.{FitsSequence, HasResidual}
 use Rattle.dirac_picture.specs.Grammar.{is_intra, picture_read}
 use Rattle.dirac_encode_laws.specs.Payloads.{HasSpelledBlocks, payload_of}
 use Rattle.dirac_picture.specs.Writable.{IsWritten}
-use Rattle.dirac_decode.specs.Content.{rebuilt}
+use Rattle.dirac_content.specs.Content.{rebuilt}
 use Rattle.dirac_plan.specs.declared.planned.Planned.{Planned}
 use Rattle.dirac_plan_laws.specs.Headers.{header_of}
 use Rattle.dirac_encode_laws.specs.Coded.{coded_with, is_left_out, motion_among, motion_with, residual_of}

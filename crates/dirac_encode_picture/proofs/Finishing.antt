@@ -7,7 +7,7 @@ use Rattle.dirac_sequence_header.specs.declared.sequence.Sequence.{Sequence}
 use Rattle.dirac_sequence.specs.Written.{sequence_of}
 use Rattle.dirac_header.specs.declared.header.PictureHeader.{PictureHeader}
 use Rattle.dirac_picture.specs.declared.coded.CodedPicture.{CodedPicture}
-use Rattle.dirac_decode.specs.Content.{named}
+use Rattle.dirac_content.specs.Content.{named}
 use Rattle.dirac_plan.specs.declared.planned.Planned.{Planned}
 use Rattle.dirac_plan_laws.specs.Headers.{header_of}
 use Rattle.dirac_encode_laws.specs.Coded.{motion_among}

@@ -9,9 +9,9 @@ use Rattle.dirac_sequence.specs.Written.{sequence_of}
 use Rattle.dirac_block_table.specs.Tables.{BlockTable}
 use Rattle.dirac_upconvert.specs.SubSamples.{Up}
 use Rattle.dirac_picture.specs.Grammar.{is_intra}
-use Rattle.dirac_decode.specs.Content.{IsPicture, named}
-use Rattle.dirac_decode.specs.Predicting.{IsUpOfPart}
-use Rattle.dirac_decode.proofs.Covering.{lent_size}
+use Rattle.dirac_content.specs.Content.{IsPicture, named}
+use Rattle.dirac_content.specs.Predicting.{IsUpOfPart}
+use Rattle.dirac_content.proofs.Covering.{lent_size}
 use Rattle.dirac_plan.specs.declared.planned.Planned.{Planned}
 use Rattle.dirac_motion.specs.Chosen.{IsChosen, blocks_among, blocks_from, chosen}
 use Rattle.dirac_motion.specs.Lent.{AreLent, AreNamed, first_of, second_of}

@@ -11,7 +11,7 @@ use Rattle.dirac_upconvert.specs.HalfSamples.{IsSample}
 use Rattle.dirac_common.specs.declared.formats.Component.{Component}
 use Rattle.dirac_common.specs.declared.formats.Component.TheVariants as component
 use Rattle.dirac_picture.specs.declared.coded.CodedMotion.{CodedMotion}
-use Rattle.dirac_decode.specs.Content.{height_of, named, plane_of, predicted_among, width_of}
+use Rattle.dirac_content.specs.Content.{height_of, named, plane_of, predicted_among, width_of}
 use Rattle.dirac_plan.specs.declared.planned.Planned.{Planned}
 use Rattle.dirac_encode_laws.specs.Coded.{IsSource, motion_with}
 use Rattle.dirac_encode_laws.specs.Laws.{IsWhole}

@@ -10,7 +10,7 @@ use Rattle.dirac_picture.specs.declared.coded.CodedMotion.{CodedMotion}
 use Rattle.dirac_picture.specs.declared.coded.CodedPicture.{CodedPicture}
 use Rattle.dirac_picture.specs.Grammar.{are_listed, is_intra, picture_read}
 use Rattle.dirac_encode_laws.specs.Payloads.{payload_of}
-use Rattle.dirac_decode.specs.Content.{rebuilt}
+use Rattle.dirac_content.specs.Content.{rebuilt}
 use Rattle.dirac_plan.specs.declared.planned.Planned.{Planned}
 use Rattle.dirac_plan_laws.specs.Headers.{IsPlanned, header_of}
 use Rattle.dirac_encode_laws.specs.Coded.{IsSource, coded_with, motion_among, residual_of}

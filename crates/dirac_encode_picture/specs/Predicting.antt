@@ -1,7 +1,7 @@
 -- What the planes of an inter picture are predicted by and from, and that they are.
 use Rattle.std.specs.Prelude.{◌≡◌, ℤ, List, Some, IsSome}
 use Rattle.dirac_common.specs.declared.formats.Component.{Component}
-use Rattle.dirac_decode.specs.Moved.{IsMoved}
+use Rattle.dirac_rebuild.specs.Moved.{IsMoved}
 use Rattle.dirac_motion.specs.Lent.{AreLent, first_of, second_of}
 use Rattle.dirac_encode_picture.specs.declared.predictions.Predicting.{Predicting}
 use Rattle.dirac_encode_planes.specs.declared.predictions.Predictions.{Predictions}

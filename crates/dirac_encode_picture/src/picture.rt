@@ -8,7 +8,7 @@ ghost use Rattle.dirac_types.specs.Settings.{IsAccepted};
 ghost use Rattle.dirac_sequence.specs.Written.{sequence_of as sequence_for};
 ghost use Rattle.dirac_picture.specs.Grammar.{are_listed, picture_read};
 ghost use Rattle.dirac_encode_laws.specs.Payloads.{payload_of};
-ghost use Rattle.dirac_decode.specs.Content.{rebuilt};
+ghost use Rattle.dirac_content.specs.Content.{rebuilt};
 ghost use Rattle.dirac_plan_laws.specs.Headers.{IsPlanned, header_of};
 ghost use Rattle.dirac_encode_laws.specs.Coded.{IsSource, motion_among, residual_of};
 ghost use Rattle.dirac_encode_laws.specs.Codable.{AreSmall};

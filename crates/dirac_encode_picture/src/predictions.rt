@@ -5,10 +5,10 @@ ghost use Rattle.dirac_common.specs.declared.formats.Component.TheVariants as co
 ghost use Rattle.dirac_encode_picture.specs.Predicting.{ArePredicted, CanBePredicted, IsPredicted};
 
 use dirac_common::NoMemory;
-use dirac_decode::{Moved, predict_from, predict_with};
 use dirac_encode_planes::{Planes, Predictions, side_by_side};
 use dirac_motion::References;
 use dirac_obmc::{Component, Predicted};
+use dirac_rebuild::{Moved, predict_from, predict_with};
 use std::alloc::Global;
 use std::marker::Sync;
 use std::thread::Threads;

@@ -2,7 +2,7 @@
 
 ghost use Rattle.std.specs.Prelude.{◌≡◌, IfOk, IfSome};
 ghost use Rattle.dirac_picture.specs.Texts.{AreTexts};
-ghost use Rattle.dirac_decode.specs.Content.{rebuilt};
+ghost use Rattle.dirac_content.specs.Content.{rebuilt};
 ghost use Rattle.dirac_encode_planes.specs.Analysing.{AreAnalysedPlanes, AreBands, CanBeAnalysed, CanBeQuantised};
 ghost use Rattle.dirac_reconstruct.specs.Finishing.{IsFinishable};
 ghost use Rattle.dirac_encode_picture.specs.Predicting.{ArePredicted, CanBePredicted};

@@ -16,7 +16,7 @@ use Rattle.dirac_sequence_header.specs.Lawful.{IsSize}
 use Rattle.dirac_sequence.specs.Written.{sequence_of}
 use Rattle.dirac_header.specs.Prediction.{grid_of}
 use Rattle.dirac_picture.specs.Grammar.{superblocks_over}
-use Rattle.dirac_decode.specs.Content.{IsPicture}
+use Rattle.dirac_content.specs.Content.{IsPicture}
 use Rattle.dirac_pyramid.specs.Pyramid.{level_of, pyramid_of}
 use Rattle.dirac_search.specs.Fields.{IsSearch, field}
 use Rattle.dirac_search.proofs.Accepted.{search_accepted}

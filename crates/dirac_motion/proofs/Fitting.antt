@@ -12,7 +12,7 @@ use Rattle.dirac_header.specs.Prediction.{grid_of}
 use Rattle.dirac_block_table.specs.Tables.{BlockTable}
 use Rattle.dirac_refs.specs.References.{listed}
 use Rattle.dirac_picture.specs.Grammar.{is_intra, is_listed, superblocks_over}
-use Rattle.dirac_decode.specs.Content.{IsPicture, named}
+use Rattle.dirac_content.specs.Content.{IsPicture, named}
 use Rattle.dirac_decide.specs.Deciding.{IsSearched, View, deciding}
 use Rattle.dirac_decide.specs.Modes.{refs_of}
 use Rattle.dirac_decide.specs.Splits.{decided}

@@ -4,7 +4,7 @@ use Rattle.std.specs.Prelude.{option_map}
 use Rattle.dirac_common.specs.declared.picture.Picture.{Picture}
 use Rattle.dirac_types.specs.declared.settings.Settings.{Settings}
 use Rattle.dirac_sequence.specs.Written.{sequence_of}
-use Rattle.dirac_decode.specs.Content.{named, up_of}
+use Rattle.dirac_content.specs.Content.{named, up_of}
 use Rattle.dirac_upconvert.specs.SubSamples.{Up}
 use Rattle.dirac_search.specs.Candidates.{Vectors}
 use Rattle.dirac_search.specs.Fields.{after_finer, after_sub, best_of, stage_field}

@@ -12,7 +12,7 @@ use Rattle.dirac_header.specs.Written.{HasReferences}
 use Rattle.dirac_block_table.specs.Filling.{empty_table}
 use Rattle.dirac_block_table.specs.Tables.{BlockTable, IsBlockTable}
 use Rattle.dirac_picture.specs.Grammar.{is_intra, superblocks_over}
-use Rattle.dirac_decode.specs.Content.{AreReferences, IsPicture, named, up_of}
+use Rattle.dirac_content.specs.Content.{AreReferences, IsPicture, named, up_of}
 use Rattle.dirac_pyramid.specs.Pyramid.{pyramid_of}
 use Rattle.dirac_search.specs.Fields.{field}
 use Rattle.dirac_search.specs.Given.{Searched}

@@ -6,7 +6,7 @@ use Rattle.dirac_common.specs.declared.limits.TheConstants.{LARGEST_SIDE}
 use Rattle.dirac_common.specs.declared.picture.Picture.{Picture}
 use Rattle.dirac_sequence_header.specs.declared.sequence.Sequence.{Sequence}
 use Rattle.dirac_upconvert.specs.HalfSamples.{IsSample}
-use Rattle.dirac_decode.specs.Content.{IsPicture, named, up_of}
+use Rattle.dirac_content.specs.Content.{IsPicture, named, up_of}
 use Rattle.dirac_plan.specs.declared.planned.Planned.{Planned}
 use Rattle.dirac_motion.specs.declared.lent.Lumas.{Lumas}
 use Rattle.dirac_motion.specs.declared.lent.Reference.{Reference}

@@ -1,7 +1,7 @@
 ghost use Rattle.std.specs.Prelude.{◌≡◌, IfOk, Some};
 ghost use Rattle.std.specs.Option.{ForSome, option_copied};
 ghost use Rattle.dirac_sequence_header.specs.declared.sequence.Sequence.{Sequence};
-ghost use Rattle.dirac_decode.specs.Content.{IsPicture, up_of};
+ghost use Rattle.dirac_content.specs.Content.{IsPicture, up_of};
 ghost use Rattle.dirac_motion.specs.Lent.{AreLent, AreLumas, HasLuma, first_of, second_of};
 
 use dirac_common::NoMemory;

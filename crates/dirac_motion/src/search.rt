@@ -1,7 +1,7 @@
 ghost use Rattle.std.specs.Prelude.{◌≡◌, IfOk};
 ghost use Rattle.dirac_types.specs.Settings.{IsAccepted};
 ghost use Rattle.dirac_sequence.specs.Written.{sequence_of as the_sequence};
-ghost use Rattle.dirac_decode.specs.Content.{IsPicture};
+ghost use Rattle.dirac_content.specs.Content.{IsPicture};
 ghost use Rattle.dirac_pyramid.specs.Pyramid.{pyramid_of};
 ghost use Rattle.dirac_search.specs.Fields.{field};
 ghost use Rattle.dirac_decide.specs.Deciding.{IsSearched};

@@ -17,7 +17,7 @@ use Rattle.dirac_obmc.specs.Compensation.{predicted_at}
 use Rattle.dirac_synthesis.specs.Residual.{clipped, rows_between, summed_with, with_prediction}
 use Rattle.dirac_picture.specs.declared.coded.CodedResidual.{CodedResidual}
 use Rattle.dirac_picture.proofs.Chroma.{part_size}
-use Rattle.dirac_decode.specs.Content.{compensation, height_of, residual_among, width_of}
+use Rattle.dirac_content.specs.Content.{compensation, height_of, residual_among, width_of}
 use Rattle.dirac_pardec.specs.declared.intra.Intra.{Intra}
 use Rattle.dirac_pardec.specs.declared.places.SlicePlace.{SlicePlace}
 use Rattle.dirac_pardec.specs.Given.{Lent, predicted_in}

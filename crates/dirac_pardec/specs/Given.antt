@@ -11,7 +11,7 @@ use Rattle.dirac_obmc.specs.Directions.{columns_of}
 use Rattle.dirac_picture.specs.declared.coded.CodedMotion.{CodedMotion}
 use Rattle.dirac_picture.specs.declared.coded.CodedResidual.{CodedResidual}
 use Rattle.dirac_picture.specs.Fits.{IsMotion, IsResidual}
-use Rattle.dirac_decode.specs.Content.{IsPicture, compensation, height_of, width_of}
+use Rattle.dirac_content.specs.Content.{IsPicture, compensation, height_of, width_of}
 use Rattle.dirac_pardec.specs.declared.inter.Inter.{Inter}
 use Rattle.dirac_pardec.specs.declared.places.SlicePlace.{SlicePlace}
 use Rattle.dirac_pardec.specs.declared.weights.PlaneWeights.{PlaneWeights}

@@ -3,7 +3,7 @@ use Rattle.std.specs.Prelude.{ℕ, zero, suc, ◌+◌, ◌-◌, ◌*◌, ◌/◌
 use Rattle.dirac_common.specs.declared.formats.Component.{Component}
 use Rattle.dirac_common.specs.declared.formats.Component.TheVariants as component
 use Rattle.dirac_sequence_header.specs.declared.sequence.Sequence.{Sequence}
-use Rattle.dirac_decode.specs.Content.{height_of}
+use Rattle.dirac_content.specs.Content.{height_of}
 use Rattle.dirac_pardec.specs.declared.places.SlicePlace.{SlicePlace}
 
 -- the planes Y, U, V in this order

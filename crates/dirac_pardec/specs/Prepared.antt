@@ -5,7 +5,7 @@ use Rattle.dirac_common.specs.declared.formats.Kind.TheVariants.{Inter}
 use Rattle.dirac_common.specs.declared.picture.Picture.{Picture}
 use Rattle.dirac_common.specs.Table.{Table}
 use Rattle.dirac_upconvert.specs.SubSamples.{Up}
-use Rattle.dirac_decode.specs.Content.{plane_of, residual_among, up_of}
+use Rattle.dirac_content.specs.Content.{plane_of, residual_among, up_of}
 use Rattle.dirac_rows.specs.Answers.{AnswerRows}
 use Rattle.dirac_pardec.specs.declared.prepared.Prepared.{Prepared}
 use Rattle.dirac_pardec.specs.Given.{Lent}

@@ -6,8 +6,8 @@ use Rattle.dirac_common.specs.Table.{Table, table_at}
 use Rattle.dirac_sequence_header.specs.declared.sequence.Sequence.{Sequence}
 use Rattle.dirac_sequence_header.specs.Lawful.{IsSequence}
 use Rattle.dirac_picture.specs.Fits.{IsResidual}
-use Rattle.dirac_decode.specs.Content.{height_of, intra_samples, residual_among, width_of}
-use Rattle.dirac_decode.specs.Predicting.{inter_plane}
+use Rattle.dirac_content.specs.Content.{height_of, intra_samples, residual_among, width_of}
+use Rattle.dirac_content.specs.Predicting.{inter_plane}
 use Rattle.dirac_rows.specs.Answers.{AnswerRows}
 use Rattle.dirac_pardec.specs.declared.intra.Intra.{Intra}
 use Rattle.dirac_pardec.specs.declared.places.SlicePlace.{SlicePlace}

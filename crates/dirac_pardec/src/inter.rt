@@ -1,12 +1,12 @@
 ghost use Rattle.std.specs.Prelude.{◌≡◌, IfSome, Some};
 ghost use Rattle.dirac_sequence_header.specs.Lawful.{IsSequence};
 ghost use Rattle.dirac_picture.specs.Fits.{IsMotion, IsResidual, NamesReferences};
-ghost use Rattle.dirac_decode.specs.Content as content;
-ghost use Rattle.dirac_decode.specs.Content.{AreReferences};
+ghost use Rattle.dirac_content.specs.Content as content;
+ghost use Rattle.dirac_content.specs.Content.{AreReferences};
 ghost use Rattle.dirac_pardec.specs.Given.{given, IsInter};
 
 use dirac_common::Picture;
-use dirac_decode::named;
+use dirac_content::named;
 use dirac_picture::{CodedMotion, CodedPicture, CodedResidual};
 use dirac_refs::RefBuffer;
 use dirac_sequence_header::Sequence;

@@ -2,8 +2,8 @@ ghost use Rattle.std.specs.Prelude.{◌≡◌, ◌+◌, ◌*◌, ◌<◌, ◌≤
 ghost use Rattle.dirac_sequence_header.specs.Lawful.{IsSequence};
 ghost use Rattle.dirac_picture.specs.Fits.{IsResidual};
 ghost use Rattle.dirac_common.specs.declared.formats.Kind.TheVariants.{Intra as OfIntra};
-ghost use Rattle.dirac_decode.specs.Content as content;
-ghost use Rattle.dirac_decode.specs.Predicting as predicting;
+ghost use Rattle.dirac_content.specs.Content as content;
+ghost use Rattle.dirac_content.specs.Predicting as predicting;
 ghost use Rattle.dirac_rows.specs.Answers.{AnswerRows};
 ghost use Rattle.dirac_pardec.specs.Places as places;
 ghost use Rattle.dirac_pardec.specs.Samples.{AreResiduals, AreSampleSlices, IsIntra};
@@ -14,8 +14,8 @@ use crate::places::{SLICE_ROWS, SlicePlace, component_at, end_of, place_of, slic
 use crate::slices::joined_picture;
 use crate::small::is_small;
 use dirac_common::{Kind, LARGEST_TABLE_SIDE, NoMemory, Picture, Plane, RowGate};
-use dirac_decode::{height_of, residual_of, unfinished_of};
 use dirac_picture::CodedResidual;
+use dirac_rebuild::{height_of, residual_of, unfinished_of};
 use dirac_rows::map_rows;
 use dirac_sequence_header::Sequence;
 use dirac_synthesis::{Unfinished, clipped};

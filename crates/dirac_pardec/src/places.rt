@@ -1,11 +1,11 @@
 ghost use Rattle.std.specs.Prelude.{◌≡◌, ◌+◌, ◌*◌, ◌/◌, ◌<◌, ◌≤◌};
 ghost use Rattle.dirac_sequence_header.specs.Lawful.{IsSequence};
-ghost use Rattle.dirac_decode.specs.Content as content;
+ghost use Rattle.dirac_content.specs.Content as content;
 ghost use Rattle.dirac_pardec.specs.Places as places;
 ghost use Rattle.dirac_pardec.specs.Slices.{reach};
 
 use dirac_common::Component;
-use dirac_decode::height_of;
+use dirac_rebuild::height_of;
 use dirac_sequence_header::Sequence;
 
 /// How many rows of a picture a slice has, but the last one of a plane.

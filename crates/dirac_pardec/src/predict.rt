@@ -1,5 +1,5 @@
 ghost use Rattle.std.specs.Prelude.{◌≡◌, ◌+◌, ◌*◌, ◌<◌, ◌≤◌, IfOk};
-ghost use Rattle.dirac_decode.specs.Content as content;
+ghost use Rattle.dirac_content.specs.Content as content;
 ghost use Rattle.dirac_pardec.specs.Given.{given, predicted_in, AreWeights, IsInter};
 ghost use Rattle.dirac_pardec.specs.Places as places;
 ghost use Rattle.dirac_pardec.specs.Prepared.{ArePrepared};
@@ -10,8 +10,8 @@ use crate::places::{SLICE_ROWS, SlicePlace, component_at, end_of, place_of, slic
 use crate::prepared::{Prepared, residual_rows};
 use crate::weights::{PlaneWeights, motion_at, plane_weights, weights_at};
 use dirac_common::{LARGEST_TABLE_SIDE, NoMemory, Plane, RowGate};
-use dirac_decode::height_of;
 use dirac_obmc::{Predicted, predict_rows_with};
+use dirac_rebuild::height_of;
 use dirac_rows::map_rows;
 use dirac_synthesis::clipped_sum;
 use std::alloc::Global;

@@ -7,7 +7,7 @@ ghost use Rattle.dirac_common.specs.declared.formats.Kind.TheVariants.{Inter as 
 ghost use Rattle.dirac_common.specs.declared.picture.Picture.{Picture};
 ghost use Rattle.dirac_sequence_header.specs.Lawful.{IsSequence};
 ghost use Rattle.dirac_synthesis.specs.Residual.{rows_between};
-ghost use Rattle.dirac_decode.specs.Content.{IsPicture, height_of, plane_of as lent_plane, residual_among, up_of};
+ghost use Rattle.dirac_content.specs.Content.{IsPicture, height_of, plane_of as lent_plane, residual_among, up_of};
 ghost use Rattle.dirac_pardec.specs.Given.{given, IsInter};
 ghost use Rattle.dirac_pardec.specs.Places as places;
 ghost use Rattle.dirac_pardec.specs.Prepared.{ArePrepared, IsPreparedAt};
@@ -15,7 +15,7 @@ ghost use Rattle.dirac_pardec.specs.Prepared.{ArePrepared, IsPreparedAt};
 use crate::inter::Inter;
 use crate::places::component_at;
 use dirac_common::{Component, Kind, NoMemory, Picture, RowGate};
-use dirac_decode::{unfinished_of, up_plane};
+use dirac_rebuild::{unfinished_of, up_plane};
 use dirac_rows::map_rows;
 use dirac_sequence_header::Sequence;
 use dirac_synthesis::{Residual, Unfinished};

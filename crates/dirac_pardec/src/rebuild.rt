@@ -1,8 +1,8 @@
 ghost use Rattle.std.specs.Prelude.{◌≡◌, ◌≤◌, IfOk, Some};
 ghost use Rattle.dirac_sequence_header.specs.Lawful.{IsSequence};
 ghost use Rattle.dirac_picture.specs.Fits.{FitsSequence};
-ghost use Rattle.dirac_decode.specs.Content.{AreReferences, IsPicture, rebuilt};
-ghost use Rattle.dirac_decode.specs.Predicting as predicting;
+ghost use Rattle.dirac_content.specs.Content.{AreReferences, IsPicture, rebuilt};
+ghost use Rattle.dirac_content.specs.Predicting as predicting;
 ghost use Rattle.dirac_pardec.specs.Given.{given, IsInter};
 
 use crate::inter::{Inter, inter_of};

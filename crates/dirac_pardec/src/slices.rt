@@ -3,14 +3,14 @@ ghost use Rattle.dirac_common.specs.declared.formats.Component.{Component as The
 ghost use Rattle.dirac_common.specs.declared.formats.Component.TheVariants as component;
 ghost use Rattle.dirac_common.specs.Table.{Table, table_at, table_of};
 ghost use Rattle.dirac_sequence_header.specs.Lawful.{IsSequence};
-ghost use Rattle.dirac_decode.specs.Content as content;
+ghost use Rattle.dirac_content.specs.Content as content;
 ghost use Rattle.dirac_pardec.specs.Places as places;
 ghost use Rattle.dirac_pardec.specs.Samples.{AreSampleSlices, FitPlanes, FitSlices};
 ghost use Rattle.dirac_pardec.specs.Slices.{AreSlices, HaveSizes, reach};
 
 use crate::places::{SLICE_ROWS, component_at, first_slice};
 use dirac_common::{LARGEST_SIDE, NoMemory, Picture, Plane};
-use dirac_decode::{height_of, width_of};
+use dirac_rebuild::{height_of, width_of};
 use dirac_sequence_header::Sequence;
 use std::alloc::Global;
 

@@ -3,10 +3,10 @@ ghost use Rattle.std.specs.Io.KnownBytes.{IsAtEnd};
 ghost use Rattle.std.specs.Thread.{IsSync};
 ghost use Rattle.dirac_io.specs.Faults.{Rose};
 ghost use Rattle.dirac_picture.specs.Reading.{CanBeRead, ReadsThem};
-ghost use Rattle.dirac_decode.specs.Content.{rebuilt};
+ghost use Rattle.dirac_content.specs.Content.{rebuilt};
 ghost use Rattle.dirac_decode.specs.Decoded.{IfDone, IfTally, IsDecoded};
-ghost use Rattle.dirac_decode.specs.Leaving.{IsBrokenOff, IsFrontOfRead};
-ghost use Rattle.dirac_decode.specs.Rebuilding.{CanBeRebuilt};
+ghost use Rattle.dirac_content.specs.Leaving.{IsBrokenOff, IsFrontOfRead};
+ghost use Rattle.dirac_rebuild.specs.Rebuilding.{CanBeRebuilt};
 
 use crate::planes::read_planes_rows;
 use crate::rebuild::rebuild_rows;

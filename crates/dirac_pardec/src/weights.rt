@@ -9,8 +9,8 @@ use crate::inter::Inter;
 use crate::places::component_at;
 use crate::prepared::{Prepared, first_up, second_up};
 use dirac_common::NoMemory;
-use dirac_decode::plane_motion;
 use dirac_obmc::{ColumnWeights, Motion, column_weights};
+use dirac_rebuild::plane_motion;
 use std::alloc::Global;
 
 /// The weights of the columns of a picture's planes; the blocks of both chroma planes stand alike. Workers share them.

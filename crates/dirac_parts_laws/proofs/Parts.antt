@@ -19,7 +19,7 @@ use Rattle.dirac_plan.specs.Planning.{group_pictures}
 use Rattle.dirac_plan.proofs.Accepted.{paced}
 use Rattle.dirac_plan.proofs.Fields.{length_plan}
 use Rattle.dirac_plan_laws.specs.Plans.{PlansCanBeCoded}
-use Rattle.dirac_decode.specs.StreamState.{is_same}
+use Rattle.dirac_content.specs.StreamState.{is_same}
 use Rattle.dirac_encode_laws.specs.Coding.{Made, coded_under, coding, job_of, made, own_index, refs_after}
 use Rattle.dirac_encode_laws.specs.Laws.{AreNumbered, AreSources, Begins, JobsAreRead}
 use Rattle.dirac_encode_laws.specs.Stream.{end_text, header_text, picture_length, picture_text as made_unit, stream_units, units_from, units_in}

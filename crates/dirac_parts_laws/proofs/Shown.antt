@@ -12,8 +12,8 @@ use Rattle.dirac_picture.specs.Grammar.{is_intra}
 use Rattle.dirac_plan.specs.Plan.{plan}
 use Rattle.dirac_plan_laws.specs.Plans.{PlansCanBeCoded}
 use Rattle.dirac_plan_laws.proofs.Each.{each_append}
-use Rattle.dirac_decode.specs.Shown.{Outcome, outcome}
-use Rattle.dirac_decode.specs.StreamState.{begun}
+use Rattle.dirac_content.specs.Shown.{Outcome, outcome}
+use Rattle.dirac_content.specs.StreamState.{begun}
 use Rattle.dirac_encode_laws.specs.Coding.{Made, coding, own_index, reconstructions, refs_after}
 use Rattle.dirac_encode_laws.specs.Laws.{AreMade, AreSources, JobsAreRead, SourcesShowReconstructions}
 use Rattle.dirac_encode_laws.specs.Stream.{IsUnit, StreamsAreCut, closing, end_info, end_unit, header_before, header_unit, last_length, length_before, picture_length, picture_unit, stream_from, stream_of, stream_units, unit, units_in, units_of}

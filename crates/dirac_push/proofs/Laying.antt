@@ -4,7 +4,7 @@ use Rattle.std.specs.Prelude.{slice_index}
 use Rattle.std.proofs.lemmas.Bool.{ltb-false, ltb-true}
 use Rattle.std.proofs.Math.Nat.{eq-or-lt_of_le, mul-le-mul_right}
 use Rattle.dirac_common.specs.Table.{Table, table_at}
-use Rattle.dirac_decode.specs.Raw.{byte_of}
+use Rattle.dirac_content.specs.Raw.{byte_of}
 use Rattle.dirac_push.specs.Laid.{AreLaid, CopiesSamples}
 
 -- a byte of an earlier row stands before a later one

@@ -9,7 +9,7 @@ use Rattle.dirac_units.specs.Progress.{Progress}
 use Rattle.dirac_decode.specs.declared.answers.Next.{Next}
 use Rattle.dirac_decode.specs.declared.answers.Next.TheVariants as next
 use Rattle.dirac_decode.specs.Decoding.{Comes, ComesBehind, Decoding, Remains}
-use Rattle.dirac_decode.specs.Shown.{IsShown, Outcome, with_front}
+use Rattle.dirac_content.specs.Shown.{IsShown, Outcome, with_front}
 use Rattle.dirac_decode.specs.Stepping.{DueGives, IsThere, IsWholeUnit, StepGives, StepGivesBefore}
 use Rattle.dirac_push.specs.declared.answer.Answer.{Answer}
 use Rattle.dirac_push.specs.declared.answer.Answer.TheVariants as answers

@@ -1,7 +1,7 @@
 -- A plane in a buffer, a byte a sample, its rows a stride apart.
 use Rattle.std.specs.Prelude.{◌≡◌, ℕ, ℤ, ◌+◌, ◌-◌, ◌*◌, ◌<◌, ◌≤◌, ◌⊎◌, pos, List, length, slice_index, slice_index_or}
 use Rattle.dirac_common.specs.Table.{Table, table_at}
-use Rattle.dirac_decode.specs.Raw.{byte_of}
+use Rattle.dirac_content.specs.Raw.{byte_of}
 
 -- a row has room in its stride, and the last row of the plane in the buffer
 abbrev pub HasRoom : Table → ℕ → ℕ → Type 0

@@ -5,9 +5,9 @@ use Rattle.dirac_common.specs.declared.picture.Picture.{Picture}
 use Rattle.dirac_sequence_header.specs.declared.sequence.Sequence.{Sequence}
 use Rattle.dirac_units.specs.declared.unit.StreamEnd.{StreamEnd}
 use Rattle.dirac_units.specs.declared.unit.StreamEnd.TheVariants as stream_end
-use Rattle.dirac_decode.specs.declared.opened.Opened.{Opened}
+use Rattle.dirac_content.specs.declared.opened.Opened.{Opened}
 use Rattle.dirac_decode.specs.Decoding.{ComesBehind, Decoding, begun as decoding_begun}
-use Rattle.dirac_decode.specs.Shown.{IsShown}
+use Rattle.dirac_content.specs.Shown.{IsShown}
 use Rattle.dirac_decode.specs.Stepping.{IsFurther, IsWholeUnit}
 use Rattle.dirac_push.specs.declared.answer.Answer.{Answer}
 use Rattle.dirac_push.specs.declared.answer.Answer.TheVariants as answers

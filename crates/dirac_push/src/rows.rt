@@ -1,5 +1,5 @@
 ghost use Rattle.std.specs.Prelude.{◌≡◌, ◌+◌, ◌-◌, ◌<◌, ◌≤◌, ◌*◌, ◌↔◌, length, IsTrue, IsFalse};
-ghost use Rattle.dirac_decode.specs.Raw.{byte_of};
+ghost use Rattle.dirac_content.specs.Raw.{byte_of};
 ghost use Rattle.dirac_push.specs.Laid.{AreLaid, CopiesSamples, HasRoom, IsLaid};
 
 use dirac_common::Plane;

@@ -19,9 +19,9 @@ use Rattle.dirac_sequence_header.specs.declared.sequence.Sequence.{Sequence}
 use Rattle.dirac_sequence_header.specs.Grammar.{sequence_read}
 use Rattle.dirac_picture.specs.declared.coded.CodedPicture.{CodedPicture}
 use Rattle.dirac_picture.specs.Grammar.{picture_read}
-use Rattle.dirac_decode.specs.declared.opened.Opened.{Opened}
-use Rattle.dirac_decode.specs.Shown.{IsShown, Outcome, follows, outcome}
-use Rattle.dirac_decode.specs.StreamState.{StreamState, StreamStep, begun, content, header_step, in_unit, is_same, made, opening, passed, picture_step, staying, unit_step}
+use Rattle.dirac_content.specs.declared.opened.Opened.{Opened}
+use Rattle.dirac_content.specs.Shown.{IsShown, Outcome, follows, outcome}
+use Rattle.dirac_content.specs.StreamState.{StreamState, StreamStep, begun, content, header_step, in_unit, is_same, made, opening, passed, picture_step, staying, unit_step}
 use Rattle.dirac_reading_laws.specs.Places.{LiesIn, place_behind}
 use Rattle.dirac_reading_laws.proofs.InPictures.{in_picture}
 use Rattle.dirac_reading_laws.proofs.InSequences.{in_sequence_header}

@@ -3,8 +3,8 @@ use Rattle.std.proofs.Common.{◌≡◌, ◌∙◌, ℕ, List, Option, sym, ap, 
 use Rattle.dirac_common.specs.declared.faults.Fault.{Fault}
 use Rattle.dirac_units.specs.Cut.{UnitText, start, front_of}
 use Rattle.dirac_units.proofs.Cuts.{cut_by, one_cut}
-use Rattle.dirac_decode.specs.StreamState.{begun}
-use Rattle.dirac_decode.specs.Shown.{IsShown, Outcome, outcome}
+use Rattle.dirac_content.specs.StreamState.{begun}
+use Rattle.dirac_content.specs.Shown.{IsShown, Outcome, outcome}
 
 -- what the same units show is the same
 same_outcome : (us vs : List UnitText) (e f : Option Fault) → us ≡ vs → e ≡ f → outcome begun start us e ≡ outcome begun start vs f

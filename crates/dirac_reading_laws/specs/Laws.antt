@@ -4,7 +4,7 @@ use Rattle.dirac_common.specs.declared.faults.Refusal.{Refusal}
 use Rattle.dirac_bits.specs.Cursor.{Cursor}
 use Rattle.dirac_bits.specs.Laws.{BeginsWith}
 use Rattle.dirac_bits.specs.Syntax.{Syntax, read}
-use Rattle.dirac_decode.specs.Shown.{IsShown, Outcome}
+use Rattle.dirac_content.specs.Shown.{IsShown, Outcome}
 use Rattle.dirac_reading_laws.specs.Broken.{Breaks}
 
 -- a header is refused exactly where it breaks

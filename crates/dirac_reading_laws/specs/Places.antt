@@ -8,7 +8,7 @@ use Rattle.dirac_units.specs.Cut.{UnitText, IsCut, after, start}
 use Rattle.dirac_sequence_header.specs.declared.sequence.Sequence.{Sequence}
 use Rattle.dirac_sequence_header.specs.Grammar.{sequence_read}
 use Rattle.dirac_picture.specs.Grammar.{picture_read}
-use Rattle.dirac_decode.specs.Shown.{IsShown, Outcome}
+use Rattle.dirac_content.specs.Shown.{IsShown, Outcome}
 
 -- where the unit behind these would begin
 unfoldable pub place_behind : UnitPlace → List UnitText → UnitPlace

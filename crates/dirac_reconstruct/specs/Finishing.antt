@@ -4,8 +4,8 @@ use Rattle.dirac_common.specs.declared.picture.Picture.{Picture}
 use Rattle.dirac_sequence_header.specs.declared.sequence.Sequence.{Sequence}
 use Rattle.dirac_picture.specs.declared.coded.CodedPicture.{CodedPicture}
 use Rattle.dirac_picture.specs.Writable.{IsWritten}
-use Rattle.dirac_decode.specs.Content.{named}
-use Rattle.dirac_decode.specs.Rebuilding.{CanBeRebuilt}
+use Rattle.dirac_content.specs.Content.{named}
+use Rattle.dirac_rebuild.specs.Rebuilding.{CanBeRebuilt}
 use Rattle.dirac_reconstruct.specs.declared.showing.Compensated.{Compensated}
 use Rattle.dirac_reconstruct.specs.declared.showing.Finishing.{Finishing}
 use Rattle.dirac_reconstruct.specs.Predicted.{ArePredictions}

@@ -9,7 +9,7 @@ use Rattle.dirac_sequence_header.specs.declared.sequence.Sequence.{Sequence}
 use Rattle.dirac_picture.specs.declared.coded.CodedMotion.{CodedMotion}
 use Rattle.dirac_picture.specs.declared.coded.CodedPicture.{CodedPicture}
 use Rattle.dirac_synthesis.specs.Residual.{clipped, with_prediction}
-use Rattle.dirac_decode.specs.Content.{height_of, predicted_among, residual_among, width_of}
+use Rattle.dirac_content.specs.Content.{height_of, predicted_among, residual_among, width_of}
 use Rattle.dirac_encode_planes.specs.declared.predictions.Predictions.{Predictions}
 
 -- what is predicted for a plane of a picture from these references, by rows: a value for each sample

@@ -7,15 +7,15 @@ ghost use Rattle.dirac_sequence_header.specs.Lawful.{IsSequence};
 ghost use Rattle.dirac_picture.specs.Fits.{IsResidual};
 ghost use Rattle.dirac_picture.specs.Writable.{IsWritten};
 ghost use Rattle.dirac_picture.specs.Texts.{AreTexts};
-ghost use Rattle.dirac_decode.specs.Content.{height_of, rebuilt, width_of};
+ghost use Rattle.dirac_content.specs.Content.{height_of, rebuilt, width_of};
 ghost use Rattle.dirac_reconstruct.specs.Finishing.{CanBeFinished, IsFinishable};
 ghost use Rattle.dirac_reconstruct.specs.Predicted.{picture_from};
 
 use crate::texts::texts_side_by_side;
 use dirac_common::{Component, NoMemory, Picture};
-use dirac_decode::{predicted_samples, rebuild};
 use dirac_encode_planes::Predictions;
 use dirac_picture::{CodedMotion, CodedPicture, CodedResidual, Texts, texts_of};
+use dirac_rebuild::{predicted_samples, rebuild};
 use dirac_refs::RefBuffer;
 use dirac_sequence_header::Sequence;
 use std::alloc::Global;

@@ -2,7 +2,7 @@
 use Rattle.std.proofs.Common.{◌≡◌, ℕ, zero, suc, ◌+◌, ◌*◌, ◌<◌, ◌^◌, List, [], ◌∷◌, ◌++◌, map, take, drop, refl, sym, ap, ap₂, ◌∙◌, arith}
 use Rattle.std.specs.List.{AllByRecursion}
 use Rattle.std.proofs.lemmas.List.{take-append-drop, drop-drop}
-use Rattle.dirac_decode.specs.Raw.{byte_of, raw}
+use Rattle.dirac_content.specs.Raw.{byte_of, raw}
 use Rattle.dirac_sources.specs.Sources.{picture_in, sample_of}
 
 byte_again : (b : ℕ) → b < 2 ^ 8 → byte_of (sample_of b) ≡ b

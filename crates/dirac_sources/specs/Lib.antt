@@ -1,2 +1,2 @@
-pub use Rattle.dirac_decode.specs.Raw
+pub use Rattle.dirac_content.specs.Raw
 pub mod Sources

@@ -7,7 +7,7 @@ ghost use Rattle.dirac_sequence_header.specs.Lawful.{IsSequence};
 ghost use Rattle.dirac_picture.specs.Fits.{IsPlaneSize};
 ghost use Rattle.dirac_picture.specs.Grammar.{chroma_height, chroma_width};
 ghost use Rattle.dirac_synthesis.specs.Residual.{AreSamples, clip};
-ghost use Rattle.dirac_decode.specs.Raw.{raw as raw_of};
+ghost use Rattle.dirac_content.specs.Raw.{raw as raw_of};
 ghost use Rattle.dirac_sources.specs.Sources.{IsSource, picture_from, picture_in, plane_from};
 ghost use Rattle.dirac_sources.specs.Sources.{raw_length as length_of, sample_of};
 

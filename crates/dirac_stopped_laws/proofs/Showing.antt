@@ -16,11 +16,11 @@ use Rattle.dirac_plan_laws.specs.Headers.{IsPictureCode}
 use Rattle.dirac_refs.specs.declared.waiting.Waiting.{Waiting}
 use Rattle.dirac_refs.specs.Delivery.{delivered, flush, flushed, key_of}
 use Rattle.dirac_refs.specs.References.{committed}
-use Rattle.dirac_decode.specs.declared.opened.Opened.{Opened}
-use Rattle.dirac_decode.specs.Content.{rebuilt}
-use Rattle.dirac_decode.specs.Sequences.{flushed_behind}
-use Rattle.dirac_decode.specs.Shown.{Outcome, follows, outcome, with_front}
-use Rattle.dirac_decode.specs.StreamState.{StreamState, StreamStep, as_reference, begun, content, first_or, header_step, made, opening, passed, picture_step, shows, staying, unit_step}
+use Rattle.dirac_content.specs.declared.opened.Opened.{Opened}
+use Rattle.dirac_content.specs.Content.{rebuilt}
+use Rattle.dirac_content.specs.Sequences.{flushed_behind}
+use Rattle.dirac_content.specs.Shown.{Outcome, follows, outcome, with_front}
+use Rattle.dirac_content.specs.StreamState.{StreamState, StreamStep, as_reference, begun, content, first_or, header_step, made, opening, passed, picture_step, shows, staying, unit_step}
 use Rattle.dirac_encode_laws.specs.Coding.{Made, pushed, refs_after, waiting_of}
 use Rattle.dirac_encode_laws.specs.Laws.{AreMade, Begins, IsMade}
 use Rattle.dirac_encode_laws.specs.Stream.{header_text, header_texts, last_length, picture_length, picture_text}

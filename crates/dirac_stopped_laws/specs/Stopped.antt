@@ -7,7 +7,7 @@ use Rattle.dirac_types.specs.declared.settings.Settings.{Settings}
 use Rattle.dirac_types.specs.Settings.{IsAccepted}
 use Rattle.dirac_units.specs.Cut.{UnitText, IsCut, start}
 use Rattle.dirac_refs.specs.Delivery.{flush}
-use Rattle.dirac_decode.specs.Shown.{IsShown, Outcome}
+use Rattle.dirac_content.specs.Shown.{IsShown, Outcome}
 use Rattle.dirac_sources.specs.Sources.{sources}
 use Rattle.dirac_encode_laws.specs.Coding.{IndexRule, Made, coding_under, pushed}
 use Rattle.dirac_encode_laws.specs.Encoding.{before_long, encoding_under, first_long, stream_before}

@@ -6,9 +6,9 @@ use Rattle.std.proofs.KnownBytes.{Appends-nil}
 use Rattle.dirac_common.specs.declared.faults.Fault.{Fault}
 use Rattle.dirac_io.specs.Writing.{AppendsFront}
 use Rattle.dirac_decode.specs.declared.answers.Decoded.TheVariants as decoded
-use Rattle.dirac_decode.specs.declared.answers.Tally.{Tally}
+use Rattle.dirac_content.specs.declared.tally.Tally.{Tally}
 use Rattle.dirac_decode.specs.Decoded.{IsDecoded as IsStreamDecoded}
-use Rattle.dirac_decode.specs.Raw.{raws}
+use Rattle.dirac_content.specs.Raw.{raws}
 use Rattle.dirac_command_line.specs.declared.ended.Ended.TheVariants as ended
 use Rattle.dirac_stream_commands.specs.Decoding.{IsDecoded, tally_line}
 

@@ -5,7 +5,7 @@ use Rattle.std.specs.Option.{option_or}
 use Rattle.dirac_common.specs.declared.faults.Fault.{Fault}
 use Rattle.dirac_units.specs.Cut.{IsCut, UnitText, start}
 use Rattle.dirac_decode.specs.declared.answers.Decoded.TheVariants as decoded
-use Rattle.dirac_decode.specs.declared.answers.Tally.{Tally}
+use Rattle.dirac_content.specs.declared.tally.Tally.{Tally}
 use Rattle.dirac_decode.specs.Decoded.{IsDecoded as IsStreamDecoded}
 use Rattle.dirac_edit.specs.declared.answers.Edited.{Edited}
 use Rattle.dirac_edit.specs.declared.answers.Edited.TheVariants as edited

@@ -3,7 +3,7 @@ ghost use Rattle.std.specs.Io.KnownBytes.{Appends, IsAtEnd};
 ghost use Rattle.dirac_io.specs.Faults.{Rose};
 ghost use Rattle.dirac_io.specs.Writing.{AppendsFront};
 ghost use Rattle.dirac_decode.specs.Decoded.{IfDone, IfTally, IsDecoded as IsStreamDecoded};
-ghost use Rattle.dirac_decode.specs.Leaving.{IsBrokenOff, IsFrontOfRead};
+ghost use Rattle.dirac_content.specs.Leaving.{IsBrokenOff, IsFrontOfRead};
 ghost use Rattle.dirac_stream_commands.specs.Decoding.{IsDecodeAnswer, IsDecoded, TellsFew, tally_line};
 ghost use Rattle.dirac_stream_commands.specs.Inside.{IsFaultInside};
 

@@ -4,14 +4,13 @@ ghost use Rattle.std.specs.Io.KnownBytes.{IsAtEnd};
 ghost use Rattle.dirac_io.specs.Faults.{Rose};
 ghost use Rattle.dirac_picture.specs.Reading.{ReadsPlanes};
 ghost use Rattle.dirac_decode.specs.Decoding.{Answers};
-ghost use Rattle.dirac_decode.specs.Rebuilding.{Rebuilds};
+ghost use Rattle.dirac_rebuild.specs.Rebuilding.{Rebuilds};
 ghost use Rattle.dirac_decode.specs.Stepping.{DueGives, IsThere, StepGives, StepGivesBefore, sequence_of};
 
 use crate::advance::{advance_by_unit, next_due};
 use crate::answers::Next;
 use crate::decoder::Decoder;
-use crate::in_turn::read_in_turn;
-use crate::picture::rebuild;
+use crate::in_turn::{read_in_turn, rebuild_in_turn};
 use crate::step::{Halt, Step};
 use dirac_bits::BitReader;
 use dirac_common::{NoMemory, Picture, Stop};
@@ -78,7 +77,7 @@ impl Decoder {
             ≤ self.old.units.unit_place.at + length self.old.units.ahead + S.left source.old }
     {
         self.state.keep_halves();
-        self.step_by(&read_in_turn, &rebuild, source)
+        self.step_by(&read_in_turn, &rebuild_in_turn, source)
     }
 
     /// One step, as `step`, where the subbands of planes are read by `planes`, and pictures are rebuilt by `make`.

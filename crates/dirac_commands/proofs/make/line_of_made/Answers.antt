@@ -1,5 +1,5 @@
 use Rattle.std.proofs.Common.{ap, sym, ◌∙◌, length}
-use Rattle.dirac_decode.specs.Raw.{raws}
+use Rattle.dirac_content.specs.Raw.{raws}
 use Rattle.dirac_encode_laws.specs.Encoding.{encoding}
 use Rattle.dirac_generator.specs.Generated.{exact_from}
 use Rattle.dirac_commands.proofs.Delivered.{made_shown}

@@ -1,13 +1,13 @@
 use Rattle.std.proofs.Common.{Err, subst}
 use Rattle.dirac_common.specs.declared.faults.Stop.{Stop}
-use Rattle.dirac_decode.specs.StreamState.{unit_step}
+use Rattle.dirac_content.specs.StreamState.{unit_step}
 use Rattle.dirac_decode.specs.Taking.{IsTook}
 use Rattle.dirac_decode.proofs.Leading.{brings_end, brings_fault, brings_refused, brings_step}
 use Rattle.std.specs.Io.KnownBytes.{append_known, prepend_known}
 use Rattle.dirac_units.specs.Info.{span_of}
 use Rattle.dirac_decode.proofs.Alone.{unit_taken}
 use Rattle.dirac_decode.proofs.Following.{brings_end_more, brings_fault_more, unit_more}
-use Rattle.dirac_decode.proofs.Passing.{each_has_a_cut}
+use Rattle.dirac_content.proofs.Passing.{each_has_a_cut}
 use Rattle.dirac_decode.proofs.advance.advance_by_unit.Goals as goal
 
 pub returns-in-End-clause-advances : goal.returns-in-End-clause-advances

@@ -2,11 +2,11 @@ use Rattle.std.proofs.Common.{◌≡◌, ◌<◌, ◌^◌, ap, arith, refl, subs
 use Rattle.std.specs.Prelude.{IfSome}
 use Rattle.dirac_units.specs.declared.unit.StreamEnd.TheVariants as stream_end
 use Rattle.dirac_decode.specs.declared.answers.Decoded.TheVariants as decoded
-use Rattle.dirac_decode.specs.declared.answers.Tally.{Tally}
+use Rattle.dirac_content.specs.declared.tally.Tally.{Tally}
 use Rattle.dirac_decode.specs.Decoded.{IsDecoded}
 use Rattle.dirac_decode.specs.Decoding.{Decoding, begun}
 use Rattle.dirac_decode.proofs.Streaming.{broken_off, cut_off, cut_off_in, not_stopped_by_end, not_stopped_by_fault, read_in, read_out, read_some, stops_at_break, streamed_done, streamed_fault, streamed_more, streamed_none}
-use Rattle.dirac_decode.proofs.Passing.{each_has_a_cut}
+use Rattle.dirac_content.proofs.Passing.{each_has_a_cut}
 use Rattle.dirac_decode.proofs.stream.write_pictures.Goals as goal
 
 pub pictures-init : goal.pictures-init

@@ -2,7 +2,7 @@ use Rattle.std.proofs.Common.{subst, sym, refl, Option}
 use Rattle.std.specs.Option.{option_to_list}
 use Rattle.dirac_common.specs.declared.picture.Picture.{Picture}
 use Rattle.dirac_io.specs.Writing.{AppendsFront}
-use Rattle.dirac_decode.specs.Raw.{raws}
+use Rattle.dirac_content.specs.Raw.{raws}
 use Rattle.dirac_encode.proofs.Waiting.{one_front}
 use Rattle.dirac_encode.proofs.delivering.put_left.Goals as goal
 

@@ -3,7 +3,7 @@ use Rattle.dirac_synthesis.proofs.Maps.{ok_weaker}
 use Rattle.dirac_sequence.specs.Written.{sequence_of}
 use Rattle.dirac_picture.specs.declared.coded.CodedPicture.{CodedPicture}
 use Rattle.dirac_encode_laws.specs.Payloads.{payload_of}
-use Rattle.dirac_decode.specs.Content.{rebuilt}
+use Rattle.dirac_content.specs.Content.{rebuilt}
 use Rattle.dirac_motion.specs.Chosen.{at_index}
 use Rattle.dirac_encode_picture.specs.Asked.{coded_by}
 use Rattle.dirac_encode_picture.proofs.Choices.{coded_chosen}

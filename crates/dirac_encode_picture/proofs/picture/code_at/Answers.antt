@@ -4,7 +4,7 @@ use Rattle.dirac_common.specs.Bytes.{bytes_of}
 use Rattle.dirac_bits.specs.Writing.{up_to_byte}
 use Rattle.dirac_bits.proofs.Packed.{packed}
 use Rattle.dirac_sequence.specs.Written.{sequence_of}
-use Rattle.dirac_decode.specs.Content.{rebuilt}
+use Rattle.dirac_content.specs.Content.{rebuilt}
 use Rattle.dirac_sequence_header.specs.declared.sequence.Sequence.{Sequence}
 use Rattle.dirac_picture.specs.Written.{payload_by, with_coded}
 use Rattle.dirac_picture.specs.declared.coded.CodedPicture.{CodedPicture}

@@ -2,7 +2,7 @@ use Rattle.std.proofs.Common.{Option, Some, ap, sym, subst, ◌∙◌}
 use Rattle.std.specs.Option.{ForSome, option_copied}
 use Rattle.dirac_common.specs.declared.picture.Picture.{Picture}
 use Rattle.dirac_sequence.specs.Written.{sequence_of}
-use Rattle.dirac_decode.specs.Content.{IsPicture}
+use Rattle.dirac_content.specs.Content.{IsPicture}
 use Rattle.dirac_motion.specs.Lent.{first_of, second_of}
 use Rattle.dirac_motion.proofs.Asked.{has_luma, have_luma}
 use Rattle.dirac_motion.proofs.Fitting.{chosen_found}

@@ -1,6 +1,6 @@
 use Rattle.std.proofs.Common.{◌*◌, ◌+◌, ap, refl, ◌∙◌}
 use Rattle.dirac_synthesis.proofs.Maps.{ok_weaker}
-use Rattle.dirac_decode.specs.Content.{height_of}
+use Rattle.dirac_content.specs.Content.{height_of}
 use Rattle.dirac_pardec.specs.Slices.{reach}
 use Rattle.dirac_synthesis.specs.Residual.{rows_between}
 use Rattle.dirac_pardec.proofs.Placed.{intra_strip}

@@ -1,7 +1,7 @@
 use Rattle.std.proofs.Common.{ℤ, List, ◌*◌, ◌+◌, ap, refl, ◌∙◌}
 use Rattle.dirac_synthesis.proofs.Maps.{ok_weaker}
 use Rattle.dirac_synthesis.specs.Residual.{clipped, with_prediction}
-use Rattle.dirac_decode.specs.Content.{height_of}
+use Rattle.dirac_content.specs.Content.{height_of}
 use Rattle.dirac_pardec.specs.Given.{given}
 use Rattle.dirac_pardec.specs.Slices.{reach}
 use Rattle.dirac_pardec.proofs.Placed.{inter_strip}

@@ -1,7 +1,7 @@
 use Rattle.std.proofs.Common.{◌≡◌, ◌%◌, None, arith}
 use Rattle.std.specs.Prelude.{option_map}
 use Rattle.dirac_common.specs.declared.picture.Picture.{Picture}
-use Rattle.dirac_decode.specs.Content.{plane_of, up_of}
+use Rattle.dirac_content.specs.Content.{plane_of, up_of}
 use Rattle.dirac_pardec.specs.declared.prepared.Prepared.{Prepared}
 use Rattle.dirac_pardec.specs.Given.{given}
 use Rattle.dirac_pardec.specs.Prepared.{IsPreparedAt}

@@ -1,6 +1,6 @@
 use Rattle.std.proofs.Common.{rules, subst, sym}
-use Rattle.dirac_decode.specs.Content.{IsPicture}
-use Rattle.dirac_decode.proofs.Pictures.{picture_fits}
+use Rattle.dirac_content.specs.Content.{IsPicture}
+use Rattle.dirac_rebuild.proofs.Pictures.{picture_fits}
 use Rattle.dirac_synthesis.proofs.Maps.{ok_weaker}
 use Rattle.dirac_pardec.proofs.rebuild.rebuild_rows.Goals as goal
 

@@ -1,5 +1,5 @@
 use Rattle.std.proofs.Common.{length, ap, ◌∙◌}
-use Rattle.dirac_decode.specs.Content.{height_of, width_of}
+use Rattle.dirac_content.specs.Content.{height_of, width_of}
 use Rattle.dirac_pardec.proofs.Placed.{all_inside, have_sizes, joined_is}
 use Rattle.dirac_pardec.proofs.slices.joined_plane.Goals as goal
 

@@ -5,7 +5,7 @@ use Rattle.dirac_picture.specs.Grammar.{chroma_height, chroma_width}
 use Rattle.dirac_synthesis.proofs.Maps.{ok_weaker}
 use Rattle.dirac_sequence.proofs.Accepted.{writable}
 use Rattle.dirac_sources.proofs.Raws.{raw_sizes, raw_source, ok_four}
-use Rattle.dirac_decode.specs.Raw.{raw}
+use Rattle.dirac_content.specs.Raw.{raw}
 use Rattle.dirac_sources.specs.Sources.{picture_in}
 use Rattle.dirac_sources.proofs.RawBytes.{raw_again}
 use Rattle.dirac_bits.proofs.Packed.{all_below}

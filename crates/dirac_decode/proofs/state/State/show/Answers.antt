@@ -1,5 +1,5 @@
 use Rattle.std.proofs.Common.{◌≡◌, ap, arith, subst, sym}
-use Rattle.dirac_decode.specs.StreamState.{StreamState}
+use Rattle.dirac_content.specs.StreamState.{StreamState}
 use Rattle.dirac_decode.specs.Taking.{IsOfOpen}
 use Rattle.dirac_decode.proofs.Listing.{open_still}
 use Rattle.dirac_decode.proofs.state.State.show.Goals as goal

@@ -1,6 +1,0 @@
-use Rattle.std.proofs.Common.{◌≡◌, ◌<◌, ℕ, pos, slice_index, slice_index_or}
-use Rattle.dirac_decode.specs.Raw.{byte_of}
-use Rattle.dirac_decode.proofs.written.put_bytes.Given as goal
-
-abbrev pub invariant-loop-i : goal.invariant-loop-i
-invariant-loop-i l = (k : ℕ) → k < l.i → slice_index l.bytes k ≡ byte_of (slice_index_or l.samples k (pos 0))

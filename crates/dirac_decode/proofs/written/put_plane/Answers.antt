@@ -1,6 +1,0 @@
-use Rattle.dirac_decode.specs.Raw.{plane_bytes}
-use Rattle.dirac_decode.proofs.Rows.{nothing_yet}
-use Rattle.dirac_decode.proofs.written.put_plane.Goals as goal
-
-pub returns-in-Err-clause-front : goal.returns-in-Err-clause-front
-returns-in-Err-clause-front g c = nothing_yet (g.K.Sink.taken c.args.out.now) (plane_bytes c.args.plane.now)

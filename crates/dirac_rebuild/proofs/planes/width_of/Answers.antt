@@ -1,0 +1,11 @@
+use Rattle.std.proofs.Common.{ℕ, ◌≤◌, subst, sym}
+use Rattle.dirac_picture.proofs.Chroma.{part_size}
+use Rattle.dirac_rebuild.proofs.planes.width_of.Goals as goal
+
+pub returns-clause-at_least_1 : goal.returns-clause-at_least_1
+returns-clause-at_least_1 c =
+    subst (λ (k : ℕ). 1 ≤ k) (sym c.plane_width.ensures) (part_size c.args.sequence.now c.args.component c.requires).across.0
+
+pub returns-clause-at_most_4096 : goal.returns-clause-at_most_4096
+returns-clause-at_most_4096 c =
+    subst (λ (k : ℕ). k ≤ 4096) (sym c.plane_width.ensures) (part_size c.args.sequence.now c.args.component c.requires).across.1

@@ -1,0 +1,10 @@
+-- A plane of a reference with its half samples, kept or made.
+-- Inner: for the proofs of this crate.
+use Rattle.dirac_upconvert.specs.SubSamples.{Up}
+use Rattle.dirac_rebuild.specs.declared.compensate.Doubled.{Doubled}
+use Rattle.dirac_rebuild.specs.declared.compensate.Doubled.TheVariants.{Kept, Made}
+
+-- that plane
+abbrev pub plane_in : Doubled → Up
+plane_in (Kept up) = up.now
+plane_in (Made up) = up

@@ -1,0 +1,10 @@
+//! Pictures rebuilt: what their blocks predict from their references, and the residual that is added.
+#![tactic(auto)]
+
+mod compensate;
+mod picture;
+mod planes;
+
+pub use compensate::{Moved, plane_motion, predict, predict_from, predict_with, up_plane};
+pub use picture::{predicted_samples, rebuild};
+pub use planes::{height_of, plane_of, residual_of, unfinished_of, width_of};

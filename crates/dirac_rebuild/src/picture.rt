@@ -1,0 +1,182 @@
+ghost use Rattle.std.specs.Prelude.{◌≡◌, ◌*◌, length, Some, IfOk, IfSome, IsSome};
+ghost use Rattle.std.specs.Option.{ForSome, option_copied};
+ghost use Rattle.dirac_common.specs.declared.formats.Kind.TheVariants.{Inter};
+ghost use Rattle.dirac_sequence_header.specs.Lawful.{IsSequence};
+ghost use Rattle.dirac_picture.specs.Fits.{FitsSequence, IsMotion, IsResidual, NamesReferences};
+ghost use Rattle.dirac_synthesis.specs.Residual.{clipped as clipped_table, with_prediction};
+ghost use Rattle.dirac_content.specs.Content as content;
+ghost use Rattle.dirac_content.specs.Content.{AreReferences, IsPicture, rebuilt};
+ghost use Rattle.dirac_content.specs.Predicting.{inter_picture, inter_plane, intra_picture};
+ghost use Rattle.dirac_rebuild.specs.Moved.{IsMoved};
+ghost use Rattle.dirac_rebuild.specs.Rebuilding.{CanBeRebuilt};
+
+use crate::compensate::{Moved, predict_from};
+use crate::planes::unfinished_of;
+use dirac_common::{Kind, NoMemory, Picture, Plane};
+use dirac_content::named_reference;
+use dirac_obmc::Component;
+use dirac_picture::{CodedMotion, CodedPicture, CodedResidual};
+use dirac_refs::{RefBuffer, Reference};
+use dirac_sequence_header::Sequence;
+use dirac_synthesis::{clipped_by_strips, clipped_sum_by_strips};
+use std::alloc::Global;
+
+/// The samples of a plane of an intra picture: its residual, clipped.
+fn intra_samples(
+    alloc: Global,
+    sequence: &Sequence,
+    component: Component,
+    residual: &Option<CodedResidual>,
+) -> Result<Plane, NoMemory>
+    requires sequence { IsSequence sequence.now }
+    requires fits { IfSome residual.now (IsResidual sequence.now) }
+    ensures value { IfOk result (λ t. t ≡ content.intra_samples sequence.now residual.now component) }
+{
+    let residual = unfinished_of(alloc, sequence, Kind::Intra, component, residual)?;
+    clipped_by_strips(alloc, &residual)
+}
+
+/// The samples of a plane of an inter picture, from what is predicted for them, by rows: each with its residual,
+/// clipped.
+pub fn predicted_samples(
+    alloc: Global,
+    sequence: &Sequence,
+    residual: &Option<CodedResidual>,
+    predicted: &[i32],
+    component: Component,
+) -> Result<Plane, NoMemory>
+    requires sequence { IsSequence sequence.now }
+    requires fits { IfSome residual.now (IsResidual sequence.now) }
+    requires predicted { length predicted.now ≡ content.width_of sequence.now component * content.height_of sequence.now
+        component }
+    ensures value { IfOk result (λ t. t ≡ clipped_table (with_prediction
+        (content.residual_among sequence.now Inter component residual.now) predicted.now)) }
+{
+    let residual = unfinished_of(alloc, sequence, Kind::Inter, component, residual)?;
+    clipped_sum_by_strips(alloc, &residual, predicted)
+}
+
+/// The samples of a plane of an inter picture: its residual and what its references predict, clipped.
+fn inter_samples(
+    alloc: Global,
+    moved: &Moved<'_>,
+    residual: &Option<CodedResidual>,
+    first: &Reference,
+    second: Option<&Reference>,
+    component: Component,
+) -> Result<Plane, NoMemory>
+    requires moved { IsMoved moved.now }
+    requires fits { IfSome residual.now (IsResidual moved.now.sequence.now) }
+    requires first { IsPicture moved.now.sequence.now first.now }
+    requires second { ForSome (option_copied second) (IsPicture moved.now.sequence.now) }
+    requires two { moved.now.motion.now.blocks.refs ≡ 2 → IsSome second }
+    ensures value { IfOk result (λ t. t ≡ inter_plane moved.now.sequence.now (Some first.now)
+        (option_copied second.entry) moved.now.motion.now residual.now component) }
+{
+    let predicted = predict_from(alloc, moved, first, second, component)?;
+    let values = predicted.values();
+    predicted_samples(alloc, moved.sequence, residual, values, component)
+}
+
+/// An inter picture, from its references.
+fn rebuild_from(
+    alloc: Global,
+    moved: &Moved<'_>,
+    coded: &CodedPicture,
+    first: &Reference,
+    second: Option<&Reference>,
+) -> Result<Picture, NoMemory>
+    requires moved { IsMoved moved.now }
+    requires fits { IfSome coded.now.residual (IsResidual moved.now.sequence.now) }
+    requires first { IsPicture moved.now.sequence.now first.now }
+    requires second { ForSome (option_copied second) (IsPicture moved.now.sequence.now) }
+    requires two { moved.now.motion.now.blocks.refs ≡ 2 → IsSome second }
+    ensures { IfOk result (λ p. p ≡ inter_picture moved.now.sequence.now (Some first.now)
+        (option_copied second.entry) coded.now.header moved.now.motion.now coded.now.residual) }
+{
+    let residual = &coded.residual;
+    let y = inter_samples(alloc, moved, residual, first, second, Component::Y)?;
+    let u = inter_samples(alloc, moved, residual, first, second, Component::U)?;
+    let v = inter_samples(alloc, moved, residual, first, second, Component::V)?;
+    let number = coded.header.number;
+    Ok(Picture { number, y, u, v })
+}
+
+/// An inter picture. Its references are looked up once.
+fn rebuild_inter(
+    alloc: Global,
+    coded: &CodedPicture,
+    motion: &CodedMotion,
+    sequence: &Sequence,
+    refs: &RefBuffer,
+) -> Result<Picture, NoMemory>
+    requires sequence { IsSequence sequence.now }
+    requires inter { coded.now.motion ≡ Some motion.now }
+    requires motion { IsMotion coded.now.code sequence.now motion.now }
+    requires names { NamesReferences coded.now.code coded.now.header }
+    requires refs { AreReferences sequence.now refs.now coded.now.header }
+    requires fits { IfSome coded.now.residual (IsResidual sequence.now) }
+    ensures { IfOk result (λ p. p ≡ rebuilt sequence.now refs.now coded.now) }
+{
+    let moved = Moved {
+        code: coded.code,
+        sequence,
+        motion,
+    };
+    let second = named_reference(refs, coded.header.ref2);
+    match named_reference(refs, coded.header.ref1) {
+        None => unreachable!(),
+        Some(first) => rebuild_from(alloc, &moved, coded, first, second),
+    }
+}
+
+/// The planes of an intra picture.
+fn intra_planes(
+    alloc: Global,
+    coded: &CodedPicture,
+    sequence: &Sequence,
+) -> Result<Picture, NoMemory>
+    requires sequence { IsSequence sequence.now }
+    requires fits { IfSome coded.now.residual (IsResidual sequence.now) }
+    ensures { IfOk result (λ p. p ≡ intra_picture sequence.now coded.now.header coded.now.residual) }
+{
+    let y = intra_samples(alloc, sequence, Component::Y, &coded.residual)?;
+    let u = intra_samples(alloc, sequence, Component::U, &coded.residual)?;
+    let v = intra_samples(alloc, sequence, Component::V, &coded.residual)?;
+    let number = coded.header.number;
+    Ok(Picture { number, y, u, v })
+}
+
+/// An intra picture from its residual, an inter picture from its references too.
+fn rebuild_planes(
+    alloc: Global,
+    coded: &CodedPicture,
+    sequence: &Sequence,
+    refs: &RefBuffer,
+) -> Result<Picture, NoMemory>
+    requires { CanBeRebuilt coded.now sequence.now refs.now }
+    ensures { IfOk result (λ p. p ≡ rebuilt sequence.now refs.now coded.now) }
+{
+    match &coded.motion {
+        None => intra_planes(alloc, coded, sequence),
+        Some(motion) => rebuild_inter(alloc, coded, motion, sequence, refs),
+    }
+}
+
+/// The picture that a coded picture stands for, from its residual and its references (picture decoding, Dirac
+/// specification).
+pub fn rebuild(
+    alloc: Global,
+    coded: &CodedPicture,
+    sequence: &Sequence,
+    refs: &RefBuffer,
+) -> Result<Picture, NoMemory>
+    requires sequence { IsSequence sequence.now }
+    requires fits { FitsSequence coded.now.code sequence.now coded.now }
+    requires refs { AreReferences sequence.now refs.now coded.now.header }
+    ensures value { IfOk result (λ p. p ≡ rebuilt sequence.now refs.now coded.now) }
+    ensures fits { IfOk result (IsPicture sequence.now) }
+{
+    let picture = rebuild_planes(alloc, coded, sequence, refs)?;
+    Ok(picture)
+}
