@@ -10,10 +10,10 @@ pub use Rattle.dirac_stream_commands.specs.Listing
 pub use Rattle.dirac_stream_commands.specs.Decoding
 pub use Rattle.dirac_stream_commands.specs.Cutting
 pub use Rattle.dirac_stream_commands.specs.Joining
-pub mod Rating
+pub use Rattle.dirac_encode_commands.specs.Rating
 pub mod Answering
-pub mod Encoding
-pub mod Making
+pub use Rattle.dirac_encode_commands.specs.Encoding
+pub use Rattle.dirac_encode_commands.specs.Making
 pub mod Running
 pub mod Flushing
-pub mod Delivered
+pub use Rattle.dirac_encode_commands.specs.Delivered

@@ -23,13 +23,13 @@ use Rattle.dirac_command_line.specs.declared.words.WordsStop.{WordsStop}
 use Rattle.dirac_command_line.specs.declared.words.WordsStop.TheVariants.{Usage}
 use Rattle.dirac_stream_commands.specs.Cutting.{Cuts}
 use Rattle.dirac_stream_commands.specs.Decoding.{IsDecoded, IsDecodeAnswer, TellsFew}
-use Rattle.dirac_commands.specs.Delivered.{DeliversShown, SideGetsShown}
-use Rattle.dirac_commands.specs.Encoding.{EndsStream, IsEncoded, IsEncodeAnswer}
+use Rattle.dirac_encode_commands.specs.Delivered.{DeliversShown, SideGetsShown}
+use Rattle.dirac_encode_commands.specs.Encoding.{EndsStream, IsEncoded, IsEncodeAnswer}
 use Rattle.dirac_stream_commands.specs.Inside.{IsFaultInside}
 use Rattle.dirac_stream_commands.specs.Joining.{Joins}
 use Rattle.dirac_stream_commands.specs.Listing.{IsListed, IsListAnswer}
-use Rattle.dirac_commands.specs.Making.{AnswersMake, making}
-use Rattle.dirac_commands.specs.Rating.{IsRated}
+use Rattle.dirac_encode_commands.specs.Making.{AnswersMake, making}
+use Rattle.dirac_encode_commands.specs.Rating.{IsRated}
 
 -- the bytes that the source holds and that the two sinks took, where they tell them
 pub record Held : Type 0 where

@@ -3,9 +3,7 @@
 #![tactic(auto)]
 
 mod answering;
-mod encode;
 mod flushed;
-mod make;
 mod rate;
 mod running;
 

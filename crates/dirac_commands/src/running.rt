@@ -7,13 +7,12 @@ ghost use Rattle.dirac_stream_commands.specs.Cutting.{IfUnwrittenBy};
 ghost use Rattle.dirac_command_line.specs.Words.{command_read};
 ghost use Rattle.dirac_commands.specs.Running.{RunsTo, bad_setting};
 
-use crate::encode::encode;
-use crate::make::make;
 use crate::rate::rate;
 use dirac_command_line::{
     Command, Ended, Words, WordsStop, check_make, check_rate, check_workers, read_words,
 };
 use dirac_common::RowGate;
+use dirac_encode_commands::{encode, make};
 use dirac_io::{Sink, Source};
 use dirac_stream_commands::{cut, decode, join, list};
 use std::alloc::Global;

@@ -1,6 +1,6 @@
 use Rattle.std.proofs.Common.{Some}
 use Rattle.dirac_encode_laws.specs.Fit.{fit}
-use Rattle.dirac_commands.proofs.Delivered.{told_rated}
+use Rattle.dirac_encode_commands.proofs.Delivered.{told_rated}
 use Rattle.dirac_commands.proofs.rate.rate.Goals as goal
 
 pub returns-clause-shows : goal.returns-clause-shows

@@ -25,7 +25,7 @@ use Rattle.dirac_generator.specs.Generated.{chroma_across, chroma_down, generate
 use Rattle.dirac_generator.proofs.Lengths.{pictures_length}
 use Rattle.dirac_command_line.specs.declared.ended.Ended.{Ended}
 use Rattle.dirac_command_line.specs.declared.ended.Ended.TheVariants as ended
-use Rattle.dirac_commands.specs.Making.{AnswersMake, AnswersUnmade, line_with, made_line, made_text, making}
+use Rattle.dirac_encode_commands.specs.Making.{AnswersMake, AnswersUnmade, line_with, made_line, made_text, making}
 
 -- chroma's sizes are those of the sequence header
 across_of : (a b : Bool) → ratio_across (if a then C444 else if b then C422 else C420) ≡ (if a then 1 else 2)

@@ -1,7 +1,7 @@
 use Rattle.std.proofs.Common.{None}
 use Rattle.dirac_encode_laws.specs.Coding.{own_index}
-use Rattle.dirac_commands.proofs.Delivered.{told_encoded}
-use Rattle.dirac_commands.proofs.encode.encode.Goals as goal
+use Rattle.dirac_encode_commands.proofs.Delivered.{told_encoded}
+use Rattle.dirac_encode_commands.proofs.encoded.encode.Goals as goal
 
 pub returns-clause-shows : goal.returns-clause-shows
 returns-clause-shows g c =

@@ -25,11 +25,11 @@ use Rattle.dirac_encode_laws.proofs.Accepted.{most_pictures}
 use Rattle.dirac_encode_laws.proofs.Sources.{length-pictures_in}
 use Rattle.dirac_command_line.specs.declared.ended.Ended.{Ended}
 use Rattle.dirac_command_line.specs.declared.ended.Ended.TheVariants as ended
-use Rattle.dirac_commands.specs.Delivered.{DeliversShown, SideGetsShown}
+use Rattle.dirac_encode_commands.specs.Delivered.{DeliversShown, SideGetsShown}
 use Rattle.dirac_generator.specs.Generated.{generated_from}
-use Rattle.dirac_commands.specs.Encoding.{AnswersEncode, EndsStream, IsEncoded}
-use Rattle.dirac_commands.specs.Making.{making}
-use Rattle.dirac_commands.specs.Rating.{IsRated}
+use Rattle.dirac_encode_commands.specs.Encoding.{AnswersEncode, EndsStream, IsEncoded}
+use Rattle.dirac_encode_commands.specs.Making.{making}
+use Rattle.dirac_encode_commands.specs.Rating.{IsRated}
 
 length-coded : (f : IndexRule) (t : Settings) (refs : List Picture) (jobs : List Job)
     → length (coded_under f t refs jobs) ≡ length jobs

@@ -2,9 +2,9 @@ use Rattle.std.proofs.Common.{ap, sym, ◌∙◌, length}
 use Rattle.dirac_content.specs.Raw.{raws}
 use Rattle.dirac_encode_laws.specs.Encoding.{encoding}
 use Rattle.dirac_generator.specs.Generated.{exact_from}
-use Rattle.dirac_commands.proofs.Delivered.{made_shown}
-use Rattle.dirac_commands.proofs.Making.{came_out, never_partial, same_line, whole_raw}
-use Rattle.dirac_commands.proofs.make.line_of_made.Goals as goal
+use Rattle.dirac_encode_commands.proofs.Delivered.{made_shown}
+use Rattle.dirac_encode_commands.proofs.Making.{came_out, never_partial, same_line, whole_raw}
+use Rattle.dirac_encode_commands.proofs.made.line_of_made.Goals as goal
 
 pub returns-in-Done-clause-line : goal.returns-in-Done-clause-line
 returns-in-Done-clause-line g c =

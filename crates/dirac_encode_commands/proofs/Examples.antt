@@ -8,7 +8,7 @@ use Rattle.dirac_units.specs.Cut.{IsCut, UnitText, start}
 use Rattle.dirac_content.specs.Shown.{Outcome, outcome}
 use Rattle.dirac_content.specs.StreamState.{begun}
 use Rattle.dirac_encode_laws.specs.declared.answers.Encoded.{Encoded}
-use Rattle.dirac_commands.specs.Delivered.{DeliversShown}
+use Rattle.dirac_encode_commands.specs.Delivered.{DeliversShown}
 
 -- nothing is delivered beside a stream of no byte: its end unit is missing
 no_end_unit : (units : List UnitText) (end : Option Fault) (o : Outcome) → IsCut start [] units end

@@ -2,9 +2,9 @@ ghost use Rattle.std.specs.Prelude.{◌≡◌, ◌≤◌, IfOk, IfErr, OnOk, str
 ghost use Rattle.dirac_io.specs.Faults.{Rose};
 ghost use Rattle.dirac_types.specs.Settings.{IsAccepted};
 ghost use Rattle.dirac_encode_laws.specs.declared.answers.Encoded.TheVariants as encoded;
-ghost use Rattle.dirac_commands.specs.Delivered.{DeliversShown};
-ghost use Rattle.dirac_commands.specs.Making.{AnswersMake, AnswersUnmade, line_with, made_line};
-ghost use Rattle.dirac_commands.specs.Making.{making};
+ghost use Rattle.dirac_encode_commands.specs.Delivered.{DeliversShown};
+ghost use Rattle.dirac_encode_commands.specs.Making.{AnswersMake, AnswersUnmade, line_with, made_line};
+ghost use Rattle.dirac_encode_commands.specs.Making.{making};
 
 use dirac_command_line::Ended;
 use dirac_common::{NoMemory, RowGate};

@@ -1,5 +1,5 @@
-use Rattle.dirac_commands.proofs.Making.{no_write_fault, nothing_made}
-use Rattle.dirac_commands.proofs.make.make.Goals as goal
+use Rattle.dirac_encode_commands.proofs.Making.{no_write_fault, nothing_made}
+use Rattle.dirac_encode_commands.proofs.made.make.Goals as goal
 
 pub returns-clause-made : goal.returns-clause-made
 returns-clause-made g c =

@@ -10,8 +10,8 @@ ghost use Rattle.dirac_encode.specs.Alone.{WritesDue, WritesFrontOfRead};
 ghost use Rattle.dirac_choice_laws.specs.Insides.{HaveVectorsInside};
 ghost use Rattle.dirac_choice_laws.specs.Pictures.{AreLeastInters};
 ghost use Rattle.dirac_choice_laws.specs.Workers.{with_workers};
-ghost use Rattle.dirac_commands.specs.Delivered.{SideGetsShown};
-ghost use Rattle.dirac_commands.specs.Encoding.{EndsStream, IsEncoded, IsEncodeAnswer};
+ghost use Rattle.dirac_encode_commands.specs.Delivered.{SideGetsShown};
+ghost use Rattle.dirac_encode_commands.specs.Encoding.{EndsStream, IsEncoded, IsEncodeAnswer};
 
 use dirac_choice_laws::{
     coded_vectors_keep_inside, inter_pictures_cost_least, workers_change_nothing,

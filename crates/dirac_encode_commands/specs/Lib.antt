@@ -1,0 +1,4 @@
+pub mod Delivered
+pub mod Encoding
+pub mod Making
+pub mod Rating

@@ -1,0 +1,8 @@
+//! The commands that encode at the settings' own index: raw pictures from a source, and generated ones in memory.
+#![tactic(auto)]
+
+mod encoded;
+mod made;
+
+pub use encoded::encode;
+pub use made::make;
