@@ -1,10 +1,11 @@
 -- The bands of a plane in the order of their orientations: the blocks of all are found first, and then the bands of each
 -- orientation are read apart from those of the others, each with the one before it as its parent.
-use Rattle.std.specs.Prelude.{◌≡◌, ℕ, zero, suc, ℤ, ◌+◌, ◌*◌, List, [], ◌∷◌, ◌++◌, length, slice_get, Option, Some}
-use Rattle.std.specs.Prelude.{Ok, IfSome}
+use Rattle.std.specs.Prelude.{◌≡◌, ℕ, zero, suc, ℤ, ◌+◌, ◌*◌, ◌<◌, List, [], ◌∷◌, ◌++◌, length, slice_get, Option}
+use Rattle.std.specs.Prelude.{Some, Ok, Err, IfSome}
 use Rattle.std.specs.List.{All}
 use Rattle.dirac_common.specs.declared.formats.Component.{Component}
 use Rattle.dirac_common.specs.declared.formats.Component.TheVariants as component
+use Rattle.dirac_common.specs.declared.faults.Refusal.{Refusal}
 use Rattle.dirac_common.specs.Limits.{IsIndex}
 use Rattle.dirac_bits.specs.Cursor.{Cursor}
 use Rattle.dirac_bits.specs.Syntax.{read}
@@ -50,6 +51,15 @@ pub record AreFound (t : Transform) (c : Cursor) (found : FoundPlanes) (d : Curs
   pub u : AreSitesOf t behind_y found.u.items behind_u
   pub v : AreSitesOf t behind_u found.v.items d
 
+-- one of so many blocks that follow one another isn't found, while those before it are
+pub record IsMissing (count : ℕ) (c : Cursor) : Type 0 where
+  pub before : List (Option Found)
+  pub behind : Cursor
+  pub refusal : Refusal
+  pub found : AreSites c before behind
+  pub fewer : length before < count
+  pub refused : read site behind ≡ Err refusal
+
 -- the values of the band before place k of a chain, which is its parent
 abbrev pub values_before : List CodedBand → ℕ → List ℤ
 values_before bands zero = []
@@ -79,6 +89,17 @@ pub record IsWholeChain (t : Transform) (width height : ℕ) (sites : List (Opti
   pub count : length bands ≡ chain_length t first
   pub read : IsChain t width height sites first bands
   pub lawful : AreLawful t width height first bands
+
+-- a band of an orientation is refused behind those before it, which are read
+pub record IsRefused (t : Transform) (width height : ℕ) (sites : List (Option Found)) (first : ℕ) : Type 0 where
+  pub before : List CodedBand
+  pub block : Option Found
+  pub refusal : Refusal
+  pub fewer : length before < chain_length t first
+  pub read : IsChain t width height sites first before
+  pub at : slice_get sites (first + 3 * length before) ≡ Some block
+  pub refused : band_at (layout_of t width height (first + 3 * length before)) (values_before before (length before))
+      block ≡ Err refusal
 
 -- the bands of HL, LH and HH, level by level
 abbrev pub woven : List CodedBand → List CodedBand → List CodedBand → List CodedBand

@@ -1,10 +1,10 @@
-ghost use Rattle.std.specs.Prelude.{◌≡◌, ◌+◌, ◌*◌, ◌≤◌, length, IfOk, IfSome};
+ghost use Rattle.std.specs.Prelude.{◌≡◌, ◌+◌, ◌*◌, ◌≤◌, length, IfOk, IfSome, None, Ok};
 ghost use Rattle.dirac_common.specs.Limits.{IsIndex};
 ghost use Rattle.dirac_coeffs.specs.Answers.{GivesOrStops};
 ghost use Rattle.dirac_coeffs.specs.Grammar.{IsCodedBand};
 ghost use Rattle.dirac_coeffs.specs.Sites.{band_at};
 ghost use Rattle.dirac_picture.specs.Bands.{layout_of};
-ghost use Rattle.dirac_picture.specs.Chains.{chain_length, values_before, AreLawful, AreWhole, IsWholeChain};
+ghost use Rattle.dirac_picture.specs.Chains.{chain_length, values_before, AreLawful, AreWhole, IsRefused, IsWholeChain};
 ghost use Rattle.dirac_picture.specs.Fits.{IsLayout, IsPlaneSize};
 
 use crate::layouts::layout;
@@ -100,7 +100,8 @@ pub fn read_chain(
     requires size { IsPlaneSize size.width size.height }
     requires whole { AreWhole transform.now sites.now }
     requires first { first ≤ 3 }
-    ensures { IfOk result (λ r. IfSome r (IsWholeChain transform.now size.width size.height sites.now first)) }
+    ensures whole { IfOk result (λ r. IfSome r (IsWholeChain transform.now size.width size.height sites.now first)) }
+    ensures none { result ≡ Ok None → IsRefused transform.now size.width size.height sites.now first }
 {
     let mut bands = Vec::new(alloc);
     'levels: for k in 0..length_of(transform, first) {

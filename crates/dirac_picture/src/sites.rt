@@ -1,6 +1,7 @@
-ghost use Rattle.std.specs.Prelude.{◌≡◌, ◌≤◌, IfOk, IfSome};
+ghost use Rattle.std.specs.Prelude.{◌≡◌, ◌*◌, ◌≤◌, IfOk, IfSome, None, Ok};
 ghost use Rattle.dirac_common.specs.Limits.{IsDepth};
-ghost use Rattle.dirac_picture.specs.Chains.{sites_among, AreFound, AreSitesOf, AreWholePlanes};
+ghost use Rattle.dirac_picture.specs.Bands.{band_count};
+ghost use Rattle.dirac_picture.specs.Chains.{sites_among, AreFound, AreSitesOf, AreWholePlanes, IsMissing};
 
 use dirac_bits::BitReader;
 use dirac_coeffs::{Site, find_site};
@@ -37,6 +38,7 @@ fn find_sites<'a>(
 ) -> Result<Option<Vec<Option<Site<'a>>>>, NoMemory>
     requires { IsDepth transform.now.depth }
     ensures sites { IfOk result (λ o. IfSome o (λ v. AreSitesOf transform.now r.old v.items r.new)) }
+    ensures none { result ≡ Ok None → IsMissing (band_count transform.now.depth) r.old }
     ensures kept { r.new.bytes ≡ r.old.bytes }
 {
     let mut sites = Vec::new(alloc);
@@ -59,6 +61,7 @@ pub fn find_planes<'a>(
     requires { IsDepth transform.now.depth }
     ensures found { IfOk result (λ o. IfSome o (λ found. AreFound transform.now r.old found r.new)) }
     ensures whole { IfOk result (λ o. IfSome o (AreWholePlanes transform.now)) }
+    ensures none { result ≡ Ok None → IsMissing (3 * band_count transform.now.depth) r.old }
     ensures kept { r.new.bytes ≡ r.old.bytes }
 {
     let Some(y) = find_sites(alloc, r, transform)? else {
