@@ -8,7 +8,7 @@ use Rattle.dirac_io.specs.Writing.{AppendsFront}
 use Rattle.dirac_units.specs.declared.unit_place.UnitPlace.{UnitPlace}
 use Rattle.dirac_units.specs.Cut.{IsCut, UnitText, start}
 use Rattle.dirac_content.specs.Raw.{raws}
-use Rattle.dirac_content.specs.Shown.{IsShown, Outcome, outcome}
+use Rattle.dirac_content.specs.Shown.{IsShown, Outcome, accepted, outcome}
 use Rattle.dirac_content.specs.StreamState.{StreamState, StreamStep, begun, unit_step}
 
 -- the pictures that leave at a unit, and then those that leave behind it; none at one that is refused
@@ -22,8 +22,8 @@ leaving state [] = []
 leaving state (unit ∷ units) =
     leaving_on (λ next. leaving next units) (unit_step state unit.info.code unit.payload)
 
--- of these bytes some were read and just the others are held, and a sink took just the pictures that leave while the
--- units that lie whole in those read are taken
+-- of these bytes some were read and just the others are held; the units that lie whole in those read are all accepted,
+-- and a sink took just the pictures that leave while they are taken
 pub record IsBrokenOff (bytes : List ℕ) (held' taken taken' : Option (List ℕ)) : Type 0 where
   pub read : List ℕ
   pub rest : List ℕ
@@ -32,6 +32,7 @@ pub record IsBrokenOff (bytes : List ℕ) (held' taken taken' : Option (List ℕ
   pub units : List UnitText
   pub end : Option Fault
   pub cut : IsCut start read units end
+  pub accepts : accepted begun units ≡ units
   pub delivered : Appends taken taken' (raws (leaving begun units))
 
 -- of these bytes some were read and just the others are held, and a sink took a front of the pictures that those read

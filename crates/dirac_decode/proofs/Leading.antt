@@ -160,7 +160,7 @@ settles_one p state state' popped units given given' m held =
       };
       going = λ e. e;
       passed = λ e.
-          passed_none (prepend_known units.ahead held) (decoding units state true given m) (decoding units state' true given' m) (p ∷ []) refl
+          passed_none (prepend_known units.ahead held) (decoding units state true given m) (decoding units state' true given' m) (p ∷ []) refl empty
           (λ more. ap (λ ps. ps ++ leaving (emptied state) more) one ∙ ap (λ s. p ∷ (flushed state'.waiting ++ leaving s more)) (sym empty));
       alone =
           alone_none (prepend_known units.ahead held) (decoding units state true given m) (decoding units state' true given' m) (p ∷ []) (λ bytes o comes. record {
@@ -170,7 +170,7 @@ settles_one p state state' popped units given given' m held =
           });
     }
 
-none_left : (ws : List Waiting) → length ws ≡ 0 → ws ≡ []
+pub none_left : (ws : List Waiting) → length ws ≡ 0 → ws ≡ []
 none_left [] e = refl
 none_left (w ∷ ws) e = absurd (omega arith)
 
@@ -186,7 +186,7 @@ settles_none state state' popped none units given given' m held =
       };
       going = λ e. e;
       passed = λ e.
-          passed_none (prepend_known units.ahead held) (decoding units state true given m) (decoding units state' false given' m) [] refl
+          passed_none (prepend_known units.ahead held) (decoding units state true given m) (decoding units state' false given' m) [] refl empty
           (λ more. ap (λ ws. flushed ws ++ leaving (emptied state) more) (none_left state.waiting none) ∙ ap (λ s. leaving s more) (sym empty));
       alone =
           alone_none (prepend_known units.ahead held) (decoding units state true given m) (decoding units state' false given' m) [] (λ bytes o comes. record {
@@ -202,7 +202,7 @@ settles_not state draining not units given given' m held =
     subst (λ (b : Bool). LeadsTo (decoding units state b given m) (decoding units state false given' m) held held []) (sym not) (record {
       comes = λ o comes. record { rest = comes.rest; same = comes.same; remains = comes.remains };
       going = λ e. e;
-      passed = λ e. passed_none (prepend_known units.ahead held) (decoding units state false given m) (decoding units state false given' m) [] refl (λ more. refl);
+      passed = λ e. passed_none (prepend_known units.ahead held) (decoding units state false given m) (decoding units state false given' m) [] refl refl (λ more. refl);
       alone =
           alone_none (prepend_known units.ahead held) (decoding units state false given m) (decoding units state false given' m) []
           (λ bytes o comes. record { rest = comes.rest; same = comes.same; remains = comes.remains });
@@ -235,7 +235,7 @@ leads_same old new held same =
     subst (λ (d : Decoding). LeadsTo old d held held []) (sym same) (record {
       comes = λ o comes. comes;
       going = λ e. e;
-      passed = λ e. passed_none (prepend_known old.units.ahead held) old old [] refl (λ more. refl);
+      passed = λ e. passed_none (prepend_known old.units.ahead held) old old [] refl refl (λ more. refl);
       alone = alone_none (prepend_known old.units.ahead held) old old [] (λ bytes o comes. comes);
     })
 

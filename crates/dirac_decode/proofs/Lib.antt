@@ -5,4 +5,5 @@ pub mod Listing
 pub mod Following
 pub mod Passed
 pub mod WholeUnits
+pub mod Stepped
 pub mod Alone

@@ -15,21 +15,23 @@ use Rattle.dirac_units.specs.Progress.{IsFirstUnit, IsPartTaken}
 use Rattle.dirac_units.proofs.Fronts.{front_is, front_whole}
 use Rattle.dirac_decode.specs.Decoding.{BreaksIn, Decoding, Passed}
 use Rattle.dirac_content.specs.Leaving.{leaving, leaving_on}
+use Rattle.dirac_content.specs.Shown.{accepted, accepted_on}
 use Rattle.dirac_content.specs.StreamState.{StreamState, StreamStep, unit_step}
 use Rattle.dirac_content.proofs.Passing.{moved_text, text_of}
 
 -- ---- nothing was read
 
-pub passed_none : (known : Option (List ℕ)) (old new : Decoding) (given : List Picture) → new.units.unit_place ≡ old.units.unit_place
+pub passed_none : (known : Option (List ℕ)) (old new : Decoding) (given : List Picture) → new.units.unit_place ≡ old.units.unit_place → new.state ≡ old.state
     → ((more : List UnitText) → old.due ++ leaving old.state more ≡ given ++ (new.due ++ leaving new.state more)) → IfSome known (λ bytes. Passed old new bytes known given)
-passed_none None old new given place leaves = tt
-passed_none (Some bytes) old new given place leaves = record {
+passed_none None old new given place same leaves = tt
+passed_none (Some bytes) old new given place same leaves = record {
   read = [];
   rest = bytes;
   units = [];
   parts = refl;
   holds = refl;
   cut = λ behind more end is. subst (λ (p : UnitPlace). IsCut p behind more end) place is;
+  accepts = λ more. ap (λ s. accepted s more) (sym same);
   leaves = leaves;
 }
 
@@ -38,6 +40,10 @@ passed_none (Some bytes) old new given place leaves = record {
 leaving_by : (state : StreamState) (unit : UnitText) (more : List UnitText) (read : Result StreamStep Refusal) → unit_step state unit.info.code unit.payload ≡ read → leaving state (unit ∷ more) ≡ leaving_on (λ next. leaving next more) read
 unfolding leaving
 leaving_by state unit more read is = ap (leaving_on (λ next. leaving next more)) is
+
+accepted_by : (state : StreamState) (unit : UnitText) (more : List UnitText) (read : Result StreamStep Refusal) → unit_step state unit.info.code unit.payload ≡ read → accepted state (unit ∷ more) ≡ accepted_on unit (λ next. accepted next more) read
+unfolding accepted
+accepted_by state unit more read is = ap (accepted_on unit (λ next. accepted next more)) is
 
 -- the unit at the front of bytes is the same, whatever stands behind it
 unit_behind : (unit_place : UnitPlace) (info : ParseInfo) (bytes behind : List ℕ) → front_of unit_place bytes ≡ Ok info → (front_of unit_place (take (span_of info) bytes ++ behind) ≡ Ok info)
@@ -59,7 +65,7 @@ unit_behind unit_place info bytes behind is =
       ap (λ n. drop n (read ++ behind)) (sym size) ∙ drop-append_seam read behind,
     )
 
-cut_unit : (unit_place unit_place' : UnitPlace) (info : ParseInfo) (bytes behind : List ℕ) (more : List UnitText) (end : Option Fault) → front_of unit_place bytes ≡ Ok info → unit_place' ≡ after unit_place info → IsCut unit_place' behind more end → IsCut unit_place (take (span_of info) bytes ++ behind) (text_of info bytes ∷ more) end
+pub cut_unit : (unit_place unit_place' : UnitPlace) (info : ParseInfo) (bytes behind : List ℕ) (more : List UnitText) (end : Option Fault) → front_of unit_place bytes ≡ Ok info → unit_place' ≡ after unit_place info → IsCut unit_place' behind more end → IsCut unit_place (take (span_of info) bytes ++ behind) (text_of info bytes ∷ more) end
 cut_unit unit_place unit_place' info bytes behind more end is next later =
     let same = unit_behind unit_place info bytes behind is in
     (same.0, same.1, subst (λ l. IsCut (after unit_place info) l more end) (sym same.2) (subst (λ (p : UnitPlace). IsCut p behind more end) next later))
@@ -82,6 +88,9 @@ passed_unit (Some bytes) known' unit old new m given first next is none same gon
       parts = sym (take-append-drop span bytes);
       holds = first.2;
       cut = λ behind more end later. cut_unit old.units.unit_place new.units.unit_place unit.info bytes behind more end first.0 next later;
+      accepts = λ more.
+          accepted_by old.state text more (Ok m) (moved_text old.state unit bytes (Ok m) first.1 is)
+          ∙ ap (λ s. text ∷ accepted s more) (sym same);
       leaves = λ more.
           ap (λ due. due ++ leaving old.state (text ∷ more)) none
           ∙ leaving_by old.state text more (Ok m) (moved_text old.state unit bytes (Ok m) first.1 is)
@@ -106,6 +115,11 @@ passed_on (Some bytes) known' known'' a b c given more p second =
           subst (λ (l : List ℕ). IsCut a.units.unit_place l ((p.units ++ q.units) ++ us) end) (sym (append_assoc p.read q.read behind))
           (subst (λ (l : List UnitText). IsCut a.units.unit_place (p.read ++ (q.read ++ behind)) l end) (sym (append_assoc p.units q.units us))
           (p.cut (q.read ++ behind) (q.units ++ us) end (q.cut behind us end is)));
+      accepts = λ us.
+          ap (accepted a.state) (append_assoc p.units q.units us)
+          ∙ p.accepts (q.units ++ us)
+          ∙ ap (λ l. p.units ++ l) (q.accepts us)
+          ∙ sym (append_assoc p.units q.units (accepted c.state us));
       leaves = λ us.
           ap (λ l. a.due ++ leaving a.state l) (append_assoc p.units q.units us)
           ∙ p.leaves (q.units ++ us)
@@ -116,7 +130,7 @@ passed_on (Some bytes) known' known'' a b c given more p second =
 -- ---- a read failed
 
 pub breaks_in : (known known' held' : Option (List ℕ)) (a b : Decoding) → b.due ≡ [] → IfSome known (λ bytes. Passed a b bytes known' []) → IfSome known' (λ bytes. (end : Option Fault) × IsPartTaken b.units.unit_place end bytes held') → IfSome known (λ bytes. BreaksIn a bytes held')
-unfolding leaving
+unfolding leaving accepted
 breaks_in None known' held' a b none so part = tt
 breaks_in (Some bytes) known' held' a b none p part =
     let found : (end : Option Fault) × IsPartTaken b.units.unit_place end p.rest held' = subst (λ (k : Option (List ℕ)). IfSome k (λ rest. (end : Option Fault) × IsPartTaken b.units.unit_place end rest held')) p.holds part in
@@ -129,5 +143,6 @@ breaks_in (Some bytes) known' held' a b none p part =
       units = p.units ++ [];
       end = found.0;
       cut = p.cut t.part [] found.0 t.no_unit;
+      accepts = p.accepts [];
       none_due = p.leaves [] ∙ append-nil b.due ∙ none;
     }

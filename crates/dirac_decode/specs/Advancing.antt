@@ -1,19 +1,21 @@
 -- What one unit of a stream does to a decoder, whatever was given so far.
 -- Inner: for the proofs of this crate.
-use Rattle.std.specs.Prelude.{◌≡◌, ℕ, ◌<◌, Bool, true, false, List, [], ◌∷◌, Option, None, Some, Result, Ok, Err, ⊤}
-use Rattle.std.specs.Io.KnownBytes.{append_known}
+use Rattle.std.specs.Prelude.{◌≡◌, ℕ, ◌<◌, Bool, true, false, if◌then◌else◌, List, [], ◌∷◌, Option, None, Some, IfSome}
+use Rattle.std.specs.Prelude.{Result, Ok, Err, ⊤}
+use Rattle.std.specs.Io.KnownBytes.{append_known, prepend_known}
 use Rattle.dirac_common.specs.declared.picture.Picture.{Picture}
 use Rattle.dirac_units.specs.declared.unit.StreamEnd.{StreamEnd}
 use Rattle.dirac_units.specs.declared.unit.StreamEnd.TheVariants as stream_end
+use Rattle.dirac_units.specs.Cut.{front_of}
 use Rattle.dirac_units.specs.Progress.{Progress}
 use Rattle.dirac_decode.specs.declared.step.Halt.{Halt}
 use Rattle.dirac_decode.specs.declared.step.Halt.TheVariants as halt
 use Rattle.dirac_decode.specs.declared.step.Step.{Step}
 use Rattle.dirac_decode.specs.declared.step.Step.TheVariants as step
 use Rattle.dirac_content.specs.StreamState.{StreamState}
-use Rattle.dirac_decode.specs.Stepping.{IsThere}
-use Rattle.dirac_decode.specs.Decoding.{LeadsTo, decoding}
-use Rattle.dirac_decode.specs.Taking.{shown_in}
+use Rattle.dirac_decode.specs.Stepping.{FaultsAt, IsThere, TakesUnit}
+use Rattle.dirac_decode.specs.Decoding.{LeadsTo, decoding, due_of, emptied}
+use Rattle.dirac_decode.specs.Taking.{made_by, shown_in}
 
 -- from one place of a stream to another, at which the decoder drains or goes on, while these pictures leave
 abbrev pub Brings : Progress → Progress → StreamState → StreamState → Option (List ℕ) → Option (List ℕ) → Bool
@@ -45,6 +47,20 @@ AdvancesBefore answer units units' state state' held held' =
     IsThere units held → (more : List ℕ)
     → Advances answer units units' state state' (append_known held more) (append_known held' more)
 
+-- one unit was taken, whose content brings the step; or that end or fault stands next, or the taking was stopped, and
+-- the course stays
+abbrev pub TakesBy : Result Step Halt → Progress → Progress → StreamState → StreamState → Option (List ℕ)
+    → Option (List ℕ) → Type 0
+TakesBy (Ok step) units units' state state' held held' =
+    IfSome (prepend_known units.ahead held) (λ bytes. TakesUnit units.unit_place units'.unit_place state
+    (made_by step state') bytes (prepend_known units'.ahead held'))
+TakesBy (Err halt.End) units units' state state' held held' =
+    (state' ≡ state) × IfSome (prepend_known units.ahead held) (λ bytes. front_of units.unit_place bytes ≡ Err None)
+TakesBy (Err (halt.Fault fault)) units units' state state' held held' =
+    (state' ≡ state) × IfSome (prepend_known units.ahead held) (FaultsAt units.unit_place state fault)
+TakesBy (Err halt.ReadFault) units units' state state' held held' = state' ≡ state
+TakesBy (Err halt.NoMemory) units units' state state' held held' = state' ≡ state
+
 -- a unit was passed, so the next one begins further on
 abbrev pub GoesOn : Result Step Halt → Progress → Progress → Type 0
 GoesOn (Ok step) units units' = (units'.stream_end ≡ stream_end.Going) × (units.unit_place.at < units'.unit_place.at)
@@ -65,3 +81,9 @@ Settles None state state' draining =
     (units : Progress) (given given' : ℕ) (stream_end : StreamEnd) (held : Option (List ℕ))
     → LeadsTo (decoding units state draining given stream_end) (decoding units state' false given' stream_end) held
     held []
+
+-- where none is due any more the course is what it was, and else what it was but for the picture that left
+abbrev pub IsSettled : Option Picture → StreamState → StreamState → Bool → Type 0
+IsSettled (Some p) state state' draining = (draining ≡ true) × (emptied state' ≡ emptied state)
+IsSettled None state state' draining =
+    (due_of draining state ≡ []) × (state' ≡ (if draining then emptied state else state))

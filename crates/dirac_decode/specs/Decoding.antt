@@ -13,7 +13,7 @@ use Rattle.dirac_decode.specs.declared.answers.Next.{Next}
 use Rattle.dirac_decode.specs.declared.answers.Next.TheVariants as next
 use Rattle.dirac_content.specs.declared.tally.Tally.{Tally}
 use Rattle.dirac_content.specs.StreamState.{StreamState, begun as course_begun}
-use Rattle.dirac_content.specs.Shown.{Outcome, Shows, with_front}
+use Rattle.dirac_content.specs.Shown.{Outcome, Shows, accepted, with_front}
 use Rattle.dirac_content.specs.Leaving.{leaving}
 
 -- the units cut so far, the course of their content, pictures that leave before the next unit is read,
@@ -88,7 +88,8 @@ pub record BringsAlone (old new : Decoding) (bytes : List ℕ) (known : Option (
       → ComesIn new behind o → ComesIn old (read ++ behind) (with_front given o)
 
 -- of these bytes whole units were read between two decoders and just the others are held, while these pictures were
--- given: what follows is cut behind those units, and what leaves behind them is given behind these pictures
+-- given: what follows is cut behind those units, which are all accepted, and what leaves behind them is given behind
+-- these pictures
 pub record Passed (old new : Decoding) (bytes : List ℕ) (known : Option (List ℕ)) (given : List Picture) : Type 0 where
   pub read : List ℕ
   pub rest : List ℕ
@@ -97,6 +98,7 @@ pub record Passed (old new : Decoding) (bytes : List ℕ) (known : Option (List 
   pub holds : known ≡ Some rest
   pub cut : (behind : List ℕ) (more : List UnitText) (end : Option Fault)
       → IsCut new.units.unit_place behind more end → IsCut old.units.unit_place (read ++ behind) (units ++ more) end
+  pub accepts : (more : List UnitText) → accepted old.state (units ++ more) ≡ units ++ accepted new.state more
   pub leaves : (more : List UnitText)
       → old.due ++ leaving old.state (units ++ more) ≡ given ++ (new.due ++ leaving new.state more)
 
@@ -114,8 +116,8 @@ pub record LeadsTo (old new : Decoding) (held held' : Option (List ℕ)) (given 
   pub alone : IfSome (prepend_known old.units.ahead held)
       (λ bytes. BringsAlone old new bytes (prepend_known new.units.ahead held') given)
 
--- of these bytes some were read and just the others are held, and none leaves while the whole units of those read are
--- taken
+-- of these bytes some were read and just the others are held; the whole units of those read are all accepted, and none
+-- leaves while they are taken
 pub record BreaksIn (old : Decoding) (bytes : List ℕ) (held' : Option (List ℕ)) : Type 0 where
   pub read : List ℕ
   pub rest : List ℕ
@@ -124,6 +126,7 @@ pub record BreaksIn (old : Decoding) (bytes : List ℕ) (held' : Option (List �
   pub units : List UnitText
   pub end : Option Fault
   pub cut : IsCut old.units.unit_place read units end
+  pub accepts : accepted old.state units ≡ units
   pub none_due : old.due ++ leaving old.state units ≡ []
 
 -- a decoder is stopped while it takes units

@@ -20,11 +20,15 @@ use Rattle.dirac_content.specs.StreamState.{StreamState, StreamStep, as_referenc
 pub use Rattle.dirac_content.specs.Stopped.{IfStopped}
 use Rattle.dirac_decode.specs.Decoding.{emptied}
 
--- what the unit's content brings; after Drains the waiting pictures are left to the caller
+-- what a unit's content brings by its step; after Drains the waiting pictures are left to the caller
+abbrev pub made_by : Step → StreamState → StreamStep
+made_by step.On new = record { state = new; gone = [] }
+made_by (step.Shown p) new = record { state = new; gone = p ∷ [] }
+made_by step.Drains new = record { state = emptied new; gone = flushed new.waiting }
+
+-- what the unit's content brings
 abbrev pub Steps : Step → StreamStep → StreamState → Type 0
-Steps step.On made new = made ≡ record { state = new; gone = [] }
-Steps (step.Shown p) made new = made ≡ record { state = new; gone = p ∷ [] }
-Steps step.Drains made new = made ≡ record { state = emptied new; gone = flushed new.waiting }
+Steps step made new = made ≡ made_by step new
 
 -- the answer is what the unit's content brings, or its refusal, at which the state stays
 abbrev pub IsTook : Result Step Stop → Result StreamStep Refusal → StreamState → StreamState → Type 0

@@ -3,9 +3,9 @@ ghost use Rattle.std.specs.Prelude.{◌≡◌, ℕ, ◌+◌, ◌<◌, ◌≤◌,
 ghost use Rattle.std.specs.Io.KnownBytes.{IsAtEnd};
 ghost use Rattle.dirac_io.specs.Faults.{Rose};
 ghost use Rattle.dirac_picture.specs.Reading.{ReadsPlanes};
-ghost use Rattle.dirac_decode.specs.Decoding.{Answers};
+ghost use Rattle.dirac_decode.specs.Decoding.{Answers, BreaksOff, StopsIn};
 ghost use Rattle.dirac_rebuild.specs.Rebuilding.{Rebuilds};
-ghost use Rattle.dirac_decode.specs.Stepping.{DueGives, IsThere, StepGives, StepGivesBefore, sequence_of};
+ghost use Rattle.dirac_decode.specs.Stepping.{DueGives, IsThere, StepGives, StepGivesBefore, TakesOne, sequence_of};
 
 use crate::advance::{advance_by_unit, next_due};
 use crate::answers::Next;
@@ -61,6 +61,7 @@ impl Decoder {
     pub fn step<S: Source>(&mut self, source: &mut S) -> Option<Next>
         requires { self.old.units.unit_place.at + length self.old.units.ahead + S.left source.old < 2 ^ 63 }
         ensures gives { StepGives result self.old self.new (S.held source.old) (S.held source.new) }
+        ensures at_most_one_unit { TakesOne result self.old self.new (S.held source.old) (S.held source.new) }
         // Where the unit is there as a whole, the same holds whatever follows what the source holds.
         ensures before_more { IsThere self.old.units (S.held source.old)
             → StepGivesBefore result self.old self.new (S.held source.old) (S.held source.new) }
@@ -68,6 +69,9 @@ impl Decoder {
         ensures repeats_without_reading { (self.old.stream_end ≡ StreamEnd.Going → ⊥) → source.new ≡ source.old }
         ensures whole { (self.old.stream_end ≡ StreamEnd.Ended → IsAtEnd (S.held source.old)) → self.new.stream_end
             ≡ StreamEnd.Ended → IsAtEnd (S.held source.new) }
+        ensures broken_off { result ≡ Some Next.ReadFault → BreaksOff self.old (S.held source.old)
+            (S.held source.new) }
+        ensures stops { result ≡ Some Next.NoMemory → StopsIn self.old (S.held source.old) (S.held source.new) }
         ensures none_ahead { self.old.units.ahead ≡ [] → self.new.units.ahead ≡ [] }
         ensures read { result ≡ Some Next.ReadFault → Rose (S.faults source.old) (S.faults source.new) }
         ensures count { S.faults source.old ≤ S.faults source.new }
@@ -90,12 +94,16 @@ impl Decoder {
         requires rebuilds { Rebuilds (F.pre make.now) (F.post make.now) }
         requires no_overflow { self.old.units.unit_place.at + length self.old.units.ahead + S.left source.old < 2 ^ 63 }
         ensures gives { StepGives result self.old self.new (S.held source.old) (S.held source.new) }
+        ensures at_most_one_unit { TakesOne result self.old self.new (S.held source.old) (S.held source.new) }
         ensures before_more { IsThere self.old.units (S.held source.old)
             → StepGivesBefore result self.old self.new (S.held source.old) (S.held source.new) }
         ensures repeated { IfSome result (Answers self.old.stream_end self.old.due) }
         ensures repeats_without_reading { (self.old.stream_end ≡ StreamEnd.Going → ⊥) → source.new ≡ source.old }
         ensures whole { (self.old.stream_end ≡ StreamEnd.Ended → IsAtEnd (S.held source.old)) → self.new.stream_end
             ≡ StreamEnd.Ended → IsAtEnd (S.held source.new) }
+        ensures broken_off { result ≡ Some Next.ReadFault → BreaksOff self.old (S.held source.old)
+            (S.held source.new) }
+        ensures stops { result ≡ Some Next.NoMemory → StopsIn self.old (S.held source.old) (S.held source.new) }
         ensures none_ahead { self.old.units.ahead ≡ [] → self.new.units.ahead ≡ [] }
         ensures read { result ≡ Some Next.ReadFault → Rose (S.faults source.old) (S.faults source.new) }
         ensures count { S.faults source.old ≤ S.faults source.new }

@@ -1,4 +1,4 @@
-use Rattle.std.proofs.Common.{Err, subst}
+use Rattle.std.proofs.Common.{Err, refl, subst}
 use Rattle.dirac_common.specs.declared.faults.Stop.{Stop}
 use Rattle.dirac_content.specs.StreamState.{unit_step}
 use Rattle.dirac_decode.specs.Taking.{IsTook}
@@ -8,6 +8,7 @@ use Rattle.dirac_units.specs.Info.{span_of}
 use Rattle.dirac_decode.proofs.Alone.{unit_taken}
 use Rattle.dirac_decode.proofs.Following.{brings_end_more, brings_fault_more, unit_more}
 use Rattle.dirac_content.proofs.Passing.{each_has_a_cut}
+use Rattle.dirac_decode.proofs.Stepped.{takes_fault, takes_refused, takes_unit}
 use Rattle.dirac_decode.proofs.advance.advance_by_unit.Goals as goal
 
 pub returns-in-End-clause-advances : goal.returns-in-End-clause-advances
@@ -54,3 +55,21 @@ returns-in-Err-Refused-clause-advances_before_more g c = λ there more.
 pub returns-in-Err-NoMemory-clause-taken : goal.returns-in-Err-NoMemory-clause-taken
 returns-in-Err-NoMemory-clause-taken g c = λ e.
     unit_taken (prepend_known c.args.units.now.ahead (g.S.Source.held c.args.source.now)) (g.S.Source.held c.next.new.source) (span_of c.in-Unit.unit.info) c.in-Unit.ensures.rest
+
+pub returns-in-End-clause-takes : goal.returns-in-End-clause-takes
+returns-in-End-clause-takes g c = (refl, (c.next.ensures.end c.requires.going c.in-End.is).told)
+
+pub returns-in-Fault-clause-takes : goal.returns-in-Fault-clause-takes
+returns-in-Fault-clause-takes g c =
+    takes_fault c.args.units.now c.next.new.self c.args.state.now (g.S.Source.held c.args.source.now) (g.S.Source.held c.next.new.source) c.in-Fault.fault
+    (c.next.ensures.fault c.in-Fault.fault c.requires.going c.in-Fault.is).told
+
+pub returns-in-Ok-clause-takes : goal.returns-in-Ok-clause-takes
+returns-in-Ok-clause-takes g c =
+    takes_unit c.in-Ok.step c.in-Unit.unit c.args.units.now c.next.new.self c.args.state.now c.take.new.self (g.S.Source.held c.args.source.now) (g.S.Source.held c.next.new.source)
+    c.in-Unit.ensures.unit c.in-Ok.ensures.took
+
+pub returns-in-Err-Refused-clause-takes : goal.returns-in-Err-Refused-clause-takes
+returns-in-Err-Refused-clause-takes g c =
+    takes_refused c.in-Unit.unit c.args.units.now c.next.new.self c.args.state.now c.take.new.self (g.S.Source.held c.args.source.now) (g.S.Source.held c.next.new.source) c.in-Err-Refused.refusal c.in-Unit.unit.index c.in-Unit.unit.at
+    c.in-Unit.ensures.unit (subst (λ (s : Stop). IsTook (Err s) (unit_step c.args.state.now c.in-Unit.unit.info.code c.in-Unit.unit.payload) c.args.state.now c.take.new.self) c.in-Err-Refused.field-0-is c.in-Err-Refused.ensures.took) c.in-Unit.ensures.unit.index c.in-Unit.ensures.unit.at

@@ -1,14 +1,17 @@
-use Rattle.std.proofs.Common.{◌≡◌, ◌+◌, ◌∙◌, ap, arith, false, true, length, refl, subst, sym, [], ◌∷◌, Ok, Err}
+use Rattle.std.proofs.Common.{◌≡◌, ◌+◌, ◌∙◌, ap, arith, false, true, length, refl, subst, sym, [], ◌∷◌, None, Some, Ok, Err}
 use Rattle.std.specs.Io.KnownBytes.{append_known}
 use Rattle.dirac_units.specs.declared.unit.StreamEnd.TheVariants as stream_end
 use Rattle.dirac_units.specs.Progress.{Progress}
+use Rattle.dirac_decode.specs.declared.answers.Next.TheVariants as next
 use Rattle.dirac_decode.specs.declared.step.Halt.{Halt}
 use Rattle.dirac_decode.specs.declared.step.Step.{Step}
-use Rattle.dirac_decode.specs.Advancing.{Advances}
+use Rattle.dirac_decode.specs.declared.step.Step.TheVariants as step
+use Rattle.dirac_decode.specs.Advancing.{Advances, TakesBy}
 use Rattle.dirac_decode.specs.Decoding.{Decoding, decoding}
-use Rattle.dirac_decode.specs.Stepping.{IsThere}
+use Rattle.dirac_decode.specs.Stepping.{IsThere, TakesOne}
 use Rattle.dirac_decode.specs.Taking.{shown_in}
-use Rattle.dirac_decode.proofs.Leading.{most_of, answers_any, leads_going, leads_on, leads_same, leads_unit, not_ended, not_faulted}
+use Rattle.dirac_decode.proofs.Leading.{most_of, answers_any, breaks_off, leads_going, leads_on, leads_same, leads_unit, not_ended, not_faulted, stops_in}
+use Rattle.dirac_decode.proofs.Stepped.{one_due, one_end, one_fault, one_met, one_stop, one_stopped, one_unit}
 use Rattle.dirac_decode.proofs.decoder.Decoder.step_by.Goals as goal
 
 pub returns-in-Ok-Shown : goal.returns-in-Ok-Shown
@@ -29,6 +32,8 @@ returns-in-Ok-Shown g c =
         given,
         stopped,
       );
+      at_most_one_unit = subst (λ (d : Decoding). TakesOne (Some (next.Shown c.in-Ok-Shown.picture)) d (decoding c.advance_by_unit.new.units c.advance_by_unit.new.state false (c.self.inside.given + 1) c.self.inside.stream_end) (g.S.Source.held c.args.source.now) (g.S.Source.held c.advance_by_unit.new.source)) c.self.view_is
+          (one_unit (step.Shown c.in-Ok-Shown.picture) c.self.inside.units c.advance_by_unit.new.units c.self.inside.state c.next_due.new.state c.advance_by_unit.new.state c.self.inside.draining c.self.inside.given (c.self.inside.given + 1) c.self.inside.stream_end (g.S.Source.held c.args.source.now) (g.S.Source.held c.advance_by_unit.new.source) c.in-None.ensures.settled c.in-Going.is (subst (λ (x : Step). TakesBy (Ok x) c.self.inside.units c.advance_by_unit.new.units c.next_due.new.state c.advance_by_unit.new.state (g.S.Source.held c.args.source.now) (g.S.Source.held c.advance_by_unit.new.source)) c.in-Ok-Shown.field-0-is c.in-Ok-Shown.ensures.takes));
       before_more = λ there more. (
         leads_going a c.self.inside.units c.advance_by_unit.new.units c.self.inside.state c.next_due.new.state c.advance_by_unit.new.state
             c.self.inside.draining false c.self.inside.given (c.self.inside.given + 1) c.self.inside.stream_end
@@ -41,6 +46,8 @@ returns-in-Ok-Shown g c =
       repeated = answers_any a.stream_end a.due _ before;
       repeats_without_reading = λ ne. absurd (ne before);
       whole = λ w e. cc;
+      broken_off = λ e. cc;
+      stops = λ e. cc;
       none_ahead = λ none. c.in-Ok-Shown.ensures.none_ahead;
       read = λ e. cc;
       count = c.in-Ok-Shown.ensures.count;
@@ -241,3 +248,60 @@ returns-in-Err-Fault-clause-before_more g c =
       ap (λ (d : Decoding). d.given) c.self.view_is,
       λ (e : (stream_end.Faulted c.in-Err-Fault.fault) ≡ stream_end.Going). absurd (not_faulted c.in-Err-Fault.fault e),
     )
+
+pub returns-in-Some-clause-at_most_one_unit : goal.returns-in-Some-clause-at_most_one_unit
+returns-in-Some-clause-at_most_one_unit g c =
+    subst (λ (d : Decoding). TakesOne (Some (next.Shown c.in-Some.picture)) d (decoding c.self.inside.units c.next_due.new.state c.self.inside.draining (c.self.inside.given + 1) c.self.inside.stream_end) (g.S.Source.held c.args.source.now) (g.S.Source.held c.args.source.now)) c.self.view_is
+    (one_due c.in-Some.picture c.self.inside.units c.self.inside.state c.next_due.new.state c.self.inside.draining c.self.inside.given c.self.inside.stream_end (g.S.Source.held c.args.source.now) c.in-Some.ensures.settled c.in-Some.ensures.due)
+
+pub returns-in-Ended-clause-at_most_one_unit : goal.returns-in-Ended-clause-at_most_one_unit
+returns-in-Ended-clause-at_most_one_unit g c =
+    subst (λ (d : Decoding). TakesOne (Some next.End) d (decoding c.self.inside.units c.next_due.new.state false c.self.inside.given c.self.inside.stream_end) (g.S.Source.held c.args.source.now) (g.S.Source.held c.args.source.now)) c.self.view_is
+    (one_met next.End c.self.inside.units c.self.inside.state c.next_due.new.state c.self.inside.draining c.self.inside.given c.self.inside.stream_end (g.S.Source.held c.args.source.now) c.in-None.ensures.settled (λ e. let both : stream_end.Ended ≡ stream_end.Going = sym c.in-Ended.is ∙ e in cc))
+
+pub returns-in-Faulted-clause-at_most_one_unit : goal.returns-in-Faulted-clause-at_most_one_unit
+returns-in-Faulted-clause-at_most_one_unit g c =
+    subst (λ (d : Decoding). TakesOne (Some (next.Fault c.in-Faulted.fault)) d (decoding c.self.inside.units c.next_due.new.state false c.self.inside.given c.self.inside.stream_end) (g.S.Source.held c.args.source.now) (g.S.Source.held c.args.source.now)) c.self.view_is
+    (one_met (next.Fault c.in-Faulted.fault) c.self.inside.units c.self.inside.state c.next_due.new.state c.self.inside.draining c.self.inside.given c.self.inside.stream_end (g.S.Source.held c.args.source.now) c.in-None.ensures.settled (λ e. let both : stream_end.Faulted c.in-Faulted.fault ≡ stream_end.Going = sym c.in-Faulted.is ∙ e in cc))
+
+pub returns-in-Ok-On-clause-at_most_one_unit : goal.returns-in-Ok-On-clause-at_most_one_unit
+returns-in-Ok-On-clause-at_most_one_unit g c =
+    subst (λ (d : Decoding). TakesOne None d (decoding c.advance_by_unit.new.units c.advance_by_unit.new.state false c.self.inside.given c.self.inside.stream_end) (g.S.Source.held c.args.source.now) (g.S.Source.held c.advance_by_unit.new.source)) c.self.view_is
+    (one_unit step.On c.self.inside.units c.advance_by_unit.new.units c.self.inside.state c.next_due.new.state c.advance_by_unit.new.state c.self.inside.draining c.self.inside.given c.self.inside.given c.self.inside.stream_end (g.S.Source.held c.args.source.now) (g.S.Source.held c.advance_by_unit.new.source) c.in-None.ensures.settled c.in-Going.is (subst (λ (x : Step). TakesBy (Ok x) c.self.inside.units c.advance_by_unit.new.units c.next_due.new.state c.advance_by_unit.new.state (g.S.Source.held c.args.source.now) (g.S.Source.held c.advance_by_unit.new.source)) c.in-Ok-On.field-0-is c.in-Ok-On.ensures.takes))
+
+pub returns-in-Ok-Drains-clause-at_most_one_unit : goal.returns-in-Ok-Drains-clause-at_most_one_unit
+returns-in-Ok-Drains-clause-at_most_one_unit g c =
+    subst (λ (d : Decoding). TakesOne None d (decoding c.advance_by_unit.new.units c.advance_by_unit.new.state true c.self.inside.given c.self.inside.stream_end) (g.S.Source.held c.args.source.now) (g.S.Source.held c.advance_by_unit.new.source)) c.self.view_is
+    (one_unit step.Drains c.self.inside.units c.advance_by_unit.new.units c.self.inside.state c.next_due.new.state c.advance_by_unit.new.state c.self.inside.draining c.self.inside.given c.self.inside.given c.self.inside.stream_end (g.S.Source.held c.args.source.now) (g.S.Source.held c.advance_by_unit.new.source) c.in-None.ensures.settled c.in-Going.is (subst (λ (x : Step). TakesBy (Ok x) c.self.inside.units c.advance_by_unit.new.units c.next_due.new.state c.advance_by_unit.new.state (g.S.Source.held c.args.source.now) (g.S.Source.held c.advance_by_unit.new.source)) c.in-Ok-Drains.field-0-is c.in-Ok-Drains.ensures.takes))
+
+pub returns-in-Err-End-clause-at_most_one_unit : goal.returns-in-Err-End-clause-at_most_one_unit
+returns-in-Err-End-clause-at_most_one_unit g c =
+    subst (λ (d : Decoding). TakesOne None d (decoding c.advance_by_unit.new.units c.advance_by_unit.new.state true c.self.inside.given stream_end.Ended) (g.S.Source.held c.args.source.now) (g.S.Source.held c.advance_by_unit.new.source)) c.self.view_is
+    (one_end c.self.inside.units c.advance_by_unit.new.units c.self.inside.state c.next_due.new.state c.advance_by_unit.new.state c.self.inside.draining c.self.inside.given c.self.inside.given c.self.inside.stream_end (g.S.Source.held c.args.source.now) (g.S.Source.held c.advance_by_unit.new.source) c.in-None.ensures.settled c.in-Going.is (subst (λ (x : Halt). TakesBy (Err x) c.self.inside.units c.advance_by_unit.new.units c.next_due.new.state c.advance_by_unit.new.state (g.S.Source.held c.args.source.now) (g.S.Source.held c.advance_by_unit.new.source)) c.in-Err-End.field-0-is c.in-Err-End.ensures.takes))
+
+pub returns-in-Err-Fault-clause-at_most_one_unit : goal.returns-in-Err-Fault-clause-at_most_one_unit
+returns-in-Err-Fault-clause-at_most_one_unit g c =
+    subst (λ (d : Decoding). TakesOne None d (decoding c.advance_by_unit.new.units c.advance_by_unit.new.state true c.self.inside.given (stream_end.Faulted c.in-Err-Fault.fault)) (g.S.Source.held c.args.source.now) (g.S.Source.held c.advance_by_unit.new.source)) c.self.view_is
+    (one_fault c.in-Err-Fault.fault c.self.inside.units c.advance_by_unit.new.units c.self.inside.state c.next_due.new.state c.advance_by_unit.new.state c.self.inside.draining c.self.inside.given c.self.inside.given c.self.inside.stream_end (g.S.Source.held c.args.source.now) (g.S.Source.held c.advance_by_unit.new.source) c.in-None.ensures.settled c.in-Going.is (subst (λ (x : Halt). TakesBy (Err x) c.self.inside.units c.advance_by_unit.new.units c.next_due.new.state c.advance_by_unit.new.state (g.S.Source.held c.args.source.now) (g.S.Source.held c.advance_by_unit.new.source)) c.in-Err-Fault.field-0-is c.in-Err-Fault.ensures.takes))
+
+pub returns-in-Err-ReadFault-clause-at_most_one_unit : goal.returns-in-Err-ReadFault-clause-at_most_one_unit
+returns-in-Err-ReadFault-clause-at_most_one_unit g c =
+    subst (λ (d : Decoding). TakesOne (Some next.ReadFault) d (decoding c.advance_by_unit.new.units c.advance_by_unit.new.state false c.self.inside.given stream_end.Stopped) (g.S.Source.held c.args.source.now) (g.S.Source.held c.advance_by_unit.new.source)) c.self.view_is
+    (one_stop next.ReadFault c.self.inside.units c.advance_by_unit.new.units c.self.inside.state c.next_due.new.state c.advance_by_unit.new.state c.self.inside.draining c.self.inside.given c.self.inside.given c.self.inside.stream_end (g.S.Source.held c.args.source.now) (g.S.Source.held c.advance_by_unit.new.source) c.in-None.ensures.settled c.in-Going.is (subst (λ (x : Halt). TakesBy (Err x) c.self.inside.units c.advance_by_unit.new.units c.next_due.new.state c.advance_by_unit.new.state (g.S.Source.held c.args.source.now) (g.S.Source.held c.advance_by_unit.new.source)) c.in-Err-ReadFault.field-0-is c.in-Err-ReadFault.ensures.takes))
+
+pub returns-in-Err-NoMemory-clause-at_most_one_unit : goal.returns-in-Err-NoMemory-clause-at_most_one_unit
+returns-in-Err-NoMemory-clause-at_most_one_unit g c =
+    subst (λ (d : Decoding). TakesOne (Some next.NoMemory) d (decoding c.advance_by_unit.new.units c.advance_by_unit.new.state false c.self.inside.given stream_end.Stopped) (g.S.Source.held c.args.source.now) (g.S.Source.held c.advance_by_unit.new.source)) c.self.view_is
+    (one_stop next.NoMemory c.self.inside.units c.advance_by_unit.new.units c.self.inside.state c.next_due.new.state c.advance_by_unit.new.state c.self.inside.draining c.self.inside.given c.self.inside.given c.self.inside.stream_end (g.S.Source.held c.args.source.now) (g.S.Source.held c.advance_by_unit.new.source) c.in-None.ensures.settled c.in-Going.is (subst (λ (x : Halt). TakesBy (Err x) c.self.inside.units c.advance_by_unit.new.units c.next_due.new.state c.advance_by_unit.new.state (g.S.Source.held c.args.source.now) (g.S.Source.held c.advance_by_unit.new.source)) c.in-Err-NoMemory.field-0-is c.in-Err-NoMemory.ensures.takes))
+
+pub returns-in-Err-ReadFault-clause-broken_off : goal.returns-in-Err-ReadFault-clause-broken_off
+returns-in-Err-ReadFault-clause-broken_off g c =
+    λ fault.
+    breaks_off c.args.self.now c.self.inside.units c.self.inside.state c.next_due.new.state c.self.inside.draining c.self.inside.given c.self.inside.stream_end (g.S.Source.held c.args.source.now) (g.S.Source.held c.args.source.now) (g.S.Source.held c.advance_by_unit.new.source)
+    (leads_same c.args.self.now (decoding c.self.inside.units c.self.inside.state c.self.inside.draining c.self.inside.given c.self.inside.stream_end) (g.S.Source.held c.args.source.now) c.self.view_is) c.in-None.ensures.settles c.in-Going.is (c.advance_by_unit.ensures.part (c.in-Err-ReadFault.is ∙ ap Err c.in-Err-ReadFault.field-0-is))
+
+pub returns-in-Err-NoMemory-clause-stops : goal.returns-in-Err-NoMemory-clause-stops
+returns-in-Err-NoMemory-clause-stops g c =
+    λ stop.
+    stops_in c.args.self.now c.self.inside.units c.self.inside.state c.self.inside.draining c.self.inside.given c.self.inside.stream_end (g.S.Source.held c.args.source.now) (g.S.Source.held c.args.source.now) (g.S.Source.held c.advance_by_unit.new.source)
+    (leads_same c.args.self.now (decoding c.self.inside.units c.self.inside.state c.self.inside.draining c.self.inside.given c.self.inside.stream_end) (g.S.Source.held c.args.source.now) c.self.view_is) c.in-Going.is (c.advance_by_unit.ensures.taken (c.in-Err-NoMemory.is ∙ ap Err c.in-Err-NoMemory.field-0-is))
