@@ -1,14 +1,20 @@
 -- A decoder that bytes are sent to, and what its pictures say of the whole stream, whatever follows.
-use Rattle.std.specs.Prelude.{◌≡◌, ℕ, ◌+◌, Bool, true, false, ◌-◌, ◌^◌, List, [], ◌∷◌, ◌++◌, Option, None, Some, ⊤}
+use Rattle.std.specs.Prelude.{◌≡◌, ℕ, ◌+◌, Bool, true, false, ◌-◌, ◌^◌, List, [], ◌∷◌, ◌++◌, drop, Option, None, Some}
+use Rattle.std.specs.Prelude.{Result, Ok, Err, ⊤}
 use Rattle.dirac_common.specs.declared.faults.Fault.{Fault}
+use Rattle.dirac_common.specs.declared.faults.Refusal.{Refusal}
 use Rattle.dirac_common.specs.declared.picture.Picture.{Picture}
 use Rattle.dirac_sequence_header.specs.declared.sequence.Sequence.{Sequence}
 use Rattle.dirac_units.specs.declared.unit.StreamEnd.{StreamEnd}
 use Rattle.dirac_units.specs.declared.unit.StreamEnd.TheVariants as stream_end
+use Rattle.dirac_units.specs.declared.unit_place.UnitPlace.{UnitPlace}
+use Rattle.dirac_units.specs.Cut.{UnitText, after, front_of}
+use Rattle.dirac_units.specs.Info.{span_of}
 use Rattle.dirac_content.specs.declared.opened.Opened.{Opened}
 use Rattle.dirac_decode.specs.Decoding.{ComesBehind, Decoding, begun as decoding_begun}
 use Rattle.dirac_content.specs.Shown.{IsShown}
-use Rattle.dirac_decode.specs.Stepping.{IsFurther, IsWholeUnit}
+use Rattle.dirac_decode.specs.Stepping.{FaultsAt, IsAtFront, IsFurther, IsWholeUnit, sequence_of}
+use Rattle.dirac_content.specs.StreamState.{StreamState, StreamStep, unit_step}
 use Rattle.dirac_push.specs.declared.answer.Answer.{Answer}
 use Rattle.dirac_push.specs.declared.answer.Answer.TheVariants as answers
 
@@ -83,6 +89,53 @@ Repeats answer old new = RepeatsMet old.decoder.stream_end answer old.decoder.du
 abbrev pub IsFormat : Option Opened → Option Sequence → Type 0
 IsFormat None format = ⊤
 IsFormat (Some o) format = format ≡ Some o.sequence
+
+-- the sequence that is open, or the one before where none is
+abbrev pub latest : Option Sequence → Option Sequence → Option Sequence
+latest None before = before
+latest (Some s) before = Some s
+
+-- the sequence opened last behind a unit and those that follow it; nothing is taken behind one that is refused
+abbrev pub opened_on : (StreamState → Option Sequence) → Option Sequence → Result StreamStep Refusal → Option Sequence
+opened_on rest before (Ok m) = rest m.state
+opened_on rest before (Err refusal) = before
+
+-- the sequence opened last, while these units are taken
+unfoldable pub opened_last : Option Sequence → StreamState → List UnitText → Option Sequence
+opened_last before state [] = before
+opened_last before state (unit ∷ units) =
+    opened_on (λ next. opened_last (latest (sequence_of next.opened) before) next units) before
+    (unit_step state unit.info.code unit.payload)
+
+-- these units stand at the front of these bytes, and each is accepted; behind them the course is this one, and these
+-- bytes are left
+abbrev pub AreTaken : UnitPlace → StreamState → List ℕ → List UnitText → UnitPlace → StreamState → List ℕ → Type 0
+AreTaken unit_place state bytes [] unit_place' state' rest =
+    (unit_place ≡ unit_place') × (state ≡ state') × (bytes ≡ rest)
+AreTaken unit_place state bytes (unit ∷ units) unit_place' state' rest =
+    (m : StreamStep) × IsAtFront unit unit_place bytes × (unit_step state unit.info.code unit.payload ≡ Ok m)
+    × AreTaken (after unit_place unit.info) m.state (drop (span_of unit.info) bytes) units unit_place' state' rest
+
+-- what was met behind the units that were taken: nothing yet, or that end or fault stands there
+abbrev pub MeetsBehind : StreamEnd → Pushed → UnitPlace → StreamState → List ℕ → Type 0
+MeetsBehind stream_end.Going new unit_place state rest =
+    (unit_place ≡ new.decoder.units.unit_place) × (state ≡ new.decoder.state) × (rest ≡ new.there)
+MeetsBehind stream_end.Ended new unit_place state rest = front_of unit_place rest ≡ Err None
+MeetsBehind (stream_end.Faulted fault) new unit_place state rest = FaultsAt unit_place state fault rest
+MeetsBehind stream_end.Stopped new unit_place state rest = ⊤
+
+-- a call took just these units of the bytes there, none once something was met, and the format is that of the sequence
+-- opened last among them
+pub record TakesUnits (old new : Pushed) : Type 0 where
+  pub units : List UnitText
+  pub unit_place : UnitPlace
+  pub state : StreamState
+  pub rest : List ℕ
+  pub taken : AreTaken old.decoder.units.unit_place old.decoder.state old.there units unit_place state rest
+  pub format : new.format ≡ opened_last old.format old.decoder.state units
+  pub met : old.decoder.stream_end ≡ stream_end.Going → MeetsBehind new.decoder.stream_end new unit_place state rest
+  pub still : (old.decoder.stream_end ≡ stream_end.Going → ⊥)
+      → (units ≡ []) × (new.decoder.stream_end ≡ old.decoder.stream_end)
 
 -- what one turn says: at `None` a unit was taken that showed nothing, or the end or a fault was met
 abbrev pub TurnGives : Option Answer → Pushed → Pushed → Type 0

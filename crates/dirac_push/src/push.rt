@@ -3,7 +3,8 @@ ghost use Rattle.std.specs.Prelude.{IfSome, None, Some, Err, Option};
 ghost use Rattle.std.specs.Prelude.{option_map};
 ghost use Rattle.std.specs.Borrow.{Bor};
 ghost use Rattle.dirac_decode.specs.Stepping.{IsWholeUnit};
-ghost use Rattle.dirac_push.specs.Pushing.{begun, IsFormat, Passes, PushGives, Repeats, TurnGives};
+ghost use Rattle.dirac_push.specs.Pushing.{begun, IsFormat, Passes, PushGives, Repeats, TakesUnits, TurnGives};
+ghost use Rattle.dirac_push.specs.Pushing as pushing;
 
 use crate::answer::{Answer, Unsent};
 use crate::queue::Queue;
@@ -106,6 +107,8 @@ impl PushDecoder {
     /// each later call answers `Stopped`; none of them takes a byte.
     pub fn next(&mut self) -> Answer
         ensures gives { PushGives result self.old self.new }
+        // Which units were taken, and that the format is that of the sequence opened last among them.
+        ensures takes { TakesUnits self.old self.new }
         ensures repeats { Repeats result self.old self.new }
         ensures finished_stays { self.new.is_finished ≡ self.old.is_finished }
     {
@@ -121,30 +124,31 @@ impl PushDecoder {
     }
 
     /// One turn: the picture that is due, what was met, or at most one unit.
-    #[tactic(auto, using(crate::proofs::Passing::turn_taken))]
+    #[tactic(auto, using(crate::proofs::Passing::turn_taken, crate::proofs::Taking::takes_taken))]
     fn turn(&mut self) -> Option<Answer>
         requires not_stopped { self.old.decoder.stream_end ≡ StreamEnd.Stopped → ⊥ }
         requires none_shown { self.old.shown ≡ None }
         ensures gives { TurnGives result self.old self.new }
+        ensures takes { TakesUnits self.old self.new }
         ensures repeats { IfSome result (λ answer. Repeats answer self.old self.new) }
         ensures fits { self.new.decoder.units.unit_place.at < 2 ^ 63 }
         ensures finished_stays { self.new.is_finished ≡ self.old.is_finished }
     {
         if let Some(picture) = self.decoder.due_picture() {
             self.shown = Some(picture);
-            #[tactic(auto, using(crate::proofs::Passing::turn_due))]
+            #[tactic(auto, using(crate::proofs::Passing::turn_due, crate::proofs::Taking::takes_due))]
             return Some(Answer::Shown);
         }
         match self.decoder.stream_end() {
             StreamEnd::Going => {}
-            #[tactic(auto, using(crate::proofs::Passing::turn_ended))]
+            #[tactic(auto, using(crate::proofs::Passing::turn_ended, crate::proofs::Taking::takes_due))]
             StreamEnd::Ended => return Some(Answer::End),
-            #[tactic(auto, using(crate::proofs::Passing::turn_faulted))]
+            #[tactic(auto, using(crate::proofs::Passing::turn_faulted, crate::proofs::Taking::takes_due))]
             StreamEnd::Faulted(fault) => return Some(Answer::Fault(fault)),
             StreamEnd::Stopped => unreachable!(),
         }
         if !self.is_finished && !self.queue.has_unit() {
-            #[tactic(auto, using(crate::proofs::Passing::turn_needs))]
+            #[tactic(auto, using(crate::proofs::Passing::turn_needs, crate::proofs::Taking::takes_due))]
             return Some(Answer::Needs);
         }
         self.take_unit()
@@ -153,9 +157,11 @@ impl PushDecoder {
     /// Takes a unit.
     fn take_unit(&mut self) -> Option<Answer>
         requires going { self.old.decoder.stream_end ≡ StreamEnd.Going }
+        requires none_due { self.old.decoder.due ≡ [] }
         requires there { self.old.is_finished ≡ false → IsWholeUnit self.old.there }
         requires none_shown { self.old.shown ≡ None }
         ensures gives { TurnGives result self.old self.new }
+        ensures takes { TakesUnits self.old self.new }
         ensures fits { self.new.decoder.units.unit_place.at < 2 ^ 63 }
         ensures finished_stays { self.new.is_finished ≡ self.old.is_finished }
     {
@@ -177,8 +183,7 @@ impl PushDecoder {
 
 /// The open sequence, or the one before where none is open.
 fn latest(opened: Option<Sequence>, before: Option<Sequence>) -> Option<Sequence>
-    ensures one { IfSome opened (λ s. result ≡ Some s) }
-    ensures none { opened ≡ None → result ≡ before }
+    ensures { result ≡ pushing.latest opened before }
 {
     match opened {
         None => before,

@@ -1,10 +1,48 @@
-use Rattle.std.proofs.Common.{◌∙◌}
-use Rattle.dirac_push.proofs.Passing.{gives_behind, repeats_behind}
+use Rattle.std.proofs.Common.{◌∙◌, ap, arith, refl, subst, [], None}
+use Rattle.dirac_push.specs.Pushing.{Passes, Pushed, TakesUnits, TurnGives}
+use Rattle.dirac_push.proofs.Passing.{gives_behind, passes_on, passes_same, repeats_behind, still_going}
+use Rattle.dirac_push.proofs.Taking.{takes_on, takes_same}
 use Rattle.dirac_push.proofs.push.PushDecoder.next.Goals as goal
+
+pub units-init : goal.units-init
+units-init c =
+    let old : Pushed = record { decoder = c.self.inside.decoder; there = c.self.inside.queue.bytes; room = c.self.inside.queue.room; is_finished = c.self.inside.is_finished; shown = c.self.inside.shown; format = c.self.inside.format } in
+    let new : Pushed = record old { shown = None } in
+    record {
+      passes = subst (λ (x : Pushed). Passes x new [] []) c.self.view_is (passes_same old new refl refl (λ e. e));
+      takes = subst (λ (x : Pushed). TakesUnits x new) c.self.view_is (takes_same old new refl refl refl refl refl);
+      given = ap (λ (x : Pushed). x.decoder.given) c.self.view_is;
+      shown = refl;
+      moving = λ e. c.in_default.not-Stopped (c.stream_end.ensures ∙ e);
+      still = λ ne. ap (λ (x : Pushed). record x { shown = None }) c.self.view_is;
+      finished = ap (λ (x : Pushed). x.is_finished) c.self.view_is;
+      fits = omega (arith, c.self.invariant.1);
+    }
+
+pub units-preserved : goal.units-preserved
+units-preserved c =
+    let gives : TurnGives None c.units.self c.turn.new.self = c.in_default-turn.ensures.gives in
+    record {
+      passes = passes_on c.args.self.now c.units.self c.turn.new.self [] [] [] [] c.units.invariant.passes gives.0;
+      takes = takes_on c.args.self.now c.units.self c.turn.new.self c.units.invariant.takes c.in_default-turn.ensures.takes;
+      given = gives.1 ∙ c.units.invariant.given;
+      shown = gives.2;
+      moving = gives.4;
+      still = still_going c.args.self.now c.units.self c.turn.new.self c.units.invariant.still gives.3;
+      finished = c.in_default-turn.ensures.finished_stays ∙ c.units.invariant.finished;
+      fits = c.in_default-turn.ensures.fits;
+    }
+
+pub returns-in-Stopped-clause-takes : goal.returns-in-Stopped-clause-takes
+returns-in-Stopped-clause-takes c =
+    let old : Pushed = record { decoder = c.self.inside.decoder; there = c.self.inside.queue.bytes; room = c.self.inside.queue.room; is_finished = c.self.inside.is_finished; shown = c.self.inside.shown; format = c.self.inside.format } in
+    let new : Pushed = record old { shown = None } in
+    subst (λ (x : Pushed). TakesUnits x new) c.self.view_is (takes_same old new refl refl refl refl refl)
 
 pub returns-in-Some : goal.returns-in-Some
 returns-in-Some c = record {
   gives = gives_behind c.in-Some.answer c.args.self.now c.units.self c.turn.new.self c.units.invariant.passes c.units.invariant.given c.units.invariant.moving c.in-Some.ensures.gives;
+  takes = takes_on c.args.self.now c.units.self c.turn.new.self c.units.invariant.takes c.in-Some.ensures.takes;
   repeats = repeats_behind c.in-Some.answer c.args.self.now c.units.self c.turn.new.self c.units.invariant.still c.in-Some.ensures.repeats;
   finished_stays = c.in-Some.ensures.finished_stays ∙ c.units.invariant.finished;
 }

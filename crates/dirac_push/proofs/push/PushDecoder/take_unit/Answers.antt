@@ -1,10 +1,11 @@
-use Rattle.std.proofs.Common.{◌≡◌, ◌∙◌, ap, false, refl, subst, sym, None, Some}
+use Rattle.std.proofs.Common.{◌≡◌, ◌∙◌, ap, false, refl, subst, sym, None, Some, []}
 use Rattle.dirac_units.specs.declared.unit.StreamEnd.TheVariants as stream_end
 use Rattle.dirac_decode.specs.declared.answers.Next.{Next}
 use Rattle.dirac_decode.specs.Stepping.{IsThere, IsWholeUnit, StepGives, StepGivesBefore}
 use Rattle.dirac_push.specs.declared.answer.Answer.TheVariants as answers
-use Rattle.dirac_push.specs.Pushing.{Pushed, TurnGives}
+use Rattle.dirac_push.specs.Pushing.{Pushed, TakesUnits, TurnGives, latest}
 use Rattle.dirac_push.proofs.Passing.{turn_end, turn_fault, turn_none, turn_shown}
+use Rattle.dirac_push.proofs.Taking.{takes_one}
 use Rattle.dirac_push.proofs.push.PushDecoder.take_unit.Goals as goal
 
 pub returns-in-None-clause-gives : goal.returns-in-None-clause-gives
@@ -39,3 +40,53 @@ returns-in-Some-Fault-clause-gives c =
     let there = subst (λ (x : Pushed). x.is_finished ≡ false → IsWholeUnit x.there) (sym c.self.view_is) c.requires.there in
     subst (λ (x : Pushed). TurnGives (Some (answers.Fault c.in-Some-Fault.fault)) x new) c.self.view_is
     (turn_fault old new c.in-Some-Fault.fault (subst (λ (n : Next). StepGives (Some n) old.decoder new.decoder (Some old.there) (Some new.there)) c.in-Some-Fault.field-0-is c.in-Some-Fault.ensures.gives, subst (λ (n : Next). IsThere old.decoder.units (Some old.there) → StepGivesBefore (Some n) old.decoder new.decoder (Some old.there) (Some new.there)) c.in-Some-Fault.field-0-is c.in-Some-Fault.ensures.before_more, c.self.invariant.0, there, refl) (ap (λ (x : Pushed). x.shown) c.self.view_is ∙ c.requires.none_shown))
+
+pub returns-in-None-clause-takes : goal.returns-in-None-clause-takes
+returns-in-None-clause-takes c =
+    let old : Pushed = record { decoder = c.self.inside.decoder; there = c.self.inside.queue.bytes; room = c.self.inside.queue.room; is_finished = c.self.inside.is_finished; shown = c.self.inside.shown; format = c.self.inside.format } in
+    let new : Pushed = record { decoder = c.step-step.new.self; there = c.step-step.new.source.bytes; room = c.step-step.new.source.room; is_finished = c.self.inside.is_finished; shown = c.self.inside.shown; format = c.latest-self-inside.result } in
+    let going = subst (λ (x : Pushed). x.decoder.stream_end ≡ stream_end.Going) (sym c.self.view_is) c.requires.going in
+    let none_due = subst (λ (x : Pushed). x.decoder.due ≡ []) (sym c.self.view_is) c.requires.none_due in
+    subst (λ (x : Pushed). TakesUnits x new) c.self.view_is
+    (takes_one _ old new going none_due c.self.invariant.0 (c.in-None.ensures.none_ahead c.self.invariant.0) c.self.invariant.2
+    (c.latest-self-inside.ensures ∙ ap (λ o. latest o c.self.inside.format) c.sequence.ensures) c.in-None.ensures.at_most_one_unit)
+
+pub returns-in-Some-Shown-clause-takes : goal.returns-in-Some-Shown-clause-takes
+returns-in-Some-Shown-clause-takes c =
+    let old : Pushed = record { decoder = c.self.inside.decoder; there = c.self.inside.queue.bytes; room = c.self.inside.queue.room; is_finished = c.self.inside.is_finished; shown = c.self.inside.shown; format = c.self.inside.format } in
+    let new : Pushed = record { decoder = c.step-step.new.self; there = c.step-step.new.source.bytes; room = c.step-step.new.source.room; is_finished = c.self.inside.is_finished; shown = Some c.in-Some-Shown.picture; format = c.latest-self-inside.result } in
+    let going = subst (λ (x : Pushed). x.decoder.stream_end ≡ stream_end.Going) (sym c.self.view_is) c.requires.going in
+    let none_due = subst (λ (x : Pushed). x.decoder.due ≡ []) (sym c.self.view_is) c.requires.none_due in
+    subst (λ (x : Pushed). TakesUnits x new) c.self.view_is
+    (takes_one _ old new going none_due c.self.invariant.0 (c.in-Some-Shown.ensures.none_ahead c.self.invariant.0) c.self.invariant.2
+    (c.latest-self-inside.ensures ∙ ap (λ o. latest o c.self.inside.format) c.sequence.ensures) c.in-Some-Shown.ensures.at_most_one_unit)
+
+pub returns-in-Some-End-clause-takes : goal.returns-in-Some-End-clause-takes
+returns-in-Some-End-clause-takes c =
+    let old : Pushed = record { decoder = c.self.inside.decoder; there = c.self.inside.queue.bytes; room = c.self.inside.queue.room; is_finished = c.self.inside.is_finished; shown = c.self.inside.shown; format = c.self.inside.format } in
+    let new : Pushed = record { decoder = c.step-step.new.self; there = c.step-step.new.source.bytes; room = c.step-step.new.source.room; is_finished = c.self.inside.is_finished; shown = c.self.inside.shown; format = c.latest-self-inside.result } in
+    let going = subst (λ (x : Pushed). x.decoder.stream_end ≡ stream_end.Going) (sym c.self.view_is) c.requires.going in
+    let none_due = subst (λ (x : Pushed). x.decoder.due ≡ []) (sym c.self.view_is) c.requires.none_due in
+    subst (λ (x : Pushed). TakesUnits x new) c.self.view_is
+    (takes_one _ old new going none_due c.self.invariant.0 (c.in-Some-End.ensures.none_ahead c.self.invariant.0) c.self.invariant.2
+    (c.latest-self-inside.ensures ∙ ap (λ o. latest o c.self.inside.format) c.sequence.ensures) c.in-Some-End.ensures.at_most_one_unit)
+
+pub returns-in-Some-Fault-clause-takes : goal.returns-in-Some-Fault-clause-takes
+returns-in-Some-Fault-clause-takes c =
+    let old : Pushed = record { decoder = c.self.inside.decoder; there = c.self.inside.queue.bytes; room = c.self.inside.queue.room; is_finished = c.self.inside.is_finished; shown = c.self.inside.shown; format = c.self.inside.format } in
+    let new : Pushed = record { decoder = c.step-step.new.self; there = c.step-step.new.source.bytes; room = c.step-step.new.source.room; is_finished = c.self.inside.is_finished; shown = c.self.inside.shown; format = c.latest-self-inside.result } in
+    let going = subst (λ (x : Pushed). x.decoder.stream_end ≡ stream_end.Going) (sym c.self.view_is) c.requires.going in
+    let none_due = subst (λ (x : Pushed). x.decoder.due ≡ []) (sym c.self.view_is) c.requires.none_due in
+    subst (λ (x : Pushed). TakesUnits x new) c.self.view_is
+    (takes_one _ old new going none_due c.self.invariant.0 (c.in-Some-Fault.ensures.none_ahead c.self.invariant.0) c.self.invariant.2
+    (c.latest-self-inside.ensures ∙ ap (λ o. latest o c.self.inside.format) c.sequence.ensures) c.in-Some-Fault.ensures.at_most_one_unit)
+
+pub returns-in-Some-NoMemory-clause-takes : goal.returns-in-Some-NoMemory-clause-takes
+returns-in-Some-NoMemory-clause-takes c =
+    let old : Pushed = record { decoder = c.self.inside.decoder; there = c.self.inside.queue.bytes; room = c.self.inside.queue.room; is_finished = c.self.inside.is_finished; shown = c.self.inside.shown; format = c.self.inside.format } in
+    let new : Pushed = record { decoder = c.step-step.new.self; there = c.step-step.new.source.bytes; room = c.step-step.new.source.room; is_finished = c.self.inside.is_finished; shown = c.self.inside.shown; format = c.latest-self-inside.result } in
+    let going = subst (λ (x : Pushed). x.decoder.stream_end ≡ stream_end.Going) (sym c.self.view_is) c.requires.going in
+    let none_due = subst (λ (x : Pushed). x.decoder.due ≡ []) (sym c.self.view_is) c.requires.none_due in
+    subst (λ (x : Pushed). TakesUnits x new) c.self.view_is
+    (takes_one _ old new going none_due c.self.invariant.0 (c.in-Some-NoMemory.ensures.none_ahead c.self.invariant.0) c.self.invariant.2
+    (c.latest-self-inside.ensures ∙ ap (λ o. latest o c.self.inside.format) c.sequence.ensures) c.in-Some-NoMemory.ensures.at_most_one_unit)
