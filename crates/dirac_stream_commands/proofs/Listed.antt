@@ -103,7 +103,7 @@ begins None out = tt
 begins (Some bytes) out = (bytes, refl, begun_listing bytes out)
 
 -- what is told of the bytes ahead and held, where they are these
-told_at : (o : Option (List ℕ)) (rest : List ℕ) (P : List ℕ → Type 0) → IfSome o P → o ≡ Some rest → P rest
+pub told_at : (o : Option (List ℕ)) (rest : List ℕ) (P : List ℕ → Type 0) → IfSome o P → o ≡ Some rest → P rest
 told_at None rest P told is = absurd (none_is_no_some None rest refl is)
 told_at (Some xs) rest P told is = subst P (some_same (Some xs) xs rest refl is) told
 

@@ -1,5 +1,5 @@
 -- What `list` answers and writes.
-use Rattle.std.specs.Prelude.{◌≡◌, ℕ, List, Option, None, Some, ⊤}
+use Rattle.std.specs.Prelude.{◌≡◌, ℕ, List, ◌++◌, Option, None, Some, ⊤}
 use Rattle.std.specs.Io.KnownBytes.{Appends}
 use Rattle.dirac_io.specs.Writing.{AppendsFront}
 use Rattle.dirac_common.specs.declared.faults.Fault.{Fault}
@@ -22,6 +22,29 @@ abbrev pub IsListed : List ℕ → Ended → Option (List ℕ) → Option (List 
 IsListed bytes answer out out' =
     (units : List UnitText) × (end : Option Fault) × IsCut start bytes units end
     × AnswersList answer end (lines start units) out out'
+
+-- of these bytes some were read and just the others are held, and of the lines of the units in those read a sink took a
+-- front
+pub record IsFrontListed (bytes : List ℕ) (held' out out' : Option (List ℕ)) : Type 0 where
+  pub read : List ℕ
+  pub rest : List ℕ
+  pub parts : bytes ≡ read ++ rest
+  pub holds : held' ≡ Some rest
+  pub units : List UnitText
+  pub end : Option Fault
+  pub cut : IsCut start read units end
+  pub listed : AppendsFront out out' (lines start units)
+
+-- and it took them all
+pub record IsReadListed (bytes : List ℕ) (held' out out' : Option (List ℕ)) : Type 0 where
+  pub read : List ℕ
+  pub rest : List ℕ
+  pub parts : bytes ≡ read ++ rest
+  pub holds : held' ≡ Some rest
+  pub units : List UnitText
+  pub end : Option Fault
+  pub cut : IsCut start read units end
+  pub listed : Appends out out' (lines start units)
 
 -- the answers that `list` may give, of whatever source
 abbrev pub IsListAnswer : Ended → Type 0

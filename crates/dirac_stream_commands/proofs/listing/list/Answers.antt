@@ -7,6 +7,7 @@ use Rattle.dirac_units.proofs.Cuts.{cut_by}
 use Rattle.dirac_stream_commands.proofs.Inside.{listed_inside}
 use Rattle.dirac_stream_commands.proofs.Listed.{ListsSoFar, begins, goes_on, ends_done, ends_faulty, stops_between}
 use Rattle.dirac_stream_commands.proofs.Listed.{stops_inside, at_read_fault, at_write_fault, at_no_memory}
+use Rattle.dirac_stream_commands.proofs.ListedRead.{ReadsSoFar, begins_reading, breaks_listing, front_of_broken, none_of_line, reads_on, stops_at_line, stops_reading, with_end}
 use Rattle.dirac_command_line.specs.declared.ended.Ended.TheVariants.{ReadFault, WriteFault, NoMemory}
 use Rattle.dirac_stream_commands.proofs.listing.list.Goals as goal
 
@@ -27,6 +28,7 @@ units-init g c =
       ),
       omega arith,
       omega arith,
+      subst (λ (p : Progress). ReadsSoFar p first first out out) (sym c.new-units.ensures) (begins_reading first out),
     )
 
 pub returns-in_default-clause-listed : goal.returns-in_default-clause-listed
@@ -53,6 +55,8 @@ units-preserved g c = (
   omega (arith, c.in-Unit.ensures.no_overflow),
   omega (arith, c.in-Unit.ensures.count),
   omega (arith, c.put_all.ensures.count),
+  reads_on c.in-Unit.unit c.units.units c.next.new.self _ _ _ _ (g.K.Sink.taken c.units.out) _ c.units.invariant.5 c.in-Unit.ensures.unit
+      (subst (Appends _ _) (c.as_bytes.ensures.value ∙ c.in-Ok.ensures) (c.in-All.ensures.all refl)),
 )
 
 pub returns-in-End-clause-listed : goal.returns-in-End-clause-listed
@@ -77,3 +81,42 @@ returns-in-Fault-clause-fault_inside g c =
     listed_inside _ _ _ c.in-Fault.fault
     (ends_faulty c.in-Fault.fault c.units.units _ _ _ _ _ c.units.invariant.0
     (c.in-Fault.ensures.fault c.in-Fault.fault c.units.invariant.1 refl))
+
+pub returns-in_default-clause-front_of_read : goal.returns-in_default-clause-front_of_read
+returns-in_default-clause-front_of_read g c =
+    stops_at_line each_has_a_cut c.in-Unit.unit c.units.units c.next.new.self _ _ _ _ (g.K.Sink.taken c.units.out) _
+    c.units.invariant.5 c.in-Unit.ensures.unit c.in-Unit.ensures.rest (none_of_line _ _)
+
+pub returns-in-Failed-clause-front_of_read : goal.returns-in-Failed-clause-front_of_read
+returns-in-Failed-clause-front_of_read g c =
+    stops_at_line each_has_a_cut c.in-Unit.unit c.units.units c.next.new.self _ _ _ _ (g.K.Sink.taken c.units.out) _
+    c.units.invariant.5 c.in-Unit.ensures.unit c.in-Unit.ensures.rest
+    (subst (AppendsFront _ _) (c.as_bytes.ensures.value ∙ c.in-Ok.ensures) c.in-Failed.ensures.front)
+
+pub returns-in-NoMemory-put_all-clause-front_of_read : goal.returns-in-NoMemory-put_all-clause-front_of_read
+returns-in-NoMemory-put_all-clause-front_of_read g c =
+    stops_at_line each_has_a_cut c.in-Unit.unit c.units.units c.next.new.self _ _ _ _ (g.K.Sink.taken c.units.out) _
+    c.units.invariant.5 c.in-Unit.ensures.unit c.in-Unit.ensures.rest
+    (subst (AppendsFront _ _) (c.as_bytes.ensures.value ∙ c.in-Ok.ensures) c.in-NoMemory-put_all.ensures.front)
+
+pub returns-in-End-clause-front_of_read : goal.returns-in-End-clause-front_of_read
+returns-in-End-clause-front_of_read g c =
+    front_of_broken _ _ _ _
+    (breaks_listing c.units.units _ _ _ _ _ c.units.invariant.5 (with_end _ _ c.units.units.unit_place _ (c.in-End.ensures.end c.units.invariant.1 refl).taken))
+
+pub returns-in-Fault-clause-front_of_read : goal.returns-in-Fault-clause-front_of_read
+returns-in-Fault-clause-front_of_read g c =
+    front_of_broken _ _ _ _
+    (breaks_listing c.units.units _ _ _ _ _ c.units.invariant.5 (with_end _ _ c.units.units.unit_place _ (c.in-Fault.ensures.fault c.in-Fault.fault c.units.invariant.1 refl).taken))
+
+pub returns-in-ReadFault-clause-front_of_read : goal.returns-in-ReadFault-clause-front_of_read
+returns-in-ReadFault-clause-front_of_read g c =
+    front_of_broken _ _ _ _ (breaks_listing c.units.units _ _ _ _ _ c.units.invariant.5 (c.in-ReadFault.ensures.part refl))
+
+pub returns-in-ReadFault-clause-broken_off : goal.returns-in-ReadFault-clause-broken_off
+returns-in-ReadFault-clause-broken_off g c = λ fault.
+    breaks_listing c.units.units _ _ _ _ _ c.units.invariant.5 (c.in-ReadFault.ensures.part refl)
+
+pub returns-in-NoMemory-clause-front_of_read : goal.returns-in-NoMemory-clause-front_of_read
+returns-in-NoMemory-clause-front_of_read g c =
+    stops_reading each_has_a_cut c.units.units _ _ _ _ _ c.units.invariant.5 (c.in-NoMemory.ensures.taken refl)
