@@ -9,7 +9,7 @@ use Rattle.dirac_sequence_header.specs.declared.sequence.Sequence.{Sequence}
 use Rattle.dirac_push.specs.declared.answer.Answer.{Answer}
 use Rattle.dirac_push.specs.declared.answer.Answer.TheVariants as answers
 use Rattle.dirac_push.specs.Laid.{HasRoom, IsLaid}
-use Rattle.dirac_push.specs.Pushing.{PushGives, Pushed, Repeats}
+use Rattle.dirac_push.specs.Pushing.{PushGives, Pushed, Repeats, TakesUnits}
 use Rattle.jevmutzal.specs.declared.codes.TheConstants.{NO_PICTURE, OK, SMALL, UNKNOWN}
 use Rattle.jevmutzal.specs.declared.structs.Format.{Format}
 use Rattle.jevmutzal.specs.declared.structs.Frame.{Frame}
@@ -57,11 +57,12 @@ frame_of (answers.Fault fault) shown = fault_frame fault
 frame_of answers.NoMemory shown = empty_frame
 frame_of answers.Stopped shown = empty_frame
 
--- a number and a frame tell an answer that the decoder gave; the end, a fault and a stop are told again
+-- a number and a frame tell an answer that the decoder gave; the end, a fault and a stop are told again; the format
+-- is that of the sequence opened last among the units taken
 abbrev pub TellsNext : ℤ → Frame → Pushed → Pushed → Type 0
 TellsNext code frame old new =
     (answer : Answer) × (code ≡ number_of_answer answer) × (frame ≡ frame_of answer new.shown)
-    × PushGives answer old new × Repeats answer old new
+    × PushGives answer old new × Repeats answer old new × TakesUnits old new
 
 -- the number of a chroma format, as sequence headers have it
 abbrev pub chroma_number : Chroma → ℕ
