@@ -27,7 +27,7 @@ use Rattle.dirac_encode_commands.specs.Delivered.{DeliversShown, SideGetsShown}
 use Rattle.dirac_encode_commands.specs.Encoding.{EndsStream, IsEncoded, IsEncodeAnswer}
 use Rattle.dirac_stream_commands.specs.Inside.{IsFaultInside}
 use Rattle.dirac_stream_commands.specs.Joining.{Joins}
-use Rattle.dirac_stream_commands.specs.Listing.{IsListed, IsListAnswer}
+use Rattle.dirac_stream_commands.specs.Listing.{IsFrontListed, IsListed, IsListAnswer, IsReadListed}
 use Rattle.dirac_encode_commands.specs.Making.{AnswersMake, making}
 use Rattle.dirac_encode_commands.specs.Rating.{IsRated}
 
@@ -37,11 +37,15 @@ pub record Held : Type 0 where
   pub out : Option (List ℕ)
   pub side : Option (List ℕ)
 
--- `list`: the lines of the cut of the bytes held, and its end or fault; nothing is said beside them
+-- `list`: the lines of the cut of the bytes held, and its end or fault; nothing is said beside them; what wasn't read
+-- is still held, and whatever is answered, a front of the lines of the units in what was read was written; where a
+-- read fails, all of them
 pub record Lists (old new : Held) (answer : Ended) : Type 0 where
   pub answers : IsListAnswer answer
   pub listed : IfSome old.held (λ bytes. IsListed bytes answer old.out new.out)
   pub whole : answer ≡ ended.Done → IsAtEnd new.held
+  pub front_of_read : IfSome old.held (λ bytes. IsFrontListed bytes new.held old.out new.out)
+  pub broken_off : answer ≡ ended.ReadFault → IfSome old.held (λ bytes. IsReadListed bytes new.held old.out new.out)
   pub side : new.side ≡ old.side
   pub fault_inside : IfSome old.held (IsFaultInside answer)
 
