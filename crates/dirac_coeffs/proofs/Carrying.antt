@@ -1,7 +1,8 @@
 -- The neighbours of a value that is read or written next, carried along a row.
-use Rattle.std.proofs.Common.{◌≡◌, ◌≢◌, ℕ, ℤ, pos, ◌+◌, ◌-◌, ◌*◌, ◌<◌, List, length, get_or, set, slice_set, Ok, refl, arith, inl, inr, ap, sym, ◌∙◌, eq-eqb}
+use Rattle.std.proofs.Common.{◌≡◌, ◌≢◌, ℕ, ℤ, pos, ◌+◌, ◌-◌, ◌*◌, ◌<◌, List, length, get_or, set, slice_set, Ok, Err, refl, arith, inl, inr, ap, sym, ◌∙◌, eq-eqb}
 use Rattle.std.proofs.lemmas.Bool.{cases_eq, ne_eqb}
 use Rattle.std.proofs.lemmas.List.{get_or-set_same, get_or-set_other}
+use Rattle.dirac_common.specs.declared.faults.Cause.{Cause}
 use Rattle.dirac_arith.specs.Coded.{read}
 use Rattle.dirac_arith.specs.Deciding.{signed_read}
 use Rattle.dirac_arith.specs.Reading.{Reading}
@@ -51,3 +52,8 @@ pub value_put : (f : Frame) (x y : ℕ) (xs ys : List ℤ) (v : ℤ) (old new : 
     → read (value_step f x y xs) old ≡ Ok (ys, new)
 unfolding value_step
 value_put f x y xs ys v old new found put = rw (found, put) refl
+
+-- a value that was refused
+pub value_stops : (f : Frame) (x y : ℕ) (xs : List ℤ) (old : Reading) (cause : Cause) → signed_read (follow_here f xs x y) bits_context (sign_here f xs x y) old ≡ Err cause → read (value_step f x y xs) old ≡ Err cause
+unfolding value_step
+value_stops f x y xs old cause refused = rw refused refl

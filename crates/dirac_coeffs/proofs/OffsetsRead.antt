@@ -1,5 +1,5 @@
 -- The index that an offset leads to, and a codeblock that is read behind its offset.
-use Rattle.std.proofs.Common.{◌≡◌, ℕ, ℤ, pos, negsuc, ◌+ℤ◌, ◌≤◌, true, false, List, [], ◌∷◌, unsigned_abs, Result, Ok, Err, refl, sym, ap, ◌∙◌, subst, arith}
+use Rattle.std.proofs.Common.{◌≡◌, ℕ, zero, suc, ℤ, pos, negsuc, ◌+ℤ◌, ◌≤◌, true, false, List, [], ◌∷◌, slice_set, unsigned_abs, Result, Ok, Err, refl, sym, ap, ◌∙◌, subst, arith}
 use Rattle.std.proofs.lemmas.Bool.{false≢true}
 use Rattle.std.proofs.lemmas.Int.{ints}
 use Rattle.dirac_common.specs.Chain.{◌>>=◌}
@@ -14,7 +14,7 @@ use Rattle.dirac_coeffs.specs.declared.store.Unread.TheVariants as unread
 use Rattle.dirac_coeffs.specs.declared.layout.BandLayout.{BandLayout}
 use Rattle.dirac_coeffs.specs.Answers.{Goes}
 use Rattle.dirac_coeffs.specs.BandRead.{Content, content, filled_step, offset_step, unskipped_step}
-use Rattle.dirac_coeffs.specs.Indices.{place_of, is_index, index_from, index_coded}
+use Rattle.dirac_coeffs.specs.Indices.{place_of, index_before, is_index, index_from, index_coded}
 
 -- a sum that is an index is from 0 to 99
 pub index_few : (v : ℤ) → is_index v ≡ true → unsigned_abs v ≤ 99
@@ -66,3 +66,29 @@ unskipped_moves {A = A} narrow r layout parent index cy cx xs zs is ks old mid n
     told (Ok x) e = rw e refl
     told (Err (unread.Refused cause)) e = rw e refl
     told (Err unread.TooWide) e = e
+
+-- in mode 0 no offset is read
+pub no_offset_read : (mode index c : ℕ) (is : List ℕ) (r : Reading) → mode ≡ 0 → read (offset_step mode index c is) r ≡ Ok (is, r)
+unfolding offset_step
+no_offset_read zero index c is r none = refl
+no_offset_read (suc mode) index c is r none = absurd (omega arith)
+
+-- in mode 1 the index that it leads to is noted
+pub offset_found : (mode index c : ℕ) (is js : List ℕ) (former next : ℕ) (old new : Reading) → (mode ≡ 0 → ⊥) → former ≡ index_before index is c → read (index_coded former) old ≡ Ok (next, new) → js ≡ slice_set is c next
+    → read (offset_step mode index c is) old ≡ Ok (js, new)
+unfolding offset_step
+offset_found zero index c is js former next old new other from found noted = absurd (other refl)
+offset_found (suc mode) index c is js former next old new other from found noted =
+    let step : ℕ × Reading → Result (List ℕ × Reading) Cause = λ x. read (done (slice_set is c x.0)) x.1 in
+    let read_is = ap (λ (f : ℕ). read (index_coded f) old) (sym from) ∙ found in
+    then_is_read (index_coded (index_before index is c)) (λ i. done (slice_set is c i)) old
+    ∙ ap (λ (r : Result (ℕ × Reading) Cause). r >>= step) read_is
+    ∙ ap (λ (l : List ℕ). let x : Result (List ℕ × Reading) Cause = Ok (l, new) in x) (sym noted)
+
+pub offset_stops : (mode index c : ℕ) (is : List ℕ) (former : ℕ) (old : Reading) (cause : Cause) → (mode ≡ 0 → ⊥) → former ≡ index_before index is c → read (index_coded former) old ≡ Err cause → read (offset_step mode index c is) old ≡ Err cause
+unfolding offset_step
+offset_stops zero index c is former old cause other from stops = absurd (other refl)
+offset_stops (suc mode) index c is former old cause other from stops =
+    let step : ℕ × Reading → Result (List ℕ × Reading) Cause = λ x. read (done (slice_set is c x.0)) x.1 in
+    let read_is = ap (λ (f : ℕ). read (index_coded f) old) (sym from) ∙ stops in
+    then_is_read (index_coded (index_before index is c)) (λ i. done (slice_set is c i)) old ∙ ap (λ (r : Result (ℕ × Reading) Cause). r >>= step) read_is

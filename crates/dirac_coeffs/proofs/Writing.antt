@@ -1,8 +1,9 @@
 -- What an encoder has written, and that it is read back.
-use Rattle.std.proofs.Common.{◌≡◌, ℕ, zero, suc, ℤ, pos, negsuc, ◌+◌, ◌-◌, ◌+ℤ◌, ◌-ℤ◌, ◌<◌, min, Bool, true, false, List, [], ◌∷◌, ◌++◌, ◌&&◌, length, Ok, arith, lit<, ap, sym, ◌∙◌}
+use Rattle.std.proofs.Common.{◌≡◌, ℕ, zero, suc, ℤ, pos, negsuc, ◌+◌, ◌-◌, ◌+ℤ◌, ◌-ℤ◌, ◌<◌, min, Bool, true, false, List, [], ◌∷◌, ◌++◌, ◌&&◌, length, Ok, arith, lit<, refl, ap, sym, ◌∙◌}
 use Rattle.std.proofs.lemmas.Int.{ints}
 use Rattle.std.specs.List.{AllByRecursion}
 use Rattle.std.proofs.lemmas.List.Elements.{All-from_recursion}
+use Rattle.dirac_arith.specs.declared.contexts.TheConstants.{OFFSET_FOLLOW, OFFSET_DIGITS, OFFSET_SIGN}
 use Rattle.dirac_arith.specs.Interval.{Decision, InContexts, Interval, narrowed, narrowed_by}
 use Rattle.dirac_arith.specs.Spelling.{follow_at, signed_spelling, spelling, spelt}
 use Rattle.dirac_arith.proofs.Encodings.{flushed_is_carried}
@@ -84,6 +85,20 @@ zero_written s follow bits sign first v is none =
     ap (λ c. let d : Decision = (c, true) in narrowed s d) is
     ∙ ap (λ digits. narrowed_by s (spelt follow bits digits true)) (sym digits_none)
     ∙ ap (λ x. narrowed_by s (signed_spelling follow bits sign x)) (sym none)
+
+-- a number under other names of its contexts and its value
+pub number_written : {fs gs : List ℕ} {a b : ℕ} {u v : ℤ} (s : Interval) (bits : ℕ) → fs ≡ gs → a ≡ b → u ≡ v → narrowed_by s (signed_spelling fs bits a u) ≡ narrowed_by s (signed_spelling gs bits b v)
+number_written s bits follow sign value = cc
+
+-- the offset of an index in mode 1
+pub offset_written : {u v : ℤ} (s : Interval) (mode : ℕ) → (mode ≡ 0 → ⊥) → u ≡ v → narrowed_by s (signed_spelling OFFSET_FOLLOW OFFSET_DIGITS OFFSET_SIGN u) ≡ narrowed_by s (offset_part mode v)
+offset_written s zero other same = absurd (other refl)
+offset_written s (suc mode) other same = ap (λ x. narrowed_by s (signed_spelling OFFSET_FOLLOW OFFSET_DIGITS OFFSET_SIGN x)) same
+
+-- in mode 0 there is none
+pub no_offset_written : (s : Interval) (mode : ℕ) (v : ℤ) → mode ≡ 0 → s ≡ narrowed_by s (offset_part mode v)
+no_offset_written s zero v none = refl
+no_offset_written s (suc mode) v none = absurd (omega arith)
 
 difference_sums : (a b : ℕ) → pos a ≡ pos b +ℤ (pos a -ℤ pos b)
 difference_sums a b = omega (arith, ints)

@@ -1,4 +1,4 @@
-ghost use Rattle.std.specs.Prelude.{◌≡◌, true, OnErr, OnOk};
+ghost use Rattle.std.specs.Prelude.{◌≡◌, ◌+◌, ◌^◌, ◌<◌, true, length, OnErr, OnOk};
 ghost use Rattle.std.specs.Option.{ForSome};
 ghost use Rattle.dirac_bits.specs.Fronts.{HoldsFront};
 ghost use Rattle.dirac_bits.specs.Writing.{IsWhole};
@@ -17,8 +17,19 @@ use dirac_bits::BitWriter;
 use dirac_common::NoMemory;
 use std::alloc::Global;
 
+/// Writes the length of a block, a quantiser index and the block.
+fn write_indexed(w: &mut BitWriter, index: u8, block: &[u8]) -> Result<(), NoMemory>
+    requires { length block.now + 1 < 2 ^ 39 }
+    ensures exact { OnOk result (w.new ≡ with_block index block.now w.old) }
+    ensures front { OnErr result (HoldsFront w.old w.new (with_block index block.now w.old)) }
+{
+    w.uint(block.len() as u64)?;
+    w.uint(u64::from(index))?;
+    w.align()?;
+    w.block(block)
+}
+
 /// Writes the length of a subband's block, its quantiser index and the block.
-#[tactic(auto, using(crate::proofs::BlockLengths::block_short))]
 fn write_coded(
     alloc: Global,
     w: &mut BitWriter,
@@ -39,10 +50,7 @@ fn write_coded(
     let index = band.index;
     let values = band.table.numbers();
     let block = write_below(alloc, values, &band.indices, layout, parent, index)?;
-    w.uint(block.len() as u64)?;
-    w.uint(u64::from(index))?;
-    w.align()?;
-    w.block(block.as_slice())
+    write_indexed(w, index, block.as_slice())
 }
 
 /// Writes a subband (wavelet coefficients, Dirac specification, section 13): bits 0 up to the next byte, the length of

@@ -1,4 +1,4 @@
-ghost use Rattle.std.specs.Prelude.{◌≡◌, ◌*◌, pos, replicate, IfOk};
+ghost use Rattle.std.specs.Prelude.{◌≡◌, ◌*◌, None, pos, replicate, IfOk};
 ghost use Rattle.dirac_coeffs.specs.Answers.{GivesBlock, GivesNarrow};
 ghost use Rattle.dirac_coeffs.specs.BandRead.{band_read};
 ghost use Rattle.dirac_coeffs.specs.Carried.{AreLawful, CarriesLong, CarriesNoIndex};
@@ -36,9 +36,10 @@ fn wide_zeros(alloc: Global, layout: BandLayout) -> Result<Values, NoMemory>
     Ok(Values::Wide(list))
 }
 
-/// Reads a block into values of 32 bits; none where one doesn't fit.
-fn read_narrow(
+/// Reads a block into these values, which are zeros; none where they are held in 32 bits and a value doesn't fit.
+fn read_into(
     alloc: Global,
+    mut values: Values,
     block: &[u8],
     at: u64,
     layout: BandLayout,
@@ -47,9 +48,10 @@ fn read_narrow(
 ) -> Result<Option<BandBlock>, Stop>
     requires layout { IsBandLayout layout }
     requires index { IsIndex index }
-    ensures { GivesNarrow layout at result (band_read layout (numbers_in parent.entry) index block.now) }
+    requires zeros { values_in values ≡ replicate (layout.width * layout.height) (pos 0) }
+    ensures value { GivesNarrow layout at result (band_read layout (numbers_in parent.entry) index block.now) }
+    ensures none { IfOk result (λ found. found ≡ None → IsNarrow values) }
 {
-    let mut values = narrow_zeros(alloc, layout)?;
     let mut indices = equal_indices(alloc, layout, index)?;
     let mut decoder = Decoder::new(block);
     match read_all(
@@ -69,6 +71,23 @@ fn read_narrow(
     }
 }
 
+/// Reads a block into values of 32 bits; none where one doesn't fit.
+fn read_narrow(
+    alloc: Global,
+    block: &[u8],
+    at: u64,
+    layout: BandLayout,
+    parent: Numbers<'_>,
+    index: u8,
+) -> Result<Option<BandBlock>, Stop>
+    requires layout { IsBandLayout layout }
+    requires index { IsIndex index }
+    ensures { GivesNarrow layout at result (band_read layout (numbers_in parent.entry) index block.now) }
+{
+    let values = narrow_zeros(alloc, layout)?;
+    read_into(alloc, values, block, at, layout, parent, index)
+}
+
 /// Reads a block into values of 64 bits.
 fn read_wide(
     alloc: Global,
@@ -82,23 +101,11 @@ fn read_wide(
     requires index { IsIndex index }
     ensures { GivesBlock layout at result (band_read layout (numbers_in parent.entry) index block.now) }
 {
-    let mut values = wide_zeros(alloc, layout)?;
-    let mut indices = equal_indices(alloc, layout, index)?;
-    let mut decoder = Decoder::new(block);
-    match read_all(
-        &mut decoder,
-        &mut values,
-        &mut indices,
-        layout,
-        parent,
-        index,
-    ) {
-        Ok(()) => {
-            let table = Coefficients::of_values(alloc, layout.width, layout.height, values)?;
-            Ok(BandBlock { indices, table })
-        }
-        Err(Unread::TooWide) => unreachable!(),
-        Err(Unread::Refused(cause)) => Err(Stop::Refused(Refusal { at, cause })),
+    let values = wide_zeros(alloc, layout)?;
+    match read_into(alloc, values, block, at, layout, parent, index) {
+        Ok(Some(found)) => Ok(found),
+        Ok(None) => unreachable!(),
+        Err(stop) => Err(stop),
     }
 }
 

@@ -1,4 +1,4 @@
-ghost use Rattle.std.specs.Prelude.{◌≡◌, pos, ◌*◌, ◌<◌, ◌-ℤ◌, length, OnOk};
+ghost use Rattle.std.specs.Prelude.{◌≡◌, pos, ◌-◌, ◌*◌, ◌^◌, ◌<◌, ◌-ℤ◌, length, OnOk, unsigned_abs};
 ghost use Rattle.dirac_arith.specs.Interval.{narrowed_by};
 ghost use Rattle.dirac_coeffs.specs.Indices as spec;
 ghost use Rattle.dirac_coeffs.specs.Layouts.{IsBandLayout};
@@ -8,6 +8,14 @@ use crate::layout::BandLayout;
 use crate::spans::Codeblock;
 use dirac_arith::{Encoder, OFFSET_DIGITS, OFFSET_FOLLOW, OFFSET_SIGN};
 use dirac_common::NoMemory;
+
+/// What leads from a former index to an index.
+fn difference_of(index: u8, former: u8) -> i64
+    ensures value { result ≡ pos index -ℤ pos former }
+    ensures small { unsigned_abs result < 2 ^ 39 - 1 }
+{
+    i64::from(index) - i64::from(former)
+}
 
 /// Writes the offset of a codeblock's index, where the mode has one.
 pub fn write_offset(
@@ -29,6 +37,6 @@ pub fn write_offset(
         return Ok(());
     }
     let c = codeblock_place(layout, codeblock);
-    let offset = i64::from(indices.at(c)) - i64::from(former_index(indices, index, c));
+    let offset = difference_of(indices.at(c), former_index(indices, index, c));
     encoder.signed(&OFFSET_FOLLOW, OFFSET_DIGITS, OFFSET_SIGN, offset)
 }

@@ -56,7 +56,6 @@ fn read_index(decoder: &mut Decoder<'_>, former: u8) -> Result<u8, Cause>
 }
 
 /// Reads the offset of a codeblock's index, where the mode has one, and notes the index.
-#[tactic(auto, unfolding(crate::specs::BandRead::offset_step))]
 pub fn read_offset(
     decoder: &mut Decoder<'_>,
     indices: &mut Indices,

@@ -125,7 +125,6 @@ fn put_narrow(values: &mut [i32], place: usize, value: i64) -> bool
 }
 
 /// Reads the value in column `x` of row `y` among these neighbours of it, from these registers on.
-#[tactic(auto, unfolding(crate::specs::BandRead::value_step))]
 #[inline(always)]
 fn read_at(
     decoder: &mut Decoder<'_>,

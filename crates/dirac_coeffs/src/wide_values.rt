@@ -13,7 +13,6 @@ use dirac_arith::{COEFFICIENT_DIGITS, Decoder};
 use dirac_common::{Cause, LARGEST_TABLE_SIDE};
 
 /// Reads the value in column `x` of row `y`.
-#[tactic(auto, unfolding(crate::specs::BandRead::value_step))]
 fn read_wide_value(
     decoder: &mut Decoder<'_>,
     values: &mut [i64],

@@ -1,14 +1,15 @@
-use Rattle.std.proofs.Common.{rules, ◌≡◌, ℤ, Bool, true, List, Result, Ok, Err, OnOk, sym, subst}
+use Rattle.std.proofs.Common.{◌≡◌, ℤ, Bool, true, List, Result, Ok, Err, OnOk, sym, ap, subst, ◌∙◌}
+use Rattle.std.proofs.lemmas.Result.{on_ok_weaker}
 use Rattle.dirac_bits.specs.Spelling.{SpelledBehind}
 use Rattle.dirac_bits.specs.Writing.{gap}
-use Rattle.dirac_bits.proofs.Fronts.{on_err, none_stand}
+use Rattle.dirac_bits.proofs.Fronts.{on_err, err_so, none_stand}
 use Rattle.dirac_coeffs.specs.declared.layout.BandLayout.{BandLayout}
 use Rattle.dirac_coeffs.specs.declared.layout.CodedBand.{CodedBand}
 use Rattle.dirac_coeffs.specs.Grammar.{band as band_grammar, values_of_parent, IsCodedBand}
 use Rattle.dirac_coeffs.specs.Indices.{all_equal}
 use Rattle.dirac_coeffs.specs.Layouts.{IsBandLayout}
 use Rattle.dirac_coeffs.specs.Written.{AreIndicesOf, is_zero_band, with_band}
-use Rattle.dirac_coeffs.proofs.Fronts.{gap_alone}
+use Rattle.dirac_coeffs.proofs.Fronts.{band_left, band_written, gap_alone, gap_written, zeros_written}
 use Rattle.dirac_coeffs.proofs.SpelledBand.{band_spells}
 use Rattle.dirac_coeffs.proofs.band_writer.write_band.Goals as goal
 
@@ -18,17 +19,50 @@ written_spells : {T E : Type 0} (layout : BandLayout) (parent : List ℤ) (b : C
 written_spells layout parent b old new is coded of zeros indices (Ok x) e = subst (λ (l : List Bool). SpelledBehind (band_grammar layout parent) b old l) (sym e) (band_spells layout parent b old is coded of zeros indices)
 written_spells layout parent b old new is coded of zeros indices (Err x) e = e
 
+pub returns-then-are_zeros-clause-exact : goal.returns-then-are_zeros-clause-exact
+returns-then-are_zeros-clause-exact c =
+    let zeros = sym c.are_zeros.ensures.value ∙ c.if-are_zeros.true in
+    on_ok_weaker c.uint.result (λ e. zeros_written c.args.layout (values_of_parent c.args.parent) c.args.band.now c.args.w.now zeros c.in_ok-align.ensures.ok e) c.uint.ensures.ok
+
+pub returns-then-are_zeros-clause-front : goal.returns-then-are_zeros-clause-front
+returns-then-are_zeros-clause-front c =
+    err_so c.uint.result (λ e. gap_written c.args.layout (values_of_parent c.args.parent) c.args.band.now c.args.w.now (e ∙ c.in_ok-align.ensures.ok)) c.uint.ensures.err
+
 pub returns-then-are_zeros-clause-spelled : goal.returns-then-are_zeros-clause-spelled
 returns-then-are_zeros-clause-spelled c =
-    written_spells c.args.layout (values_of_parent c.args.parent) c.args.band.now c.args.w.now c.uint.new.self c.requires.layout c.requires.band c.requires.indices c.requires.zeros c.requires.zero_indices c.uint.result (search rules)
+    written_spells c.args.layout (values_of_parent c.args.parent) c.args.band.now c.args.w.now c.uint.new.self c.requires.layout c.requires.band c.requires.indices c.requires.zeros c.requires.zero_indices c.uint.result (returns-then-are_zeros-clause-exact c)
+
+pub returns-in-Some-clause-exact : goal.returns-in-Some-clause-exact
+returns-in-Some-clause-exact c =
+    let others = sym c.are_zeros.ensures.value ∙ c.if-are_zeros.false in
+    let same = c.numbers.ensures ∙ sym (ap (λ p. values_of_parent p) c.in-Some.is) in
+    on_ok_weaker c.write_coded.result (λ e. band_written c.args.layout (values_of_parent c.args.parent) c.args.band.now c.args.w.now others c.in_ok-align.ensures.ok same e) c.write_coded.ensures.exact
+
+pub returns-in-Some-clause-front : goal.returns-in-Some-clause-front
+returns-in-Some-clause-front c =
+    let others = sym c.are_zeros.ensures.value ∙ c.if-are_zeros.false in
+    let same = c.numbers.ensures ∙ sym (ap (λ p. values_of_parent p) c.in-Some.is) in
+    err_so c.write_coded.result (λ holds. band_left c.args.layout (values_of_parent c.args.parent) c.args.band.now c.args.w.now others c.in_ok-align.ensures.ok same holds) c.write_coded.ensures.front
 
 pub returns-in-Some-clause-spelled : goal.returns-in-Some-clause-spelled
 returns-in-Some-clause-spelled c =
-    written_spells c.args.layout (values_of_parent c.args.parent) c.args.band.now c.args.w.now c.write_coded.new.w c.requires.layout c.requires.band c.requires.indices c.requires.zeros c.requires.zero_indices c.write_coded.result (search rules)
+    written_spells c.args.layout (values_of_parent c.args.parent) c.args.band.now c.args.w.now c.write_coded.new.w c.requires.layout c.requires.band c.requires.indices c.requires.zeros c.requires.zero_indices c.write_coded.result (returns-in-Some-clause-exact c)
+
+pub returns-in-None-clause-exact : goal.returns-in-None-clause-exact
+returns-in-None-clause-exact c =
+    let others = sym c.are_zeros.ensures.value ∙ c.if-are_zeros.false in
+    let same = sym (ap (λ p. values_of_parent p) c.in-None.is) in
+    on_ok_weaker c.write_coded-in-None.result (λ e. band_written c.args.layout (values_of_parent c.args.parent) c.args.band.now c.args.w.now others c.in_ok-align.ensures.ok same e) c.write_coded-in-None.ensures.exact
+
+pub returns-in-None-clause-front : goal.returns-in-None-clause-front
+returns-in-None-clause-front c =
+    let others = sym c.are_zeros.ensures.value ∙ c.if-are_zeros.false in
+    let same = sym (ap (λ p. values_of_parent p) c.in-None.is) in
+    err_so c.write_coded-in-None.result (λ holds. band_left c.args.layout (values_of_parent c.args.parent) c.args.band.now c.args.w.now others c.in_ok-align.ensures.ok same holds) c.write_coded-in-None.ensures.front
 
 pub returns-in-None-clause-spelled : goal.returns-in-None-clause-spelled
 returns-in-None-clause-spelled c =
-    written_spells c.args.layout (values_of_parent c.args.parent) c.args.band.now c.args.w.now c.write_coded-in-None.new.w c.requires.layout c.requires.band c.requires.indices c.requires.zeros c.requires.zero_indices c.write_coded-in-None.result (search rules)
+    written_spells c.args.layout (values_of_parent c.args.parent) c.args.band.now c.args.w.now c.write_coded-in-None.new.w c.requires.layout c.requires.band c.requires.indices c.requires.zeros c.requires.zero_indices c.write_coded-in-None.result (returns-in-None-clause-exact c)
 
 pub returns-in_err-align-clause-front : goal.returns-in_err-align-clause-front
 returns-in_err-align-clause-front c =

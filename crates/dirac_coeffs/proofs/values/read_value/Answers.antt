@@ -1,4 +1,4 @@
-use Rattle.std.proofs.Common.{◌≡◌, ◌&&◌, Bool, true, false, ℤ, Result, Ok, Err, of_z, rules, to_z, w64, ap, subst, sym, ◌∙◌}
+use Rattle.std.proofs.Common.{◌≡◌, ◌&&◌, Bool, true, false, ℤ, Result, Ok, Err, arith, of_z, rules, to_z, w64, ap, subst, sym, ◌∙◌}
 use Rattle.dirac_common.specs.declared.faults.Cause.{Cause}
 use Rattle.dirac_arith.specs.Deciding.{decided, signed_read}
 use Rattle.dirac_arith.specs.Decoding.{reading_at}
@@ -64,3 +64,15 @@ returns-in-Err-clause-refused c =
     subst (λ l. S l n.above) left
     (subst (λ a. S (to_z w64 (of_z w64 n.left)) a) above
     (c.in-Err.ensures.read (is_zero c.args.parent) (is_zero n.left && (is_zero n.above && is_zero n.corner)) before context told))
+
+pub read_further-requires : goal.read_further-requires
+read_further-requires c =
+    omega (arith, ap (λ (r : Reading). r.at.doublings) c.resume.ensures, c.foreseen_from-decided.ensures.few_doublings, c.requires.no_overflow)
+
+pub returns-in-Ok-clause-few_doublings : goal.returns-in-Ok-clause-few_doublings
+returns-in-Ok-clause-few_doublings c =
+    omega (arith, ap (λ (r : Reading). r.at.doublings) c.registers.ensures.stands, ap (λ (r : Reading). r.at.doublings) c.resume.ensures, c.read_further.ensures.few_doublings, c.foreseen_from-decided.ensures.few_doublings)
+
+pub returns-in-Err-clause-few_then : goal.returns-in-Err-clause-few_then
+returns-in-Err-clause-few_then c =
+    omega (arith, ap (λ (r : Reading). r.at.doublings) c.resume.ensures, c.read_further.ensures.few_doublings, c.foreseen_from-decided.ensures.few_doublings)
