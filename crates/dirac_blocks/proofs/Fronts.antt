@@ -25,6 +25,26 @@ block_more {old} {new} {all} block holds =
 pub no_block : {old new : List Bool} (block : List ℕ) → new ≡ old → HoldsFront old new (with_block block old)
 no_block {old} {new} block same = block_more block (nothing_stands same)
 
+-- its length was written, and no more
+pub length_written : {one new : List Bool} (old : List Bool) (block : List ℕ) → one ≡ old ++ uint (length block) → new ≡ one → HoldsFront old new (with_block block old)
+length_written {one} {new} old block first same =
+    let all = old ++ uint (length block) in
+    let none : HoldsFront old old old = nothing_stands refl in
+    let some : HoldsFront old all all = all_stand (more_stand (uint (length block)) none) in
+    still_stand (more_stand (bits_of block) (more_stand (gap all) some)) (same ∙ first)
+
+-- all but the block was
+pub gap_written : {one two new : List Bool} (old : List Bool) (block : List ℕ) → one ≡ old ++ uint (length block) → two ≡ one ++ gap one → new ≡ two → HoldsFront old new (with_block block old)
+gap_written {one} {two} {new} old block first second same =
+    let all = old ++ uint (length block) in
+    let none : HoldsFront old old old = nothing_stands refl in
+    let some : HoldsFront old (all ++ gap all) (all ++ gap all) = all_stand (more_stand (gap all) (more_stand (uint (length block)) none)) in
+    still_stand (more_stand (bits_of block) some) (same ∙ second ∙ ap (λ l. l ++ gap l) first)
+
+-- and so was the block
+pub block_written : {one two new : List Bool} (old : List Bool) (block : List ℕ) → one ≡ old ++ uint (length block) → two ≡ one ++ gap one → new ≡ two ++ bits_of block → new ≡ with_block block old
+block_written old block first second third = third ∙ ap (λ l. l ++ bits_of block) (second ∙ ap (λ l. l ++ gap l) first)
+
 -- lists were to be written behind that
 pub lists_more : (lists : List (List Decision)) {old new all : List Bool} → HoldsFront old new all → HoldsFront old new (with_lists lists all)
 lists_more [] holds = holds

@@ -1,10 +1,13 @@
 -- What is read of a unit.
-use Rattle.std.proofs.Common.{arith, ◌≡◌, ℕ, ℤ, ◌+ℤ◌, Bool, true, false, ◌||◌, not, List, Result, Ok, Err, refl, sym, ap, ◌∙◌, subst}
-use Rattle.std.specs.Prelude.{if◌then◌else◌}
+use Rattle.std.proofs.Common.{arith, ◌≡◌, ℕ, ℤ, ◌-◌, ◌^◌, ◌<◌, ◌+ℤ◌, w32, w64, Bool, true, false, ◌||◌, not, List, Result, Ok, Err, refl, sym, ap, ◌∙◌, subst}
+use Rattle.std.specs.Prelude.{if◌then◌else◌, nat_abs}
+use Rattle.std.specs.Int.RustNames.{FitsSigned}
 use Rattle.std.proofs.lemmas.Bool.{both_ways}
+use Rattle.std.proofs.lemmas.Int.{ints}
 use Rattle.dirac_common.specs.declared.faults.Cause.{Cause}
 use Rattle.dirac_arith.specs.Coded.{Coded, done, refuse, read}
-use Rattle.dirac_arith.specs.Deciding.{signed_read}
+use Rattle.dirac_arith.specs.declared.contexts.TheConstants.{REFERENCE_1}
+use Rattle.dirac_arith.specs.Deciding.{decided, signed_read}
 use Rattle.dirac_arith.proofs.CodedValues.{then_is_read}
 use Rattle.dirac_arith.specs.Reading.{Reading}
 use Rattle.dirac_vectors.specs.Neighbours.{IsShort}
@@ -13,8 +16,10 @@ use Rattle.dirac_common.specs.declared.formats.Component.{Component}
 use Rattle.dirac_common.specs.declared.formats.Component.TheVariants as components
 use Rattle.dirac_block_table.specs.declared.reference.Reference.{Reference}
 use Rattle.dirac_block_table.specs.declared.reference.Reference.TheVariants as references
-use Rattle.dirac_blocks.specs.Grammar.{is_dc, is_short, coded_into, uses, value_coded, with_across, with_dc, with_down}
-use Rattle.dirac_block_table.specs.Tables.{IsBlock}
+use Rattle.dirac_vectors.specs.Predictions.{mode_of}
+use Rattle.dirac_blocks.specs.Decisions.{differ, predicted, ref1_at}
+use Rattle.dirac_blocks.specs.Grammar.{block_using, coded_into, is_dc, is_short, mode_coded, second_use, uses, value_coded, with_across, with_dc, with_down}
+use Rattle.dirac_block_table.specs.Tables.{BlockTable, IsBlock}
 
 -- a value that has 16 bits is found
 pub value_found : (cause : Cause) (follow : List ℕ) (bits sign : ℕ) (prediction number v : ℤ) (old new : Reading)
@@ -57,3 +62,29 @@ dc_lawful refs components.V b v h is short = grind arith
 
 pub is_dc_from : (b : Block) → (b.ref1 || b.ref2) ≡ false → is_dc b ≡ true
 is_dc_from b e = ap not e
+
+-- a block that hasn't the value stays
+pub into_none : (has : Bool) (b : Block) (put : Block → ℤ → Block) (value : Coded ℤ) (old : Reading) → has ≡ false → read (coded_into has b put value) old ≡ Ok (b, old)
+into_none true b put value old is = absurd (both_ways true is refl)
+into_none false b put value old is = refl
+
+-- a number and a prediction have 64 bits together
+pub sum_fits : (a b : ℤ) → nat_abs a < 2 ^ 39 - 1 → IsShort b → FitsSigned w64 (a +ℤ b)
+sum_fits a b small short = omega (arith, ints)
+
+-- a value of 16 bits has 32
+pub short_fits : (v : ℤ) → IsShort v → FitsSigned w32 v
+short_fits v short = omega (arith, ints)
+
+-- which references a unit uses
+pub mode_found : (t : BlockTable) (i j : ℕ) (bit second : Bool) (old mid new : Reading) → decided REFERENCE_1 old ≡ Ok (bit, mid) → read (second_use t i j) mid ≡ Ok (second, new)
+    → read (mode_coded t i j) old ≡ Ok (block_using (differ bit (predicted mode_of (ref1_at t) i j)) second, new)
+mode_found t i j bit second old mid new one two =
+    rw one (then_is_read (second_use t i j) (λ s. done (block_using (differ bit (predicted mode_of (ref1_at t) i j)) s)) mid ∙ rw two refl)
+
+pub mode_stops : (t : BlockTable) (i j : ℕ) (bit : Bool) (old mid : Reading) (e : Cause) → decided REFERENCE_1 old ≡ Ok (bit, mid) → read (second_use t i j) mid ≡ Err e → read (mode_coded t i j) old ≡ Err e
+mode_stops t i j bit old mid e one two =
+    rw one (then_is_read (second_use t i j) (λ s. done (block_using (differ bit (predicted mode_of (ref1_at t) i j)) s)) mid ∙ rw two refl)
+
+pub mode_refused : (t : BlockTable) (i j : ℕ) (old : Reading) (e : Cause) → decided REFERENCE_1 old ≡ Err e → read (mode_coded t i j) old ≡ Err e
+mode_refused t i j old e one = rw one refl

@@ -13,7 +13,6 @@ use dirac_block_table::{BlockData, Reference};
 use dirac_common::{Component, Refusal};
 
 /// Reads the block of the splits.
-#[tactic(auto, unfolding(crate::specs::Grammar::listed))]
 fn read_split_list(r: &mut BitReader<'_>, table: &mut BlockData) -> Result<(), Refusal>
     requires { AllGrey table.old.blocks }
     ensures value { Lists result table.new r.new (read (listed splits_step table.old) r.old) }
@@ -33,7 +32,6 @@ fn read_split_list(r: &mut BitReader<'_>, table: &mut BlockData) -> Result<(), R
 }
 
 /// Reads the block of what a list tells of each unit.
-#[tactic(auto, unfolding(crate::specs::Grammar::listed))]
 fn read_list(r: &mut BitReader<'_>, table: &mut BlockData, part: ListKind) -> Result<(), Refusal>
     ensures value { Lists result table.new r.new (read (listed (units_step part) table.old) r.old) }
     ensures shape { SameShape table.old table.new }
@@ -52,7 +50,6 @@ fn read_list(r: &mut BitReader<'_>, table: &mut BlockData, part: ListKind) -> Re
 }
 
 /// Reads the blocks of both components of the vectors of a reference.
-#[tactic(auto, unfolding(crate::specs::Grammar::vectors_listed), using(dirac_bits::specs::Then::read_then))]
 fn read_vectors(
     r: &mut BitReader<'_>,
     table: &mut BlockData,
@@ -70,7 +67,6 @@ fn read_vectors(
 }
 
 /// Reads the blocks of the second reference, where there is one.
-#[tactic(auto, unfolding(crate::specs::Grammar::second_listed))]
 fn read_second(r: &mut BitReader<'_>, table: &mut BlockData) -> Result<(), Refusal>
     ensures value { Lists result table.new r.new (read (second_listed table.old) r.old) }
     ensures shape { SameShape table.old table.new }
@@ -84,7 +80,6 @@ fn read_second(r: &mut BitReader<'_>, table: &mut BlockData) -> Result<(), Refus
 }
 
 /// Reads the blocks of the DC values.
-#[tactic(auto, unfolding(crate::specs::Grammar::dcs_listed), using(dirac_bits::specs::Then::read_then))]
 fn read_dcs(r: &mut BitReader<'_>, table: &mut BlockData) -> Result<(), Refusal>
     ensures value { Lists result table.new r.new (read (dcs_listed table.old) r.old) }
     ensures shape { SameShape table.old table.new }
@@ -101,7 +96,6 @@ fn read_dcs(r: &mut BitReader<'_>, table: &mut BlockData) -> Result<(), Refusal>
 }
 
 /// Reads the blocks of the vectors and DC values.
-#[tactic(auto, unfolding(crate::specs::Grammar::values_listed), using(dirac_bits::specs::Then::read_then))]
 fn read_values(r: &mut BitReader<'_>, table: &mut BlockData) -> Result<(), Refusal>
     ensures value { Lists result table.new r.new (read (values_listed table.old) r.old) }
     ensures shape { SameShape table.old table.new }
@@ -118,7 +112,6 @@ fn read_values(r: &mut BitReader<'_>, table: &mut BlockData) -> Result<(), Refus
 }
 
 /// Reads the blocks of all lists into a table of which nothing is read.
-#[tactic(auto, unfolding(crate::specs::Grammar::lists_of), using(dirac_bits::specs::Then::read_then))]
 pub fn read_lists(r: &mut BitReader<'_>, table: &mut BlockData) -> Result<(), Refusal>
     requires { AllGrey table.old.blocks }
     ensures value { Lists result table.new r.new (read (lists_of table.old) r.old) }

@@ -13,7 +13,6 @@ use std::alloc::Global;
 /// Reads a block table (motion data, Dirac specification, section 12) of `across` by `down` superblocks for that number
 /// of references: passes to the next byte, and takes for each of its lists a length and an arithmetic block. What an
 /// arithmetic block doesn't hold is refused at its first byte.
-#[tactic(auto, unfolding(crate::specs::Grammar::blocks))]
 pub fn read_blocks(
     alloc: Global,
     r: &mut BitReader<'_>,

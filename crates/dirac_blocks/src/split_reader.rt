@@ -8,7 +8,6 @@ use dirac_block_table::{BlockData, predict_split_at};
 use dirac_common::{Cause, MOST_SUPERBLOCKS};
 
 /// Reads how superblock `sx` of row `sy` is split: the sum modulo 3 of a number and the prediction.
-#[tactic(auto, unfolding(crate::specs::Grammar::split_step))]
 fn read_split(
     decoder: &mut Decoder<'_>,
     table: &mut BlockData,

@@ -11,7 +11,6 @@ use dirac_block_table::{BlockData, unit_blocks, units_across};
 use dirac_common::{Cause, MOST_SUPERBLOCKS};
 
 /// Reads what this list tells of a unit of `size` by `size` blocks, from block `i` of row `j` on.
-#[tactic(auto, unfolding(crate::specs::Grammar::unit_step))]
 fn read_unit(
     decoder: &mut Decoder<'_>,
     table: &mut BlockData,
@@ -95,7 +94,6 @@ fn read_unit_rows(
 }
 
 /// Reads the units of superblock `sx` of row `sy`.
-#[tactic(auto, unfolding(crate::specs::Grammar::superblock_step))]
 fn read_superblock(
     decoder: &mut Decoder<'_>,
     table: &mut BlockData,

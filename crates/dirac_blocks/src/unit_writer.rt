@@ -1,4 +1,4 @@
-ghost use Rattle.std.specs.Prelude.{◌≡◌, ◌-ℤ◌, ◌*◌, ◌<◌, length, option_map, OnOk};
+ghost use Rattle.std.specs.Prelude.{◌≡◌, ◌-◌, ◌-ℤ◌, ◌*◌, ◌^◌, ◌<◌, length, option_map, OnOk, unsigned_abs};
 ghost use Rattle.std.specs.Option.{ForSome};
 ghost use Rattle.dirac_arith.specs.Interval.{narrowed_by};
 ghost use Rattle.dirac_arith.specs.Spelling.{AreContexts, signed_spelling};
@@ -51,6 +51,16 @@ fn y_of(v: Option<Vector>) -> Option<i32>
     }
 }
 
+/// A value less its prediction.
+fn difference_of(value: i32, prediction: i32) -> i64
+    requires value { IsShort value }
+    requires prediction { IsShort prediction }
+    ensures value { result ≡ value -ℤ prediction }
+    ensures small { unsigned_abs result < 2 ^ 39 - 1 }
+{
+    i64::from(value) - i64::from(prediction)
+}
+
 /// Writes a value less its prediction.
 fn write_less(
     encoder: &mut Encoder,
@@ -69,7 +79,7 @@ fn write_less(
     ensures { OnOk result (encoder.new ≡ narrowed_by encoder.old
         (signed_spelling follow.now bits sign (value -ℤ prediction))) }
 {
-    encoder.signed(follow, bits, sign, i64::from(value) - i64::from(prediction))
+    encoder.signed(follow, bits, sign, difference_of(value, prediction))
 }
 
 /// Writes a value, where there is one, less its prediction.

@@ -1,6 +1,8 @@
-use Rattle.std.proofs.Common.{rules, ◌≡◌, ℤ, false, ◌||◌, ap, ◌∙◌, subst, sym, to_z, of_z, w32, Ok, Err, [], ◌∷◌}
+use Rattle.std.proofs.Common.{rules, ◌≡◌, ℤ, Result, true, false, not, ◌||◌, ap, ◌∙◌, subst, sym, to_z, of_z, w32, Ok, Err, [], ◌∷◌}
 use Rattle.dirac_common.specs.declared.faults.Cause.TheVariants as causes
+use Rattle.dirac_common.specs.declared.faults.Cause.{Cause}
 use Rattle.dirac_arith.specs.Coded.{read}
+use Rattle.dirac_arith.specs.Reading.{Reading}
 use Rattle.dirac_vectors.specs.Neighbours.{IsShort}
 use Rattle.dirac_vectors.specs.Predictions.{dc_of}
 use Rattle.dirac_block_table.specs.declared.block.Block.{Block}
@@ -8,7 +10,7 @@ use Rattle.dirac_blocks.specs.Decisions.{predicted}
 use Rattle.dirac_blocks.specs.Grammar.{is_dc, coded_into, value_coded, with_dc}
 use Rattle.dirac_blocks.specs.Parts.{dc_at}
 use Rattle.dirac_block_table.specs.Tables.{IsBlock, block_at}
-use Rattle.dirac_blocks.proofs.UnitValues.{into_found, into_refused, dc_lawful, is_dc_from}
+use Rattle.dirac_blocks.proofs.UnitValues.{into_found, into_none, into_refused, dc_lawful, is_dc_from}
 use Rattle.dirac_blocks.proofs.unit_reader.read_dc.Goals as goal
 
 pub returns-in-Ok-clause-value : goal.returns-in-Ok-clause-value
@@ -53,3 +55,19 @@ returns-in-Ok-clause-block c =
     let stored : to_z w32 (of_z w32 v) ≡ v = search rules in
     let short : IsShort (to_z w32 (of_z w32 v)) = subst IsShort (sym stored) c.in-Ok.ensures.short in
     subst (IsBlock refs) (sym c.set_dc.ensures) (dc_lawful refs k b (to_z w32 (of_z w32 v)) c.at-block.ensures.block none short)
+
+pub returns-then-block-clause-value : goal.returns-then-block-clause-value
+returns-then-block-clause-value c =
+    let t = c.args.table.now in
+    let k = c.args.component in
+    let b = block_at t c.args.i c.args.j in
+    let old = c.args.decoder.now in
+    let p = predicted dc_of (dc_at k t) c.args.i c.args.j in
+    let some : (b.ref1 || b.ref2) ≡ true = search rules in
+    into_none (is_dc b) b (with_dc k) (value_coded causes.DcRange (34 ∷ 35 ∷ []) 36 37 p) old (ap not some)
+    ∙ ap (λ (x : Block). let r : Result (Block × Reading) Cause = Ok (x, old) in r) (sym c.at-block.ensures.value)
+
+pub read_value-requires-clause-prediction : goal.read_value-requires-clause-prediction
+read_value-requires-clause-prediction c =
+    let given : to_z w32 (of_z w32 c.predicted_dc-prediction.result) ≡ c.predicted_dc-prediction.result = search rules in
+    subst IsShort (sym given) c.predicted_dc-prediction.ensures.short

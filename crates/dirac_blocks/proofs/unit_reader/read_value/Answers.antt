@@ -1,19 +1,42 @@
-use Rattle.std.proofs.Common.{rules, ◌≡◌, true, false, to_z, of_z, w32, w64, ◌+ℤ◌}
+use Rattle.std.proofs.Common.{rules, ◌≡◌, true, false, ℤ, ap, subst, sym, to_z, of_z, w32, w64, ◌+ℤ◌, ◌∙◌}
+use Rattle.std.proofs.lemmas.Int.{to_z-of_z}
+use Rattle.dirac_vectors.specs.Neighbours.{IsShort}
 use Rattle.dirac_blocks.specs.Grammar.{is_short}
-use Rattle.dirac_blocks.proofs.UnitValues.{value_found, value_refused}
+use Rattle.dirac_blocks.proofs.UnitValues.{short_fits, sum_fits, value_found, value_refused}
 use Rattle.dirac_blocks.proofs.unit_reader.read_value.Goals as goal
+
+pub overflow_add-value : goal.overflow_add-value
+overflow_add-value c =
+    let number : to_z w64 (of_z w64 c.in-Ok.number) ≡ c.in-Ok.number = search rules in
+    let prediction : to_z w64 (of_z w64 c.from.result) ≡ c.args.prediction = search rules in
+    rw (number, prediction) (sum_fits c.in-Ok.number c.args.prediction c.in-Ok.ensures.below_2_39 c.requires.prediction)
 
 pub returns-then-fits-clause-value : goal.returns-then-fits-clause-value
 returns-then-fits-clause-value c =
-    let v = to_z w32 (of_z w32 (to_z w64 (of_z w64 (to_z w64 (of_z w64 c.in-Ok.number) +ℤ to_z w64 (of_z w64 c.from.result))))) in
-    let is : v ≡ c.in-Ok.number +ℤ c.args.prediction = search rules in
-    let short : is_short (c.in-Ok.number +ℤ c.args.prediction) ≡ true = search rules in
-    value_found c.args.cause c.args.follow.now c.args.bits c.args.sign c.args.prediction c.in-Ok.number v c.args.decoder.now c.signed.new.self c.in-Ok.ensures.read is short
+    let number : to_z w64 (of_z w64 c.in-Ok.number) ≡ c.in-Ok.number = search rules in
+    let prediction : to_z w64 (of_z w64 c.from.result) ≡ c.args.prediction = search rules in
+    let both : to_z w64 (of_z w64 (to_z w64 (of_z w64 c.in-Ok.number) +ℤ to_z w64 (of_z w64 c.from.result))) ≡ c.in-Ok.number +ℤ c.args.prediction =
+    rw (number, prediction) (to_z-of_z w64 _ (sum_fits c.in-Ok.number c.args.prediction c.in-Ok.ensures.below_2_39 c.requires.prediction)) in
+    let few : IsShort (c.in-Ok.number +ℤ c.args.prediction) = subst IsShort both (c.fits.ensures.short c.if-fits.true) in
+    let is = ap (λ (z : ℤ). to_z w32 (of_z w32 z)) both ∙ to_z-of_z w32 (c.in-Ok.number +ℤ c.args.prediction) (short_fits _ few) in
+    let short : is_short (c.in-Ok.number +ℤ c.args.prediction) ≡ true = ap is_short (sym both) ∙ sym c.fits.ensures.value ∙ c.if-fits.true in
+    value_found c.args.cause c.args.follow.now c.args.bits c.args.sign c.args.prediction c.in-Ok.number _ c.args.decoder.now c.signed.new.self c.in-Ok.ensures.read is short
 
 pub returns-then-fits-clause-short : goal.returns-then-fits-clause-short
-returns-then-fits-clause-short c = search rules
+returns-then-fits-clause-short c =
+    let number : to_z w64 (of_z w64 c.in-Ok.number) ≡ c.in-Ok.number = search rules in
+    let prediction : to_z w64 (of_z w64 c.from.result) ≡ c.args.prediction = search rules in
+    let both : to_z w64 (of_z w64 (to_z w64 (of_z w64 c.in-Ok.number) +ℤ to_z w64 (of_z w64 c.from.result))) ≡ c.in-Ok.number +ℤ c.args.prediction =
+    rw (number, prediction) (to_z-of_z w64 _ (sum_fits c.in-Ok.number c.args.prediction c.in-Ok.ensures.below_2_39 c.requires.prediction)) in
+    let few : IsShort (c.in-Ok.number +ℤ c.args.prediction) = subst IsShort both (c.fits.ensures.short c.if-fits.true) in
+    let is = ap (λ (z : ℤ). to_z w32 (of_z w32 z)) both ∙ to_z-of_z w32 (c.in-Ok.number +ℤ c.args.prediction) (short_fits _ few) in
+    subst IsShort (sym is) few
 
 pub returns-else-fits-clause-value : goal.returns-else-fits-clause-value
 returns-else-fits-clause-value c =
-    let long : is_short (c.in-Ok.number +ℤ c.args.prediction) ≡ false = search rules in
+    let number : to_z w64 (of_z w64 c.in-Ok.number) ≡ c.in-Ok.number = search rules in
+    let prediction : to_z w64 (of_z w64 c.from.result) ≡ c.args.prediction = search rules in
+    let both : to_z w64 (of_z w64 (to_z w64 (of_z w64 c.in-Ok.number) +ℤ to_z w64 (of_z w64 c.from.result))) ≡ c.in-Ok.number +ℤ c.args.prediction =
+    rw (number, prediction) (to_z-of_z w64 _ (sum_fits c.in-Ok.number c.args.prediction c.in-Ok.ensures.below_2_39 c.requires.prediction)) in
+    let long : is_short (c.in-Ok.number +ℤ c.args.prediction) ≡ false = ap is_short (sym both) ∙ sym c.fits.ensures.value ∙ c.if-fits.false in
     value_refused c.args.cause c.args.follow.now c.args.bits c.args.sign c.args.prediction c.in-Ok.number c.args.decoder.now c.signed.new.self c.in-Ok.ensures.read long

@@ -1,0 +1,49 @@
+-- Lists of a table that are read one after another.
+use Rattle.std.proofs.Common.{◌≡◌, ℕ, List, Ok, Err, Result, ap, subst, sym, ◌∙◌}
+use Rattle.dirac_common.specs.Chain.{◌>>=◌ as ◌>>◌}
+use Rattle.dirac_common.specs.declared.faults.Cause.{Cause}
+use Rattle.dirac_common.specs.declared.faults.Refusal.{Refusal}
+use Rattle.dirac_arith.specs.Coded as coded
+use Rattle.dirac_arith.specs.Deciding.{begin}
+use Rattle.dirac_arith.specs.Reading.{Reading}
+use Rattle.dirac_bits.specs.Cursor.{Cursor, place, aligned}
+use Rattle.dirac_bits.specs.Fields.{uint_at, block_at}
+use Rattle.dirac_bits.specs.Syntax.{Syntax, ◌>>=◌, read}
+use Rattle.dirac_bits.specs.Then.{read_then}
+use Rattle.dirac_blocks.specs.Grammar.{Step, listed, table_from}
+use Rattle.dirac_blocks.specs.Reached.{Lists}
+use Rattle.dirac_block_table.specs.Tables.{BlockTable}
+
+-- behind a list that is read, what comes then is read
+pub then_read : {A : Type 0} (r : Result A Refusal) (s : Syntax BlockTable) (f : BlockTable → Syntax BlockTable) (c e d : Cursor) (t u : BlockTable) → read s c ≡ Ok (t, e) → Lists r u d (read (f t) e) → Lists r u d (read (s >>= f) c)
+then_read r s f c e d t u first second =
+    subst (λ (q : Result (BlockTable × Cursor) Refusal). Lists r u d q) (sym (read_then s f c ∙ ap (λ (q : Result (BlockTable × Cursor) Refusal). q >> (λ x. read (f x.0) x.1)) first)) second
+
+-- what refuses a list refuses them all
+pub then_refused : (s : Syntax BlockTable) (f : BlockTable → Syntax BlockTable) (c : Cursor) (e : Refusal) → read s c ≡ Err e → read (s >>= f) c ≡ Err e
+then_refused s f c e refused = read_then s f c ∙ ap (λ (q : Result (BlockTable × Cursor) Refusal). q >> (λ x. read (f x.0) x.1)) refused
+
+-- or what refuses what comes behind it
+pub then_stops : (s : Syntax BlockTable) (f : BlockTable → Syntax BlockTable) (c d : Cursor) (t : BlockTable) (e : Refusal) → read s c ≡ Ok (t, d) → read (f t) d ≡ Err e → read (s >>= f) c ≡ Err e
+then_stops s f c d t e first second = read_then s f c ∙ ap (λ (q : Result (BlockTable × Cursor) Refusal). q >> (λ x. read (f x.0) x.1)) first ∙ second
+
+-- a list is read from its block
+pub list_found : (step : Step) (t u : BlockTable) (c one two three : Cursor) (len : ℕ) (block : List ℕ) (start behind : Reading) → uint_at c ≡ Ok (len, one) → two ≡ aligned one → block_at len two ≡ Ok (block, three) → start ≡ begin block
+    → coded.read (step t) start ≡ Ok (u, behind) → read (listed step t) c ≡ Ok (u, three)
+unfolding listed
+list_found step t u c one two three len block start behind first second third begun found =
+    let bytes = ap (λ (d : Cursor). block_at len d) (sym second) ∙ third in
+    let is = ap (λ (r : Reading). coded.read (step t) r) (sym begun) ∙ found in
+    rw (first, bytes) (ap (λ (q : Result (BlockTable × Reading) Cause). read (table_from (place (aligned one)) q) three) is)
+
+-- and is refused at its block
+pub list_refused : (step : Step) (t : BlockTable) (c one two three : Cursor) (len : ℕ) (block : List ℕ) (start : Reading) (cause : Cause) (at : ℕ) → uint_at c ≡ Ok (len, one) → two ≡ aligned one → block_at len two ≡ Ok (block, three) → start ≡ begin block
+    → coded.read (step t) start ≡ Err cause → at ≡ place two → read (listed step t) c ≡ Err (record { at = at; cause = cause })
+unfolding listed
+list_refused step t c one two three len block start cause at first second third begun refused here =
+    let bytes = ap (λ (d : Cursor). block_at len d) (sym second) ∙ third in
+    let is = ap (λ (r : Reading). coded.read (step t) r) (sym begun) ∙ refused in
+    let place_is : place (aligned one) ≡ at = ap (λ (d : Cursor). place d) (sym second) ∙ sym here in
+    rw (first, bytes)
+    (ap (λ (q : Result (BlockTable × Reading) Cause). read (table_from (place (aligned one)) q) three) is
+    ∙ ap (λ (p : ℕ). let x : Result (BlockTable × Cursor) Refusal = Err (record { at = p; cause = cause }) in x) place_is)
