@@ -1,13 +1,14 @@
 -- Bands that are written apart are the same as those that are written behind others.
-use Rattle.std.proofs.Common.{◌≡◌, ℕ, ◌-◌, ◌%◌, ◌<◌, Bool, true, false, if◌then◌else◌, List, [], ◌∷◌, ◌++◌, length, refl, sym, ap, ap₂, ◌∙◌, subst, arith, append_assoc, append-nil, length-append}
-use Rattle.std.specs.Prelude.{replicate, ℤ}
-use Rattle.std.proofs.lemmas.List.{length-replicate}
+use Rattle.std.proofs.Common.{◌≡◌, ℕ, ◌+◌, ◌-◌, ◌%◌, ◌<◌, ◌≤◌, Bool, true, false, if◌then◌else◌, List, [], ◌∷◌, ◌++◌, length, take, Some, refl, sym, ap, ap₂, ◌∙◌, subst, arith, append_assoc, append-nil, length-append}
+use Rattle.std.specs.Prelude.{replicate, slice_get, ℤ}
+use Rattle.std.proofs.lemmas.List.{length-replicate, length-take-le, take_all}
 use Rattle.dirac_common.specs.Bits.{bits_of}
 use Rattle.dirac_common.specs.Numbers.{uint}
 use Rattle.dirac_common.specs.declared.formats.Component.{Component}
 use Rattle.dirac_common.specs.declared.formats.Component.TheVariants as component
 use Rattle.dirac_bits.specs.Writing.{IsWhole, gap, up_to_byte}
 use Rattle.dirac_bits.proofs.Bits.{length-bits_of}
+use Rattle.dirac_bits.proofs.Runs.{bits_of-append}
 use Rattle.dirac_sequence_header.specs.declared.sequence.Sequence.{Sequence}
 use Rattle.dirac_sequence_header.specs.Lawful.{IsSequence}
 use Rattle.dirac_sequence_header.specs.Sizes.{picture_height, plane_height, plane_width}
@@ -22,7 +23,8 @@ use Rattle.dirac_picture.specs.Fits.{AreBandsOf, IsLayout, IsPlaneSize}
 use Rattle.dirac_picture.proofs.Chroma.{part_size}
 use Rattle.dirac_picture.proofs.Lawful.{layout_lawful}
 use Rattle.dirac_picture.specs.declared.texts.Texts.{Texts}
-use Rattle.dirac_picture.specs.Texts.{AreTexts, joined, text_of}
+use Rattle.dirac_picture.proofs.Taken.{listed_at, taken_more}
+use Rattle.dirac_picture.specs.Texts.{AreTexts, IsBandText, joined, text_before, text_of}
 use Rattle.dirac_picture.specs.Writable.{AreWritable, IsWritten}
 use Rattle.dirac_picture.specs.Written.{with_bands, with_plane, with_planes, with_residual}
 
@@ -97,6 +99,48 @@ plane_apart t width height bands bits some =
     (sym (bands_from_byte t width height bands bits some) ∙ ap (with_plane t width height bands) (sym (append-nil (up_to_byte bits)))
     ∙ bands_behind t width height [] bands (up_to_byte bits) [] (whole_up bits))
     ∙ up_behind (up_to_byte bits) (with_plane t width height bands []) (whole_up bits)
+
+-- and so can a band
+band_apart : (layout : BandLayout) (parent : List ℤ) (b : CodedBand) (bits : List Bool) → up_to_byte (with_band layout parent b bits) ≡ up_to_byte bits ++ up_to_byte (with_band layout parent b [])
+band_apart layout parent b bits =
+    ap up_to_byte
+    (sym (band_from_byte layout parent b bits) ∙ ap (with_band layout parent b) (sym (append-nil (up_to_byte bits)))
+    ∙ band_behind layout parent b (up_to_byte bits) [] (whole_up bits))
+    ∙ up_behind (up_to_byte bits) (with_band layout parent b []) (whole_up bits)
+
+-- one band behind others
+bands_and_one : (t : Transform) (width height : ℕ) (before bands : List CodedBand) (b : CodedBand) (bits : List Bool)
+    → with_bands t width height before (bands ++ b ∷ []) bits ≡ with_band (layout_of t width height (length (before ++ bands))) (parent_values (before ++ bands)) b (with_bands t width height before bands bits)
+bands_and_one t width height before [] b bits =
+    ap (λ (l : List CodedBand). with_band (layout_of t width height (length l)) (parent_values l) b bits) (sym (append-nil before))
+bands_and_one t width height before (x ∷ bands) b bits =
+    let next = with_band (layout_of t width height (length before)) (parent_values before) x bits in
+    bands_and_one t width height (before ++ x ∷ []) bands b next
+    ∙ ap (λ (l : List CodedBand). with_band (layout_of t width height (length l)) (parent_values l) b (with_bands t width height (before ++ x ∷ []) bands next)) (append_assoc before (x ∷ []) bands)
+
+-- one band more behind the first n
+text_more : (t : Transform) (width height : ℕ) (bands : List CodedBand) (n : ℕ) (b : CodedBand) → n < length bands → slice_get bands n ≡ Some b
+    → text_before t width height bands (n + 1) ≡ text_before t width height bands n ++ up_to_byte (with_band (layout_of t width height n) (parent_values (take n bands)) b [])
+text_more t width height bands n b few is =
+    let before = take n bands in
+    let old = with_plane t width height before [] in
+    let len : length before ≡ n = length-take-le n bands (omega arith) in
+    ap (λ (l : List CodedBand). up_to_byte (with_plane t width height l [])) (taken_more bands n (n + 1) b refl is)
+    ∙ ap up_to_byte (bands_and_one t width height [] before b [])
+    ∙ ap (λ k. up_to_byte (with_band (layout_of t width height k) (parent_values before) b old)) len
+    ∙ band_apart (layout_of t width height n) (parent_values before) b old
+
+-- the bytes of bands, put one behind another, are those of the first bands of a plane
+pub text_and_one : (t : Transform) (width height : ℕ) (bands : List CodedBand) (n : ℕ) (old one new : List ℕ) → n < length bands
+    → bits_of old ≡ text_before t width height bands n → IsBandText t width height bands n (bits_of one) → new ≡ old ++ one
+    → bits_of new ≡ text_before t width height bands (n + 1)
+text_and_one t width height bands n old one new few so_far is all =
+    let here = listed_at bands n few in
+    ap bits_of all ∙ bits_of-append old one ∙ ap₂ (λ (x y : List Bool). x ++ y) so_far (is here.0 here.1)
+    ∙ sym (text_more t width height bands n here.0 few here.1)
+
+pub all_text : (t : Transform) (width height : ℕ) (bands : List CodedBand) (n : ℕ) → length bands ≤ n → text_before t width height bands n ≡ up_to_byte (with_plane t width height bands [])
+all_text t width height bands n all = ap (λ (l : List CodedBand). up_to_byte (with_plane t width height l [])) (take_all n bands all)
 
 -- ---- the planes of a residual
 

@@ -29,6 +29,6 @@ pub use motion::superblocks_over;
 pub use picture::{are_listed, read_picture, read_picture_by, read_planes};
 pub use plane_bands::PlaneBands;
 pub use sites::{FoundPlanes, find_planes};
-pub use texts::{Texts, text_among, texts_of};
+pub use texts::{Texts, band_text, texts_of};
 pub use weave::woven;
 pub use write::payload_bytes;

@@ -1,2 +1,3 @@
 pub mod Predicted
 pub mod Finishing
+pub mod Parts

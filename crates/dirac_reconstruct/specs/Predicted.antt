@@ -1,15 +1,11 @@
--- What is predicted for the planes of an inter picture, and the picture that is made of it.
+-- What is predicted for the planes of an inter picture.
 use Rattle.std.specs.Prelude.{◌≡◌, ℤ, ◌*◌, List, length, Option}
 use Rattle.dirac_common.specs.declared.formats.Component.{Component}
 use Rattle.dirac_common.specs.declared.formats.Component.TheVariants as component
-use Rattle.dirac_common.specs.declared.formats.Kind.TheVariants.{Inter}
 use Rattle.dirac_common.specs.declared.picture.Picture.{Picture}
-use Rattle.dirac_common.specs.Table.{Table}
 use Rattle.dirac_sequence_header.specs.declared.sequence.Sequence.{Sequence}
 use Rattle.dirac_picture.specs.declared.coded.CodedMotion.{CodedMotion}
-use Rattle.dirac_picture.specs.declared.coded.CodedPicture.{CodedPicture}
-use Rattle.dirac_synthesis.specs.Residual.{clipped, with_prediction}
-use Rattle.dirac_content.specs.Content.{height_of, predicted_among, residual_among, width_of}
+use Rattle.dirac_content.specs.Content.{height_of, predicted_among, width_of}
 use Rattle.dirac_encode_planes.specs.declared.predictions.Predictions.{Predictions}
 
 -- what is predicted for a plane of a picture from these references, by rows: a value for each sample
@@ -24,16 +20,3 @@ pub record ArePredictions (s : Sequence) (first second : Option Picture) (m : Co
   pub y : IsPrediction s first second m component.Y ps.y.values
   pub u : IsPrediction s first second m component.U ps.u.values
   pub v : IsPrediction s first second m component.V ps.v.values
-
--- a plane of a coded picture with these predictions: its residual and they, clipped
-abbrev pub plane_from : Sequence → CodedPicture → Component → List ℤ → Table
-plane_from s coded component values = clipped (with_prediction (residual_among s Inter component coded.residual) values)
-
--- the picture that a coded picture stands for, with these predictions
-abbrev pub picture_from : Sequence → CodedPicture → Predictions → Picture
-picture_from s coded ps = record {
-  number = coded.header.number;
-  y = plane_from s coded component.Y ps.y.values;
-  u = plane_from s coded component.U ps.u.values;
-  v = plane_from s coded component.V ps.v.values;
-}

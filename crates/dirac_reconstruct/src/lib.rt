@@ -2,7 +2,9 @@
 //! beside the other.
 #![tactic(auto)]
 
+mod gather;
+mod parts;
+mod planes;
 mod showing;
-mod texts;
 
 pub use showing::{Compensated, Finished, Finishing, finish, finish_side_by_side};
