@@ -9,13 +9,12 @@ use Rattle.std.proofs.lemmas.Simd.{map-map}
 use Rattle.dirac_common.specs.Table.{Table, filled, table_of}
 use Rattle.dirac_common.proofs.Rows.{filled_at}
 use Rattle.dirac_lift.specs.Halves.{AreHalves, from_halves, place_of}
-use Rattle.dirac_lift.specs.HalfRuns.{AreNarrow, HalvesRun, after_steps, stays_narrow}
+use Rattle.dirac_lift.specs.HalfRuns.{AreNarrow, stays_narrow}
 use Rattle.dirac_lift.specs.Level.{column, columns_by, ended, halved, row_in, synthesised}
 use Rattle.dirac_lift.specs.Lifting.{own}
 use Rattle.dirac_lift.specs.Wavelets.{has_shift, steps_of, synth}
 use Rattle.dirac_lift.proofs.ColumnLemmas.{column_at, length-column}
-use Rattle.dirac_lift.proofs.HalfBounds.{rows_narrow}
-use Rattle.dirac_lift.proofs.RowLemmas.{length-row, row_at, row_bound}
+use Rattle.dirac_lift.proofs.RowLemmas.{row_at, row_bound}
 
 pub place_even : (w m x : ℕ) → x ≡ 2 * m → place_of w x ≡ m
 place_even w m x e =

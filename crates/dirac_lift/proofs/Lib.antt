@@ -1,5 +1,6 @@
 pub mod ColumnLemmas
 pub mod ColumnRuns
+pub mod GivenRows
 pub mod Growth
 pub mod HalfAnalysis
 pub mod HalfBounds

@@ -1,19 +1,19 @@
 -- A level whose rows come to rings and leave them.
-use Rattle.std.proofs.Common.{◌≡◌, ◌≢◌, ℕ, zero, suc, ℤ, pos, Bool, true, ◌==◌, if◌then◌else◌, ◌+◌, ◌-◌, ◌*◌, ◌/◌, ◌%◌, ◌^◌, ◌<◌, ◌≤◌, List, length, get_or, take, drop, replicate, unsigned_abs, arith, refl, inl, inr, ap, sym, ◌∙◌, subst}
+use Rattle.std.proofs.Common.{◌≡◌, ℕ, ℤ, pos, ◌+◌, ◌-◌, ◌*◌, ◌/◌, ◌%◌, ◌<◌, ◌≤◌, List, length, get_or, take, drop, unsigned_abs, arith, refl, inl, inr, ap, sym, ◌∙◌}
 use Rattle.std.specs.List.{All}
-use Rattle.std.proofs.lemmas.Bool.{cases_eq, cases_lt, le-ltb, lt-ltb}
+use Rattle.std.proofs.lemmas.Bool.{cases_lt, le-ltb, lt-ltb}
 use Rattle.std.proofs.lemmas.List.{get_or_past}
 use borrow.Rule.Slice.PartMut.{put_mid}
-use Rattle.dirac_common.proofs.Bounds.{all_weaker}
 use Rattle.dirac_common.proofs.Rows.{filled_at}
-use Rattle.dirac_lift.specs.ByLines.{longest_wait, timed_behind, turns}
+use Rattle.dirac_lift.specs.AtWork.{lines_of}
+use Rattle.dirac_lift.specs.ByLines.{longest_wait}
 use Rattle.dirac_lift.specs.HalfRows.{column_of}
 use Rattle.dirac_lift.specs.HalfRuns.{AreNarrow, after_steps}
 use Rattle.dirac_lift.specs.Halves.{AreHalves, from_halves, place_of}
 use Rattle.dirac_lift.specs.Lanes.{RunPut}
 use Rattle.dirac_lift.specs.Level.{column, ended, row_in}
 use Rattle.dirac_lift.specs.Lifting.{own}
-use Rattle.dirac_lift.specs.Rings.{AfterTurns, AreNarrowLines, RingsHold, RowCame, most_of, waiting}
+use Rattle.dirac_lift.specs.Rings.{AfterTurns, AreNarrowLines, RowCame, most_of, waiting}
 use Rattle.dirac_lift.specs.Wavelets.{steps_of, synth}
 use Rattle.dirac_lift.proofs.ColumnLemmas.{column_at, length-column}
 use Rattle.dirac_lift.proofs.HalfAnalysis.{column_place}
@@ -38,10 +38,6 @@ place_column w p l even = elim (cases_lt p (w / 2)) [
   | inl inside ↦ rw (lt-ltb p (w / 2) inside) (place_even w p (2 * p) refl)
   | inr past ↦ rw (le-ltb p (w / 2) past) (place_odd w (p - w / 2) (2 * (p - w / 2) + 1) refl ∙ omega (arith, past))
 ]
-
--- the lines of a level, by their places in its rows
-abbrev pub lines_of : ℕ → ℕ → List ℤ → List ℤ → ℕ → List ℤ
-lines_of w h es os p = column (from_halves w h es os).values w (2 * h) (column_of w p)
 
 pub lines_len : (w h : ℕ) (es os : List ℤ) (p : ℕ) → length (lines_of w h es os p) ≡ 2 * h
 lines_len w h es os p = length-column (from_halves w h es os).values w (2 * h) (column_of w p)

@@ -1,5 +1,5 @@
 -- All steps of a turn, each on the row of a ring that has come to it.
-use Rattle.std.proofs.Common.{◌≡◌, ℕ, zero, suc, ℤ, pos, Bool, true, ◌&&◌, ◌==◌, if◌then◌else◌, nat_le, max, ◌+◌, ◌-◌, ◌*◌, ◌/◌, ◌%◌, ◌^◌, ◌<◌, ◌≤◌, List, [], ◌∷◌, length, unsigned_abs, arith, refl, ap, sym, ◌∙◌, subst}
+use Rattle.std.proofs.Common.{◌≡◌, ℕ, zero, suc, ℤ, Bool, true, ◌&&◌, ◌==◌, if◌then◌else◌, nat_le, max, ◌+◌, ◌-◌, ◌*◌, ◌^◌, ◌<◌, ◌≤◌, List, [], ◌∷◌, length, unsigned_abs, arith, refl, ap, sym, ◌∙◌, subst}
 use Rattle.std.specs.List.{All, FoldsTo, sum_by}
 use Rattle.std.proofs.lemmas.Bool.{and_parts, leb-true}
 use Rattle.dirac_common.proofs.Bounds.{all_weaker}
@@ -7,7 +7,6 @@ use Rattle.dirac_lift.specs.declared.rings.HalfSize.{HalfSize}
 use Rattle.dirac_lift.specs.declared.rings.Rings.{Rings}
 use Rattle.dirac_lift.specs.ByLines.{Timed, distance, in_turn, timed_behind, turns}
 use Rattle.dirac_lift.specs.HalfRuns.{after_step, after_steps, is_narrow}
-use Rattle.dirac_lift.specs.Halves.{IsReadable}
 use Rattle.dirac_lift.specs.Liftables.{CanLiftRings, RingsLifted}
 use Rattle.dirac_lift.specs.Lifting.{PlacesWithin, Step}
 use Rattle.dirac_lift.specs.Rings.{AfterTurns, AreNarrowLines, RingsHold, RowLifted, coming, most_of, waiting}

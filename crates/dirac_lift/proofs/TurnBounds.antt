@@ -1,5 +1,5 @@
 -- What steps that are run line by line have done after some turns: how large values are, and which are as they came.
-use Rattle.std.proofs.Common.{◌≡◌, ℕ, zero, suc, ℤ, pos, Bool, true, ◌&&◌, ◌==◌, if◌then◌else◌, nat_le, min, ◌+◌, ◌-◌, ◌/◌, ◌%◌, ◌<◌, ◌≤◌, List, [], ◌∷◌, length, get_or, arith, refl, inl, inr, ap, sym, ◌∙◌}
+use Rattle.std.proofs.Common.{◌≡◌, ℕ, zero, suc, ℤ, pos, Bool, true, ◌==◌, if◌then◌else◌, nat_le, min, ◌+◌, ◌-◌, ◌/◌, ◌%◌, ◌<◌, ◌≤◌, List, [], ◌∷◌, length, get_or, arith, refl, inl, inr, ap, sym, ◌∙◌}
 use Rattle.std.proofs.lemmas.Bool.{and_parts, cases_lt, leb-true}
 use Rattle.std.proofs.lemmas.List.{get_or-set_other}
 use Rattle.dirac_lift.specs.ByLines.{Timed, in_turn, longest_wait, timed_behind, turn, turns}
@@ -10,7 +10,7 @@ use Rattle.dirac_lift.specs.Wavelets.{run, steps_of, synth}
 use Rattle.dirac_lift.proofs.Growth.{abs-new}
 use Rattle.dirac_lift.proofs.Lifted.{LiftedBelow}
 use Rattle.dirac_lift.proofs.Runs.{by_wavelet, has_parities, parities_of}
-use Rattle.dirac_lift.proofs.Turns.{all_apart, alone_below, changed_in_turn, front_first, in_time, length-turns, no_turns, stays, steps_behind, steps_in, turn_case, turns_run}
+use Rattle.dirac_lift.proofs.Turns.{all_apart, alone_below, changed_in_turn, front_first, in_time, no_turns, stays, steps_behind, steps_in, turn_case, turns_run}
 
 abbrev step : ℕ → Bool → ℕ → ℕ → List ℤ → Step
 step parity minus shift lead taps = record { parity = parity; minus = minus; shift = shift; lead = lead; taps = taps }

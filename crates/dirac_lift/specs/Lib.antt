@@ -1,3 +1,4 @@
+pub mod AtWork
 pub mod ByLines
 pub mod Changes
 pub mod HalfRows

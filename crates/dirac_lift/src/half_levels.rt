@@ -1,9 +1,10 @@
 //! The synthesis of a level in 32 bits, line by line: its rows come in pairs, in rings of a few rows the steps go over
 //! the columns, and a row that all have gone over is lifted across.
-ghost use Rattle.std.specs.Prelude.{◌≡◌, ℕ, ℤ, List, true, ◌+◌, ◌*◌, ◌/◌, ◌%◌, ◌==◌, ◌<◌, ◌≤◌, if◌then◌else◌, length};
+ghost use Rattle.std.specs.Prelude.{◌≡◌, ℕ, ℤ, List, ◌+◌, ◌-◌, ◌*◌, ◌/◌, ◌%◌, ◌<◌, ◌≤◌, length};
 ghost use Rattle.std.specs.Prelude.{take, drop, unsigned_abs, IfOk};
 ghost use Rattle.std.specs.List.{All};
 ghost use Rattle.dirac_common.specs.Limits.{IsWavelet};
+ghost use Rattle.dirac_lift.specs.AtWork.{AreRings, HasGiven, IsAtWork, turns_behind};
 ghost use Rattle.dirac_lift.specs.ByLines.{longest_wait};
 ghost use Rattle.dirac_lift.specs.Halves.{AreHalves, from_halves};
 ghost use Rattle.dirac_lift.specs.HalfRuns.{AreNarrow};
@@ -106,55 +107,169 @@ fn take_pair<S: RowPairs>(
 /// How many turns after it came a pair of rows is finished.
 fn turns_to_wait(wavelet: u8) -> usize
     requires { IsWavelet wavelet }
-    ensures value { result ≡ (if wavelet == 5 then 7 else 3) }
+    ensures value { result ≡ turns_behind wavelet }
     ensures enough { longest_wait (waiting wavelet) ≤ result }
     ensures at_most_7 { result ≤ 7 }
 {
     if wavelet == 5 { 7 } else { 3 }
 }
 
-/// Runs all turns over rings of zeros, and writes each row that is finished.
-fn run_turns<S: RowPairs>(
-    wavelet: u8,
-    source: &S,
-    evens: &mut [i32],
-    odds: &mut [i32],
-    work: &mut [i32],
-    plane: &mut Narrow,
-)
-    requires wavelet { IsWavelet wavelet }
+/// A level at work: how many turns have been run, and the rows that are at work.
+#[derive(Drop)]
+pub struct LinesAtWork {
+    pub wavelet: u8,
+    pub size: HalfSize,
+    pub turn: usize,
+    pub evens: Vec<i32>,
+    pub odds: Vec<i32>,
+}
+
+/// A ring whose rows have zeros.
+fn ring_of_zeros(alloc: Global, width: usize) -> Result<Vec<i32>, NoMemory>
+    requires { width ≤ LARGEST_TABLE_SIDE }
+    ensures len { IfOk result (λ ring. length ring.items ≡ width * 16) }
+    ensures small { IfOk result (λ ring. All (λ v. unsigned_abs v ≤ LARGEST_NARROW) ring.items) }
+{
+    Ok(vec![in alloc; 0i32; width * RING_ROWS]?)
+}
+
+impl LinesAtWork {
+    /// A level at work, of `width` columns and as many pairs of rows as `height`, that has given none.
+    pub fn begin<S: RowPairs>(
+        alloc: Global,
+        wavelet: u8,
+        source: &S,
+        width: u32,
+        height: u32,
+    ) -> Result<LinesAtWork, NoMemory>
+        requires wavelet { IsWavelet wavelet }
+        requires source { S.lawful source.now }
+        requires columns { S.columns source.now ≡ width }
+        requires pairs { S.pairs source.now ≡ height }
+        requires across { (1 ≤ width) × (width ≤ LARGEST_TABLE_SIDE) }
+        requires even { width % 2 ≡ 0 }
+        requires down { (1 ≤ height) × (2 * height ≤ LARGEST_TABLE_SIDE) }
+        requires evens { length (S.evens source.now) ≡ width * height }
+        requires odds { length (S.odds source.now) ≡ width * height }
+        requires evens_at_most_4095 { All (λ v. unsigned_abs v ≤ LARGEST_NARROW) (S.evens source.now) }
+        requires odds_at_most_4095 { All (λ v. unsigned_abs v ≤ LARGEST_NARROW) (S.odds source.now) }
+        ensures at_work { IfOk result (IsAtWork (S.evens source.now) (S.odds source.now)) }
+        ensures given { IfOk result (HasGiven wavelet width height 0) }
+    {
+        let size = HalfSize {
+            width: width as usize,
+            half: height as usize,
+        };
+        let evens = ring_of_zeros(alloc, size.width)?;
+        let odds = ring_of_zeros(alloc, size.width)?;
+        let mut lines = LinesAtWork {
+            wavelet,
+            size,
+            turn: 0,
+            evens,
+            odds,
+        };
+        for _turn in 0..turns_to_wait(wavelet) {
+            lines.take_turn(source);
+        }
+        Ok(lines)
+    }
+
+    /// Runs a turn: the next pair of rows comes, if there is one, and a pair is finished.
+    fn take_turn<S: RowPairs>(&mut self, source: &S)
+        requires source { S.lawful source.now }
+        requires columns { S.columns source.now ≡ self.old.size.width }
+        requires pairs { S.pairs source.now ≡ self.old.size.half }
+        requires turn { self.old.turn ≤ self.old.size.half + 7 }
+        requires at_work { IsAtWork (S.evens source.now) (S.odds source.now) self.old }
+        ensures at_work { IsAtWork (S.evens source.now) (S.odds source.now) self.new }
+        ensures wavelet { self.new.wavelet ≡ self.old.wavelet }
+        ensures size { self.new.size ≡ self.old.size }
+        ensures turn { self.new.turn ≡ self.old.turn + 1 }
+    {
+        let evens = self.evens.as_mut_slice();
+        let odds = self.odds.as_mut_slice();
+        take_pair(source, evens, odds, self.size, self.turn);
+        run_turn(self.wavelet, evens, odds, self.size, self.turn);
+        self.turn += 1;
+    }
+
+    /// Which pair of rows the last turn has finished.
+    fn finished(&self) -> usize
+        requires wavelet { IsWavelet self.now.wavelet }
+        requires turn { turns_behind self.now.wavelet < self.now.turn }
+        ensures { result + 1 + turns_behind self.now.wavelet ≡ self.now.turn }
+    {
+        self.turn - 1 - turns_to_wait(self.wavelet)
+    }
+
+    /// Writes the even row that the last turn has finished; `work` is a place to work.
+    fn put_even(&self, work: &mut [i32], line: &mut [i32])
+        requires rings { AreRings self.now }
+        requires turn { turns_behind self.now.wavelet < self.now.turn }
+        requires work { length work.old ≡ self.now.size.width }
+        requires line { length line.old ≡ self.now.size.width }
+        ensures { (k w h n : ℕ) (es os : List ℤ) → IsAtWork es os self.now → HasGiven k w h (n + 1) self.now → n < h
+            → line.new ≡ row_in (synthesised k (from_halves w h es os)).values w (2 * n) }
+    {
+        let n = self.finished();
+        let ring = self.evens.as_slice();
+        finish_from_ring(self.wavelet, ring, self.size.width, n, work, line);
+    }
+
+    /// Writes the odd row that the last turn has finished; `work` is a place to work.
+    fn put_odd(&self, work: &mut [i32], line: &mut [i32])
+        requires rings { AreRings self.now }
+        requires turn { turns_behind self.now.wavelet < self.now.turn }
+        requires work { length work.old ≡ self.now.size.width }
+        requires line { length line.old ≡ self.now.size.width }
+        ensures { (k w h n : ℕ) (es os : List ℤ) → IsAtWork es os self.now → HasGiven k w h (n + 1) self.now → n < h
+            → line.new ≡ row_in (synthesised k (from_halves w h es os)).values w (2 * n + 1) }
+    {
+        let n = self.finished();
+        let ring = self.odds.as_slice();
+        finish_from_ring(self.wavelet, ring, self.size.width, n, work, line);
+    }
+
+    /// Writes row `y`, the next one; `work` is a place to work.
+    #[inline(always)]
+    pub fn next_row<S: RowPairs>(&mut self, source: &S, y: u32, work: &mut [i32], line: &mut [i32])
+        requires source { S.lawful source.now }
+        requires columns { S.columns source.now ≡ self.old.size.width }
+        requires pairs { S.pairs source.now ≡ self.old.size.half }
+        requires at_work { IsAtWork (S.evens source.now) (S.odds source.now) self.old }
+        requires next { self.old.turn ≡ (y + 1) / 2 + turns_behind self.old.wavelet }
+        requires inside { y < 2 * self.old.size.half }
+        requires work { length work.old ≡ self.old.size.width }
+        requires line { length line.old ≡ self.old.size.width }
+        ensures row { (k w h : ℕ) → HasGiven k w h ((y + 1) / 2) self.old → line.new
+            ≡ row_in (synthesised k (from_halves w h (S.evens source.now) (S.odds source.now))).values w y }
+        ensures at_work { IsAtWork (S.evens source.now) (S.odds source.now) self.new }
+        ensures given { (k w h : ℕ) → HasGiven k w h ((y + 1) / 2) self.old → HasGiven k w h ((y + 2) / 2) self.new }
+    {
+        if y % 2 == 0 {
+            self.take_turn(source);
+            self.put_even(work, line);
+        } else {
+            self.put_odd(work, line);
+        }
+    }
+}
+
+/// Writes all rows of a level at work.
+fn put_rows<S: RowPairs>(source: &S, lines: &mut LinesAtWork, work: &mut [i32], plane: &mut Narrow)
     requires source { S.lawful source.now }
     requires columns { S.columns source.now ≡ plane.old.width }
     requires pairs { S.pairs source.now ≡ plane.old.height / 2 }
-    requires even { plane.old.width % 2 ≡ 0 }
     requires pairwise { plane.old.height % 2 ≡ 0 }
-    requires down { plane.old.height ≤ LARGEST_TABLE_SIDE }
-    requires evens { length evens.old ≡ plane.old.width * 16 }
-    requires odds { length odds.old ≡ plane.old.width * 16 }
     requires work { length work.old ≡ plane.old.width }
-    requires evens_small { All (λ v. unsigned_abs v ≤ LARGEST_NARROW) evens.old }
-    requires odds_small { All (λ v. unsigned_abs v ≤ LARGEST_NARROW) odds.old }
-    requires evens_len { length (S.evens source.now) ≡ plane.old.width * (plane.old.height / 2) }
-    requires odds_len { length (S.odds source.now) ≡ plane.old.width * (plane.old.height / 2) }
-    requires evens_at_most_4095 { All (λ v. unsigned_abs v ≤ LARGEST_NARROW) (S.evens source.now) }
-    requires odds_at_most_4095 { All (λ v. unsigned_abs v ≤ LARGEST_NARROW) (S.odds source.now) }
-    ensures { plane.new ≡ synthesised wavelet
+    requires at_work { IsAtWork (S.evens source.now) (S.odds source.now) lines.old }
+    requires given { HasGiven lines.old.wavelet plane.old.width (plane.old.height / 2) 0 lines.old }
+    ensures { plane.new ≡ synthesised lines.old.wavelet
         (from_halves plane.old.width (plane.old.height / 2) (S.evens source.now) (S.odds source.now)) }
 {
-    let size = HalfSize {
-        width: plane.width() as usize,
-        half: plane.height() as usize / 2,
-    };
-    let wait = turns_to_wait(wavelet);
-    for turn in 0..size.half + wait {
-        take_pair(source, evens, odds, size, turn);
-        run_turn(wavelet, evens, odds, size, turn);
-        if turn >= wait {
-            let n = turn - wait;
-            let y = 2 * n as u32;
-            finish_from_ring(wavelet, evens, size.width, n, work, plane.row_mut(y));
-            finish_from_ring(wavelet, odds, size.width, n, work, plane.row_mut(y + 1));
-        }
+    for y in 0..plane.height() {
+        lines.next_row(source, y, work, plane.row_mut(y));
     }
 }
 
@@ -180,18 +295,9 @@ pub fn synth_level_by_lines<S: RowPairs>(
     ensures { IfOk result (λ t. t ≡ synthesised wavelet
         (from_halves width height (S.evens source.now) (S.odds source.now))) }
 {
-    let across = width as usize;
-    let mut evens = vec![in alloc; 0i32; across * RING_ROWS]?;
-    let mut odds = vec![in alloc; 0i32; across * RING_ROWS]?;
-    let mut work = vec![in alloc; 0i32; across]?;
+    let mut lines = LinesAtWork::begin(alloc, wavelet, source, width, height)?;
+    let mut work = vec![in alloc; 0i32; width as usize]?;
     let mut plane = Narrow::try_new(alloc, width, 2 * height, 0)?;
-    run_turns(
-        wavelet,
-        source,
-        evens.as_mut_slice(),
-        odds.as_mut_slice(),
-        work.as_mut_slice(),
-        &mut plane,
-    );
+    put_rows(source, &mut lines, work.as_mut_slice(), &mut plane);
     Ok(plane)
 }

@@ -21,7 +21,7 @@ mod step;
 mod tables;
 mod wavelets;
 
-pub use half_levels::{RowPairs, synth_level_by_lines};
+pub use half_levels::{LinesAtWork, RowPairs, synth_level_by_lines};
 pub use half_rows::{HalfRows, analyse_halves_level};
 pub use held::{Held, is_narrow};
 pub use laws::{lines_come_in_turn, windows_of_rows_synthesise_alike, zeros_stay_zeros};

@@ -14,7 +14,7 @@ use Rattle.dirac_synthesis.specs.Codeblocks.{restored_by_one}
 use Rattle.dirac_synthesis.specs.Levels.{joined_by}
 use Rattle.dirac_lift.specs.Windows.{AreInside, window, window_half}
 use Rattle.dirac_synthesis.specs.Halves.{beside}
-use Rattle.dirac_synthesis.specs.LastLevel.{HoldsRows, IsLastLevel, last_residual}
+use Rattle.dirac_synthesis.specs.LastLevel.{HoldsRows, IsLastLevel, even_halves, last_residual, odd_halves}
 use Rattle.dirac_synthesis.specs.NarrowLevels.{IsNarrowLevel}
 use Rattle.dirac_synthesis.specs.Residual.{cut, part_from, rows_between}
 use Rattle.dirac_synthesis.proofs.BesideRows.{beside_len, from_beside}
@@ -79,6 +79,11 @@ pub length-residual : (l : LastLevel) → length (last_residual l).values ≡ (l
 length-residual l =
     length-filled l.width l.height (table_at (synthesised l.wavelet (joined_by (restored_by_one l.kind) l.low l.bands)))
 
+-- the plane of a last level, from its halves
+from_level : (l : LastLevel) → IsLastLevel l → from_halves (2 * l.low.width) l.low.height (even_halves l) (odd_halves l) ≡ joined l.low (restored_by_one l.kind l.bands.hl.now) (restored_by_one l.kind l.bands.lh.now) (restored_by_one l.kind l.bands.hh.now)
+from_level l level =
+    from_beside l.low (restored_by_one l.kind l.bands.hl.now) (restored_by_one l.kind l.bands.lh.now) (restored_by_one l.kind l.bands.hh.now) (2 * l.low.width) l.low.height (even_halves l) (odd_halves l) refl refl refl refl level.level.lh.across level.level.lh.down (omega (arith, level.across.0, level.across.1))
+
 -- what a last level's window is synthesised to holds its rows
 pub made_holds : (l : LastLevel) (from to a n : ℕ) (made : MadeRows) → IsLastLevel l → AreInside l.wavelet l.low.height a (a + n) from to → to ≤ l.height
     → made.rows ≡ synthesised l.wavelet (from_halves (2 * l.low.width) n (window_half (2 * l.low.width) a (a + n) (beside l.low (restored_by_one l.kind l.bands.hl.now)).values) (window_half (2 * l.low.width) a (a + n) (beside (restored_by_one l.kind l.bands.lh.now) (restored_by_one l.kind l.bands.hh.now)).values))
@@ -91,11 +96,9 @@ made_holds l from to a n made level inside within er ea =
     let es = (beside l.low right).values in
     let os = (beside below corner).values in
     let count : n ≡ a + n - a = omega arith in
-    let whole : from_halves w l.low.height es os ≡ joined l.low right below corner =
-    from_beside l.low right below corner w l.low.height es os refl refl refl refl level.level.lh.across level.level.lh.down (omega (arith, level.across.0, level.across.1)) in
     window_holds l.wavelet w l.low.height a (a + n) from to l.width l.height es os (synthesised l.wavelet (joined l.low right below corner)) made level.wavelet inside
     (er ∙ ap (λ k. synthesised l.wavelet (from_halves w k (window_half w a (a + n) es) (window_half w a (a + n) os))) count) ea
-    (ap (synthesised l.wavelet) (sym whole)) level.across.1 within
+    (ap (synthesised l.wavelet) (sym (from_level l level))) level.across.1 within
 
 -- the lengths of the halves of a last level
 pub evens_length : (l : LastLevel) → length (beside l.low (restored_by_one l.kind l.bands.hl.now)).values ≡ 2 * l.low.width * l.low.height
@@ -111,3 +114,12 @@ pub window_length : (w h a n : ℕ) (half : List ℤ) → length half ≡ w * h 
 window_length w h a n half len l =
     let count : a + n - a ≡ n = omega arith in
     length-window_half w h a (a + n) half len (omega arith) l ∙ ap (λ k. w * k) count
+
+-- a value of a row that a last level at work makes
+pub made_row : (l : LastLevel) (x y : ℕ) (line : List ℤ) → IsLastLevel l → line ≡ row_in (synthesised l.wavelet (from_halves (2 * l.low.width) l.low.height (even_halves l) (odd_halves l))).values (2 * l.low.width) y → x < l.width → y < l.height → get_or line x (pos 0) ≡ table_at (last_residual l) x y
+made_row l x y line level e across down =
+    let whole = joined l.low (restored_by_one l.kind l.bands.hl.now) (restored_by_one l.kind l.bands.lh.now) (restored_by_one l.kind l.bands.hh.now) in
+    ap (λ zs. get_or zs x (pos 0)) e
+    ∙ row_at (synthesised l.wavelet (from_halves (2 * l.low.width) l.low.height (even_halves l) (odd_halves l))) x y (omega (arith, across, level.across.1))
+    ∙ ap (λ (t : Table). table_at (synthesised l.wavelet t) x y) (from_level l level)
+    ∙ sym (filled_at (table_at (synthesised l.wavelet whole)) l.width l.height x y across down)

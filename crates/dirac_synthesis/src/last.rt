@@ -5,7 +5,7 @@ ghost use Rattle.dirac_lift.specs.Windows.{AreInside, window_half};
 ghost use Rattle.dirac_lift.specs.Windows as windows;
 ghost use Rattle.dirac_synthesis.specs.Codeblocks.{restored_by_one};
 ghost use Rattle.dirac_synthesis.specs.Halves.{beside};
-ghost use Rattle.dirac_synthesis.specs.LastLevel.{HoldsRows, IsLastLevel, last_residual};
+ghost use Rattle.dirac_synthesis.specs.LastLevel.{HasMade, HoldsRows, IsLastLevel, even_halves, last_residual, odd_halves};
 ghost use Rattle.dirac_synthesis.specs.NarrowLevels.{IsNarrowLevel};
 ghost use Rattle.dirac_synthesis.specs.Residual.{rows_between};
 
@@ -14,7 +14,7 @@ use crate::cut::cut_narrow;
 use crate::held::Residual;
 use crate::narrow::RestoredRows;
 use dirac_common::{Kind, LARGEST_SIDE, LARGEST_TABLE_SIDE, Narrow, NoMemory};
-use dirac_lift::{RowPairs, synth_level_by_lines};
+use dirac_lift::{LinesAtWork, RowPairs, synth_level_by_lines};
 use std::alloc::Global;
 
 /// The last level of a plane of `width` by `height` samples before any of its rows is made. The codeblocks of each
@@ -27,6 +27,28 @@ pub struct LastLevel<'a> {
     pub wavelet: u8,
     pub width: u32,
     pub height: u32,
+}
+
+impl RowPairs for LastLevel<'_> {
+    ghost lawful = { λ l. IsNarrowLevel l.kind l.low l.bands };
+
+    ghost columns = { λ l. 2 * l.low.width };
+
+    ghost pairs = { λ l. l.low.height };
+
+    ghost evens = { λ l. even_halves l };
+
+    ghost odds = { λ l. odd_halves l };
+
+    #[inline(always)]
+    fn put_pair(&self, pair: u32, even: &mut [i32], odd: &mut [i32]) {
+        let rows = RestoredRows {
+            low: &self.low,
+            bands: self.bands,
+            kind: self.kind,
+        };
+        rows.put_pair(pair, even, odd);
+    }
 }
 
 /// Pairs of rows of a level: so many from the first on.
@@ -124,6 +146,15 @@ pub fn make_rows(
         rows,
         above: from - 2 * pairs.first,
     })
+}
+
+/// A last level at work, before its first row.
+pub fn lines_of(alloc: Global, level: &LastLevel<'_>) -> Result<LinesAtWork, NoMemory>
+    requires { IsLastLevel level.now }
+    ensures { IfOk result (HasMade level.now 0) }
+{
+    let low = &level.low;
+    LinesAtWork::begin(alloc, level.wavelet, level, 2 * low.width(), low.height())
 }
 
 /// Rows `from` to `to` of the residual that a last level comes to.
