@@ -32,4 +32,5 @@ mod WindowExamples
 pub mod WindowHalves
 pub mod WindowLines
 pub mod Windows
+pub mod ZeroSteps
 pub mod ZerosKept

@@ -39,7 +39,7 @@ times_zero : (c : ℤ) → c *ℤ pos 0 ≡ pos 0
 times_zero (pos n) = omega (arith, ints)
 times_zero (negsuc n) = omega (arith, ints)
 
-weighted_zeros : (taps : List ℤ) (f : ℕ → ℤ) (n : ℕ) → ((k : ℕ) → f k ≡ pos 0) → weighted taps f n ≡ pos 0
+pub weighted_zeros : (taps : List ℤ) (f : ℕ → ℤ) (n : ℕ) → ((k : ℕ) → f k ≡ pos 0) → weighted taps f n ≡ pos 0
 weighted_zeros taps f zero h = refl
 weighted_zeros taps f (suc n) h =
     rw (weighted_zeros taps f n h, h n, times_zero (get_or taps n (pos 0))) refl
@@ -49,7 +49,7 @@ half_below p some =
     let few : p / 2 / p < 1 = div_below (p / 2) p 1 some (omega arith) in
     omega (arith, few)
 
-rounded_zero : (shift : ℕ) → rounded shift (pos 0) ≡ pos 0
+pub rounded_zero : (shift : ℕ) → rounded shift (pos 0) ≡ pos 0
 rounded_zero shift =
     let half : pos 0 +ℤ pos (2 ^ shift / 2) ≡ pos (2 ^ shift / 2) = omega (arith, ints) in
     ap (λ z. int_shr z shift) half ∙ ap pos (half_below (2 ^ shift) (pow_pos shift))

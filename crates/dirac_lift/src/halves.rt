@@ -10,6 +10,7 @@ ghost use Rattle.dirac_lift.specs.Lifting.{moved, rounded, weighted};
 use crate::half_lanes::lift_eight;
 use crate::liftable::Liftable;
 use crate::step::{Change, Step};
+use crate::zeros::are_zeros;
 
 /// One more tap of a weighted sum.
 #[inline(always)]
@@ -121,7 +122,8 @@ fn lift_lines(own: &mut [i32], other: &[i32], width: usize, half: usize, step: S
     }
 }
 
-/// One lifting step over a single line. The pairs near the ends, whose taps are clamped, stand apart from the inside.
+/// One lifting step over a single line, which zeros don't change. The pairs near the ends, whose taps are clamped,
+/// stand apart from the inside.
 #[inline(always)]
 fn lift_line(own: &mut [i32], other: &[i32], step: Step, taps: &[i32])
     requires alike { length other.now ≡ length own.old }
@@ -130,6 +132,9 @@ fn lift_line(own: &mut [i32], other: &[i32], step: Step, taps: &[i32])
     requires changed { All (λ v. unsigned_abs v ≤ 2 ^ 21) own.old }
     ensures { HalfLifted (with_taps step taps.now) 1 (length own.old) own.old other.now own.new }
 {
+    if are_zeros(other) {
+        return;
+    }
     let half = own.len();
     let low = step.lead.min(half);
     let reach = taps.len().saturating_sub(step.lead);

@@ -20,6 +20,7 @@ mod rings;
 mod step;
 mod tables;
 mod wavelets;
+mod zeros;
 
 pub use half_levels::{LinesAtWork, RowPairs, synth_level_by_lines};
 pub use half_rows::{HalfRows, analyse_halves_level};

@@ -1,6 +1,7 @@
 //! Rows of a level that are at work, in rings: row n of the even rows, and that of the odd ones, stands in slot n % 16.
 //! In a turn each lifting step changes one row, the one that has come to it.
-ghost use Rattle.std.specs.Prelude.{◌≡◌, ℕ, ℤ, List, ◌+◌, ◌-◌, ◌*◌, ◌%◌, ◌^◌, ◌<◌, ◌≤◌, unsigned_abs, length};
+ghost use Rattle.std.specs.Prelude.{◌≡◌, ℕ, ℤ, List, pos, true, ◌+◌, ◌-◌, ◌*◌, ◌%◌, ◌^◌, ◌<◌, ◌≤◌, unsigned_abs};
+ghost use Rattle.std.specs.Prelude.{length};
 ghost use Rattle.std.specs.List.{All};
 ghost use Rattle.dirac_common.specs.Limits.{IsWavelet};
 ghost use Rattle.dirac_lift.specs.Changes.{with_taps};
@@ -8,12 +9,14 @@ ghost use Rattle.dirac_lift.specs.Halves.{IsReadable};
 ghost use Rattle.dirac_lift.specs.Lanes.{RunPut};
 ghost use Rattle.dirac_lift.specs.Liftables.{CanLiftRings, RingsLifted};
 ghost use Rattle.dirac_lift.specs.Lifting.{weighted};
-ghost use Rattle.dirac_lift.specs.Rings.{AfterTurns, AreNarrowLines, CanTurn, RowLifted, most_of, ring_read, ring_value};
+ghost use Rattle.dirac_lift.specs.Rings.{AfterTurns, AreNarrowLines, CanTurn, RowLifted, most_of, ring_read};
+ghost use Rattle.dirac_lift.specs.Rings.{ring_value};
 
 use crate::halves::{multiply_add, put_changed};
 use crate::liftable::Liftable;
 use crate::step::{Change, Step};
 use crate::wavelets;
+use crate::zeros::are_zeros;
 use dirac_common::LARGEST_TABLE_SIDE;
 
 /// As many rows as stand in a ring.
@@ -54,7 +57,73 @@ fn weighted_in_ring(
     sum
 }
 
-/// One lifting step over row `n`.
+/// Whether all that a step reads for row `n`, in columns `from` to `to`, are zeros.
+#[inline(always)]
+fn reads_zeros(
+    other: &[i32],
+    size: HalfSize,
+    step: Step,
+    taps: &[i32],
+    n: usize,
+    from: usize,
+    to: usize,
+) -> bool
+    requires len { length other.now ≡ size.width * 16 }
+    requires down { size.half ≤ LARGEST_TABLE_SIDE }
+    requires row { n < size.half }
+    requires columns { (from ≤ to) × (to ≤ size.width) }
+    ensures { result ≡ true → (k x : ℕ) → k < length taps.now → from ≤ x → x < to
+        → ring_read step.lead size.width size.half other.now n x k ≡ pos 0 }
+{
+    let last = size.half - 1;
+    for k in 0..taps.len() {
+        let row = (n + k).saturating_sub(step.lead).min(last);
+        let start = row % RING_ROWS * size.width;
+        let zeros = are_zeros(&other[start + from..start + to]);
+        if !zeros {
+            return false;
+        }
+    }
+    true
+}
+
+/// The first column of row `n` that a step may change: where it reads zeros for the left half, the half is left out.
+#[inline(always)]
+fn first_changed(other: &[i32], size: HalfSize, step: Step, taps: &[i32], n: usize) -> usize
+    requires len { length other.now ≡ size.width * 16 }
+    requires down { size.half ≤ LARGEST_TABLE_SIDE }
+    requires row { n < size.half }
+    ensures inside { result ≤ size.width }
+    ensures zeros { (k x : ℕ) → k < length taps.now → x < result
+        → ring_read step.lead size.width size.half other.now n x k ≡ pos 0 }
+{
+    let half = size.width / 2;
+    if reads_zeros(other, size, step, taps, n, 0, half) {
+        half
+    } else {
+        0
+    }
+}
+
+/// The column behind the last one of row `n` that a step may change, likewise.
+#[inline(always)]
+fn end_of_changed(other: &[i32], size: HalfSize, step: Step, taps: &[i32], n: usize) -> usize
+    requires len { length other.now ≡ size.width * 16 }
+    requires down { size.half ≤ LARGEST_TABLE_SIDE }
+    requires row { n < size.half }
+    ensures inside { result ≤ size.width }
+    ensures zeros { (k x : ℕ) → k < length taps.now → result ≤ x → x < size.width
+        → ring_read step.lead size.width size.half other.now n x k ≡ pos 0 }
+{
+    let half = size.width / 2;
+    if reads_zeros(other, size, step, taps, n, half, size.width) {
+        half
+    } else {
+        size.width
+    }
+}
+
+/// One lifting step over row `n`, of which the halves where it reads zeros stay.
 #[inline(always)]
 fn lift_row(own: &mut [i32], other: &[i32], size: HalfSize, step: Step, taps: &[i32], n: usize)
     requires own_len { length own.old ≡ size.width * 16 }
@@ -68,7 +137,9 @@ fn lift_row(own: &mut [i32], other: &[i32], size: HalfSize, step: Step, taps: &[
         (ring_value (with_taps step taps.now) size.width size.half own.old other.now n) own.old own.new }
 {
     let start = n % RING_ROWS * size.width;
-    for x in 0..size.width {
+    let from = first_changed(other, size, step, taps, n);
+    let to = end_of_changed(other, size, step, taps, n);
+    for x in from..to {
         let sum = weighted_in_ring(other, size, step, taps, n, x);
         put_changed(own, start + x, sum, step);
     }

@@ -5,7 +5,8 @@ ghost use Rattle.dirac_lift.specs.Windows.{AreInside, window_half};
 ghost use Rattle.dirac_lift.specs.Windows as windows;
 ghost use Rattle.dirac_synthesis.specs.Codeblocks.{restored_by_one};
 ghost use Rattle.dirac_synthesis.specs.Halves.{beside};
-ghost use Rattle.dirac_synthesis.specs.LastLevel.{HasMade, HoldsRows, IsLastLevel, even_halves, last_residual, odd_halves};
+ghost use Rattle.dirac_synthesis.specs.LastLevel.{HasMade, HoldsRows, IsLastLevel, even_halves, last_residual};
+ghost use Rattle.dirac_synthesis.specs.LastLevel.{odd_halves};
 ghost use Rattle.dirac_synthesis.specs.NarrowLevels.{IsNarrowLevel};
 ghost use Rattle.dirac_synthesis.specs.Residual.{rows_between};
 
