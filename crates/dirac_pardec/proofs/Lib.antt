@@ -1,5 +1,5 @@
 pub mod Strips
-pub mod Placed
+pub mod Between
 pub mod Three
 pub mod Preparing
 pub mod Oriented

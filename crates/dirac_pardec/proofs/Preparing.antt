@@ -1,11 +1,10 @@
 -- The rows of the call that prepares an inter picture, by planes.
-use Rattle.std.proofs.Common.{◌≡◌, ℕ, zero, suc, ◌+◌, ◌*◌, ◌/◌, ◌%◌, ◌<◌, List, Option, None, Some, ap, subst, sym, ◌∙◌, arith}
+use Rattle.std.proofs.Common.{◌≡◌, ℕ, ◌+◌, ◌*◌, ◌/◌, ◌%◌, ◌<◌, List, None, Some, ap, sym, ◌∙◌, arith}
 use Rattle.std.specs.Prelude.{Err, IfOk, Ok, Result, slice_index_or, option_map}
 use Rattle.dirac_common.specs.declared.formats.Component.{Component}
 use Rattle.dirac_common.specs.declared.formats.Kind.TheVariants.{Inter}
 use Rattle.dirac_common.specs.declared.picture.Picture.{Picture}
 use Rattle.dirac_common.specs.Table.{Table}
-use Rattle.dirac_upconvert.specs.SubSamples.{Up}
 use Rattle.dirac_content.specs.Content.{plane_of, residual_among, up_of}
 use Rattle.dirac_pardec.specs.declared.prepared.Prepared.{Prepared}
 use Rattle.dirac_pardec.specs.Given.{Lent}

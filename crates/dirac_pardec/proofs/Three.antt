@@ -1,5 +1,5 @@
 -- Three planes, taken one after another.
-use Rattle.std.proofs.Common.{◌≡◌, ℕ, List, [], ◌∷◌, length, ap, sym, ◌∙◌, arith}
+use Rattle.std.proofs.Common.{◌≡◌, ℕ, List, ◌∷◌, ap, sym, ◌∙◌, arith}
 use Rattle.std.specs.Prelude.{slice_index_or}
 use Rattle.dirac_common.specs.Table.{Table}
 use Rattle.dirac_rows.specs.Answers.{AnswerRows}

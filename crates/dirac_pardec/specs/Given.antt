@@ -1,9 +1,9 @@
 -- An inter picture whose references are looked up, seen through its references.
-use Rattle.std.specs.Prelude.{◌≡◌, ℕ, ℤ, Option, IsSome, IfSome, List}
+use Rattle.std.specs.Prelude.{◌≡◌, ℕ, ◌+◌, ◌-◌, Option, IsSome, IfSome}
 use Rattle.std.specs.Option.{ForSome, option_copied}
 use Rattle.dirac_common.specs.declared.formats.Component.{Component}
 use Rattle.dirac_common.specs.declared.picture.Picture.{Picture}
-use Rattle.dirac_common.specs.Table.{Table, filled}
+use Rattle.dirac_common.specs.Table.{Table, table_of}
 use Rattle.dirac_sequence_header.specs.declared.sequence.Sequence.{Sequence}
 use Rattle.dirac_sequence_header.specs.Lawful.{IsSequence}
 use Rattle.dirac_obmc.specs.Compensation.{Compensation, predicted_at}
@@ -11,12 +11,10 @@ use Rattle.dirac_obmc.specs.Directions.{columns_of}
 use Rattle.dirac_picture.specs.declared.coded.CodedMotion.{CodedMotion}
 use Rattle.dirac_picture.specs.declared.coded.CodedResidual.{CodedResidual}
 use Rattle.dirac_picture.specs.Fits.{IsMotion, IsResidual}
-use Rattle.dirac_content.specs.Content.{IsPicture, compensation, height_of, width_of}
+use Rattle.dirac_content.specs.Content.{IsPicture, compensation, width_of}
 use Rattle.dirac_pardec.specs.declared.inter.Inter.{Inter}
-use Rattle.dirac_pardec.specs.declared.places.SlicePlace.{SlicePlace}
 use Rattle.dirac_pardec.specs.declared.weights.PlaneWeights.{PlaneWeights}
-use Rattle.dirac_pardec.specs.Places.{component_at, place_of}
-use Rattle.dirac_pardec.specs.Slices.{slice_of}
+use Rattle.dirac_pardec.specs.Places.{component_at}
 
 -- an inter picture: its parse code, its sequence, its prediction and residual, and the pictures that it refers to
 pub record Lent : Type 0 where
@@ -56,9 +54,8 @@ pub record AreWeights (g : Lent) (w : PlaneWeights) : Type 0 where
   pub luma : w.luma ≡ columns_of (compensation_at g 0)
   pub chroma : w.chroma ≡ columns_of (compensation_at g 1)
 
--- what is predicted for one slice of an inter picture
-abbrev pub predicted_in : Lent → SlicePlace → Table
-predicted_in g place =
-    let c = component_at place.plane in
-    slice_of (width_of g.sequence c) (height_of g.sequence c)
-    (predicted_at (compensation g.sequence g.motion g.first g.second c)) place.slice
+-- what is predicted for rows from .. to of a plane of an inter picture
+abbrev pub predicted_between : Lent → Component → ℕ → ℕ → Table
+predicted_between g c from to =
+    table_of (width_of g.sequence c) (to - from)
+    (λ x y. predicted_at (compensation g.sequence g.motion g.first g.second c) x (from + y))

@@ -1,6 +1,7 @@
 pub mod Places
-pub mod Slices
 pub mod Given
 pub mod Prepared
 pub mod Samples
+pub mod Basis
+pub mod Parts
 pub mod Bands

@@ -6,16 +6,17 @@ ghost use Rattle.dirac_content.specs.Content as content;
 ghost use Rattle.dirac_content.specs.Predicting as predicting;
 ghost use Rattle.dirac_rows.specs.Answers.{AnswerRows};
 ghost use Rattle.dirac_pardec.specs.Places as places;
-ghost use Rattle.dirac_pardec.specs.Samples.{AreResiduals, AreSampleSlices, IsIntra};
-ghost use Rattle.dirac_pardec.specs.Samples.{intra_planes as planes_of, samples_in, samples_slice};
+ghost use Rattle.dirac_pardec.specs.Samples.{intra_planes as planes_of, samples_between, AreResiduals, IsIntra};
 
 use crate::assembled::assembled;
-use crate::places::{SLICE_ROWS, SlicePlace, component_at, end_of, place_of, slices_of_all};
-use crate::slices::joined_picture;
+use crate::basis::{Basis, IntraBasis, Making};
+use crate::filled::filled_picture;
+use crate::places::component_at;
+use crate::room::picture_room;
 use crate::small::is_small;
 use dirac_common::{Kind, LARGEST_TABLE_SIDE, NoMemory, Picture, Plane, RowGate};
 use dirac_picture::CodedResidual;
-use dirac_rebuild::{height_of, residual_of, unfinished_of};
+use dirac_rebuild::{residual_of, unfinished_of};
 use dirac_rows::map_rows;
 use dirac_sequence_header::Sequence;
 use dirac_synthesis::{Unfinished, clipped};
@@ -65,7 +66,7 @@ fn plane_rows<R: Threads + Sync, G: RowGate>(
     map_rows(rt, alloc, 3, workers, gate, &work)
 }
 
-/// The residual of the plane of this number. Where its last level can wait for the slices, it does.
+/// The residual of the plane of this number. Where its last level can wait for the samples, it does.
 fn unfinished_at<'a>(
     alloc: Global,
     intra: &Intra<'a>,
@@ -84,7 +85,7 @@ fn unfinished_at<'a>(
     )
 }
 
-/// The residuals of the planes Y, U, V, each by a worker.
+/// The residuals of the planes Y, U, V, each by a worker; no more than three of them have something to do.
 fn unfinished_rows<'a, R: Threads + Sync, G: RowGate>(
     rt: &R,
     alloc: Global,
@@ -104,67 +105,29 @@ fn unfinished_rows<'a, R: Threads + Sync, G: RowGate>(
     map_rows(rt, alloc, 3, workers, gate, &work)
 }
 
-/// The samples of one slice: its rows of the residual, clipped.
-fn samples_at(
+/// The samples of rows `from` to `to` of the plane of this number: these rows of its residual, clipped.
+pub(crate) fn samples_at(
     alloc: Global,
     intra: &Intra<'_>,
     residuals: &[Unfinished<'_>],
-    place: SlicePlace,
+    plane: u32,
+    from: u32,
+    to: u32,
 ) -> Result<Plane, NoMemory>
     requires intra { IsIntra intra.now }
     requires residuals { AreResiduals intra.now residuals.now }
-    requires plane { place.plane < 3 }
-    requires inside { 64 * place.slice
-        < content.height_of intra.now.sequence.now (places.component_at place.plane) }
-    ensures { IfOk result (λ t. t ≡ samples_in intra.now.sequence.now (planes_of intra.now) place) }
+    requires plane { plane < 3 }
+    requires some { from < to }
+    requires inside { to ≤ content.height_of intra.now.sequence.now (places.component_at plane) }
+    ensures { IfOk result (λ t. t ≡ samples_between intra.now.sequence.now (planes_of intra.now)
+        (places.component_at plane) from to) }
 {
-    let height = height_of(intra.sequence, component_at(place.plane));
-    let end = end_of(height, place.slice);
-    let rows = residuals[place.plane as usize].rows(alloc, SLICE_ROWS * place.slice, end)?;
+    let rows = residuals[plane as usize].rows(alloc, from, to)?;
     clipped(alloc, &rows)
 }
 
-/// The samples of the slice of this number.
-fn samples_of(
-    alloc: Global,
-    intra: &Intra<'_>,
-    residuals: &[Unfinished<'_>],
-    row: u32,
-) -> Result<Plane, NoMemory>
-    requires intra { IsIntra intra.now }
-    requires residuals { AreResiduals intra.now residuals.now }
-    requires inside { row < places.slices_of_all intra.now.sequence.now }
-    ensures { IfOk result (λ t. t ≡ samples_slice intra.now.sequence.now (planes_of intra.now) row) }
-{
-    let place = place_of(intra.sequence, row);
-    samples_at(alloc, intra, residuals, place)
-}
-
-/// The samples of all slices, each by a worker: those of Y first, then those of U, then those of V.
-fn slice_rows<R: Threads + Sync, G: RowGate>(
-    rt: &R,
-    alloc: Global,
-    intra: &Intra<'_>,
-    residuals: &[Unfinished<'_>],
-    workers: u32,
-    gate: &G,
-) -> Result<Vec<Plane>, NoMemory>
-    requires intra { IsIntra intra.now }
-    requires residuals { AreResiduals intra.now residuals.now }
-    requires workers { (1 ≤ workers) × (workers ≤ 64) }
-    ensures { IfOk result (λ v. AreSampleSlices intra.now.sequence.now (planes_of intra.now) v.items) }
-{
-    let rows = slices_of_all(intra.sequence);
-    let work = |row: u32| -> Result<Plane, NoMemory>
-        requires { IsIntra intra.now × AreResiduals intra.now residuals.now
-            × (row < places.slices_of_all intra.now.sequence.now) }
-        ensures { IfOk result (λ t. t ≡ samples_slice intra.entry.now.sequence.now (planes_of intra.entry.now) row) }
-    { samples_of(alloc, intra, residuals, row) };
-    map_rows(rt, alloc, rows, workers, gate, &work)
-}
-
-/// An intra picture from the slices of its planes.
-fn sliced_picture<R: Threads + Sync, G: RowGate>(
+/// An intra picture whose planes are made in parts, side by side.
+fn parted_picture<R: Threads + Sync, G: RowGate>(
     rt: &R,
     alloc: Global,
     number: u32,
@@ -182,12 +145,16 @@ fn sliced_picture<R: Threads + Sync, G: RowGate>(
     }) }
 {
     let residuals = unfinished_rows(rt, alloc, intra, workers, gate)?;
-    let slices = slice_rows(rt, alloc, intra, residuals.as_slice(), workers, gate)?;
-    let picture = joined_picture(alloc, number, intra.sequence, slices.as_slice())?;
-    Ok(picture)
+    let basis = Basis::Intra(IntraBasis {
+        intra,
+        residuals: residuals.as_slice(),
+    });
+    let room = picture_room(alloc, intra.sequence)?;
+    let making = Making { alloc, basis };
+    filled_picture(rt, gate, &making, number, room, workers)
 }
 
-/// An intra picture, made by workers: plane by plane where it is small, else slice by slice.
+/// An intra picture, made by workers: plane by plane where it is small, else part by part.
 pub(crate) fn intra_picture<R: Threads + Sync, G: RowGate>(
     rt: &R,
     alloc: Global,
@@ -209,5 +176,5 @@ pub(crate) fn intra_picture<R: Threads + Sync, G: RowGate>(
         let planes = plane_rows(rt, alloc, intra, workers, gate)?;
         return Ok(assembled(number, planes));
     }
-    sliced_picture(rt, alloc, number, intra, workers, gate)
+    parted_picture(rt, alloc, number, intra, workers, gate)
 }

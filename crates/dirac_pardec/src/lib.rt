@@ -1,9 +1,11 @@
 //! A decoder whose pictures are read and rebuilt by workers, row by row: orientations of subbands, residual planes,
-//! upconverted references, and slices of samples. The references are shared.
+//! upconverted references; and part by part, its samples. The references are shared.
 #![tactic(auto)]
 
 mod assembled;
 mod bands;
+mod basis;
+mod filled;
 mod inter;
 mod intra;
 mod places;
@@ -11,8 +13,8 @@ mod planes;
 mod predict;
 mod prepared;
 mod rebuild;
+mod room;
 mod shared;
-mod slices;
 mod small;
 mod stream;
 mod weights;

@@ -1,4 +1,4 @@
-//! What the slices of an inter picture are made from: the residuals of its planes, and the planes of its references
+//! What the samples of an inter picture are made from: the residuals of its planes, and the planes of its references
 //! with their half samples.
 ghost use Rattle.std.specs.Prelude.{◌≡◌, ◌+◌, ◌*◌, ◌%◌, ◌/◌, ◌^◌, ◌<◌, ◌≤◌, unsigned_abs, IfOk, None, Some, option_map};
 ghost use Rattle.std.specs.List.{All};
@@ -112,7 +112,7 @@ fn prepare<'a>(alloc: Global, inter: &Inter<'a>, row: u32) -> Result<Prepared<'a
     }
 }
 
-/// What the slices of a picture are made from, each part by a worker, those of Y first.
+/// What the samples of a picture are made from, each part by a worker, those of Y first.
 pub(crate) fn prepare_rows<'a, R: Threads + Sync, G: RowGate>(
     rt: &R,
     alloc: Global,

@@ -5,12 +5,14 @@ ghost use Rattle.dirac_content.specs.Content.{AreReferences, IsPicture, rebuilt}
 ghost use Rattle.dirac_content.specs.Predicting as predicting;
 ghost use Rattle.dirac_pardec.specs.Given.{given, IsInter};
 
+use crate::basis::{Basis, InterBasis, Making};
+use crate::filled::filled_picture;
 use crate::inter::{Inter, inter_of};
 use crate::intra::{Intra, intra_picture};
-use crate::predict::sample_slices;
 use crate::prepared::prepare_rows;
-use crate::slices::joined_picture;
+use crate::room::picture_room;
 use crate::small::workers_for;
+use crate::weights::plane_weights;
 use dirac_common::{NoMemory, Picture, RowGate};
 use dirac_header::PictureHeader;
 use dirac_picture::CodedPicture;
@@ -20,7 +22,8 @@ use std::alloc::Global;
 use std::marker::Sync;
 use std::thread::Threads;
 
-/// An inter picture: what its slices are made from, and its slices, are made by workers.
+/// An inter picture: what its samples are made from is made by workers, and then its planes, in parts. The weights of
+/// their columns are made between, once for all.
 fn inter_picture<R: Threads + Sync, G: RowGate>(
     rt: &R,
     alloc: Global,
@@ -35,16 +38,23 @@ fn inter_picture<R: Threads + Sync, G: RowGate>(
         (given inter.now).second header.now (given inter.now).motion (given inter.now).residual) }
 {
     let prepared = prepare_rows(rt, alloc, inter, workers, gate)?;
-    let slices = sample_slices(rt, alloc, inter, prepared.as_slice(), workers, gate)?;
-    let picture = joined_picture(alloc, header.number, inter.sequence, slices.as_slice())?;
-    Ok(picture)
+    let weights = plane_weights(alloc, inter, prepared.as_slice())?;
+    let basis = Basis::Inter(InterBasis {
+        inter,
+        prepared: prepared.as_slice(),
+        weights: &weights,
+    });
+    let room = picture_room(alloc, inter.sequence)?;
+    let making = Making { alloc, basis };
+    filled_picture(rt, gate, &making, header.number, room, workers)
 }
 
-/// The picture that a coded picture stands for, made by that many workers in two maps of rows: first the residual
-/// planes, but for a last level that can wait, and the upconverted planes of its references; then slices of 64 rows of
-/// its samples. Each worker passes the gate before it works on one. Threads are started for each map, so twice for a
-/// picture, and once more where `read_planes_rows` reads its subbands. A small intra picture has one map alone, whose
-/// rows are its planes.
+/// The picture that a coded picture stands for, made by that many workers. A map of rows makes the residual planes, but
+/// for a last level that can wait, and the upconverted planes of its references. Then each worker makes its share of
+/// the rows of each plane, and writes it where it belongs. Each worker passes the gate before it works on a row of the
+/// map, and before its share, whose number is the worker's. Threads are started for both, so twice for a picture, and
+/// once more where `read_planes_rows` reads its subbands. A small intra picture has one map alone, whose rows are its
+/// planes.
 pub fn rebuild_rows<R: Threads + Sync, G: RowGate>(
     rt: &R,
     alloc: Global,

@@ -6,8 +6,9 @@ fn is_shared<T: Send + Sync>() {}
 /// Each of these types may be shared by threads and sent to them.
 fn are_shared() {
     is_shared::<crate::inter::Inter<'_>>();
-    is_shared::<crate::places::SlicePlace>();
+    is_shared::<crate::filled::Parts>();
     is_shared::<crate::weights::PlaneWeights>();
     is_shared::<crate::intra::Intra<'_>>();
     is_shared::<crate::prepared::Prepared<'_>>();
+    is_shared::<crate::basis::Making<'_, '_>>();
 }

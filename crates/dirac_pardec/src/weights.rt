@@ -59,7 +59,7 @@ fn weights_in(
     Ok(weights)
 }
 
-/// The weights of the columns of a picture, which all its slices share.
+/// The weights of the columns of a picture, which all its parts share.
 pub(crate) fn plane_weights(
     alloc: Global,
     inter: &Inter<'_>,

@@ -1,11 +1,11 @@
-use Rattle.std.proofs.Common.{◌*◌, ◌≡◌, ap, arith, refl, ◌∙◌}
+use Rattle.std.proofs.Common.{◌*◌, ap, arith, refl, ◌∙◌}
 use Rattle.dirac_common.specs.declared.formats.Kind.TheVariants.{Inter as OfInter}
 use Rattle.dirac_common.specs.Table.{Table}
 use Rattle.dirac_synthesis.proofs.Maps.{ok_weaker}
 use Rattle.dirac_pardec.specs.Given.{given}
 use Rattle.dirac_pardec.specs.Places.{component_at}
 use Rattle.dirac_synthesis.specs.Residual.{rows_between}
-use Rattle.dirac_pardec.proofs.Placed.{residual_size}
+use Rattle.dirac_pardec.proofs.Between.{residual_size}
 use Rattle.dirac_pardec.proofs.Preparing.{residual_lent}
 use Rattle.dirac_pardec.proofs.prepared.residual_rows.Goals as goal
 
