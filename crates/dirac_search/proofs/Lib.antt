@@ -5,6 +5,7 @@ mod Differences
 mod Examples
 mod Fewest
 mod Gathered
+mod HeldRows
 mod InLanes
 pub mod Keeping
 mod Lists

@@ -4,6 +4,7 @@ pub mod Choices
 pub mod Costs
 pub mod Fields
 pub mod Given
+pub mod InBytes
 pub mod Kept
 pub mod Rows
 pub mod Tried

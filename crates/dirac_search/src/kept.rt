@@ -79,7 +79,7 @@ fn push_inside(
 
 /// Appends those candidates of block `i` of row `j` that keep inside.
 pub(crate) fn push_kept(
-    staged: &Staged<'_, '_>,
+    staged: &Staged<'_, '_, '_, '_>,
     i: u32,
     j: u32,
     list: &CandidateList,

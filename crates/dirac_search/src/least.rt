@@ -5,6 +5,7 @@ ghost use Rattle.dirac_search.specs.Candidates.{HasFormer, IsWithinReach, no_mot
 ghost use Rattle.dirac_search.specs.Costs.{HasLevel, HasPrecision, IsBlockWindow, IsBelow, cost_of, window_cost};
 ghost use Rattle.dirac_search.specs.Fields.{IsSearch, IsStage, best_of};
 ghost use Rattle.dirac_search.specs.Given.{given, lent};
+ghost use Rattle.dirac_search.specs.InBytes.{AreGiven};
 ghost use Rattle.dirac_search.specs.Staged.{best_at};
 
 use crate::candidate_list::CandidateList;
@@ -29,28 +30,30 @@ fn are_same(a: Vector, b: Vector) -> bool
 /// What a vector costs a window, where that is less than what the best one so far costs.
 #[inline(always)]
 fn better_cost(
-    search: &Search<'_>,
-    stage: Stage,
-    bias: u32,
+    staged: &Staged<'_, '_, '_, '_>,
     window: Window,
     v: Vector,
     found: Vector,
     least: u32,
 ) -> Option<u32>
-    requires levels { HasLevel (given search.now) stage }
-    requires precision { HasPrecision stage }
-    requires at_most_255 { bias ≤ 255 }
+    requires levels { HasLevel (given staged.now.search.now) staged.now.stage }
+    requires precision { HasPrecision staged.now.stage }
+    requires at_most_255 { staged.now.settings.now.bias ≤ 255 }
+    requires bytes { AreGiven (given staged.now.search.now) (lent staged.now.bytes) }
     requires window { IsBlockWindow window }
     requires v { IsWithinReach (2 ^ 24) v }
-    requires least { least ≡ window_cost (given search.now) bias stage window found }
-    ensures below { IfSome result (IsBelow least (window_cost (given search.now) bias stage window v)) }
-    ensures above { IfNone result (least ≤ window_cost (given search.now) bias stage window v) }
+    requires least { least ≡ window_cost (given staged.now.search.now) staged.now.settings.now.bias staged.now.stage
+        window found }
+    ensures below { IfSome result (IsBelow least (window_cost (given staged.now.search.now) staged.now.settings.now.bias
+        staged.now.stage window v)) }
+    ensures above { IfNone result (least ≤ window_cost (given staged.now.search.now) staged.now.settings.now.bias
+        staged.now.stage window v) }
 {
     // Candidates come again, the best one too: its cost would be summed to the end.
     if are_same(v, found) {
         return None;
     }
-    cost_below(search, stage, bias, window, v, least)
+    cost_below(staged, window, v, least)
 }
 
 /// The fewest bits of a vector with motion: four of one component and one of the other.
@@ -67,26 +70,27 @@ fn least_price_of_motion(bias: u32) -> u32
 
 /// The first of least cost, of the vector of no motion and these behind it; `price` is what that of no motion costs.
 fn least_of(
-    search: &Search<'_>,
-    stage: Stage,
-    bias: u32,
+    staged: &Staged<'_, '_, '_, '_>,
     window: Window,
     list: &CandidateList,
     price: u32,
 ) -> Vector
-    requires levels { HasLevel (given search.now) stage }
-    requires precision { HasPrecision stage }
-    requires at_most_255 { bias ≤ 255 }
+    requires levels { HasLevel (given staged.now.search.now) staged.now.stage }
+    requires precision { HasPrecision staged.now.stage }
+    requires at_most_255 { staged.now.settings.now.bias ≤ 255 }
+    requires bytes { AreGiven (given staged.now.search.now) (lent staged.now.bytes) }
     requires window { IsBlockWindow window }
     requires list { All (IsWithinReach (2 ^ 24)) list.now }
-    requires price { price ≡ window_cost (given search.now) bias stage window no_motion }
-    ensures { result ≡ first_least (window_cost (given search.now) bias stage window) no_motion list.now }
+    requires price { price ≡ window_cost (given staged.now.search.now) staged.now.settings.now.bias staged.now.stage
+        window no_motion }
+    ensures { result ≡ first_least (window_cost (given staged.now.search.now) staged.now.settings.now.bias
+        staged.now.stage window) no_motion list.now }
 {
     let mut found = Vector { x: 0, y: 0 };
     let mut least = price;
     for k in 0..list.len() {
         let v = list.at(k);
-        match better_cost(search, stage, bias, window, v, found, least) {
+        match better_cost(staged, window, v, found, least) {
             Some(cost) => {
                 found = v;
                 least = cost;
@@ -117,7 +121,7 @@ pub fn new_room(alloc: Global) -> Room {
 /// The first of least cost of the candidates that may be taken for block `i` of row `j` at a stage; `price` is what the
 /// vector of no motion costs.
 fn best_in(
-    staged: &Staged<'_, '_>,
+    staged: &Staged<'_, '_, '_, '_>,
     before: Option<&Field>,
     i: u32,
     j: u32,
@@ -126,6 +130,7 @@ fn best_in(
 ) -> Result<Vector, NoMemory>
     requires search { IsSearch (given staged.now.search.now) staged.now.settings.now }
     requires stage { IsStage staged.now.settings.now staged.now.stage }
+    requires bytes { AreGiven (given staged.now.search.now) (lent staged.now.bytes) }
     requires former { HasFormer staged.now.stage (lent before) i j }
     requires column { i < 4 * staged.now.search.now.across }
     requires row { j < 4 * staged.now.search.now.down }
@@ -137,6 +142,7 @@ fn best_in(
         search,
         stage,
         settings,
+        ..
     } = *staged;
     room.list.clear();
     push_choice(
@@ -150,16 +156,16 @@ fn best_in(
     )?;
     let window = window(search, stage, i, j);
     if settings.alike == 0 {
-        return Ok(least_of(search, stage, settings.bias, window, &room.list, price));
+        return Ok(least_of(staged, window, &room.list, price));
     }
     room.kept.clear();
     push_kept(staged, i, j, &room.list, &mut room.kept)?;
-    Ok(least_of(search, stage, settings.bias, window, &room.kept, price))
+    Ok(least_of(staged, window, &room.kept, price))
 }
 
 /// The first of least cost of the candidates that may be taken for block `i` of row `j` at a stage.
 pub(crate) fn best_or_still(
-    staged: &Staged<'_, '_>,
+    staged: &Staged<'_, '_, '_, '_>,
     before: Option<&Field>,
     i: u32,
     j: u32,
@@ -167,6 +173,7 @@ pub(crate) fn best_or_still(
 ) -> Result<Vector, NoMemory>
     requires search { IsSearch (given staged.now.search.now) staged.now.settings.now }
     requires stage { IsStage staged.now.settings.now staged.now.stage }
+    requires bytes { AreGiven (given staged.now.search.now) (lent staged.now.bytes) }
     requires former { HasFormer staged.now.stage (lent before) i j }
     requires column { i < 4 * staged.now.search.now.across }
     requires row { j < 4 * staged.now.search.now.down }
@@ -176,10 +183,11 @@ pub(crate) fn best_or_still(
         search,
         stage,
         settings,
+        ..
     } = *staged;
     let window = window(search, stage, i, j);
     let still = Vector { x: 0, y: 0 };
-    let price = whole_cost(search, stage, settings.bias, window, still);
+    let price = whole_cost(staged, window, still);
     if price <= least_price_of_motion(settings.bias) {
         // No other vector costs less: its bits alone cost as much.
         Ok(still)
@@ -189,8 +197,8 @@ pub(crate) fn best_or_still(
 }
 
 /// The first of least cost of the candidates that may be taken for block `i` of row `j` at a stage: of all, and where
-/// streams are to be shown alike of those that keep inside. `before` has the former stage's vectors; the first stage has
-/// none.
+/// streams are to be shown alike of those that keep inside. `before` has the former stage's vectors; the first stage
+/// has none.
 pub fn best(
     alloc: Global,
     search: &Search<'_>,
@@ -212,6 +220,7 @@ pub fn best(
         search,
         stage,
         settings,
+        bytes: None,
     };
     best_or_still(&staged, before, i, j, &mut room)
 }

@@ -4,6 +4,8 @@
 //! coarse to fine.
 
 mod around;
+mod byte_sums;
+mod bytes;
 mod candidate_list;
 mod eight_columns;
 mod field;
@@ -14,6 +16,7 @@ mod shared;
 mod stage;
 mod stage_candidates;
 mod stages;
+mod sub_bytes;
 mod sub_sums;
 mod tried;
 mod whole_sums;

@@ -1,3 +1,4 @@
+use crate::bytes::Bytes;
 use dirac_common::BlockGrid;
 use dirac_pyramid::Pyramid;
 use dirac_types::Settings;
@@ -30,8 +31,10 @@ pub struct Search<'a> {
 
 /// A stage of a search.
 #[derive(Clone, Copy)]
-pub(crate) struct Staged<'a, 's> {
+pub(crate) struct Staged<'a, 's, 't, 'b> {
     pub(crate) search: &'a Search<'s>,
     pub(crate) stage: Stage,
-    pub(crate) settings: &'a Settings,
+    pub(crate) settings: &'t Settings,
+    /// What is compared in bytes, where there is anything of that.
+    pub(crate) bytes: Option<&'b Bytes>,
 }

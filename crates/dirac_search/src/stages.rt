@@ -7,8 +7,10 @@ ghost use Rattle.dirac_rows.specs.Answers.{AnswerRows};
 ghost use Rattle.dirac_search.specs.Fields.{HasFormerField, IsSearch, IsStage, after_finer, field};
 ghost use Rattle.dirac_search.specs.Fields.{stage_field, superblock_row};
 ghost use Rattle.dirac_search.specs.Given.{given, lent};
+ghost use Rattle.dirac_search.specs.InBytes.{AreGiven};
 ghost use Rattle.dirac_search.specs.Staged.{IsStaged, best_at};
 
+use crate::bytes::Bytes;
 use crate::field::Field;
 use crate::least::{Room, best_or_still, new_room};
 use crate::stage::{Search, Stage, Staged};
@@ -21,7 +23,7 @@ use std::thread::Threads;
 
 /// Appends the best vectors of a row of blocks.
 fn push_block_row(
-    staged: &Staged<'_, '_>,
+    staged: &Staged<'_, '_, '_, '_>,
     before: Option<&Field>,
     j: u32,
     room: &mut Room,
@@ -41,7 +43,7 @@ fn push_block_row(
 /// The best vectors of the four block rows of superblock row `row`, by rows.
 fn rows_of(
     alloc: Global,
-    staged: &Staged<'_, '_>,
+    staged: &Staged<'_, '_, '_, '_>,
     before: Option<&Field>,
     row: u32,
 ) -> Result<Vec<Vector>, NoMemory>
@@ -79,6 +81,7 @@ pub fn search_rows(
         search,
         stage,
         settings,
+        bytes: None,
     };
     rows_of(alloc, &staged, before, row)
 }
@@ -88,7 +91,7 @@ pub fn search_rows(
 fn stage_rows<R: Threads + Sync, G: RowGate>(
     rt: &R,
     alloc: Global,
-    staged: &Staged<'_, '_>,
+    staged: &Staged<'_, '_, '_, '_>,
     before: Option<&Field>,
     gate: &G,
 ) -> Result<Vec<Vec<Vector>>, NoMemory>
@@ -126,7 +129,7 @@ fn joined(alloc: Global, rows: &[Vec<Vector>]) -> Result<Vec<Vector>, NoMemory>
 fn search_stage<R: Threads + Sync, G: RowGate>(
     rt: &R,
     alloc: Global,
-    staged: &Staged<'_, '_>,
+    staged: &Staged<'_, '_, '_, '_>,
     before: Option<&Field>,
     gate: &G,
 ) -> Result<Field, NoMemory>
@@ -146,9 +149,11 @@ fn search_whole<'a, R: Threads + Sync, G: RowGate>(
     alloc: Global,
     search: &'a Search<'_>,
     settings: &'a Settings,
+    bytes: Option<&'a Bytes>,
     gate: &G,
 ) -> Result<Field, NoMemory>
-    requires { IsSearch (given search.now) settings.now }
+    requires search { IsSearch (given search.now) settings.now }
+    requires bytes { AreGiven (given search.now) (lent bytes) }
     ensures { IfOk result (λ f. f ≡ after_finer (given search.now) settings.now settings.now.pyramid) }
 {
     let levels = settings.pyramid as u8;
@@ -156,6 +161,7 @@ fn search_whole<'a, R: Threads + Sync, G: RowGate>(
         search,
         stage: Stage::Coarse(levels),
         settings,
+        bytes,
     };
     let mut field = search_stage(rt, alloc, &coarse, None, gate)?;
     for k in 0..levels {
@@ -164,6 +170,35 @@ fn search_whole<'a, R: Threads + Sync, G: RowGate>(
             ..coarse
         };
         field = search_stage(rt, alloc, &finer, Some(&field), gate)?;
+    }
+    Ok(field)
+}
+
+/// The vectors after the last stage.
+fn search_with<'a, R: Threads + Sync, G: RowGate>(
+    rt: &R,
+    alloc: Global,
+    search: &'a Search<'_>,
+    settings: &'a Settings,
+    bytes: Option<&'a Bytes>,
+    gate: &G,
+) -> Result<Field, NoMemory>
+    requires search { IsSearch (given search.now) settings.now }
+    requires bytes { AreGiven (given search.now) (lent bytes) }
+    ensures value { IfOk result (λ f. f ≡ field (given search.now) settings.now) }
+    ensures sizes { IfOk result (λ f. (f.across ≡ search.now.across) × (f.down ≡ search.now.down)) }
+    ensures within_2175 { IfOk result (λ f. All (IsWithinReach 2175) f.vectors) }
+    ensures of_16_bits { IfOk result (λ f. All IsShortVector f.vectors) }
+{
+    let mut field = search_whole(rt, alloc, search, settings, bytes, gate)?;
+    for q in 0..settings.precision as u8 {
+        let sub = Staged {
+            search,
+            stage: Stage::Sub(q + 1),
+            settings,
+            bytes,
+        };
+        field = search_stage(rt, alloc, &sub, Some(&field), gate)?;
     }
     Ok(field)
 }
@@ -183,14 +218,8 @@ pub fn search_field<'a, R: Threads + Sync, G: RowGate>(
     ensures within_2175 { IfOk result (λ f. All (IsWithinReach 2175) f.vectors) }
     ensures of_16_bits { IfOk result (λ f. All IsShortVector f.vectors) }
 {
-    let mut field = search_whole(rt, alloc, search, settings, gate)?;
-    for q in 0..settings.precision as u8 {
-        let sub = Staged {
-            search,
-            stage: Stage::Sub(q + 1),
-            settings,
-        };
-        field = search_stage(rt, alloc, &sub, Some(&field), gate)?;
+    match Bytes::of(alloc, search, settings.precision)? {
+        Some(bytes) => search_with(rt, alloc, search, settings, Some(&bytes), gate),
+        None => search_with(rt, alloc, search, settings, None, gate),
     }
-    Ok(field)
 }

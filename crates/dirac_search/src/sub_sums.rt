@@ -13,7 +13,7 @@ use dirac_upconvert::UpPlane;
 
 /// A place counted in 2 to the power `precision` parts of a sample.
 #[inline(always)]
-fn parts(place: u32, precision: u8) -> u32
+pub fn parts(place: u32, precision: u8) -> u32
     requires place { place ≤ 2 ^ 20 }
     requires precision { precision ≤ 3 }
     ensures value { result ≡ 2 ^ precision * place }

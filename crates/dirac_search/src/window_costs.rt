@@ -6,10 +6,12 @@ ghost use Rattle.dirac_search.specs.Costs.{HasLevel, HasPrecision, IsBlockWindow
 ghost use Rattle.dirac_search.specs.Costs.{level_of_stage, window_cost, window_of, window_size};
 ghost use Rattle.dirac_search.specs.Costs.{window_start};
 ghost use Rattle.dirac_search.specs.Fields.{IsSearch, IsStage};
-ghost use Rattle.dirac_search.specs.Given.{given};
+ghost use Rattle.dirac_search.specs.Given.{given, lent};
+ghost use Rattle.dirac_search.specs.InBytes.{AreGiven};
 ghost use Rattle.dirac_search.specs.Tried.{IsTried, stage_sum};
 
-use crate::stage::{Search, Stage};
+use crate::stage::{Search, Stage, Staged};
+use crate::sub_bytes::sub_below_in_bytes;
 use crate::sub_sums::sub_below;
 use crate::tried::Tried;
 use crate::whole_sums::whole_below;
@@ -83,19 +85,43 @@ fn whole_cost_below(search: &Search<'_>, level: u8, tried: Tried) -> Option<u32>
     )
 }
 
+/// What a vector's bits cost and the differences of a window in parts of a sample, where all of it is below the limit.
+#[inline(always)]
+fn sub_cost_below(staged: &Staged<'_, '_, '_, '_>, precision: u8, tried: Tried) -> Option<u32>
+    requires levels { HasLevel (given staged.now.search.now) (stage.Sub precision) }
+    requires bytes { AreGiven (given staged.now.search.now) (lent staged.now.bytes) }
+    requires precision { precision ≤ 3 }
+    requires tried { IsTried tried }
+    ensures below { IfSome result (IsBelow tried.limit (stage_sum (given staged.now.search.now) (stage.Sub precision)
+        tried)) }
+    ensures above { IfNone result (Reaches tried.limit (stage_sum (given staged.now.search.now) (stage.Sub precision)
+        tried)) }
+{
+    let search = staged.search;
+    let source = search.source.level(0);
+    match staged.bytes {
+        Some(bytes) => sub_below_in_bytes(source, search.up, bytes, precision, tried),
+        None => sub_below(source, search.up, precision, tried),
+    }
+}
+
 /// What a vector's bits cost and the differences of a window at a stage, where all of it is below the limit. The
 /// summing ends as soon as it isn't.
-fn stage_cost_below(search: &Search<'_>, stage: Stage, tried: Tried) -> Option<u32>
-    requires levels { HasLevel (given search.now) stage }
-    requires precision { HasPrecision stage }
+#[inline(always)]
+fn stage_cost_below(staged: &Staged<'_, '_, '_, '_>, tried: Tried) -> Option<u32>
+    requires levels { HasLevel (given staged.now.search.now) staged.now.stage }
+    requires precision { HasPrecision staged.now.stage }
+    requires bytes { AreGiven (given staged.now.search.now) (lent staged.now.bytes) }
     requires tried { IsTried tried }
-    ensures below { IfSome result (IsBelow tried.limit (stage_sum (given search.now) stage tried)) }
-    ensures above { IfNone result (Reaches tried.limit (stage_sum (given search.now) stage tried)) }
+    ensures below { IfSome result (IsBelow tried.limit (stage_sum (given staged.now.search.now) staged.now.stage
+        tried)) }
+    ensures above { IfNone result (Reaches tried.limit (stage_sum (given staged.now.search.now) staged.now.stage
+        tried)) }
 {
-    match stage {
-        Stage::Coarse(level) => whole_cost_below(search, level, tried),
-        Stage::Finer(level) => whole_cost_below(search, level, tried),
-        Stage::Sub(precision) => sub_below(search.source.level(0), search.up, precision, tried),
+    match staged.stage {
+        Stage::Coarse(level) => whole_cost_below(staged.search, level, tried),
+        Stage::Finer(level) => whole_cost_below(staged.search, level, tried),
+        Stage::Sub(precision) => sub_cost_below(staged, precision, tried),
     }
 }
 
@@ -112,23 +138,24 @@ fn bits_cost(bias: u32, v: Vector) -> u32
 /// What a vector costs a window, where that is below a limit. Where its bits alone cost as much, which is so of most
 /// vectors that lead far off, no sample is read.
 #[inline(always)]
-pub fn cost_below(
-    search: &Search<'_>,
-    stage: Stage,
-    bias: u32,
+pub(crate) fn cost_below(
+    staged: &Staged<'_, '_, '_, '_>,
     window: Window,
     v: Vector,
     limit: u32,
 ) -> Option<u32>
-    requires levels { HasLevel (given search.now) stage }
-    requires precision { HasPrecision stage }
-    requires at_most_255 { bias ≤ 255 }
+    requires levels { HasLevel (given staged.now.search.now) staged.now.stage }
+    requires precision { HasPrecision staged.now.stage }
+    requires at_most_255 { staged.now.settings.now.bias ≤ 255 }
+    requires bytes { AreGiven (given staged.now.search.now) (lent staged.now.bytes) }
     requires window { IsBlockWindow window }
     requires v { IsWithinReach (2 ^ 24) v }
-    ensures below { IfSome result (IsBelow limit (window_cost (given search.now) bias stage window v)) }
-    ensures above { IfNone result (Reaches limit (window_cost (given search.now) bias stage window v)) }
+    ensures below { IfSome result (IsBelow limit (window_cost (given staged.now.search.now) staged.now.settings.now.bias
+        staged.now.stage window v)) }
+    ensures above { IfNone result (Reaches limit (window_cost (given staged.now.search.now) staged.now.settings.now.bias
+        staged.now.stage window v)) }
 {
-    let bits = bits_cost(bias, v);
+    let bits = bits_cost(staged.settings.bias, v);
     if bits < limit {
         let tried = Tried {
             window,
@@ -136,7 +163,7 @@ pub fn cost_below(
             first: bits,
             limit,
         };
-        stage_cost_below(search, stage, tried)
+        stage_cost_below(staged, tried)
     } else {
         None
     }
@@ -146,15 +173,17 @@ pub fn cost_below(
 const MORE_THAN_ANY_COST: u32 = 1 << 25;
 
 /// What a vector costs a window.
-pub fn whole_cost(search: &Search<'_>, stage: Stage, bias: u32, window: Window, v: Vector) -> u32
-    requires levels { HasLevel (given search.now) stage }
-    requires precision { HasPrecision stage }
-    requires at_most_255 { bias ≤ 255 }
+pub(crate) fn whole_cost(staged: &Staged<'_, '_, '_, '_>, window: Window, v: Vector) -> u32
+    requires levels { HasLevel (given staged.now.search.now) staged.now.stage }
+    requires precision { HasPrecision staged.now.stage }
+    requires at_most_255 { staged.now.settings.now.bias ≤ 255 }
+    requires bytes { AreGiven (given staged.now.search.now) (lent staged.now.bytes) }
     requires window { IsBlockWindow window }
     requires v { IsWithinReach (2 ^ 24) v }
-    ensures { result ≡ window_cost (given search.now) bias stage window v }
+    ensures { result ≡ window_cost (given staged.now.search.now) staged.now.settings.now.bias staged.now.stage window
+        v }
 {
-    match cost_below(search, stage, bias, window, v, MORE_THAN_ANY_COST) {
+    match cost_below(staged, window, v, MORE_THAN_ANY_COST) {
         Some(cost) => cost,
         None => MORE_THAN_ANY_COST,
     }
@@ -177,5 +206,11 @@ pub fn cost(
     requires v { IsWithinReach (2 ^ 24) v }
     ensures { result ≡ cost_of (given search.now) settings.now.bias stage i j v }
 {
-    u64::from(whole_cost(search, stage, settings.bias, window(search, stage, i, j), v))
+    let staged = Staged {
+        search,
+        stage,
+        settings,
+        bytes: None,
+    };
+    u64::from(whole_cost(&staged, window(search, stage, i, j), v))
 }

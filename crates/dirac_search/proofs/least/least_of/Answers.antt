@@ -8,7 +8,7 @@ use Rattle.dirac_search.proofs.least.least_of.Goals.{in-Some, in-None}
 
 pub loop-k-preserved : goal.loop-k-preserved
 loop-k-preserved c =
-    let cost = window_cost (given c.args.search.now) c.args.bias c.args.stage c.args.window in
+    let cost = window_cost (given c.args.staged.now.search.now) c.args.staged.now.settings.now.bias c.args.staged.now.stage c.args.window in
     elim c.match-better_cost.branch [
       | in-Some w ↦ record {
         found =

@@ -7,6 +7,6 @@ use Rattle.dirac_search.proofs.least.least_of.Given as goal
 
 abbrev pub invariant-loop-k : goal.invariant-loop-k
 invariant-loop-k l = record {
-  found : l.found ≡ first_least (window_cost (given l.search) l.bias l.stage l.window) no_motion (take l.k l.list);
-  least : l.least ≡ window_cost (given l.search) l.bias l.stage l.window l.found;
+  found : l.found ≡ first_least (window_cost (given l.staged.search.now) l.staged.settings.now.bias l.staged.stage l.window) no_motion (take l.k l.list);
+  least : l.least ≡ window_cost (given l.staged.search.now) l.staged.settings.now.bias l.staged.stage l.window l.found;
 }

@@ -1,0 +1,109 @@
+-- Samples that are compared in bytes.
+use Rattle.std.specs.Prelude.{◌≡◌, ℕ, ℤ, pos, ◌+◌, ◌-◌, ◌*◌, ◌/◌, ◌%◌, ◌^◌, ◌<◌, ◌≤◌, ◌+ℤ◌, ◌-ℤ◌, ◌≤ℤ◌, List}
+use Rattle.std.specs.Prelude.{unsigned_abs, length, slice_index_or, Option, Some, None}
+use Rattle.dirac_common.specs.Table.{Table, table_at}
+use Rattle.dirac_upconvert.specs.SubSamples.{Up, place_at, rest_at}
+use Rattle.dirac_costs.specs.Sums.{sum_below}
+use Rattle.dirac_costs.specs.Windows.{values_from}
+use Rattle.dirac_pyramid.specs.Pyramid.{mean_of_four, no_plane}
+use Rattle.dirac_search.specs.declared.byte_sums.Corners.{Corners}
+use Rattle.dirac_search.specs.declared.byte_sums.Strided.{Strided}
+use Rattle.dirac_search.specs.declared.bytes.Bytes.{Bytes}
+use Rattle.dirac_search.specs.declared.sub_bytes.Spot.{Spot}
+use Rattle.dirac_search.specs.declared.tried.Tried.{Tried}
+use Rattle.dirac_search.specs.Given.{Searched}
+use Rattle.dirac_search.specs.Rows.{apart_at}
+
+-- sample k of line n of an upconverted plane: the even columns of a row, and in the next line its odd ones
+abbrev pub half_line : Up → ℕ → ℕ → ℤ
+half_line up k n = table_at up.table (2 * k + n % 2) (n / 2)
+
+-- these lines, one behind another, each without the sample of the last column
+pub record AreHalves (up : Up) (values : List ℤ) : Type 0 where
+  pub some_across : 1 ≤ up.width
+  pub some_down : 1 ≤ up.height
+  pub len : length values ≡ 2 * (2 * up.height - 1) * (up.width - 1)
+  pub value : (k n : ℕ) → k < up.width - 1 → n < 2 * (2 * up.height - 1)
+      → slice_index_or values (n * (up.width - 1) + k) (pos 0) ≡ half_line up k n
+
+-- the samples of a source and the lines of an upconverted reference
+pub record AreBytes (t : Table) (up : Up) (b : Bytes) : Type 0 where
+  pub source : b.source.items ≡ t.values
+  pub halves : AreHalves up b.halves.items
+
+-- those of a search
+abbrev pub AreBytesOf : Searched → Bytes → Type 0
+AreBytesOf g b = AreBytes (slice_index_or g.source 0 no_plane) g.up b
+
+-- where there are any
+abbrev pub AreGiven : Searched → Option Bytes → Type 0
+AreGiven g None = Unit {0}
+AreGiven g (Some b) = AreBytesOf g b
+
+-- where row r begins
+abbrev pub row_at : Strided → ℕ → ℕ
+row_at s r = s.first + r * s.step
+
+-- so many rows of eight values lie in a list of that length
+abbrev pub AreInside : Strided → ℕ → ℕ → Type 0
+AreInside s rows len = (r : ℕ) → r < rows → row_at s r + 8 ≤ len
+
+-- the sum of absolute differences of row r of two lists
+abbrev pub strided_rows : List ℤ → Strided → List ℤ → Strided → ℕ → ℕ
+strided_rows a left b right r = sum_below (apart_at a (row_at left r) b (row_at right r)) 8
+
+-- the mean of the values k places behind four corners
+abbrev pub mean_behind : List ℤ → Corners → ℕ → ℤ
+mean_behind b c k =
+    mean_of_four
+    (values_from b c.left k)
+    (values_from b c.right k)
+    (values_from b (c.left + c.under) k)
+    (values_from b (c.right + c.under) k)
+
+-- how far a value and that mean are apart
+unfoldable pub apart_from_mean : List ℤ → ℕ → List ℤ → Corners → ℕ → ℕ
+apart_from_mean a first b c k = unsigned_abs (values_from a first k -ℤ mean_behind b c k)
+
+-- the corners of row r, where rows are so many places apart
+abbrev pub corners_at : Corners → ℕ → ℕ → Corners
+corners_at c step r = record { left = c.left + r * step; right = c.right + r * step; under = c.under }
+
+-- the sum of absolute differences of row r of a list and of the means of another
+abbrev pub strided_means : List ℤ → Strided → List ℤ → Corners → ℕ → ℕ → ℕ
+strided_means a left b c step r = sum_below (apart_from_mean a (row_at left r) b (corners_at c step r)) 8
+
+-- the place at or before a position that is counted in halves or quarters of a sample, and how far it lies behind
+pub record HasSpot (precision : ℕ) (position : ℤ) (s : Spot) : Type 0 where
+  pub place : s.place ≡ place_at position (precision - 1)
+  pub rest : s.rest ≡ rest_at position (precision - 1)
+
+-- the same of the position to which a component leads from a place of a plane
+abbrev pub IsSpot : ℕ → ℕ → ℤ → Spot → Type 0
+IsSpot precision place component s = HasSpot precision (pos (2 ^ precision * place) +ℤ component) s
+
+-- so many samples, a whole sample apart from a spot on, lie before this end
+abbrev pub IsBefore : Spot → ℕ → ℕ → Type 0
+IsBefore s count end = (pos 0 ≤ℤ s.place) × (((s.place +ℤ pos (2 * count)) +ℤ s.rest) ≤ℤ pos end)
+
+-- a spot lies at most one half behind its place
+abbrev pub IsNear : Spot → Type 0
+IsNear s = (pos 0 ≤ℤ s.rest) × (s.rest ≤ℤ pos 1)
+
+-- a window of eight columns that a source has, and spots of it of which the lines have all samples
+pub record IsHeld (source : Table) (up : Up) (precision : ℕ) (x y : Spot) (t : Tried) : Type 0 where
+  pub columns : t.window.columns ≡ 8
+  pub source_right : t.window.x + 8 ≤ source.width
+  pub source_bottom : t.window.y + t.window.rows ≤ source.height
+  pub spot_x : IsSpot precision t.window.x t.v.x x
+  pub spot_y : IsSpot precision t.window.y t.v.y y
+  pub small_x : unsigned_abs x.place ≤ 2 ^ 25
+  pub small_y : unsigned_abs y.place ≤ 2 ^ 25
+  pub near_x : IsNear x
+  pub near_y : IsNear y
+  pub right : IsBefore x 8 (2 * up.width - 1)
+  pub bottom : IsBefore y t.window.rows (2 * up.height)
+
+-- where column x of row y of the samples and half samples stands among lines of so many columns
+abbrev pub start_of : ℕ → ℕ → ℕ → ℕ
+start_of columns x y = (2 * y + x % 2) * columns + x / 2
