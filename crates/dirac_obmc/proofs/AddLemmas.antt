@@ -66,6 +66,21 @@ part_joined start place f g n m k xs ys zs a b e next same = record {
   rest = λ x l. b.rest x (omega (arith, l, e, next)) ∙ a.rest x (omega (arith, l, next));
 }
 
+-- where nothing is added to the last ones, fewer have grown
+pub part_shorter : (start : ℕ) (f : ℕ → ℤ) (n m : ℕ) (xs ys : List ℤ) → AddsPart start f m xs ys → n ≤ m → ((k : ℕ) → n ≤ k → k < m → f k ≡ pos 0) → AddsPart start f n xs ys
+part_shorter start f n m xs ys a fits none = record {
+  len = a.len;
+  before = a.before;
+  done = λ k l. a.done k (omega (arith, l, fits));
+  rest = λ x l. elim (cases_lt x (start + m)) [
+    | inl inside ↦
+        let at : start + (x - start) ≡ x = omega (arith, l) in
+        ap (λ p. get_or ys p (pos 0)) (sym at) ∙ a.done (x - start) (omega (arith, inside, l))
+        ∙ ap₂ (λ (u v : ℤ). u +ℤ v) (ap (λ p. get_or xs p (pos 0)) at) (none (x - start) (omega (arith, l)) (omega (arith, inside, l))) ∙ add_zero (get_or xs x (pos 0))
+    | inr past ↦ a.rest x past
+  ];
+}
+
 -- sums that are written over have grown
 pub part_put : (place : ℕ) (f : ℕ → ℤ) (n m : ℕ) (values xs ys : List ℤ) → PutOver place values n xs ys → n ≡ m → ((k : ℕ) → k < m → get_or values k (pos 0) ≡ get_or xs (place + k) (pos 0) +ℤ f k) → AddsPart place f m xs ys
 part_put place f n m values xs ys h e g = record {

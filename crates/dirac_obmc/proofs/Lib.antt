@@ -12,11 +12,13 @@ pub mod Predictions
 pub mod Ramps
 pub mod Rounding
 pub mod RowsAdded
+pub mod RunWeights
 pub mod Runs
 pub mod SamplesPredicted
 pub mod Shares
 pub mod SixtyFour
 pub mod Spans
 pub mod StripLemmas
+pub mod StripRows
 pub mod Totals
 pub mod WeightLists

@@ -1,11 +1,11 @@
 -- Blocks that stand side by side and are alike.
-use Rattle.std.proofs.Common.{◌≡◌, ◌≢◌, ℕ, zero, suc, ℤ, pos, ◌+◌, ◌-◌, ◌*◌, ◌/◌, ◌^◌, ◌<◌, ◌≤◌, ◌+ℤ◌, ◌*ℤ◌, unsigned_abs, List, length, get_or, set, max, min, arith, refl, ap, inl, inr, sym, subst, ◌∙◌}
+use Rattle.std.proofs.Common.{◌≡◌, ℕ, zero, suc, ℤ, pos, ◌+◌, ◌-◌, ◌*◌, ◌/◌, ◌^◌, ◌<◌, ◌≤◌, ◌+ℤ◌, ◌*ℤ◌, unsigned_abs, List, length, get_or, max, min, arith, ap, inl, inr, sym, subst, ◌∙◌}
 use Rattle.std.specs.List.{All}
 use Rattle.std.proofs.Math.IntN.{zero-*ℤ}
 use Rattle.std.proofs.Math.Nat.{add-mul, zero-mul}
-use Rattle.std.proofs.lemmas.Bool.{cases_eq, cases_lt}
+use Rattle.std.proofs.lemmas.Bool.{cases_lt}
 use Rattle.std.proofs.lemmas.Int.{ints}
-use Rattle.std.proofs.lemmas.List.{get_or-set_same, get_or-set_other, get_or_past, get_or_default}
+use Rattle.std.proofs.lemmas.List.{get_or_past, get_or_default}
 use Rattle.std.proofs.lemmas.Nat.{mul-le}
 use Rattle.dirac_block_table.specs.Tables.{block_at}
 use Rattle.dirac_obmc.specs.declared.direction.Direction.{Direction}
@@ -155,49 +155,6 @@ run_more m i n k j r inside few next e = record {
 pub run_told : (m : Compensation) (i n j a b : ℕ) → IsRun m i n j → i ≡ a → n ≡ b → IsRun m a b j
 run_told m i n j a b r ea eb = subst (λ (c : ℕ). IsRun m a c j) eb (subst (λ (c : ℕ). IsRun m c n j) ea r)
 
--- one more block
-pub shares_next : (count len separation i n m x : ℕ) → m ≡ n + 1 → run_share count len separation i m x ≡ run_share count len separation i n x + share (i + n) count len separation x
-shares_next count len separation i n m x e =
-    let next : m ≡ suc n = omega arith in
-    ap (λ b. run_share count len separation i b x) next
-
--- the weights of a block are added to those of the places below place p
-pub record SharesAdded (left n p : ℕ) (f : ℕ → ℕ) (old new : List ℕ) : Type 0 where
-  pub done : (k : ℕ) → left + k < p → k < n → get_or new k 0 ≡ get_or old k 0 + f (left + k)
-  pub rest : (k : ℕ) → p ≤ left + k → get_or new k 0 ≡ get_or old k 0
-  pub small : (k : ℕ) → get_or new k 0 ≤ 8
-
-pub shares_begun : (left n p : ℕ) (f : ℕ → ℕ) (old : List ℕ) → ((k : ℕ) → left + k < p → k < n → f (left + k) ≡ 0) → ((k : ℕ) → get_or old k 0 ≤ 8) → SharesAdded left n p f old old
-shares_begun left n p f old none small = record { done = λ k l i. omega (arith, none k l i); rest = λ k l. refl; small = small }
-
-pub shares_more : (left n p q : ℕ) (f : ℕ → ℕ) (old new : List ℕ) (v w : ℕ) → SharesAdded left n p f old new → left ≤ p → p - left < length new → q ≡ p + 1 → v ≡ get_or new (p - left) 0 + w → w ≡ f p
-    → get_or old (p - left) 0 + f p ≤ 8 → SharesAdded left n q f old (set new (p - left) v)
-shares_more left n p q f old new v w s from inside next ev ew few =
-    let place : left + (p - left) ≡ p = omega (arith, from) in
-    let whole : v ≡ get_or old (p - left) 0 + f p = omega (arith, ev, ew, s.rest (p - left) (omega arith)) in
-    record {
-      done = λ k l i. elim (cases_eq k (p - left)) [
-        | inl here ↦
-            let at : f p ≡ f (left + k) = ap f (omega (arith, here, from)) in
-            ap (λ b. get_or (set new (p - left) v) b 0) here ∙ get_or-set_same new (p - left) v 0 inside ∙ whole ∙ ap (λ b. get_or old b 0 + f p) (sym here)
-            ∙ ap (λ z. get_or old k 0 + z) at
-        | inr other ↦ get_or-set_other new (p - left) k v 0 other ∙ s.done k (omega (arith, l, next, other, from)) i
-      ];
-      rest = λ k l.
-          let other : k ≢ p - left = omega (arith, l, next) in
-          get_or-set_other new (p - left) k v 0 other ∙ s.rest k (omega (arith, l, next));
-      small = λ k. elim (cases_eq k (p - left)) [
-        | inl here ↦ rw (here, get_or-set_same new (p - left) v 0 inside, whole) few
-        | inr other ↦ rw (get_or-set_other new (p - left) k v 0 other) (s.small k)
-      ];
-    }
-
-pub shares_ended : (left n p : ℕ) (f : ℕ → ℕ) (old new : List ℕ) → SharesAdded left n p f old new → ((k : ℕ) → p ≤ left + k → k < n → f (left + k) ≡ 0) → (k : ℕ) → k < n → get_or new k 0 ≡ get_or old k 0 + f (left + k)
-shares_ended left n p f old new s none k i = elim (cases_lt (left + k) p) [
-  | inl before ↦ s.done k before i
-  | inr past ↦ omega (arith, s.rest k past, none k past i)
-]
-
 -- a list that is 0 within its length is 0 everywhere
 pub zero_weights : (ws : List ℕ) (n : ℕ) → ((k : ℕ) → k < n → get_or ws k 0 ≡ 0) → length ws ≤ n → (k : ℕ) → get_or ws k 0 ≡ 0
 zero_weights ws n h all k = elim (cases_lt k n) [
@@ -229,13 +186,15 @@ holds_run m c i n j first last h r f l =
     }
 
 pub run_weights_are : (m : Compensation) (c : Columns) (i n left right : ℕ) (ws : List ℕ) → IsColumns m c → HoldsRun m i n left right → right - left ≤ length ws
-    → ((k : ℕ) → k < right - left → get_or ws k 0 ≡ run_share c.blocks.count c.blocks.length c.blocks.separation i n (left + k)) → ((k : ℕ) → get_or ws k 0 ≤ 8)
+    → ((k : ℕ) → k < right - left → get_or ws k 0 ≡ run_share c.blocks.count c.blocks.length c.blocks.separation i n (left + k)) → ((k : ℕ) → right - left ≤ k → get_or ws k 0 ≡ 0)
+    → ((k : ℕ) → get_or ws k 0 ≤ 8)
     → AreRunWeights (blocks_across m) (x_length m) (x_separation m) m.width i n left right ws
-run_weights_are m c i n left right ws h r enough each small = record {
+run_weights_are m c i n left right ws h r enough each past small = record {
   to = r.to;
   before = r.before;
   behind = r.behind;
   enough = enough;
   weight = λ k l. each k l ∙ shares_told _ _ _ _ i n (left + k) c.blocks h.direction;
+  past = past;
   small = all_small ws small;
 }

@@ -1,7 +1,8 @@
 -- Some rows of a plane as one list, to which blocks are added.
 use Rattle.std.proofs.Common.{◌≡◌, ℕ, ℤ, pos, suc, ◌+◌, ◌-◌, ◌*◌, ◌/◌, ◌%◌, ◌^◌, ◌<◌, ◌≤◌, ◌+ℤ◌, ◌*ℤ◌, unsigned_abs, List, length, get_or, take, arith, refl, inl, inr, ap, ap₂, sym, ◌∙◌}
 use Rattle.std.specs.List.{All}
-use Rattle.std.proofs.Math.Nat.{mul_comm, suc-mul}
+use Rattle.std.proofs.Math.IntN.{zero-*ℤ}
+use Rattle.std.proofs.Math.Nat.{mul_comm, suc-mul, zero-mul}
 use Rattle.std.proofs.lemmas.Bool.{cases_lt}
 use Rattle.std.proofs.lemmas.Int.{ints}
 use Rattle.std.proofs.lemmas.List.{get_or_default, get_or-append_right, get_or-take, length-take-le}
@@ -148,6 +149,10 @@ part_row m ls part y xs ys zs h hs s from to a b =
     (λ x l w. told x w ∙ run_nothing_across m x y j i n s.run.same (s.columns.before x l))
     (λ x l w. told x w ∙ run_nothing_across m x y j i n s.run.same (s.columns.behind x (omega (arith, l, s.some_columns)) w))
 
+-- a weight 0 adds nothing
+pub weighed_none : (w d : ℕ) (v : ℤ) → w ≡ 0 → pos (w * d) *ℤ v ≡ pos 0
+weighed_none w d v e = ap (λ s. pos (s * d) *ℤ v) e ∙ ap (λ s. pos s *ℤ v) (zero-mul d) ∙ zero-*ℤ v
+
 -- how much it adds
 pub part_small : (m : Compensation) (ls : Lines) (part : Part) (p : ℕ) → IsMotion m → IsSound m → IsLines m ls → IsPart m ls.first ls.end part → p < m.width * (ls.end - ls.first)
     → unsigned_abs (run_added_at m ls.first part.run.j part.run.i part.run.count p) ≤ 2 ^ 22
@@ -160,15 +165,15 @@ pub part_fits : (m : Compensation) (first end : ℕ) (part : Part) (y : ℕ) →
 part_fits m first end part y s from to =
     omega (arith, row_fits (y - first) m.width (end - first) m.width (omega (arith, from, to, s.rows.from, s.rows.to)) (omega arith), s.columns.to, s.some_columns, mul_comm m.width (end - first))
 
-pub part_enough : (m : Compensation) (first end : ℕ) (part : Part) (y : ℕ) → IsPart m first end part → part.down.start ≤ y → y < part.down.end
-    → (y - part.down.start) * part.width + (part.right - part.left) ≤ length part.values.now
-part_enough m first end part y s from to =
-    omega (arith, row_fits (y - part.down.start) part.width (part.down.end - part.down.start) part.width (omega (arith, from, to)) (omega arith), s.whole, s.fits)
+pub part_enough : (m : Compensation) (first end : ℕ) (part : Part) (y count : ℕ) → IsPart m first end part → part.down.start ≤ y → y < part.down.end → count ≤ part.width
+    → (y - part.down.start) * part.width + count ≤ length part.values.now
+part_enough m first end part y count s from to few =
+    omega (arith, row_fits (y - part.down.start) part.width (part.down.end - part.down.start) part.width (omega (arith, from, to)) (omega arith), s.whole, few)
 
-pub part_values : (m : Compensation) (first end : ℕ) (part : Part) (y k : ℕ) → IsMotion m → IsSound m → IsPart m first end part → part.down.start ≤ y → y < part.down.end → k < part.right - part.left
+pub part_values : (m : Compensation) (first end : ℕ) (part : Part) (y k : ℕ) → IsMotion m → IsSound m → IsPart m first end part → part.down.start ≤ y → y < part.down.end → k < part.width
     → unsigned_abs (get_or part.values.now ((y - part.down.start) * part.width + k) (pos 0)) ≤ 2 ^ 15
 part_values m first end part y k h sound s from to l =
-    rw (s.values (y - part.down.start) k (omega (arith, from, to)) (omega (arith, l, s.fits)))
+    rw (s.values (y - part.down.start) k (omega (arith, from, to)) l)
     (predicts_small m _ _ _ _ h sound (block_is m part.run.i part.run.j sound (omega (arith, s.run.some, s.run.across)) s.run.down))
 
 -- a run that holds no column or no row adds nothing

@@ -10,7 +10,7 @@ use Rattle.dirac_obmc.specs.declared.rows.Span.{Span}
 use Rattle.dirac_obmc.specs.Compensation.{Compensation, blocks_across, blocks_down, predicts, term, total, x_length}
 use Rattle.dirac_obmc.specs.Compensation.{x_separation, y_length, y_separation}
 use Rattle.dirac_obmc.specs.Directions.{IsDown, IsWeights}
-use Rattle.dirac_obmc.specs.Weights.{share, sum_below}
+use Rattle.dirac_obmc.specs.Weights.{margin, share, sum_below}
 
 -- what block i of row j adds at place p of the rows of a plane from row `first` on
 abbrev pub added_at : Compensation → ℕ → ℕ → ℕ → ℕ → ℤ
@@ -56,14 +56,29 @@ pub record IsRun (m : Compensation) (i count j : ℕ) : Type 0 where
   pub same : (k : ℕ) → k < count → block_at m.blocks (i + k) j ≡ block_at m.blocks i j
   pub fits : (count - 1) * x_separation m + x_length m ≤ 64
 
+-- the columns from `left` to `right` - 1 of `n` blocks from block i on: below `single` the first of them is the only
+-- one, from `last` on the last is, and between no other block holds a column
+pub record AreRunParts (len separation i n left right single last : ℕ) : Type 0 where
+  pub from : left ≤ single
+  pub ordered : single ≤ last
+  pub to : last ≤ right
+  pub begun : i * separation ≤ left + margin len separation
+  pub first : (x : ℕ) → x < single → x + margin len separation < (i + 1) * separation
+  pub single_fits : single + margin len separation ≤ i * separation + len
+  pub between_from : (x : ℕ) → single ≤ x → x < last → (i + 1) * separation ≤ x + margin len separation
+  pub between_to : (x : ℕ) → single ≤ x → x < last → x < (i + n - 1) * separation + margin len separation
+  pub behind : (x : ℕ) → last ≤ x → x < right → (i + n - 1) * separation + margin len separation ≤ x
+  pub last_fits : last + margin len separation - (i + n - 1) * separation + (right - last) ≤ len
+
 -- the places from `left` to `right` - 1, which alone of a plane's `size` places `many` blocks from block i on hold, and
--- the weights that those blocks have there together
+-- the weights that those blocks have there together, 0 behind them
 pub record AreRunWeights (count len separation size i many left right : ℕ) (ws : List ℕ) : Type 0 where
   pub to : right ≤ size
   pub before : (x : ℕ) → x < left → run_share count len separation i many x ≡ 0
   pub behind : (x : ℕ) → right ≤ x → x < size → run_share count len separation i many x ≡ 0
   pub enough : right - left ≤ length ws
   pub weight : (k : ℕ) → k < right - left → slice_index ws k ≡ run_share count len separation i many (left + k)
+  pub past : (k : ℕ) → right - left ≤ k → slice_index ws k ≡ 0
   pub small : All (λ w. w ≤ 8) ws
 
 -- what a run of blocks predicts in some columns and rows
@@ -75,6 +90,7 @@ pub record IsPart (m : Compensation) (first end : ℕ) (p : Part) : Type 0 where
   pub some_columns : p.left < p.right
   pub some_rows : p.down.start < p.down.end
   pub fits : p.right - p.left ≤ p.width
+  pub listed : p.width ≤ length p.weights.now
   pub whole : (p.down.end - p.down.start) * p.width ≤ length p.values.now
   pub values : (r k : ℕ) → r < p.down.end - p.down.start → k < p.width → slice_index_or p.values.now (r * p.width + k)
       (pos 0) ≡ predicts m (block_at m.blocks p.run.i p.run.j) (p.left + k) (p.down.start + r)

@@ -2,15 +2,15 @@ ghost use Rattle.std.specs.Prelude.{◌≡◌, ℕ, pos, ◌+◌, ◌-◌, ◌*�
 ghost use Rattle.std.specs.Prelude.{slice_index, slice_index_or, IsTrue, true};
 ghost use Rattle.std.specs.List.{All};
 ghost use Rattle.dirac_block_table.specs.Tables.{block_at};
-ghost use Rattle.dirac_obmc.specs.Adding.{Adds};
+ghost use Rattle.dirac_obmc.specs.Adding.{Adds, PutWeights};
 ghost use Rattle.dirac_obmc.specs.Blending.{IsBlending};
 ghost use Rattle.dirac_obmc.specs.Compensation.{IsMotion, blended, blocks_across, blocks_down, predicted_at, total};
 ghost use Rattle.dirac_obmc.specs.Compensation.{y_length};
 ghost use Rattle.dirac_obmc.specs.Directions.{IsAcross, IsSound, IsWeights};
 ghost use Rattle.dirac_obmc.specs.Given.{given};
-ghost use Rattle.dirac_obmc.specs.Strips.{AreValues, IsLines, IsPart, IsRoom, IsRun, IsSpan, added_at, run_added_at};
-ghost use Rattle.dirac_obmc.specs.Strips.{run_share};
-ghost use Rattle.dirac_obmc.specs.Weights.{IsOverlap, margin, share};
+ghost use Rattle.dirac_obmc.specs.Strips.{AreRunParts, AreValues, IsLines, IsPart, IsRoom, IsRun, IsSpan, added_at};
+ghost use Rattle.dirac_obmc.specs.Strips.{run_added_at, run_share};
+ghost use Rattle.dirac_obmc.specs.Weights.{IsOverlap, margin};
 
 use crate::direction::Direction;
 use crate::motion::Motion;
@@ -86,29 +86,6 @@ fn held(blocks: Direction, block: u32, least: u32, most: u32) -> Span
     }
 }
 
-/// Adds the weights of a block to those of the places from `left` to `right - 1`.
-fn add_shares(columns: Columns<'_>, block: u32, left: u32, right: u32, out: &mut [u8])
-    requires overlap { IsOverlap columns.blocks.length columns.blocks.separation }
-    requires block { block < columns.blocks.count }
-    requires count { columns.blocks.count ≤ LARGEST_SIDE }
-    requires weights { IsWeights columns.blocks.count columns.blocks.length columns.blocks.separation
-        columns.weights.now }
-    requires right { right ≤ LARGEST_SIDE }
-    requires left { left ≤ LARGEST_SIDE }
-    requires len { right - left ≤ length out.old }
-    requires small { (k : ℕ) → slice_index out.old k ≤ 8 }
-    requires both_small { (k : ℕ) → k < right - left → slice_index out.old k + share block columns.blocks.count
-        columns.blocks.length columns.blocks.separation (left + k) ≤ 8 }
-    ensures added { (k : ℕ) → k < right - left → slice_index out.new k ≡ slice_index out.old k + share block
-        columns.entry.blocks.count columns.entry.blocks.length columns.entry.blocks.separation (left + k) }
-    ensures small { (k : ℕ) → slice_index out.new k ≤ 8 }
-{
-    let span = held(columns.blocks, block, left, right);
-    for x in span.start..span.end {
-        out[(x - left) as usize] += columns.weights[(span.weights + (x - span.start)) as usize];
-    }
-}
-
 fn clear_weights(out: &mut [u8])
     ensures { (k : ℕ) → slice_index out.new k ≡ 0 }
 {
@@ -117,28 +94,125 @@ fn clear_weights(out: &mut [u8])
     }
 }
 
-/// The weights that the blocks of a run have together at the places from `left` to `right - 1`.
+/// Writes the weight 8 over `count` weights from place `at` on.
+#[inline(always)]
+fn put_eights(out: &mut [u8], at: usize, count: usize)
+    requires { at + count ≤ length out.old }
+    ensures { PutWeights at count (λ k. 8) out.old out.new }
+{
+    for k in 0..count {
+        out[at + k] = 8;
+    }
+}
+
+/// Writes `count` weights of a list, from place `first` on, over those of another one from place `at` on.
+#[inline(always)]
+fn copy_weights(weights: &[u8], first: usize, out: &mut [u8], at: usize, count: usize)
+    requires listed { first + count ≤ length weights.now }
+    requires inside { at + count ≤ length out.old }
+    ensures { PutWeights at count (λ k. slice_index weights.now (first + k)) out.old out.new }
+{
+    for k in 0..count {
+        out[at + k] = weights[first + k];
+    }
+}
+
+/// Where the weight of a block at a place stands in the list of all weights.
+fn listed_at(blocks: Direction, block: u32, place: u32) -> usize
+    requires overlap { IsOverlap blocks.length blocks.separation }
+    requires block { block < blocks.count }
+    requires count { blocks.count ≤ LARGEST_SIDE }
+    requires place { place ≤ LARGEST_SIDE }
+    ensures { result ≡ block * blocks.length + (place + margin blocks.length blocks.separation
+        - block * blocks.separation) }
+{
+    let margin = (blocks.length - blocks.separation) / 2;
+    let behind = (place + margin).saturating_sub(block * blocks.separation);
+    (block * blocks.length + behind) as usize
+}
+
+/// Where the first block of a run is the only one of it, which is up to column `single - 1`, and where the last one is,
+/// which is from column `last` on. The blocks of the run alone hold the columns between.
+#[derive(Clone, Copy)]
+pub struct RunParts {
+    pub single: u32,
+    pub last: u32,
+}
+
+/// Where the first and the last block of a run are the only ones of it, which holds the columns from `left` to
+/// `right - 1`.
+fn parts_of(blocks: Direction, run: Run, left: u32, right: u32) -> RunParts
+    requires overlap { IsOverlap blocks.length blocks.separation }
+    requires some { 1 ≤ run.count }
+    requires run { run.i + run.count ≤ blocks.count }
+    requires count { blocks.count ≤ LARGEST_SIDE }
+    requires left { left ≡ run.i * blocks.separation - margin blocks.length blocks.separation }
+    requires right { right + margin blocks.length blocks.separation ≤ (run.i + run.count - 1) * blocks.separation
+        + blocks.length }
+    requires ordered { left < right }
+    ensures { AreRunParts blocks.length blocks.separation run.i run.count left right result.single result.last }
+{
+    let margin = (blocks.length - blocks.separation) / 2;
+    let single = ((run.i + 1) * blocks.separation)
+        .saturating_sub(margin)
+        .min(right);
+    let reach = ((run.i + run.count - 1) * blocks.separation + margin).min(right);
+    let last = reach.max(single);
+    RunParts { single, last }
+}
+
+/// The weights that the blocks of a run have together at the places from `left` to `right - 1`, and 0 behind them.
+/// Where the run's blocks alone hold a place they are 8, as those of all blocks are.
 fn run_weights(columns: Columns<'_>, run: Run, left: u32, right: u32, out: &mut [u8])
     requires overlap { IsOverlap columns.blocks.length columns.blocks.separation }
+    requires some { 1 ≤ run.count }
     requires run { run.i + run.count ≤ columns.blocks.count }
     requires count { columns.blocks.count ≤ LARGEST_SIDE }
     requires weights { IsWeights columns.blocks.count columns.blocks.length columns.blocks.separation
         columns.weights.now }
-    requires right { right ≤ LARGEST_SIDE }
-    requires left { left ≤ LARGEST_SIDE }
+    requires left { left ≡ run.i * columns.blocks.separation - margin columns.blocks.length columns.blocks.separation }
+    requires right { right + margin columns.blocks.length columns.blocks.separation ≤ (run.i + run.count - 1)
+        * columns.blocks.separation + columns.blocks.length }
+    requires ordered { left < right }
+    requires at_most_4096 { right ≤ LARGEST_SIDE }
     requires covers { right ≤ columns.blocks.count * columns.blocks.separation }
     requires len { right - left ≤ length out.old }
     ensures weight { (k : ℕ) → k < right - left → slice_index out.new k ≡ run_share columns.entry.blocks.count
         columns.entry.blocks.length columns.entry.blocks.separation run.i run.count (left + k) }
+    ensures past { (k : ℕ) → right - left ≤ k → slice_index out.new k ≡ 0 }
     ensures small { (k : ℕ) → slice_index out.new k ≤ 8 }
 {
     clear_weights(out);
-    for n in 0..run.count {
-        add_shares(columns, run.i + n, left, right, out);
+    let parts = parts_of(columns.blocks, run, left, right);
+    let first = listed_at(columns.blocks, run.i, left);
+    let single = (parts.single - left) as usize;
+    copy_weights(columns.weights, first, out, 0, single);
+    let between = (parts.last - parts.single) as usize;
+    put_eights(out, single, between);
+    let last = listed_at(columns.blocks, run.i + run.count - 1, parts.last);
+    let behind = (right - parts.last) as usize;
+    copy_weights(columns.weights, last, out, single + between, behind);
+}
+
+/// So many columns, rounded up to eights where there are as many values, and as many sums are left.
+#[inline(always)]
+fn in_whole_eights(columns: usize, values: usize, left: usize) -> usize
+    requires columns { columns ≤ LARGEST_SIDE }
+    requires values { columns ≤ values }
+    requires left { columns ≤ left }
+    ensures all { columns ≤ result }
+    ensures values { result ≤ values }
+    ensures left { result ≤ left }
+{
+    let eights = (columns + 7) / 8 * 8;
+    if eights <= values && eights <= left {
+        eights
+    } else {
+        columns
     }
 }
 
-/// Adds to the sums of all rows what a run of blocks predicts.
+/// Adds to the sums of all rows what a run of blocks predicts. What stands behind its columns has the weight 0.
 fn add_part(motion: &Motion<'_>, lines: Lines<'_>, part: Part<'_>, sums: &mut [i32])
     requires motion { IsMotion (given motion.now) }
     requires sound { IsSound (given motion.now) }
@@ -151,7 +225,9 @@ fn add_part(motion: &Motion<'_>, lines: Lines<'_>, part: Part<'_>, sums: &mut [i
 {
     for y in part.down.start..part.down.end {
         let row = (y - part.down.start) as usize;
-        let place = (y - lines.first) as usize * motion.width as usize;
+        let place = (y - lines.first) as usize * motion.width as usize + part.left as usize;
+        let columns = (part.right - part.left) as usize;
+        let count = in_whole_eights(columns, part.width, sums.len() - place);
         let weighed = Weighed {
             values: part.values,
             at: row * part.width,
@@ -159,12 +235,7 @@ fn add_part(motion: &Motion<'_>, lines: Lines<'_>, part: Part<'_>, sums: &mut [i
             first: 0,
             down: lines.weights[part.down.weights as usize + row],
         };
-        add_values(
-            sums,
-            place + part.left as usize,
-            weighed,
-            (part.right - part.left) as usize,
-        );
+        add_values(sums, place, weighed, count);
     }
 }
 
@@ -435,6 +506,29 @@ fn add_rows(
 }
 
 /// Writes the predictions of rows that are all 0 yet.
+fn predict_strip(
+    motion: &Motion<'_>,
+    columns: Columns<'_>,
+    lines: Lines<'_>,
+    room: &mut BlockRoom,
+    out: &mut [i32],
+)
+    requires blending { IsBlending (given motion.now) columns lines }
+    requires room_fits { IsRoom (y_length (given motion.now)) room.old }
+    requires len { length out.old ≡ motion.now.width * (lines.end - lines.first) }
+    requires out { (p : ℕ) → slice_index_or out.old p (pos 0) ≡ pos 0 }
+    ensures room_fits { IsRoom (y_length (given motion.now)) room.new }
+    ensures value { (p : ℕ) → p < length out.old → slice_index_or out.new p (pos 0)
+        ≡ predicted_at (given motion.now) (p % motion.now.width) (lines.entry.first + p / motion.now.width) }
+{
+    add_rows(motion, columns, lines, room, out);
+    divide_sums(out);
+}
+
+/// How many rows are summed and divided before the next ones, so that their sums are still at hand.
+const STRIP_ROWS: u32 = 64;
+
+/// Writes the predictions of rows that are all 0 yet, some rows at a time.
 pub fn predict_lines(
     motion: &Motion<'_>,
     columns: Columns<'_>,
@@ -449,6 +543,18 @@ pub fn predict_lines(
     ensures { (p : ℕ) → p < length out.old → slice_index_or out.new p (pos 0)
         ≡ predicted_at (given motion.now) (p % motion.now.width) (lines.entry.first + p / motion.now.width) }
 {
-    add_rows(motion, columns, lines, room, out);
-    divide_sums(out);
+    let width = motion.width as usize;
+    for n in 0..(lines.end - lines.first + (STRIP_ROWS - 1)) / STRIP_ROWS {
+        let first = lines.first + STRIP_ROWS * n;
+        let end = (first + STRIP_ROWS).min(lines.end);
+        let strip = Lines {
+            blocks: lines.blocks,
+            weights: lines.weights,
+            first,
+            end,
+        };
+        let start = (first - lines.first) as usize * width;
+        let stop = (end - lines.first) as usize * width;
+        predict_strip(motion, columns, strip, room, &mut out[start..stop]);
+    }
 }

@@ -101,23 +101,23 @@ fn put_sums(grown: &[i32], sums: &mut [i32], place: usize)
     }
 }
 
-/// Adds four values, from value `at` on, to the sums from a place on. The sums stand in a list of their own first, so
+/// Adds eight values, from value `at` on, to the sums from a place on. The sums stand in a list of their own first, so
 /// that they are computed side by side.
 #[inline(always)]
-fn add_four(sums: &mut [i32], place: usize, weighed: Weighed<'_>, at: usize)
-    requires inside { place + 4 ≤ length sums.old }
-    requires sums { (k : ℕ) → k < 4 → unsigned_abs (slice_index_or sums.old (place + k) (pos 0)) ≤ 2 ^ 23 }
-    requires enough { weighed.at + (at + 4) ≤ length weighed.values.now }
-    requires values { (k : ℕ) → k < 4 → unsigned_abs (slice_index_or weighed.values.now (weighed.at + (at + k)) (pos 0))
+fn add_eight(sums: &mut [i32], place: usize, weighed: Weighed<'_>, at: usize)
+    requires inside { place + 8 ≤ length sums.old }
+    requires sums { (k : ℕ) → k < 8 → unsigned_abs (slice_index_or sums.old (place + k) (pos 0)) ≤ 2 ^ 23 }
+    requires enough { weighed.at + (at + 8) ≤ length weighed.values.now }
+    requires values { (k : ℕ) → k < 8 → unsigned_abs (slice_index_or weighed.values.now (weighed.at + (at + k)) (pos 0))
         ≤ 2 ^ 15 }
-    requires listed { weighed.first + (at + 4) ≤ length weighed.weights.now }
+    requires listed { weighed.first + (at + 8) ≤ length weighed.weights.now }
     requires weights { All (λ w. w ≤ 8) weighed.weights.now }
     requires down { weighed.down ≤ 8 }
     ensures { AddsPart place (λ k. pos (slice_index weighed.entry.weights.now (weighed.entry.first + (at + k))
-        * weighed.entry.down) *ℤ slice_index_or weighed.entry.values.now (weighed.entry.at + (at + k)) (pos 0)) 4
+        * weighed.entry.down) *ℤ slice_index_or weighed.entry.values.now (weighed.entry.at + (at + k)) (pos 0)) 8
         sums.old sums.new }
 {
-    let mut lanes = [0i32; 4];
+    let mut lanes = [0i32; 8];
     all_grown(sums, place, weighed, at, &mut lanes);
     put_sums(&lanes, sums, place);
 }
@@ -156,11 +156,11 @@ pub fn add_values(sums: &mut [i32], start: usize, weighed: Weighed<'_>, count: u
         * weighed.entry.down) *ℤ slice_index_or weighed.entry.values.now (weighed.entry.at + k) (pos 0)) count sums.old
         sums.new }
 {
-    let fours = count / 4;
-    for c in 0..fours {
-        add_four(sums, start + 4 * c, weighed, 4 * c);
+    let eights = count / 8;
+    for c in 0..eights {
+        add_eight(sums, start + 8 * c, weighed, 8 * c);
     }
-    let done = 4 * fours;
+    let done = 8 * eights;
     add_singly(sums, start + done, weighed, done, count - done);
 }
 

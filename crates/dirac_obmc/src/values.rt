@@ -246,10 +246,6 @@ fn weigh_one(p: &Prediction, samples: &[i16], out: &mut [i16])
     ensures { (k : ℕ) → k < length out.old → slice_index_or out.new k (pos 0)
         ≡ from_one p.now (slice_index_or samples.now k (pos 0)) }
 {
-    if has_default_weights(p) {
-        out.copy_from_slice(samples);
-        return;
-    }
     let weight = weight_of_one(p);
     let bits = p.weight_bits;
     for k in 0..out.len() {
@@ -332,6 +328,54 @@ fn set_all(value: i16, out: &mut [i16])
     }
 }
 
+/// What a block with the first reference alone predicts; `samples` is room for samples of the reference.
+fn first_values(
+    motion: &Motion<'_>,
+    vector: Vector,
+    window: Window,
+    samples: &mut [i16],
+    out: &mut [i16],
+)
+    requires motion { IsMotion (given motion.now) }
+    requires vector { IsShortVector vector }
+    requires window { IsWindow (length out.old) window }
+    requires len { length samples.old ≡ length out.old }
+    ensures { (k : ℕ) → k < length out.old → slice_index_or out.new k (pos 0)
+        ≡ from_one motion.now.prediction.now (moved_sample (given motion.now) motion.now.up1.now vector (window.x
+        + k % window.width) (window.y + k / window.width)) }
+{
+    if has_default_weights(motion.prediction) {
+        moved_rows(motion, motion.up1, vector, window, out);
+        return;
+    }
+    moved_rows(motion, motion.up1, vector, window, samples);
+    weigh_one(motion.prediction, samples, out);
+}
+
+/// What a block with the second reference alone predicts; `samples` is room for samples of the reference.
+fn second_values(
+    motion: &Motion<'_>,
+    vector: Vector,
+    window: Window,
+    samples: &mut [i16],
+    out: &mut [i16],
+)
+    requires motion { IsMotion (given motion.now) }
+    requires vector { IsShortVector vector }
+    requires window { IsWindow (length out.old) window }
+    requires len { length samples.old ≡ length out.old }
+    ensures { (k : ℕ) → k < length out.old → slice_index_or out.new k (pos 0)
+        ≡ from_one motion.now.prediction.now (second_sample (given motion.now) (given motion.now).up2 vector (window.x
+        + k % window.width) (window.y + k / window.width)) }
+{
+    if has_default_weights(motion.prediction) {
+        second_rows(motion, vector, window, out);
+        return;
+    }
+    second_rows(motion, vector, window, samples);
+    weigh_one(motion.prediction, samples, out);
+}
+
 /// What a block predicts in a window, row after row; `first` and `second` are room for the samples of the references.
 fn block_values(
     motion: &Motion<'_>,
@@ -349,18 +393,17 @@ fn block_values(
         ≡ predicts (given motion.now) block.now (window.x + k % window.width) (window.y + k / window.width) }
 {
     if block.ref1 {
-        moved_rows(motion, motion.up1, block.v1, window, first);
         if block.ref2 {
+            moved_rows(motion, motion.up1, block.v1, window, first);
             second_rows(motion, block.v2, window, second);
             weigh_two(motion.prediction, first, second, out);
             return;
         }
-        weigh_one(motion.prediction, first, out);
+        first_values(motion, block.v1, window, first, out);
         return;
     }
     if block.ref2 {
-        second_rows(motion, block.v2, window, second);
-        weigh_one(motion.prediction, second, out);
+        second_values(motion, block.v2, window, second, out);
         return;
     }
     set_all(dc(motion.component, block), out);

@@ -44,11 +44,13 @@ add_part-requires-clause-part c =
       columns =
           run_weights_are m c.args.columns run.i run.count c.held-first.result.start c.held-last.result.end c.as_slice.result.now c.requires.blending.columns columns
           (omega (arith, columns.wide, ap length kept, c.run_weights.auto.out, c.as_mut_slice.ensures.len, c.requires.room_fits.weights))
-          (λ k l. ap (λ ws. get_or ws k 0) kept ∙ c.run_weights.ensures.weight k l) (λ k. omega (arith, ap (λ ws. get_or ws k 0) kept, c.run_weights.ensures.small k));
+          (λ k l. ap (λ ws. get_or ws k 0) kept ∙ c.run_weights.ensures.weight k l) (λ k l. ap (λ ws. get_or ws k 0) kept ∙ c.run_weights.ensures.past k l)
+          (λ k. omega (arith, ap (λ ws. get_or ws k 0) kept, c.run_weights.ensures.small k));
       rows = rows;
       some_columns = omega arith;
       some_rows = omega arith;
       fits = c.in_eights-width.ensures.fits;
+      listed = omega (arith, c.in_eights-width.ensures.at_most_64, ap length kept, c.run_weights.auto.out, c.as_mut_slice.ensures.len, c.requires.room_fits.weights);
       whole =
           omega (arith, room_rows _ (c.held-down.result.end - c.held-down.result.start) c.in_eights-width.result rows.within_block c.in_eights-width.ensures.at_most_64, c.predict_run.ensures.room_fits.values, ap length c.as_slice-2.ensures.value);
       values = λ r k a b. ap (λ vs. get_or vs (r * c.in_eights-width.result + k) (pos 0)) c.as_slice-2.ensures.value ∙ c.predict_run.ensures.values r k a b;

@@ -1,4 +1,4 @@
-use Rattle.std.proofs.Common.{ℕ, ◌+◌, ◌/◌, ◌%◌, arith, sym, subst, ◌∙◌}
+use Rattle.std.proofs.Common.{ℕ, ◌+◌, ◌/◌, ◌%◌, arith, refl, sym, subst, ◌∙◌}
 use Rattle.std.specs.Int.{w16}
 use Rattle.std.proofs.lemmas.Int.{to_z-of_z}
 use Rattle.dirac_obmc.specs.Given.{given}
@@ -12,9 +12,6 @@ moved_rows-requires-clause-window c = subst (λ (n : ℕ). IsWindow n c.args.win
 pub second_rows-requires-clause-window : goal.second_rows-requires-clause-window
 second_rows-requires-clause-window c = subst (λ (n : ℕ). IsWindow n c.args.window) (sym c.requires.lens.1) c.requires.window
 
-pub second_rows-requires-then-block-3-clause-window : goal.second_rows-requires-then-block-3-clause-window
-second_rows-requires-then-block-3-clause-window c = subst (λ (n : ℕ). IsWindow n c.args.window) (sym c.requires.lens.1) c.requires.window
-
 pub returns-then-block-2 : goal.returns-then-block-2
 returns-then-block-2 c k l =
     c.weigh_two.ensures k l
@@ -23,15 +20,13 @@ returns-then-block-2 c k l =
 
 pub returns-then-block : goal.returns-then-block
 returns-then-block c k l =
-    c.weigh_one.ensures k l
-    ∙ by_first (given c.args.motion.now) c.args.block.now (c.args.window.x + k % c.args.window.width) (c.args.window.y + k / c.args.window.width) _ c.if-block.true c.if-block-2.false
-    (c.moved_rows.ensures.value k (omega (arith, l, c.requires.lens.0)))
+    c.first_values.ensures k l
+    ∙ by_first (given c.args.motion.now) c.args.block.now (c.args.window.x + k % c.args.window.width) (c.args.window.y + k / c.args.window.width) _ c.if-block.true c.if-block-2.false refl
 
 pub returns-then-block-3 : goal.returns-then-block-3
 returns-then-block-3 c k l =
-    c.weigh_one-then-block-3.ensures k l
-    ∙ by_second (given c.args.motion.now) c.args.block.now (c.args.window.x + k % c.args.window.width) (c.args.window.y + k / c.args.window.width) _ c.if-block.false c.if-block-3.true
-    (c.second_rows-then-block-3.ensures.value k (omega (arith, l, c.requires.lens.1)))
+    c.second_values.ensures k l
+    ∙ by_second (given c.args.motion.now) c.args.block.now (c.args.window.x + k % c.args.window.width) (c.args.window.y + k / c.args.window.width) _ c.if-block.false c.if-block-3.true refl
 
 pub returns : goal.returns
 returns c k l =

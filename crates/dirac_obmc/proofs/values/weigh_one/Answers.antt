@@ -1,15 +1,9 @@
-use Rattle.std.proofs.Common.{◌≡◌, ℤ, pos, ◌+ℤ◌, List, get_or, to_z, of_z, arith, rules, refl, ap, sym, ◌∙◌}
+use Rattle.std.proofs.Common.{◌≡◌, pos, ◌+ℤ◌, get_or, to_z, of_z, arith, rules, refl, ◌∙◌}
 use Rattle.std.specs.Int.{w16, w32}
 use Rattle.std.proofs.lemmas.Int.{to_z-of_z}
 use Rattle.dirac_obmc.specs.Compensation.{from_one}
 use Rattle.dirac_obmc.proofs.AddLemmas.{written_more}
-use Rattle.dirac_obmc.proofs.SamplesPredicted.{from_one_is}
 use Rattle.dirac_obmc.proofs.values.weigh_one.Goals as goal
-
-pub returns-then-has_default_weights : goal.returns-then-has_default_weights
-returns-then-has_default_weights c k l =
-    ap (λ (ys : List ℤ). get_or ys k (pos 0)) c.copy_from_slice.ensures.after
-    ∙ sym (from_one_is c.args.p.now (get_or c.args.samples.now k (pos 0)) (c.has_default_weights.ensures c.if-has_default_weights.true))
 
 pub loop-k-preserved : goal.loop-k-preserved
 loop-k-preserved c =
